@@ -1,0 +1,142 @@
+-- A rule's marks are made at nodes of its tree, so with distinct node numbers evaluation reads each as it was made. Assumes nothing.
+use mathlib.Core.Path.{_≡_, refl, sym, _∙_, subst}
+use mathlib.Core.Logic.{_≢_}
+use mathlib.Core.Bool.{Bool, true, false}
+use mathlib.Core.Option.{Option, none, some}
+use mathlib.Core.List.{List, [], _∷_, _++_, append-nil}
+use Prim.Native.Nat.{ℕ, _<_}
+use native.Mathlib.Omega.{arith}
+use lib.Dec.{eqb}
+use borrow.Author.Tests.{eq-eqb, ne-eqb}
+use Rattle.laws.specs.Choice.{if_then_else_}
+use Rattle.ocl.specs.Environment.{Env, extend}
+use Rattle.ocl.specs.Types.{any, boolean, integer, class, Letter, Ty, void, simple, around, subtype}
+use Rattle.ocl.specs.Model.{Row, Model, rowRead}
+use Rattle.ocl.specs.Forms.{Expr, node, Form, leaf, unary, binary, connective, isUndef, conditional, letIn, attribute, quantified, iterate, collect, Operands, noOperand, operand, numbers, numbersIn, numbersOf}
+use Rattle.ocl.specs.Typing.{Answer, typed, refused, Marks, Typed, Typing, pure, thenFor, andThen, onCollection, rowType, attributeType, leafTyping, unaryTyping, binaryTyping, connectiveTyping, isUndefTyping, conditionalTyping, letTyping, attributeTyping, quantifiedTyping, iterateTyping, noOperandTyping, operandTyping, collectTyping, typing, formTyping, operandsTyping, markOr}
+use Rattle.laws.specs.Lists.{Each, each-nil, each-cons, Distinct, distinct-nil, distinct-cons}
+
+-- the marks are those that typing made
+pub data Agree (mark : ℕ → ℕ) : Marks → Type 0 where
+  agree-nil : Agree mark []
+  agree-cons : {p i : ℕ} {m : Marks} → mark p ≡ i → Agree mark m → Agree mark ((p, i) ∷ m)
+
+pub agree-left : {mark : ℕ → ℕ} (m n : Marks) → Agree mark (m ++ n) → Agree mark m
+agree-left [] n g = agree-nil
+agree-left (x ∷ m) n (agree-cons e g) = agree-cons e (agree-left m n g)
+
+pub agree-right : {mark : ℕ → ℕ} (m : Marks) {n : Marks} → Agree mark (m ++ n) → Agree mark n
+agree-right [] g = g
+agree-right (x ∷ m) (agree-cons e g) = agree-right m g
+
+pub agree-one : {mark : ℕ → ℕ} {p i : ℕ} {m : Marks} → Agree mark ((p, i) ∷ m) → mark p ≡ i
+agree-one (agree-cons e g) = e
+
+-- ---- marks at some of the nodes, in their order
+
+pub data Part : List ℕ → Marks → Type 0 where
+  part-nil : Part [] []
+  part-skip : {n : ℕ} {ns : List ℕ} {m : Marks} → Part ns m → Part (n ∷ ns) m
+  part-take : {n i : ℕ} {ns : List ℕ} {m : Marks} → Part ns m → Part (n ∷ ns) ((n, i) ∷ m)
+
+part-none : (ns : List ℕ) → Part ns []
+part-none [] = part-nil
+part-none (n ∷ ns) = part-skip (part-none ns)
+
+part-append : {a b : List ℕ} {m k : Marks} → Part a m → Part b k → Part (a ++ b) (m ++ k)
+part-append part-nil q = q
+part-append (part-skip p) q = part-skip (part-append p q)
+part-append (part-take p) q = part-take (part-append p q)
+
+part-left : {a : List ℕ} {m : Marks} (b : List ℕ) → Part a m → Part (a ++ b) m
+part-left b part-nil = part-none b
+part-left b (part-skip p) = part-skip (part-left b p)
+part-left b (part-take p) = part-take (part-left b p)
+
+pub record Marked (ns : List ℕ) (x : Typed) : Type 0 where
+  pub part : Part ns (x .marks)
+
+marked-pure : {ns : List ℕ} {a : Answer} → Marked ns (pure a)
+marked-pure {ns} = record { part = part-none ns }
+
+then-part : {a b : List ℕ} {m : Marks} {k : Ty → Typed} (r : Answer) → Part a m → ((t : Ty) → Marked b (k t)) → Marked (a ++ b) (thenFor r m k)
+unfolding thenFor
+then-part (typed t) p q = record { part = part-append p (q t .part) }
+then-part {b} (refused n l) p q = record { part = part-left b p }
+
+marked-then : {a b : List ℕ} {x : Typed} {k : Ty → Typed} → Marked a x → ((t : Ty) → Marked b (k t)) → Marked (a ++ b) (andThen x k)
+unfolding andThen
+marked-then {x} p q = then-part (x .answer) (p .part) q
+
+-- the last operand
+marked-last : {a : List ℕ} {x : Typed} {k : Ty → Typed} → Marked a x → ((t : Ty) → Marked [] (k t)) → Marked a (andThen x k)
+marked-last {a} {x} {k} p q = subst (λ ns. Marked ns (andThen x k)) (append-nil a) (marked-then p q)
+
+marked-collection : {ns : List ℕ} {x : Typed} {k : Letter → Ty → Typed} (t : Ty) → Marked ns x → ((l : Letter) (m : Ty) → Marked ns (k l m)) → Marked ns (onCollection t x k)
+unfolding onCollection
+marked-collection void p h = p
+marked-collection (simple b) p h = p
+marked-collection (around l m) p h = h l m
+
+marked-if : {ns : List ℕ} {x y : Typed} (b : Bool) → Marked ns x → Marked ns y → Marked ns (if b then x else y)
+marked-if true p q = p
+marked-if false p q = q
+
+module _ (s : Model) where
+  row-part : (p : ℕ) (o : Option ℕ) → Marked (p ∷ []) (rowType s p o)
+  unfolding rowType
+  row-part p none = marked-pure
+  row-part p (some i) = record { part = part-take part-nil }
+
+  attribute-part : (p name : ℕ) (t : Ty) → Marked (p ∷ []) (attributeType s p name t)
+  unfolding attributeType
+  attribute-part p name void = marked-pure
+  attribute-part p name (simple any) = marked-pure
+  attribute-part p name (simple boolean) = marked-pure
+  attribute-part p name (simple integer) = marked-pure
+  attribute-part p name (simple (class c)) = row-part p (rowRead s c name)
+  attribute-part p name (around l t) = marked-pure
+
+  own : {ns : List ℕ} {x : Typed} (p : ℕ) → Marked ns x → Marked (ns ++ (p ∷ [])) x
+  own p h = record { part = part-left (p ∷ []) (h .part) }
+
+  mutual
+    unfolding numbers typing leafTyping unaryTyping binaryTyping connectiveTyping isUndefTyping conditionalTyping letTyping attributeTyping quantifiedTyping iterateTyping noOperandTyping operandTyping collectTyping
+
+    pub marked : (e : Expr) (Γ : Env Ty) → Marked (numbers e) (typing s e Γ)
+    marked (node p f) Γ = marked-form p f Γ
+
+    marked-form : (p : ℕ) (f : Form) (Γ : Env Ty) → Marked (numbersIn f ++ (p ∷ [])) (formTyping s p f Γ)
+    marked-form p (leaf l) Γ = marked-pure
+    marked-form p (unary op a) Γ = own p (marked-last (marked a Γ) (λ z. marked-pure))
+    marked-form p (binary op a b) Γ = own p (marked-then (marked a Γ) (λ t. marked-last (marked b Γ) (λ z. marked-pure)))
+    marked-form p (connective c a b) Γ = own p (marked-then (marked a Γ) (λ t. marked-last (marked b Γ) (λ z. marked-pure)))
+    marked-form p (isUndef a) Γ = own p (marked-last (marked a Γ) (λ z. marked-pure))
+    marked-form p (conditional c a b) Γ = own p (marked-then (marked c Γ) (λ t. marked-then (marked a Γ) (λ u. marked-last (marked b Γ) (λ z. marked-pure))))
+    marked-form p (letIn i a b) Γ = own p (marked-then (marked a Γ) (λ t. marked b (extend Γ i t)))
+    marked-form p (attribute name a) Γ = marked-then (marked a Γ) (attribute-part p name)
+    marked-form p (quantified q i a b) Γ = own p (marked-then (marked a Γ) (λ t. marked-collection t marked-pure (λ l m. marked-last (marked b (extend Γ i m)) (λ z. marked-pure))))
+    marked-form p (iterate i j t a e b) Γ =
+        own p (marked-then (marked a Γ) (λ c. marked-then (marked e Γ) (λ u. marked-collection c marked-pure (λ l m.
+        marked-if (subtype (s .parent) u t) (marked-last (marked b (extend (extend Γ i m) j t)) (λ z. marked-pure)) marked-pure))))
+    marked-form p (collect k es) Γ = own p (marked-last (marked-operands p es Γ) (λ z. marked-pure))
+
+    marked-operands : (p : ℕ) (es : Operands) (Γ : Env Ty) → Marked (numbersOf es) (operandsTyping s p es Γ)
+    marked-operands p noOperand Γ = marked-pure
+    marked-operands p (operand e es) Γ = marked-then (marked e Γ) (λ t. marked-last (marked-operands p es Γ) (λ z. marked-pure))
+
+-- ---- no mark replaces another
+
+keep : (d : ℕ) {p : ℕ} {ns : List ℕ} {m : Marks} → Part ns m → Each (λ n. n ≢ p) ns → markOr d m p ≡ d
+unfolding markOr
+keep d part-nil each-nil = refl
+keep d (part-skip q) (each-cons z h) = keep d q h
+keep d {p} (part-take {n} {i} q) (each-cons z h) = keep _ q h ∙ rw (ne-eqb p n (λ e. z (sym e)))
+
+-- whatever stood there before the marks were made
+pub agree-marks : (d : ℕ → ℕ) {ns : List ℕ} {m : Marks} → Part ns m → Distinct ns → Agree (λ p. markOr (d p) m p) m
+unfolding markOr
+agree-marks d part-nil distinct-nil = agree-nil
+agree-marks d (part-skip q) (distinct-cons z e) = agree-marks d q e
+agree-marks d (part-take {n} {i} q) (distinct-cons z e) =
+    agree-cons {i = i} (keep _ q z ∙ rw (eq-eqb n n refl)) (agree-marks (λ p. if eqb p n then i else d p) q e)

@@ -1,0 +1,285 @@
+-- Document 01, Evaluation: from an environment and the steps so far to an outcome with the steps then begun.
+use mathlib.Core.Bool.{Bool, true, false, not, Bool·beq}
+use mathlib.Core.Option.{Option, none, some}
+use Prim.Native.Nat.{ℕ, zero, suc, _+_, _/_, _%_, Ordering, Ordering·lt, Ordering·eq, Ordering·gt}
+use lib.IntN.{ℤ, pos, negsuc, negℤ, natAbs, _+ℤ_, _-ℤ_, _*ℤ_}
+use lib.Dec.{leb, ltb}
+use Rattle.laws.specs.Choice.{if_then_else_}
+use Rattle.ocl.specs.Types.{class, Kind, set, sameKind, Ty}
+use Rattle.ocl.specs.Values.{Value, bool, int, obj, coll, Values, nil, cons, count, size, orderInt, same, has, append, add, addAll}
+use Rattle.ocl.specs.Model.{Row, Model, isA}
+use Rattle.ocl.specs.Environment.{Env, extend, start}
+use Rattle.ocl.specs.Forms.{Arith, plus, minus, times, div, modulo, Connective, and, or, Quantifier, forAll, exists, Leaf, truth, undef, number, self, var, all, Unary, negation, sizeOf, convert, castTo, Binary, equal, less, arith, includes, including, union, Expr, node, Form, leaf, unary, binary, connective, isUndef, conditional, letIn, attribute, quantified, iterate, collect, Operands, noOperand, operand}
+
+-- a value, or undefined, with the steps begun; stuck; or a stop with its number, 16 or 17, and the steps begun
+pub data Outcome : Type 0 where
+  value : Value → ℕ → Outcome
+  undefined : ℕ → Outcome
+  stuck : Outcome
+  stop : ℕ → ℕ → Outcome
+
+-- a node's evaluation
+abbrev pub Run : Type 0
+Run = Env Value → ℕ → Outcome
+
+-- what follows a value, and what follows undefined; a stuck or stopped operand ends the whole
+abbrev pub resume : Outcome → (Value → ℕ → Outcome) → (ℕ → Outcome) → Outcome
+resume (value v n) k u = k v n
+resume (undefined n) k u = u n
+resume stuck k u = stuck
+resume (stop c n) k u = stop c n
+
+-- a strict form is undefined where its operand is
+abbrev pub bind : Outcome → (Value → ℕ → Outcome) → Outcome
+bind (value v n) k = k v n
+bind (undefined n) k = undefined n
+bind stuck k = stuck
+bind (stop c n) k = stop c n
+
+-- a node's beginning is one step; 16 where 1,000,000 have begun already
+unfoldable pub tick : Run → Run
+tick f ρ n = if ltb n 1000000 then f ρ (n + 1) else stop 16 n
+
+-- a collection is formed; 17 where its size is over 128
+unfoldable pub form : Value → ℕ → Outcome
+form v n = if leb (size v) 128 then value v n else stop 17 n
+
+-- a value, or undefined where there is none
+abbrev pub given : Option Value → ℕ → Outcome
+given none n = undefined n
+given (some v) n = value v n
+
+-- ---- the kinds that an operand may have; one of any other kind is stuck
+
+abbrev pub onBool : Value → (Bool → Outcome) → Outcome
+onBool (bool b) k = k b
+onBool (int z) k = stuck
+onBool (obj o) k = stuck
+onBool (coll c vs) k = stuck
+
+abbrev pub onInt : Value → (ℤ → Outcome) → Outcome
+onInt (bool b) k = stuck
+onInt (int z) k = k z
+onInt (obj o) k = stuck
+onInt (coll c vs) k = stuck
+
+abbrev pub onObj : Value → (ℕ → Outcome) → Outcome
+onObj (bool b) k = stuck
+onObj (int z) k = stuck
+onObj (obj o) k = k o
+onObj (coll c vs) k = stuck
+
+abbrev pub onColl : Value → (Kind → Values → Outcome) → Outcome
+onColl (bool b) k = stuck
+onColl (int z) k = stuck
+onColl (obj o) k = stuck
+onColl (coll c vs) k = k c vs
+
+-- ---- Integers
+
+-- does the order say less
+unfoldable pub isLess : Ordering → Bool
+isLess Ordering·lt = true
+isLess Ordering·eq = false
+isLess Ordering·gt = false
+
+-- -2147483648 to 2147483647
+unfoldable pub inRange : ℤ → Bool
+inRange (pos n) = ltb n 2147483648
+inRange (negsuc n) = ltb n 2147483648
+
+-- a result outside the range is undefined
+unfoldable pub ranged : ℤ → Option Value
+ranged z = if inRange z then some (int z) else none
+
+-- so is one with a zero divisor
+unfoldable pub unlessZero : ℤ → Option Value → Option Value
+unlessZero (pos zero) r = none
+unlessZero (pos (suc n)) r = r
+unlessZero (negsuc n) r = r
+
+-- `div` cuts toward zero
+unfoldable pub quotient : ℤ → ℤ → ℤ
+quotient (pos a) (pos b) = pos (a / b)
+quotient (pos a) (negsuc b) = negℤ (pos (a / suc b))
+quotient (negsuc a) (pos b) = negℤ (pos (suc a / b))
+quotient (negsuc a) (negsuc b) = pos (suc a / suc b)
+
+-- `mod` is what `div` leaves, with the dividend's sign
+unfoldable pub remainder : ℤ → ℤ → ℤ
+remainder (pos a) y = pos (a % natAbs y)
+remainder (negsuc a) y = negℤ (pos (suc a % natAbs y))
+
+unfoldable pub arithmetic : Arith → ℤ → ℤ → Option Value
+arithmetic plus x y = ranged (x +ℤ y)
+arithmetic minus x y = ranged (x -ℤ y)
+arithmetic times x y = ranged (x *ℤ y)
+arithmetic div x y = unlessZero y (ranged (quotient x y))
+arithmetic modulo x y = unlessZero y (ranged (remainder x y))
+
+-- ---- forms with no operand
+
+-- the objects of c or below among the first n
+unfoldable pub instances : Model → ℕ → ℕ → Values
+instances s c zero = nil
+instances s c (suc n) = if isA s n (class c) then append (obj n) (instances s c n) else instances s c n
+
+-- an unbound variable is stuck
+abbrev pub bound : Option Value → ℕ → Outcome
+bound none n = stuck
+bound (some v) n = value v n
+
+unfoldable pub leafRun : Model → Leaf → Run
+leafRun s (truth b) ρ n = value (bool b) n
+leafRun s undef ρ n = undefined n
+leafRun s (number z) ρ n = value (int z) n
+leafRun s self ρ n = bound (ρ 0) n
+leafRun s (var i) ρ n = bound (ρ i) n
+leafRun s (all c) ρ n = form (coll set (instances s c (s .objectCount))) n
+
+-- ---- forms with one strict operand
+
+-- `as` takes any value but a collection, and is undefined unless it is an object of c or below
+unfoldable pub cast : Model → ℕ → Value → ℕ → Outcome
+cast s c (bool b) n = undefined n
+cast s c (int z) n = undefined n
+cast s c (obj o) n = if isA s o (class c) then value (obj o) n else undefined n
+cast s c (coll k vs) n = stuck
+
+unfoldable pub unaryApply : Model → Unary → Value → ℕ → Outcome
+unaryApply s negation v n = onBool v (λ b. value (bool (not b)) n)
+unaryApply s sizeOf v n = onColl v (λ k vs. value (int (pos (count vs))) n)
+-- members are added in their stored order, so a Sequence keeps it and a Set drops repeats
+unaryApply s (convert k) v n = onColl v (λ j vs. form (coll k (addAll k vs nil)) n)
+unaryApply s (castTo c) v n = cast s c v n
+
+unfoldable pub unaryRun : Model → Unary → Run → Run
+unaryRun s op f ρ n = bind (f ρ n) (λ v n. unaryApply s op v n)
+
+-- ---- forms with two strict operands
+
+abbrev pub isInt : Value → Bool
+isInt (bool b) = false
+isInt (int z) = true
+isInt (obj o) = false
+isInt (coll k vs) = false
+
+abbrev pub isColl : Value → Bool
+isColl (bool b) = false
+isColl (int z) = false
+isColl (obj o) = false
+isColl (coll k vs) = true
+
+-- the left operand's kind, which is looked at before the right one runs
+unfoldable pub leftFits : Binary → Value → Bool
+leftFits equal v = true
+leftFits less v = isInt v
+leftFits (arith o) v = isInt v
+leftFits includes v = isColl v
+leftFits including v = isColl v
+leftFits union v = isColl v
+
+unfoldable pub binaryApply : Binary → Value → Value → ℕ → Outcome
+binaryApply equal v w n = value (bool (same v w)) n
+binaryApply less v w n = onInt v (λ x. onInt w (λ y. value (bool (isLess (orderInt x y))) n))
+binaryApply (arith o) v w n = onInt v (λ x. onInt w (λ y. given (arithmetic o x y) n))
+binaryApply includes v w n = onColl v (λ k vs. value (bool (has w vs)) n)
+binaryApply including v w n = onColl v (λ k vs. form (coll k (add k w vs)) n)
+-- two of one kind: Sets merge, Bags add up, Sequences join
+binaryApply union v w n = onColl v (λ j vs. onColl w (λ k ws. if sameKind j k then form (coll j (addAll j ws vs)) n else stuck))
+
+unfoldable pub binaryRun : Binary → Run → Run → Run
+binaryRun op f g ρ n = bind (f ρ n) (λ v n. if leftFits op v then bind (g ρ n) (λ w n. binaryApply op v w n) else stuck)
+
+-- ---- the other forms
+
+-- the side that decides: false for `and`, true for `or`
+unfoldable pub decides : Connective → Bool
+decides and = false
+decides or = true
+
+-- a deciding left side leaves the right one unrun; a deciding right side decides even where the left is undefined
+unfoldable pub connectiveRun : Connective → Run → Run → Run
+connectiveRun c f g ρ n = resume (f ρ n)
+    (λ v n. onBool v (λ a. if Bool·beq a (decides c) then value (bool a) n else bind (g ρ n) (λ w n. onBool w (λ b. value (bool b) n))))
+    (λ n. bind (g ρ n) (λ w n. onBool w (λ b. if Bool·beq b (decides c) then value (bool b) n else undefined n)))
+
+unfoldable pub isUndefRun : Run → Run
+isUndefRun f ρ n = resume (f ρ n) (λ v n. value (bool false) n) (λ n. value (bool true) n)
+
+-- `if` is strict in its condition, and one branch runs
+unfoldable pub conditionalRun : Run → Run → Run → Run
+conditionalRun f g h ρ n = bind (f ρ n) (λ v n. onBool v (λ b. if b then g ρ n else h ρ n))
+
+-- `let` is strict
+unfoldable pub letRun : ℕ → Run → Run → Run
+letRun i f g ρ n = bind (f ρ n) (λ v n. g (extend ρ i v) n)
+
+-- `attr` takes an object of the class of the row it is marked with, or below it
+unfoldable pub attributeRun : Model → ℕ → Run → Run
+attributeRun s i f ρ n =
+    bind (f ρ n) (λ v n. onObj v (λ o. if isA s o (class (s .row i .owner)) then given (s .valueOf o i) n else stuck))
+
+-- the body that ends it: false for `forAll`, true for `exists`
+unfoldable pub endsAt : Quantifier → Bool
+endsAt forAll = false
+endsAt exists = true
+
+-- members in their stored order, up to the first whose body is undefined or ends it
+unfoldable pub search : Quantifier → (Value → ℕ → Outcome) → Values → ℕ → Outcome
+search q body nil n = value (bool (not (endsAt q))) n
+search q body (cons v vs) n =
+    bind (body v n) (λ w n. onBool w (λ b. if Bool·beq b (endsAt q) then value (bool b) n else search q body vs n))
+
+unfoldable pub quantifiedRun : Quantifier → ℕ → Run → Run → Run
+quantifiedRun q i f g ρ n = bind (f ρ n) (λ v n. onColl v (λ k vs. search q (λ x. g (extend ρ i x)) vs n))
+
+-- members in their stored order, up to the first undefined accumulator
+unfoldable pub fold : (Value → Value → ℕ → Outcome) → Values → Value → ℕ → Outcome
+fold body nil a n = value a n
+fold body (cons v vs) a n = bind (body v a n) (λ b n. fold body vs b n)
+
+-- i is the member, j the accumulator, which starts as e's value
+unfoldable pub iterateRun : ℕ → ℕ → Run → Run → Run → Run
+iterateRun i j f g h ρ n =
+    bind (f ρ n) (λ v n. onColl v (λ k vs. bind (g ρ n) (λ a n. fold (λ x y. h (extend (extend ρ i x) j y)) vs a n)))
+
+-- `coll`: from the members so far
+abbrev pub Gather : Type 0
+Gather = Kind → Values → Run
+
+-- the collection is formed once its last member is there
+unfoldable pub noOperandRun : Gather
+noOperandRun k vs ρ n = form (coll k vs) n
+
+unfoldable pub operandRun : Run → Gather → Gather
+operandRun f g k vs ρ n = bind (f ρ n) (λ v n. g k (add k v vs) ρ n)
+
+unfoldable pub collectRun : Kind → Gather → Run
+collectRun k g ρ n = g k nil ρ n
+
+-- evaluation reads the marks of `attr` nodes and no types
+unfoldable mutual
+  pub evaluation : Model → (ℕ → ℕ) → Expr → Run
+  evaluation s mark (node p f) = tick (formRun s mark p f)
+
+  pub formRun : Model → (ℕ → ℕ) → ℕ → Form → Run
+  formRun s mark p (leaf l) = leafRun s l
+  formRun s mark p (unary op a) = unaryRun s op (evaluation s mark a)
+  formRun s mark p (binary op a b) = binaryRun op (evaluation s mark a) (evaluation s mark b)
+  formRun s mark p (connective c a b) = connectiveRun c (evaluation s mark a) (evaluation s mark b)
+  formRun s mark p (isUndef a) = isUndefRun (evaluation s mark a)
+  formRun s mark p (conditional c a b) = conditionalRun (evaluation s mark c) (evaluation s mark a) (evaluation s mark b)
+  formRun s mark p (letIn i a b) = letRun i (evaluation s mark a) (evaluation s mark b)
+  formRun s mark p (attribute name a) = attributeRun s (mark p) (evaluation s mark a)
+  formRun s mark p (quantified q i a b) = quantifiedRun q i (evaluation s mark a) (evaluation s mark b)
+  formRun s mark p (iterate i j t a e b) = iterateRun i j (evaluation s mark a) (evaluation s mark e) (evaluation s mark b)
+  formRun s mark p (collect k es) = collectRun k (operandsRun s mark es)
+
+  pub operandsRun : Model → (ℕ → ℕ) → Operands → Gather
+  operandsRun s mark noOperand = noOperandRun
+  operandsRun s mark (operand e es) = operandRun (evaluation s mark e) (operandsRun s mark es)
+
+-- a rule for an object, which is `self`, from no step
+unfoldable pub evaluateRule : Model → (ℕ → ℕ) → Expr → ℕ → Outcome
+evaluateRule s mark e o = evaluation s mark e (start (obj o)) 0

@@ -1,0 +1,137 @@
+-- Document 01, The forms and their typing: a rule as a tree of nodes. Evaluation: its reach.
+use mathlib.Core.Bool.{Bool}
+use mathlib.Core.List.{List, [], _∷_, _++_}
+use Prim.Native.Nat.{ℕ, zero, suc, _+_, _*_, max}
+use lib.IntN.{ℤ}
+use Rattle.ocl.specs.Types.{Kind, Ty}
+
+-- `plus`, `minus`, `times`, `div`, `mod`
+pub data Arith : Type 0 where
+  plus minus times div modulo : Arith
+
+-- `and`, `or`
+pub data Connective : Type 0 where
+  and or : Connective
+
+-- `forAll`, `exists`
+pub data Quantifier : Type 0 where
+  forAll exists : Quantifier
+
+-- forms with no operand: `true` and `false`, `undef`, `int n`, `self`, `var i`, `all c`
+pub data Leaf : Type 0 where
+  truth : Bool → Leaf
+  undef : Leaf
+  number : ℤ → Leaf
+  self : Leaf
+  var : ℕ → Leaf
+  all : ℕ → Leaf
+
+-- forms with one strict operand: `not`, `size`, `asSet` `asSequence` `asBag`, `as e c`
+pub data Unary : Type 0 where
+  negation : Unary
+  sizeOf : Unary
+  convert : Kind → Unary
+  castTo : ℕ → Unary
+
+-- forms with two strict operands: `eq`, `less`, arithmetic, `includes`, `including`, `union`
+pub data Binary : Type 0 where
+  equal : Binary
+  less : Binary
+  arith : Arith → Binary
+  includes : Binary
+  including : Binary
+  union : Binary
+
+mutual
+  -- a node: its number, counted through all rules of a sheet, and its form
+  pub data Expr : Type 0 where
+    node : ℕ → Form → Expr
+
+  pub data Form : Type 0 where
+    leaf : Leaf → Form
+    unary : Unary → Expr → Form
+    binary : Binary → Expr → Expr → Form
+    connective : Connective → Expr → Expr → Form
+    isUndef : Expr → Form
+    -- `if e b b`
+    conditional : Expr → Expr → Expr → Form
+    -- `let i e b`
+    letIn : ℕ → Expr → Expr → Form
+    -- `attr e name`, name first
+    attribute : ℕ → Expr → Form
+    -- `forAll s i b`, `exists s i b`, the variable first
+    quantified : Quantifier → ℕ → Expr → Expr → Form
+    -- `iter s i j T e b`: the member, the accumulator, its type, then s, e, b
+    iterate : ℕ → ℕ → Ty → Expr → Expr → Expr → Form
+    -- `coll k e..`
+    collect : Kind → Operands → Form
+
+  pub data Operands : Type 0 where
+    noOperand : Operands
+    operand : Expr → Operands → Operands
+
+-- reach (document 01's word): an upper bound of the steps. 1, and the operands' reaches; an iterated body counts 127 times
+unfoldable mutual
+  pub reach : Expr → ℕ
+  reach (node n f) = suc (inside f)
+
+  pub inside : Form → ℕ
+  inside (leaf l) = 0
+  inside (unary op a) = reach a
+  inside (binary op a b) = reach a + reach b
+  inside (connective c a b) = reach a + reach b
+  inside (isUndef a) = reach a
+  inside (conditional c a b) = reach c + (reach a + reach b)
+  inside (letIn i a b) = reach a + reach b
+  inside (attribute name a) = reach a
+  inside (quantified q i a b) = reach a + 127 * reach b
+  inside (iterate i j t a e b) = reach a + (reach e + 127 * reach b)
+  inside (collect k es) = reaches es
+
+  pub reaches : Operands → ℕ
+  reaches noOperand = 0
+  reaches (operand e es) = reach e + reaches es
+
+-- the depth of a tree; its root alone is depth 1
+unfoldable mutual
+  pub levels : Expr → ℕ
+  levels (node n f) = suc (levelsIn f)
+
+  pub levelsIn : Form → ℕ
+  levelsIn (leaf l) = 0
+  levelsIn (unary op a) = levels a
+  levelsIn (binary op a b) = max (levels a) (levels b)
+  levelsIn (connective c a b) = max (levels a) (levels b)
+  levelsIn (isUndef a) = levels a
+  levelsIn (conditional c a b) = max (levels c) (max (levels a) (levels b))
+  levelsIn (letIn i a b) = max (levels a) (levels b)
+  levelsIn (attribute name a) = levels a
+  levelsIn (quantified q i a b) = max (levels a) (levels b)
+  levelsIn (iterate i j t a e b) = max (levels a) (max (levels e) (levels b))
+  levelsIn (collect k es) = levelsOf es
+
+  pub levelsOf : Operands → ℕ
+  levelsOf noOperand = 0
+  levelsOf (operand e es) = max (levels e) (levelsOf es)
+
+-- the numbers of a tree's nodes, operands first
+unfoldable mutual
+  pub numbers : Expr → List ℕ
+  numbers (node n f) = numbersIn f ++ (n ∷ [])
+
+  pub numbersIn : Form → List ℕ
+  numbersIn (leaf l) = []
+  numbersIn (unary op a) = numbers a
+  numbersIn (binary op a b) = numbers a ++ numbers b
+  numbersIn (connective c a b) = numbers a ++ numbers b
+  numbersIn (isUndef a) = numbers a
+  numbersIn (conditional c a b) = numbers c ++ (numbers a ++ numbers b)
+  numbersIn (letIn i a b) = numbers a ++ numbers b
+  numbersIn (attribute name a) = numbers a
+  numbersIn (quantified q i a b) = numbers a ++ numbers b
+  numbersIn (iterate i j t a e b) = numbers a ++ (numbers e ++ numbers b)
+  numbersIn (collect k es) = numbersOf es
+
+  pub numbersOf : Operands → List ℕ
+  numbersOf noOperand = []
+  numbersOf (operand e es) = numbers e ++ numbersOf es

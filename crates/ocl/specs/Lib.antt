@@ -1,0 +1,9 @@
+pub mod Types
+pub mod Values
+pub mod Model
+pub mod Environment
+pub mod Forms
+pub mod Typing
+pub mod Evaluation
+pub mod Soundness
+pub mod Worked

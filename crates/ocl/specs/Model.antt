@@ -1,0 +1,64 @@
+-- Document 01, The sheet: what typing and evaluation read of it. Values and types: which values belong to a type.
+use mathlib.Core.Bool.{Bool, true, false, _&&_}
+use mathlib.Core.Option.{Option, none, some}
+use Prim.Native.Nat.{ℕ, zero, suc}
+use lib.Dec.{eqb}
+use Rattle.laws.specs.Choice.{if_then_else_, orElse, onSome}
+use Rattle.ocl.specs.Types.{Simple, any, boolean, integer, class, Letter, exactly, Ty, void, simple, around, Parents, simpleSubtype, letterSubtype}
+use Rattle.ocl.specs.Values.{Value, bool, int, obj, coll, Values, nil, cons}
+
+-- an attribute row: the class that declares it, its name, its type
+pub record Row : Type 0 where
+  pub owner : ℕ
+  pub name : ℕ
+  pub type : Ty
+
+-- classes, rows, objects and values
+pub record Model : Type 0 where
+  pub parent : Parents
+  pub rowCount : ℕ
+  pub row : ℕ → Row
+  pub objectCount : ℕ
+  pub classOf : ℕ → Option ℕ
+  -- the value of a row for an object, row last; none is undefined
+  pub valueOf : ℕ → ℕ → Option Value
+
+-- a class, if there is one, that is b or below it
+unfoldable pub classBelow : Parents → Option ℕ → Simple → Bool
+classBelow parent none b = false
+classBelow parent (some c) b = simpleSubtype parent (class c) b
+
+-- an object belongs to its class, to that class's ancestors and to Any
+unfoldable pub isA : Model → ℕ → Simple → Bool
+isA s o b = classBelow (s .parent) (s .classOf o) b
+
+-- does the test hold of each member
+unfoldable pub every : (Value → Bool) → Values → Bool
+every f nil = true
+every f (cons v vs) = f v && every f vs
+
+-- does the value belong to the type? A collection: to its kind, or to C, around each type that all its members belong to
+unfoldable pub belongs : Model → Ty → Value → Bool
+belongs s void v = false
+belongs s (simple b) (bool x) = simpleSubtype (s .parent) boolean b
+belongs s (simple b) (int z) = simpleSubtype (s .parent) integer b
+belongs s (simple b) (obj o) = isA s o b
+belongs s (simple b) (coll k vs) = false
+belongs s (around l t) (bool x) = false
+belongs s (around l t) (int z) = false
+belongs s (around l t) (obj o) = false
+belongs s (around l t) (coll k vs) = letterSubtype (exactly k) l && every (belongs s t) vs
+
+-- the row that class c itself declares with the name, among the first n rows
+unfoldable pub declared : Model → ℕ → ℕ → ℕ → Option ℕ
+declared s c name zero = none
+declared s c name (suc n) = if eqb (s .row n .owner) c && eqb (s .row n .name) name then some n else declared s c name n
+
+-- the nearest declaration from class c upward, through at most n classes
+unfoldable pub nearest : Model → ℕ → ℕ → ℕ → Option ℕ
+nearest s name zero c = none
+nearest s name (suc n) c = orElse (declared s c name (s .rowCount)) (onSome (s .parent c) (nearest s name n))
+
+-- a class has at most as many ancestors as its number says, since parents are smaller
+unfoldable pub rowRead : Model → ℕ → ℕ → Option ℕ
+rowRead s c name = nearest s name (suc c) c

@@ -1,0 +1,230 @@
+-- Document 01, The forms and their typing: a type, or the number and node of a refusal; and the marks made on the way.
+use mathlib.Core.Bool.{Bool, true, false, _||_}
+use mathlib.Core.Option.{Option, none, some}
+use mathlib.Core.List.{List, [], _∷_, _++_}
+use Prim.Native.Nat.{ℕ, zero, suc}
+use lib.Dec.{eqb, leb}
+use Rattle.laws.specs.Choice.{if_then_else_}
+use Rattle.ocl.specs.Types.{Simple, any, boolean, integer, class, Kind, set, Letter, collection, exactly, Ty, void, simple, around, Any, Boolean, Integer, Class, depth, Parents, simpleSubtype, sameKind, subtype, join}
+use Rattle.ocl.specs.Model.{Row, Model, rowRead}
+use Rattle.ocl.specs.Environment.{Env, extend, start}
+use Rattle.ocl.specs.Forms.{Leaf, truth, undef, number, self, var, all, Unary, negation, sizeOf, convert, castTo, Binary, equal, less, arith, includes, including, union, Expr, node, Form, leaf, unary, binary, connective, isUndef, conditional, letIn, attribute, quantified, iterate, collect, Operands, noOperand, operand}
+
+-- a type, or a refusal's number and its node
+pub data Answer : Type 0 where
+  typed : Ty → Answer
+  refused : ℕ → ℕ → Answer
+
+-- marks (document 01's word): `attr` nodes with the row that each reads, in the order made
+abbrev pub Marks : Type 0
+Marks = List (ℕ × ℕ)
+
+-- an answer, and the marks made before it, which a refusal has too
+pub record Typed : Type 0 where
+  pub answer : Answer
+  pub marks : Marks
+
+-- a node's typing, given its variables' types
+abbrev pub Typing : Type 0
+Typing = Env Ty → Typed
+
+-- an answer that makes no mark
+abbrev pub pure : Answer → Typed
+pure a = record { answer = a; marks = [] }
+
+-- a type goes on, a refusal ends
+unfoldable pub thenFor : Answer → Marks → (Ty → Typed) → Typed
+thenFor (typed t) m k = record { answer = k t .answer; marks = m ++ k t .marks }
+thenFor (refused n p) m k = record { answer = refused n p; marks = m }
+
+-- operands are typed first, left to right: the first refusal is the answer
+unfoldable pub andThen : Typed → (Ty → Typed) → Typed
+andThen x k = thenFor (x .answer) (x .marks) k
+
+-- ---- what the node p asks of its operands' types: 11, then 10, then 12, then 13
+
+-- t is below u, else 11
+abbrev pub below : Model → ℕ → Ty → Ty → Answer → Answer
+below s p t u a = if subtype (s .parent) t u then a else refused 11 p
+
+-- there is a common type, else 10
+unfoldable pub common : ℕ → Option Ty → (Ty → Answer) → Answer
+common p none k = refused 10 p
+common p (some w) k = k w
+
+-- a letter around t is at most three deep, else 13
+unfoldable pub wrap : ℕ → Letter → Ty → Answer
+wrap p l t = if leb (depth t) 2 then typed (around l t) else refused 13 p
+
+-- t is a collection type, which Void is not
+unfoldable pub onCollection : {A : Type 0} → Ty → A → (Letter → Ty → A) → A
+onCollection void no11 k = no11
+onCollection (simple b) no11 k = no11
+onCollection (around l t) no11 k = k l t
+
+-- the letter is S, Q or B
+unfoldable pub onKind : Letter → Answer → (Kind → Answer) → Answer
+onKind collection no11 k = no11
+onKind (exactly c) no11 k = k c
+
+-- the variable is bound, else 9
+unfoldable pub bound : ℕ → Option Ty → Answer
+bound p none = refused 9 p
+bound p (some t) = typed t
+
+-- ---- the type of each form, given its operands' types
+
+-- forms with no operand
+unfoldable pub leafType : ℕ → Leaf → Env Ty → Answer
+leafType p (truth b) Γ = typed Boolean
+leafType p undef Γ = typed void
+leafType p (number z) Γ = typed Integer
+leafType p self Γ = bound p (Γ 0)
+leafType p (var i) Γ = bound p (Γ i)
+leafType p (all c) Γ = typed (around (exactly set) (Class c))
+
+-- `as`: from Any, or from a class above or below c; an unrelated class is 10, any other type 11
+unfoldable pub castType : Model → ℕ → ℕ → Ty → Answer
+castType s p c void = refused 11 p
+castType s p c (simple any) = typed (Class c)
+castType s p c (simple boolean) = refused 11 p
+castType s p c (simple integer) = refused 11 p
+castType s p c (simple (class d)) =
+    if subtype (s .parent) (Class d) (Class c) || subtype (s .parent) (Class c) (Class d) then typed (Class c) else refused 10 p
+castType s p c (around l t) = refused 11 p
+
+-- forms with one strict operand, of type t
+unfoldable pub unaryType : Model → ℕ → Unary → Ty → Answer
+unaryType s p negation t = below s p t Boolean (typed Boolean)
+unaryType s p sizeOf t = onCollection t (refused 11 p) (λ l u. typed Integer)
+-- the new kind around the member type
+unaryType s p (convert k) t = onCollection t (refused 11 p) (λ l u. wrap p (exactly k) u)
+unaryType s p (castTo c) t = castType s p c t
+
+-- t and u are below w; the type is r
+unfoldable pub bothBelow : Model → ℕ → Ty → Ty → Ty → Ty → Answer
+bothBelow s p w r t u = below s p t w (below s p u w (typed r))
+
+-- forms with two strict operands, of types t and u
+unfoldable pub binaryType : Model → ℕ → Binary → Ty → Ty → Answer
+-- `eq`: a common type must exist
+binaryType s p equal t u = common p (join (s .parent) t u) (λ w. typed Boolean)
+binaryType s p less t u = bothBelow s p Integer Boolean t u
+binaryType s p (arith o) t u = bothBelow s p Integer Integer t u
+-- `includes`: the member type and u must have a common type
+binaryType s p includes t u = onCollection t (refused 11 p) (λ l m. common p (join (s .parent) m u) (λ w. typed Boolean))
+-- `including`: S, Q or B, around the common type of its members and u
+binaryType s p including t u =
+    onCollection t (refused 11 p) (λ l m. onKind l (refused 11 p) (λ k. common p (join (s .parent) m u) (wrap p (exactly k))))
+-- `union`: both S, both Q or both B, around the common type of their members
+binaryType s p union t u =
+    onCollection t (refused 11 p) (λ l m. onKind l (refused 11 p) (λ j.
+    onCollection u (refused 11 p) (λ r n. onKind r (refused 11 p) (λ k.
+    if sameKind j k then common p (join (s .parent) m n) (wrap p (exactly j)) else refused 11 p))))
+
+-- `if`: a condition below Bool (11), then the branches' common type (10)
+unfoldable pub conditionalType : Model → ℕ → Ty → Ty → Ty → Answer
+conditionalType s p c t u = below s p c Boolean (common p (join (s .parent) t u) typed)
+
+-- the row found, which is marked; none is 12
+unfoldable pub rowType : Model → ℕ → Option ℕ → Typed
+rowType s p none = pure (refused 12 p)
+rowType s p (some i) = record { answer = typed (s .row i .type); marks = (p, i) ∷ [] }
+
+-- `attr`: of a class type, which Void is not; the row is the nearest declaration from that static class upward
+unfoldable pub attributeType : Model → ℕ → ℕ → Ty → Typed
+attributeType s p name void = pure (refused 11 p)
+attributeType s p name (simple any) = pure (refused 11 p)
+attributeType s p name (simple boolean) = pure (refused 11 p)
+attributeType s p name (simple integer) = pure (refused 11 p)
+attributeType s p name (simple (class c)) = rowType s p (rowRead s c name)
+attributeType s p name (around l t) = pure (refused 11 p)
+
+-- ---- each form over its operands' typings
+
+unfoldable pub leafTyping : ℕ → Leaf → Typing
+leafTyping p l Γ = pure (leafType p l Γ)
+
+unfoldable pub unaryTyping : Model → ℕ → Unary → Typing → Typing
+unaryTyping s p op f Γ = andThen (f Γ) (λ t. pure (unaryType s p op t))
+
+unfoldable pub binaryTyping : Model → ℕ → Binary → Typing → Typing → Typing
+binaryTyping s p op f g Γ = andThen (f Γ) (λ t. andThen (g Γ) (λ u. pure (binaryType s p op t u)))
+
+-- `and`, `or`: both below Bool
+unfoldable pub connectiveTyping : Model → ℕ → Typing → Typing → Typing
+connectiveTyping s p f g Γ = andThen (f Γ) (λ t. andThen (g Γ) (λ u. pure (bothBelow s p Boolean Boolean t u)))
+
+unfoldable pub isUndefTyping : Typing → Typing
+isUndefTyping f Γ = andThen (f Γ) (λ t. pure (typed Boolean))
+
+unfoldable pub conditionalTyping : Model → ℕ → Typing → Typing → Typing → Typing
+conditionalTyping s p f g h Γ =
+    andThen (f Γ) (λ c. andThen (g Γ) (λ t. andThen (h Γ) (λ u. pure (conditionalType s p c t u))))
+
+-- `let`: the variable has e's type in the body
+unfoldable pub letTyping : ℕ → Typing → Typing → Typing
+letTyping i f g Γ = andThen (f Γ) (λ t. g (extend Γ i t))
+
+unfoldable pub attributeTyping : Model → ℕ → ℕ → Typing → Typing
+attributeTyping s p name f Γ = andThen (f Γ) (attributeType s p name)
+
+-- `forAll`, `exists`: the source is checked (11) before the body is typed; the body is below Bool
+unfoldable pub quantifiedTyping : Model → ℕ → ℕ → Typing → Typing → Typing
+quantifiedTyping s p i f g Γ =
+    andThen (f Γ) (λ t. onCollection t (pure (refused 11 p)) (λ l m.
+    andThen (g (extend Γ i m)) (λ b. pure (below s p b Boolean (typed Boolean)))))
+
+-- `iter`: source and start are typed and checked (11) before the body is typed; the start and the body are below T
+unfoldable pub iterateTyping : Model → ℕ → ℕ → ℕ → Ty → Typing → Typing → Typing → Typing
+iterateTyping s p i j t f g h Γ =
+    andThen (f Γ) (λ c. andThen (g Γ) (λ e. onCollection c (pure (refused 11 p)) (λ l m.
+    if subtype (s .parent) e t
+    then andThen (h (extend (extend Γ i m) j t)) (λ b. pure (below s p b t (typed t)))
+    else pure (refused 11 p))))
+
+-- `coll`: Void where there is no member
+unfoldable pub noOperandTyping : Typing
+noOperandTyping Γ = pure (typed void)
+
+-- all members are typed before their common type is taken (10)
+unfoldable pub operandTyping : Model → ℕ → Typing → Typing → Typing
+operandTyping s p f g Γ = andThen (f Γ) (λ t. andThen (g Γ) (λ u. pure (common p (join (s .parent) t u) typed)))
+
+unfoldable pub collectTyping : ℕ → Kind → Typing → Typing
+collectTyping p k f Γ = andThen (f Γ) (λ t. pure (wrap p (exactly k) t))
+
+-- a node's refusals name that node
+unfoldable mutual
+  pub typing : Model → Expr → Typing
+  typing s (node p f) = formTyping s p f
+
+  pub formTyping : Model → ℕ → Form → Typing
+  formTyping s p (leaf l) = leafTyping p l
+  formTyping s p (unary op a) = unaryTyping s p op (typing s a)
+  formTyping s p (binary op a b) = binaryTyping s p op (typing s a) (typing s b)
+  formTyping s p (connective c a b) = connectiveTyping s p (typing s a) (typing s b)
+  formTyping s p (isUndef a) = isUndefTyping (typing s a)
+  formTyping s p (conditional c a b) = conditionalTyping s p (typing s c) (typing s a) (typing s b)
+  formTyping s p (letIn i a b) = letTyping i (typing s a) (typing s b)
+  formTyping s p (attribute name a) = attributeTyping s p name (typing s a)
+  formTyping s p (quantified q i a b) = quantifiedTyping s p i (typing s a) (typing s b)
+  formTyping s p (iterate i j t a e b) = iterateTyping s p i j t (typing s a) (typing s e) (typing s b)
+  formTyping s p (collect k es) = collectTyping p k (operandsTyping s p es)
+
+  pub operandsTyping : Model → ℕ → Operands → Typing
+  operandsTyping s p noOperand = noOperandTyping
+  operandsTyping s p (operand e es) = operandTyping s p (typing s e) (operandsTyping s p es)
+
+-- a rule with context class c: `self` has that class
+unfoldable pub typeRule : Model → ℕ → Expr → Typed
+typeRule s c e = typing s e (start (Class c))
+
+-- the row that node p is marked with, the last one where it was marked again, and d where it was not
+unfoldable pub markOr : ℕ → Marks → ℕ → ℕ
+markOr d [] p = d
+markOr d (x ∷ m) p = markOr (if eqb p (x .0) then x .1 else d) m p
+
+-- the marks as evaluation reads them; it reads them at `attr` nodes, and typing marks each of those
+unfoldable pub markOf : Typed → ℕ → ℕ
+markOf x p = markOr 0 (x .marks) p

@@ -1,0 +1,141 @@
+-- Document 01, Values and types: values, their size and order; Evaluation: how a member is added.
+use mathlib.Core.Bool.{Bool, true, false, _||_, Bool-discrete}
+use Prim.Native.Nat.{ℕ, zero, suc, _+_, compare, Ordering, Ordering·lt, Ordering·eq, Ordering·gt}
+use native.Mathlib.Decide.{ℕ-discrete}
+use lib.IntN.{ℤ, pos, negsuc, ℤ-discrete}
+use Rattle.ocl.specs.Types.{Kind, set, sequence, bag, Kind-discrete}
+
+-- what is defined: true or false, an Integer, an object, a collection. Undefined stands apart, since it is never a member
+mutual
+  pub data Value : Type 0 where
+    bool : Bool → Value
+    int : ℤ → Value
+    obj : ℕ → Value
+    coll : Kind → Values → Value
+    deriving Discrete as Value-discrete
+
+  pub data Values : Type 0 where
+    nil : Values
+    cons : Value → Values → Values
+    deriving Discrete as Values-discrete
+
+-- how many members
+unfoldable pub count : Values → ℕ
+count nil = 0
+count (cons v vs) = suc (count vs)
+
+-- a value counts 1, and a collection also its members' sizes
+unfoldable mutual
+  pub size : Value → ℕ
+  size (bool b) = 1
+  size (int z) = 1
+  size (obj o) = 1
+  size (coll k vs) = suc (sizes vs)
+
+  pub sizes : Values → ℕ
+  sizes nil = 0
+  sizes (cons v vs) = size v + sizes vs
+
+-- ---- the order of values
+
+-- the first that tells two apart
+unfoldable pub thenOrder : Ordering → Ordering → Ordering
+thenOrder Ordering·lt q = Ordering·lt
+thenOrder Ordering·eq q = q
+thenOrder Ordering·gt q = Ordering·gt
+
+-- truth values, Integers, objects, Sets, Sequences, Bags come in this order
+unfoldable pub sort : Value → ℕ
+sort (bool b) = 0
+sort (int z) = 1
+sort (obj o) = 2
+sort (coll set vs) = 3
+sort (coll sequence vs) = 4
+sort (coll bag vs) = 5
+
+-- false before true
+unfoldable pub ofBool : Bool → ℤ
+ofBool false = pos 0
+ofBool true = pos 1
+
+-- within a sort: truth values, Integers and objects by number, a collection by how many members it has
+unfoldable pub rank : Value → ℤ
+rank (bool b) = ofBool b
+rank (int z) = z
+rank (obj o) = pos o
+rank (coll k vs) = pos (count vs)
+
+-- the order of whole numbers
+unfoldable pub orderInt : ℤ → ℤ → Ordering
+orderInt (pos a) (pos b) = compare a b
+orderInt (pos a) (negsuc b) = Ordering·gt
+orderInt (negsuc a) (pos b) = Ordering·lt
+orderInt (negsuc a) (negsuc b) = compare b a
+
+-- a collection's members; of any other value none
+unfoldable pub members : Value → Values
+members (bool b) = nil
+members (int z) = nil
+members (obj o) = nil
+members (coll k vs) = vs
+
+-- by sort, then by rank
+unfoldable pub headOrder : Value → Value → Ordering
+headOrder v w = thenOrder (compare (sort v) (sort w)) (orderInt (rank v) (rank w))
+
+-- two collections of one kind and as many members: the first members that differ decide
+unfoldable mutual
+  pub order : Value → Value → Ordering
+  order (bool b) w = headOrder (bool b) w
+  order (int z) w = headOrder (int z) w
+  order (obj o) w = headOrder (obj o) w
+  order (coll k vs) w = thenOrder (headOrder (coll k vs) w) (orders vs (members w))
+
+  pub orders : Values → Values → Ordering
+  orders nil ws = Ordering·eq
+  orders (cons v vs) nil = Ordering·gt
+  orders (cons v vs) (cons w ws) = thenOrder (order v w) (orders vs ws)
+
+-- is it decided that A holds
+unfoldable pub holds : {A : Type 0} → Dec A → Bool
+holds (yes p) = true
+holds (no q) = false
+
+-- are the two one and the same value
+unfoldable pub same : Value → Value → Bool
+same v w = holds (Value-discrete Bool-discrete ℤ-discrete ℕ-discrete Kind-discrete v w)
+
+-- is v one of the members
+unfoldable pub has : Value → Values → Bool
+has v nil = false
+has v (cons w ws) = same v w || has v ws
+
+-- ---- adding a member: a Set stays strictly ascending, a Bag ascending, a Sequence grows at its end
+
+-- v before the member w, in its place (a second time, or not), or further on
+unfoldable pub put : Bool → Ordering → Value → Value → Values → Values → Values
+put repeats Ordering·lt v w ws further = cons v (cons w ws)
+put true Ordering·eq v w ws further = cons v (cons w ws)
+put false Ordering·eq v w ws further = cons w ws
+put repeats Ordering·gt v w ws further = cons w further
+
+-- into ascending members, with repeats or without
+unfoldable pub insert : Bool → Value → Values → Values
+insert repeats v nil = cons v nil
+insert repeats v (cons w ws) = put repeats (order v w) v w ws (insert repeats v ws)
+
+-- at the end
+unfoldable pub append : Value → Values → Values
+append v nil = cons v nil
+append v (cons w ws) = cons w (append v ws)
+
+-- as the kind has it
+unfoldable pub add : Kind → Value → Values → Values
+add set v vs = insert false v vs
+add sequence v vs = append v vs
+add bag v vs = insert true v vs
+
+-- the first members, one by one, to the second
+unfoldable pub addAll : Kind → Values → Values → Values
+addAll k nil vs = vs
+addAll k (cons w ws) vs = addAll k ws (add k w vs)

@@ -1,0 +1,72 @@
+-- Document 01, Worked and marked: P1 to P12, as one table.
+use mathlib.Core.Path.{_≡_}
+use mathlib.Core.Bool.{Bool, true, false}
+use mathlib.Core.Option.{Option, none, some}
+use Prim.Native.Nat.{ℕ, zero, suc}
+use lib.IntN.{ℤ, pos, negsuc}
+use Rattle.ocl.specs.Types.{Kind, set, sequence, collection, exactly, Ty, void, around, Any, Boolean, Integer, Class, Parents, join}
+use Rattle.ocl.specs.Values.{Value, bool, int, coll, nil, cons}
+use Rattle.ocl.specs.Model.{Row, Model}
+use Rattle.ocl.specs.Forms.{Arith, plus, div, modulo, and, forAll, truth, undef, number, arith, Expr, node, leaf, binary, connective, isUndef, letIn, quantified, collect, noOperand, operand}
+use Rattle.ocl.specs.Evaluation.{Outcome, value, undefined, evaluation}
+
+-- class 1 below class 0, and nothing else
+unfoldable pub parents : Parents
+parents zero = none
+parents (suc zero) = some 0
+parents (suc (suc c)) = none
+
+-- the cases read nothing else of it
+unfoldable pub bare : Model
+bare = record {
+  parent = parents;
+  rowCount = 0;
+  row = λ i. record { owner = 0; name = 0; type = void };
+  objectCount = 0;
+  classOf = λ o. none;
+  valueOf = λ o i. none;
+}
+
+-- with no mark, no variable and no step so far
+unfoldable pub outcome : Expr → Outcome
+outcome e = evaluation bare (λ p. 0) e (λ i. none) 0
+
+unfoldable pub false₀ : ℕ → Expr
+false₀ n = node n (leaf (truth false))
+
+unfoldable pub undef₀ : ℕ → Expr
+undef₀ n = node n (leaf undef)
+
+unfoldable pub int₀ : ℕ → ℤ → Expr
+int₀ n z = node n (leaf (number z))
+
+-- x o y
+unfoldable pub arith₂ : Arith → ℤ → ℤ → Expr
+arith₂ o x y = node 2 (binary (arith o) (int₀ 0 x) (int₀ 1 y))
+
+pub record Worked : Type 0 where
+  -- false and undef: f
+  pub p1 : outcome (node 2 (connective and (false₀ 0) (undef₀ 1))) ≡ value (bool false) 2
+  -- undef and false: f
+  pub p2 : outcome (node 2 (connective and (undef₀ 0) (false₀ 1))) ≡ value (bool false) 3
+  -- undef and true: u
+  pub p3 : outcome (node 2 (connective and (undef₀ 0) (node 1 (leaf (truth true))))) ≡ undefined 3
+  -- let of undef, in 3: u
+  pub p4 : outcome (node 2 (letIn 1 (undef₀ 0) (int₀ 1 (pos 3)))) ≡ undefined 2
+  -- isUndef of 1 div 0: t
+  pub p5 : outcome (node 3 (isUndef (arith₂ div (pos 1) (pos 0)))) ≡ value (bool true) 4
+  -- -7 div 2: -3
+  pub p6 : outcome (arith₂ div (negsuc 6) (pos 2)) ≡ value (int (negsuc 2)) 3
+  -- -7 mod 2: -1
+  pub p7 : outcome (arith₂ modulo (negsuc 6) (pos 2)) ≡ value (int (negsuc 0)) 3
+  -- 2147483647 plus 1: u
+  pub p8 : outcome (arith₂ plus (pos 2147483647) (pos 1)) ≡ undefined 3
+  -- the Set of 2, 1, 2: S(1,2)
+  pub p9 : outcome (node 3 (collect set (operand (int₀ 0 (pos 2)) (operand (int₀ 1 (pos 1)) (operand (int₀ 2 (pos 2)) noOperand)))))
+      ≡ value (coll set (cons (int (pos 1)) (cons (int (pos 2)) nil))) 4
+  -- #1 and Int: Any
+  pub p10 : join (bare .parent) (Class 1) Integer ≡ some Any
+  -- S(Int) and Q(Int): C(Int)
+  pub p11 : join (bare .parent) (around (exactly set) Integer) (around (exactly sequence) Integer) ≡ some (around collection Integer)
+  -- forAll over S(): t
+  pub p12 : outcome (node 2 (quantified forAll 1 (node 0 (collect set noOperand)) (false₀ 1))) ≡ value (bool true) 2
