@@ -1,0 +1,283 @@
+-- Document 01, Calls: when a well-spelled line is refused with 4, 5, 6, 7 or 8. Each test says what must hold.
+use Prim.Native.Nat.{ℕ, zero, suc, _+_, max, Ordering, Ordering·lt, Ordering·eq, Ordering·gt}
+use mathlib.Core.Bool.{Bool, true, false, not, _&&_, _||_}
+use mathlib.Core.Option.{Option, none, some}
+use mathlib.Core.List.{List, [], _∷_, _++_}
+use lib.ListN.{length, getD}
+use lib.Dec.{eqb, leb, ltb}
+use Rattle.laws.specs.Choice.{if_then_else_, onSome}
+use Rattle.laws.specs.Lists.{allOf, member}
+use Rattle.ocl.specs.Types.{Simple, any, boolean, integer, class, Kind, set, sequence, bag, Letter, Ty, void, simple, around, depth}
+use Rattle.ocl.specs.Values.{Value, bool, int, obj, coll, Values, nil, cons, size, order}
+use Rattle.ocl.specs.Evaluation.{inRange, isLess}
+use Rattle.ocl.specs.Model.{Row, Model, isA, belongs}
+use Rattle.ocl.specs.Forms.{Leaf, truth, undef, number, self, var, all, Unary, negation, sizeOf, convert, castTo}
+use Rattle.sheet.specs.Lines.{Shape, leaf, unary, binary, connective, isUndef, conditional, letIn, attribute, quantified, iterate, collect, Line, classLine, rowLine, objectLine, valueLine, ruleLine, nodeLine}
+use Rattle.sheet.specs.Sheet.{Slot, Current, Sheet, modelOf, operandsOf}
+
+-- ---- parts of lines
+
+-- the class inside a type is below n
+unfoldable pub simpleClassBelow : ℕ → Simple → Bool
+simpleClassBelow n any = true
+simpleClassBelow n boolean = true
+simpleClassBelow n integer = true
+simpleClassBelow n (class c) = ltb c n
+
+unfoldable pub classBelow : ℕ → Ty → Bool
+classBelow n void = true
+classBelow n (simple a) = simpleClassBelow n a
+classBelow n (around l t) = classBelow n t
+
+-- the test holds of each Integer and object in a value
+unfoldable mutual
+  pub everyPart : (Value → Bool) → Value → Bool
+  everyPart f (bool b) = f (bool b)
+  everyPart f (int z) = f (int z)
+  everyPart f (obj o) = f (obj o)
+  everyPart f (coll k vs) = everyParts f vs
+
+  pub everyParts : (Value → Bool) → Values → Bool
+  everyParts f nil = true
+  everyParts f (cons v vs) = everyPart f v && everyParts f vs
+
+-- an object's number is below n
+unfoldable pub objectBelow : ℕ → Value → Bool
+objectBelow n (bool b) = true
+objectBelow n (int z) = true
+objectBelow n (obj o) = ltb o n
+objectBelow n (coll k vs) = true
+
+-- an Integer is in range, an object's number below 96
+unfoldable pub partWithin : Value → Bool
+partWithin (bool b) = true
+partWithin (int z) = inRange z
+partWithin (obj o) = ltb o 96
+partWithin (coll k vs) = true
+
+-- how many collections stand inside one another
+unfoldable mutual
+  pub nesting : Value → ℕ
+  nesting (bool b) = 0
+  nesting (int z) = 0
+  nesting (obj o) = 0
+  nesting (coll k vs) = suc (nestings vs)
+
+  pub nestings : Values → ℕ
+  nestings nil = 0
+  nestings (cons v vs) = max (nesting v) (nestings vs)
+
+-- may w follow v: in a Set only a greater one, in a Bag also the same, in a Sequence any
+unfoldable pub mayFollow : Kind → Ordering → Bool
+mayFollow set q = isLess q
+mayFollow sequence q = true
+mayFollow bag Ordering·lt = true
+mayFollow bag Ordering·eq = true
+mayFollow bag Ordering·gt = false
+
+unfoldable pub followed : Kind → Value → Values → Bool
+followed k v nil = true
+followed k v (cons w ws) = mayFollow k (order v w)
+
+-- the members of each Set and Bag are in order
+unfoldable mutual
+  pub ordered : Value → Bool
+  ordered (bool b) = true
+  ordered (int z) = true
+  ordered (obj o) = true
+  ordered (coll k vs) = allOrdered k vs
+
+  pub allOrdered : Kind → Values → Bool
+  allOrdered k nil = true
+  allOrdered k (cons v vs) = ordered v && followed k v vs && allOrdered k vs
+
+-- ---- 4: a number, count, size or nesting outside its limits
+
+-- classes 0 to 63, names 0 to 255, nodes 0 to 767, variables 1 to 15
+unfoldable pub isClass : ℕ → Bool
+isClass c = ltb c 64
+
+unfoldable pub isVariable : ℕ → Bool
+isVariable i = leb 1 i && leb i 15
+
+unfoldable pub isNode : ℕ → Bool
+isNode a = ltb a 768
+
+unfoldable pub typeWithin : Ty → Bool
+typeWithin t = leb (depth t) 3 && classBelow 64 t
+
+unfoldable pub valueWithin : Value → Bool
+valueWithin v = everyPart partWithin v && leb (size v) 128 && leb (nesting v) 3
+
+unfoldable pub leafWithin : Leaf → Bool
+leafWithin (truth b) = true
+leafWithin undef = true
+leafWithin (number z) = inRange z
+leafWithin self = true
+leafWithin (var i) = isVariable i
+leafWithin (all c) = isClass c
+
+unfoldable pub unaryWithin : Unary → Bool
+unaryWithin negation = true
+unaryWithin sizeOf = true
+unaryWithin (convert k) = true
+unaryWithin (castTo c) = isClass c
+
+-- what a form holds besides its operands
+unfoldable pub formWithin : Shape → Bool
+formWithin (leaf l) = leafWithin l
+formWithin (unary op a) = unaryWithin op
+formWithin (binary op a b) = true
+formWithin (connective c a b) = true
+formWithin (isUndef a) = true
+formWithin (conditional c a b) = true
+formWithin (letIn i a b) = isVariable i
+formWithin (attribute name a) = ltb name 256
+formWithin (quantified q i a b) = isVariable i
+formWithin (iterate i j t a e b) = isVariable i && isVariable j && typeWithin t
+formWithin (collect k es) = true
+
+unfoldable pub parentWithin : Option ℕ → Bool
+parentWithin none = true
+parentWithin (some p) = isClass p
+
+-- the sizes of the values so far
+unfoldable pub totalSize : List Slot → ℕ
+totalSize [] = 0
+totalSize (x ∷ xs) = size (x .value) + totalSize xs
+
+unfoldable pub withinLimits : Sheet → Line → Bool
+withinLimits s (classLine n p) = isClass n && parentWithin p
+withinLimits s (rowLine n c name t) = ltb n 64 && isClass c && ltb name 256 && typeWithin t
+withinLimits s (objectLine n c) = ltb n 96 && isClass c
+-- at most 1,024 V lines, of sizes that come to at most 2,048
+withinLimits s (valueLine o a v) =
+    ltb o 96 && ltb a 64 && valueWithin v && ltb (length (s .slots)) 1024 && leb (totalSize (s .slots) + size v) 2048
+withinLimits s (ruleLine n c) = ltb n 64 && isClass c
+-- at most 768 nodes in all rules
+withinLimits s (nodeLine n x) = isNode n && formWithin x && allOf isNode (operandsOf x) && ltb (length (s .lines)) 768
+
+-- ---- 5: blocks, numbers and members in order; a name once in a class; two variables of `iter`
+
+-- C, A, O, V, then R with its N
+unfoldable pub blockOf : Line → ℕ
+blockOf (classLine n p) = 0
+blockOf (rowLine n c name t) = 1
+blockOf (objectLine n c) = 2
+blockOf (valueLine o a v) = 3
+blockOf (ruleLine n c) = 4
+blockOf (nodeLine n x) = 4
+
+-- does class c declare the name
+unfoldable pub declares : List Row → ℕ → ℕ → Bool
+declares [] c name = false
+declares (r ∷ rs) c name = eqb (r .owner) c && eqb (r .name) name || declares rs c name
+
+-- is (o, a) after the object and row of each slot so far; they ascend, so that the last decides
+unfoldable pub afterSlots : List Slot → ℕ → ℕ → Bool
+afterSlots [] o a = true
+afterSlots (x ∷ []) o a = ltb (x .object) o || eqb (x .object) o && ltb (x .row) a
+afterSlots (x ∷ y ∷ xs) o a = afterSlots (y ∷ xs) o a
+
+-- a node line stands in a rule, with the next number
+unfoldable pub nextNode : Option Current → ℕ → Bool
+nextNode none n = false
+nextNode (some c) n = eqb n (length (c .trees))
+
+-- the accumulator is another variable than the member
+unfoldable pub twoVariables : Shape → Bool
+twoVariables (leaf l) = true
+twoVariables (unary op a) = true
+twoVariables (binary op a b) = true
+twoVariables (connective c a b) = true
+twoVariables (isUndef a) = true
+twoVariables (conditional c a b) = true
+twoVariables (letIn i a b) = true
+twoVariables (attribute name a) = true
+twoVariables (quantified q i a b) = true
+twoVariables (iterate i j t a e b) = not (eqb i j)
+twoVariables (collect k es) = true
+
+unfoldable pub numbered : Sheet → Line → Bool
+numbered s (classLine n p) = eqb n (length (s .parents))
+numbered s (rowLine n c name t) = eqb n (length (s .rows)) && not (declares (s .rows) c name)
+numbered s (objectLine n c) = eqb n (length (s .objects))
+numbered s (valueLine o a v) = afterSlots (s .slots) o a && ordered v
+numbered s (ruleLine n c) = eqb n (length (s .rules))
+numbered s (nodeLine n x) = nextNode (s .current) n && twoVariables x
+
+unfoldable pub inOrder : Sheet → Line → Bool
+inOrder s l = leb (s .block) (blockOf l) && numbered s l
+
+-- ---- 6: classes, rows and objects that are named are on the sheet, and a parent is smaller
+
+unfoldable pub parentSmaller : ℕ → Option ℕ → Bool
+parentSmaller n none = true
+parentSmaller n (some p) = ltb p n
+
+unfoldable pub leafKnown : ℕ → Leaf → Bool
+leafKnown n (truth b) = true
+leafKnown n undef = true
+leafKnown n (number z) = true
+leafKnown n self = true
+leafKnown n (var i) = true
+leafKnown n (all c) = ltb c n
+
+unfoldable pub unaryKnown : ℕ → Unary → Bool
+unaryKnown n negation = true
+unaryKnown n sizeOf = true
+unaryKnown n (convert k) = true
+unaryKnown n (castTo c) = ltb c n
+
+-- the class after `all` and `as` and in the type of `iter`, of n classes
+unfoldable pub formKnown : ℕ → Shape → Bool
+formKnown n (leaf l) = leafKnown n l
+formKnown n (unary op a) = unaryKnown n op
+formKnown n (binary op a b) = true
+formKnown n (connective c a b) = true
+formKnown n (isUndef a) = true
+formKnown n (conditional c a b) = true
+formKnown n (letIn i a b) = true
+formKnown n (attribute name a) = true
+formKnown n (quantified q i a b) = true
+formKnown n (iterate i j t a e b) = classBelow n t
+formKnown n (collect k es) = true
+
+unfoldable pub partsKnown : Sheet → Line → Bool
+partsKnown s (classLine n p) = parentSmaller n p
+partsKnown s (rowLine n c name t) = ltb c (length (s .parents)) && classBelow (length (s .parents)) t
+partsKnown s (objectLine n c) = ltb c (length (s .parents))
+partsKnown s (valueLine o a v) =
+    ltb o (length (s .objects)) && ltb a (length (s .rows)) && everyPart (objectBelow (length (s .objects))) v
+partsKnown s (ruleLine n c) = ltb c (length (s .parents))
+partsKnown s (nodeLine n x) = formKnown (length (s .parents)) x
+
+-- ---- 7: the object is of the row's class or below, and the value belongs to the row's type
+
+unfoldable pub suits : Sheet → Line → Bool
+suits s (classLine n p) = true
+suits s (rowLine n c name t) = true
+suits s (objectLine n c) = true
+suits s (valueLine o a v) =
+    isA (modelOf s) o (class (modelOf s .row a .owner)) && belongs (modelOf s) (modelOf s .row a .type) v
+suits s (ruleLine n c) = true
+suits s (nodeLine n x) = true
+
+-- ---- 8: an operand is a smaller node that is no operand yet
+
+-- of a rule's node n, where some nodes are operands already
+unfoldable pub fresh : ℕ → List ℕ → List ℕ → Bool
+fresh n used [] = true
+fresh n used (a ∷ es) = ltb a n && not (member a used) && fresh n (a ∷ used) es
+
+unfoldable pub operandsFresh : Option Current → Shape → Bool
+operandsFresh none x = true
+operandsFresh (some c) x = fresh (length (c .trees)) (c .used) (operandsOf x)
+
+unfoldable pub treeHolds : Sheet → Line → Bool
+treeHolds s (classLine n p) = true
+treeHolds s (rowLine n c name t) = true
+treeHolds s (objectLine n c) = true
+treeHolds s (valueLine o a v) = true
+treeHolds s (ruleLine n c) = true
+treeHolds s (nodeLine n x) = operandsFresh (s .current) x

@@ -1,0 +1,69 @@
+-- Document 01, Calls: the report's bytes, the report call, and what the program prints.
+use Prim.Native.Nat.{ℕ, zero, suc}
+use mathlib.Core.Bool.{Bool, true, false, _||_}
+use mathlib.Core.Option.{Option, none, some}
+use mathlib.Core.List.{List, [], _∷_, _++_}
+use lib.ListN.{length}
+use lib.Dec.{eqb, ltb}
+use Rattle.laws.specs.Choice.{if_then_else_}
+use Rattle.ocl.specs.Types.{class, Ty}
+use Rattle.ocl.specs.Model.{Model, isA}
+use Rattle.ocl.specs.Typing.{typed, Typed}
+use Rattle.ocl.specs.Evaluation.{Outcome, value, undefined, stuck, stop}
+use Rattle.ocl.specs.Soundness.{stepsOf}
+use Rattle.sheet.specs.Text.{Bytes, byte, bytes, spellNumber}
+use Rattle.sheet.specs.Spelling.{spellValue}
+use Rattle.sheet.specs.Sheet.{Rule, Sheet, modelOf}
+use Rattle.sheet.specs.Reading.{readText}
+use Rattle.sheet.specs.Calls.{Verdict, answer, refusal, shortWords, shortOutput, onSheet, typingOf, onType, outcomeOf}
+
+-- the value, or a stop's number behind `!`; stuck, which no typed rule ends in, is `!100`
+unfoldable pub spellOutcome : Outcome → Bytes
+spellOutcome (value v n) = spellValue v
+spellOutcome (undefined n) = bytes "u"
+spellOutcome stuck = bytes "!100"
+spellOutcome (stop c n) = byte "!" ∷ spellNumber c
+
+-- rule, object, outcome, steps
+unfoldable pub reportLine : ℕ → ℕ → Outcome → Bytes
+reportLine r o x =
+    spellNumber r ++ bytes " " ++ spellNumber o ++ bytes " " ++ spellOutcome x ++ bytes " " ++ spellNumber (stepsOf x) ++ bytes "\n"
+
+-- the lines of rule r for the first n objects, as far as they are of its class or below
+unfoldable pub objectLines : Sheet → ℕ → Rule → ℕ → Bytes
+objectLines s r x zero = []
+objectLines s r x (suc n) =
+    objectLines s r x n ++ (if isA (modelOf s) n (class (x .context)) then reportLine r n (outcomeOf s x n) else [])
+
+-- the lines of the rules from number r on
+unfoldable pub ruleLines : Sheet → ℕ → List Rule → Bytes
+ruleLines s r [] = []
+ruleLines s r (x ∷ xs) = objectLines s r x (length (s .objects)) ++ ruleLines s (suc r) xs
+
+-- all rules are typed in order: the first refusal, or what follows
+unfoldable pub onTypes : Sheet → List Rule → Verdict → Verdict
+onTypes s [] v = v
+onTypes s (x ∷ xs) v = onType s (typingOf s x .answer) (λ t. onTypes s xs v)
+
+-- 18 where the output is too short for it
+unfoldable pub fitting : ℕ → Bytes → Verdict
+fitting room b = if ltb room (length b) then refusal 18 else answer b
+
+-- the report of a text into an output of so many bytes
+unfoldable pub reportOf : Bytes → ℕ → Verdict
+reportOf text room =
+    onSheet (readText text) (λ s. onTypes s (s .rules) (fitting room (ruleLines s 0 (s .rules))))
+
+unfoldable pub reportCall : Bytes → List ℕ → List ℕ → List ℕ → Bytes → Verdict
+reportCall text w0 w1 w2 out =
+    if shortWords w0 w1 w2 || shortOutput out then refusal 1 else reportOf text (length out)
+
+-- the program prints the report, or `!`, number and place
+unfoldable pub printed : Verdict → Bytes
+printed v =
+    if eqb (v .number) 0 then v .output
+    else bytes "! " ++ spellNumber (v .number) ++ bytes " " ++ spellNumber (v .place) ++ bytes "\n"
+
+-- it lends 65,536 output bytes
+unfoldable pub program : Bytes → Bytes
+program text = printed (reportOf text 65536)

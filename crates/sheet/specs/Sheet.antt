@@ -1,0 +1,223 @@
+-- Document 01, The sheet: what the lines so far have put on it, and what a line adds.
+use Prim.Native.Nat.{ℕ, zero, suc, _+_, _-_}
+use mathlib.Core.Bool.{Bool, true, false, _&&_}
+use mathlib.Core.Option.{Option, none, some}
+use mathlib.Core.List.{List, [], _∷_, _++_}
+use lib.ListN.{length, getD, getElem?}
+use lib.Dec.{eqb, leb}
+use Rattle.laws.specs.Choice.{if_then_else_, onSome}
+use Rattle.laws.specs.Lists.{member}
+use Rattle.ocl.specs.Types.{Ty, void}
+use Rattle.ocl.specs.Values.{Value}
+use Rattle.ocl.specs.Model.{Row, Model}
+use Rattle.ocl.specs.Forms.{undef, Expr, node, Form, Operands, noOperand, operand, levels}
+use Rattle.sheet.specs.Lines.{Shape, leaf, unary, binary, connective, isUndef, conditional, letIn, attribute, quantified, iterate, collect, Line, classLine, rowLine, objectLine, valueLine, ruleLine, nodeLine}
+
+-- a V line: the value of a row for an object
+pub record Slot : Type 0 where
+  pub object : ℕ
+  pub row : ℕ
+  pub value : Value
+
+-- a rule that has ended: its context class and its tree
+pub record Rule : Type 0 where
+  pub context : ℕ
+  pub body : Expr
+
+-- the rule whose lines are being read: its context class, the number of its first node among the nodes of all rules, the
+-- tree of each of its nodes, and the nodes that are operands already
+pub record Current : Type 0 where
+  pub context : ℕ
+  pub first : ℕ
+  pub trees : List Expr
+  pub used : List ℕ
+
+-- everything read so far
+pub record Sheet : Type 0 where
+  -- the last block begun: 0 to 4 for C, A, O, V, R
+  pub block : ℕ
+  -- each class's parent
+  pub parents : List (Option ℕ)
+  pub rows : List Row
+  -- each object's class
+  pub objects : List ℕ
+  pub slots : List Slot
+  -- the line of each node, through all rules
+  pub lines : List ℕ
+  pub rules : List Rule
+  pub current : Option Current
+
+unfoldable pub empty : Sheet
+empty = record { block = 0; parents = []; rows = []; objects = []; slots = []; lines = []; rules = []; current = none }
+
+-- ---- what typing and evaluation read of a sheet
+
+-- no V line: undefined
+unfoldable pub lookup : List Slot → ℕ → ℕ → Option Value
+lookup [] o i = none
+lookup (x ∷ xs) o i = if eqb o (x .object) && eqb i (x .row) then some (x .value) else lookup xs o i
+
+-- a row that is not there is never asked for
+unfoldable pub noRow : Row
+noRow = record { owner = 0; name = 0; type = void }
+
+unfoldable pub modelOf : Sheet → Model
+modelOf s = record {
+  parent = λ c. getD (s .parents) c none;
+  rowCount = length (s .rows);
+  row = λ i. getD (s .rows) i noRow;
+  objectCount = length (s .objects);
+  classOf = getElem? (s .objects);
+  valueOf = lookup (s .slots);
+}
+
+-- ---- a rule's nodes
+
+-- a node's operands, left to right
+unfoldable pub operandsOf : Shape → List ℕ
+operandsOf (leaf l) = []
+operandsOf (unary op a) = a ∷ []
+operandsOf (binary op a b) = a ∷ b ∷ []
+operandsOf (connective c a b) = a ∷ b ∷ []
+operandsOf (isUndef a) = a ∷ []
+operandsOf (conditional c a b) = c ∷ a ∷ b ∷ []
+operandsOf (letIn i a b) = a ∷ b ∷ []
+operandsOf (attribute name a) = a ∷ []
+operandsOf (quantified q i a b) = a ∷ b ∷ []
+operandsOf (iterate i j t a e b) = a ∷ e ∷ b ∷ []
+operandsOf (collect k es) = es
+
+-- operands by their trees
+unfoldable pub growAll : (ℕ → Expr) → List ℕ → Operands
+growAll f [] = noOperand
+growAll f (a ∷ es) = operand (f a) (growAll f es)
+
+-- a form over its operands' trees
+unfoldable pub grow : (ℕ → Expr) → Shape → Form
+grow f (leaf l) = Form.leaf l
+grow f (unary op a) = Form.unary op (f a)
+grow f (binary op a b) = Form.binary op (f a) (f b)
+grow f (connective c a b) = Form.connective c (f a) (f b)
+grow f (isUndef a) = Form.isUndef (f a)
+grow f (conditional c a b) = Form.conditional (f c) (f a) (f b)
+grow f (letIn i a b) = Form.letIn i (f a) (f b)
+grow f (attribute name a) = Form.attribute name (f a)
+grow f (quantified q i a b) = Form.quantified q i (f a) (f b)
+grow f (iterate i j t a e b) = Form.iterate i j t (f a) (f e) (f b)
+grow f (collect k es) = Form.collect k (growAll f es)
+
+-- the tree of node a of the rule; an operand is a node before it, so that another is never asked for
+unfoldable pub treeOf : List Expr → ℕ → Expr
+treeOf trees a = getD trees a (node a (Form.leaf undef))
+
+-- the rule with one node more
+unfoldable pub withNode : Current → Shape → Current
+withNode c x = record {
+  context = c .context;
+  first = c .first;
+  trees = c .trees ++ (node (c .first + length (c .trees)) (grow (treeOf (c .trees)) x) ∷ []);
+  used = c .used ++ operandsOf x;
+}
+
+-- ---- what an accepted line adds; k is its line number
+
+unfoldable pub added : Sheet → ℕ → Line → Sheet
+added s k (classLine n p) = record {
+  block = 0;
+  parents = s .parents ++ (p ∷ []);
+  rows = s .rows;
+  objects = s .objects;
+  slots = s .slots;
+  lines = s .lines;
+  rules = s .rules;
+  current = s .current;
+}
+added s k (rowLine n c name t) = record {
+  block = 1;
+  parents = s .parents;
+  rows = s .rows ++ (record { owner = c; name = name; type = t } ∷ []);
+  objects = s .objects;
+  slots = s .slots;
+  lines = s .lines;
+  rules = s .rules;
+  current = s .current;
+}
+added s k (objectLine n c) = record {
+  block = 2;
+  parents = s .parents;
+  rows = s .rows;
+  objects = s .objects ++ (c ∷ []);
+  slots = s .slots;
+  lines = s .lines;
+  rules = s .rules;
+  current = s .current;
+}
+added s k (valueLine o a v) = record {
+  block = 3;
+  parents = s .parents;
+  rows = s .rows;
+  objects = s .objects;
+  slots = s .slots ++ (record { object = o; row = a; value = v } ∷ []);
+  lines = s .lines;
+  rules = s .rules;
+  current = s .current;
+}
+added s k (ruleLine n c) = record {
+  block = 4;
+  parents = s .parents;
+  rows = s .rows;
+  objects = s .objects;
+  slots = s .slots;
+  lines = s .lines;
+  rules = s .rules;
+  current = some (record { context = c; first = length (s .lines); trees = []; used = [] });
+}
+added s k (nodeLine n x) = record {
+  block = 4;
+  parents = s .parents;
+  rows = s .rows;
+  objects = s .objects;
+  slots = s .slots;
+  lines = s .lines ++ (k ∷ []);
+  rules = s .rules;
+  current = onSome (s .current) (λ c. some (withNode c x));
+}
+
+-- ---- a rule's end
+
+-- the last of the trees
+unfoldable pub lastTree : List Expr → Option Expr
+lastTree [] = none
+lastTree (e ∷ []) = some e
+lastTree (e ∷ f ∷ es) = lastTree (f ∷ es)
+
+-- is each node below n an operand
+unfoldable pub allUsed : List ℕ → ℕ → Bool
+allUsed used zero = true
+allUsed used (suc n) = member n used && allUsed used n
+
+-- the sheet with the rule put down
+unfoldable pub withRule : Sheet → ℕ → Expr → Sheet
+withRule s c body = record {
+  block = s .block;
+  parents = s .parents;
+  rows = s .rows;
+  objects = s .objects;
+  slots = s .slots;
+  lines = s .lines;
+  rules = s .rules ++ (record { context = c; body = body } ∷ []);
+  current = none;
+}
+
+-- there is a node, each node but the last is an operand, and the tree is at most 12 deep; else none
+unfoldable pub endOf : Sheet → Current → Option Sheet
+endOf s c = onSome (lastTree (c .trees)) (λ body.
+    if allUsed (c .used) (length (c .trees) - 1) && leb (levels body) 12 then some (withRule s (c .context) body) else none)
+
+-- a sheet with no rule open stays as it is
+unfoldable pub endFor : Sheet → Option Current → Option Sheet
+endFor s none = some s
+endFor s (some c) = endOf s c
+
+unfoldable pub endRule : Sheet → Option Sheet
+endRule s = endFor s (s .current)
