@@ -1,6 +1,9 @@
 pub mod Types
 pub mod Values
 pub mod Order
+pub mod Sorted
+pub mod Ends
+pub mod Formed
 pub mod Runs
 pub mod Marks
 pub mod Soundness

@@ -1,13 +1,12 @@
 -- The order of values is a total order, and the tests on members are exact. Assumes nothing.
 use mathlib.Core.Path.{_≡_, refl, sym, ap, _∙_, subst}
-use mathlib.Core.Logic.{_↔_}
-use mathlib.Core.Bool.{Bool, true, false, _||_}
-use Prim.Native.Nat.{ℕ, zero, suc, _≤_, _<_, compare, Ordering, Ordering·lt, Ordering·eq, Ordering·gt}
+use mathlib.Core.Bool.{true, false}
+use Prim.Native.Nat.{ℕ, zero, suc, compare, Ordering, Ordering·lt, Ordering·eq, Ordering·gt}
 use native.Mathlib.Omega.{arith}
 use lib.IntN.{ℤ, pos, negsuc}
 use lib.Dec.{T}
-use Rattle.laws.specs.Orders.{reverse, TotalOrder}
-use Rattle.ocl.specs.Types.{Kind, set, sequence, bag}
+use Rattle.laws.specs.Orders.{reverse}
+use Rattle.ocl.specs.Types.{set, sequence, bag}
 use Rattle.ocl.specs.Values.{Value, bool, int, obj, coll, Values, nil, cons, count, thenOrder, sort, ofBool, rank, orderInt, members, headOrder, order, orders, same, has}
 use Rattle.ocl.specs.Laws.{Member, first, later, ValueOrder}
 use Rattle.laws.proofs.Tests.{or-l, or-r, or-e}
