@@ -3,16 +3,17 @@ use mathlib.Core.Path.{_≡_, subst}
 use mathlib.Core.Bool.{Bool, true, false, not, Bool·beq}
 use mathlib.Core.Option.{Option, none, some}
 use Prim.Native.Nat.{ℕ, zero, suc}
+use native.Mathlib.Omega.{arith as linear}
 use lib.IntN.{ℤ, pos, negsuc}
 use lib.Dec.{eqb}
 use Rattle.laws.specs.Choice.{if_then_else_}
 use Rattle.ocl.specs.Types.{class, Kind, sameKind}
 use Rattle.ocl.specs.Values.{Value, bool, int, obj, coll, Values, nil, orderInt, same, has, add, addAll}
 use Rattle.ocl.specs.Model.{Model, isA}
-use Rattle.ocl.specs.Environment.{Env, extend}
+use Rattle.ocl.specs.Environment.{Env, extend, start}
 use Rattle.ocl.specs.Forms.{Arith, plus, minus, times, div, modulo, Connective, Quantifier, Leaf, truth, undef, number, self, var, all, Unary, negation, sizeOf, convert, castTo, Binary, equal, less, arith, includes, including, union, Expr, node, Form, leaf, unary, binary, connective, isUndef, conditional, letIn, attribute, quantified, iterate, collect, Operands, noOperand, operand}
-use Rattle.ocl.specs.Evaluation.{value, Run, isLess, inRange, ranged, unlessZero, arithmetic, leafRun, cast, unaryApply, unaryRun, leftFits, binaryApply, binaryRun, decides, connectiveRun, isUndefRun, conditionalRun, letRun, attributeRun, quantifiedRun, iterateRun, Gather, noOperandRun, operandRun, collectRun, evaluation, formRun, operandsRun}
-use Rattle.ocl.specs.Laws.{Sorted, sorted-nil, Formed, formed-bool, formed-int, formed-obj, formed-coll, FormedAll, formed-nil, formed-cons, Adding, FormedEnv, FormedModel, FormedEnds}
+use Rattle.ocl.specs.Evaluation.{value, Run, isLess, inRange, ranged, unlessZero, arithmetic, leafRun, cast, unaryApply, unaryRun, leftFits, binaryApply, binaryRun, decides, connectiveRun, isUndefRun, conditionalRun, letRun, attributeRun, quantifiedRun, iterateRun, Gather, noOperandRun, operandRun, collectRun, evaluation, formRun, operandsRun, evaluateRule}
+use Rattle.ocl.specs.Laws.{Sorted, sorted-nil, Formed, formed-bool, formed-int, formed-obj, formed-coll, FormedAll, formed-nil, formed-cons, Adding, FormedEnv, FormedModel, EvaluationForms}
 use Rattle.laws.proofs.Tests.{by-if, All?, all-none, all-some, all-imp, all-self}
 use Rattle.ocl.proofs.Values.{Every, every-nil, every-cons, every-imp, add-every, addAll-every}
 use Rattle.ocl.proofs.Sorted.{add-sorted, addAll-sorted, Under, under, instances-under, instances-sorted}
@@ -235,5 +236,14 @@ module _ (s : Model) (ok : FormedModel s) where
       operands-gather noOperand = no-operand-gathers
       operands-gather (operand e es) = operand-gathers (all-forms e) (operands-gather es)
 
-pub formed-ends : FormedEnds
-formed-ends s ok mark e ρ r n m v h = ends-at (all-forms s ok mark e .run ρ r n) h
+-- a rule starts with its object alone
+start-formed : (o : ℕ) → FormedEnv (start (obj o))
+unfolding start
+start-formed o = extend-formed 0 (record { bound-formed = λ i v e. absurd (let z : _≡_ {A = ℕ} 0 1 = cc in omega linear) }) formed-obj
+
+pub evaluation-forms : EvaluationForms
+unfolding evaluateRule
+evaluation-forms s ok mark e = record {
+  from = λ ρ r n m v h. ends-at (all-forms s ok mark e .run ρ r n) h;
+  of-rule = λ o m v h. ends-at (all-forms s ok mark e .run (start (obj o)) (start-formed o) 0) h;
+}

@@ -6,5 +6,6 @@ pub mod Ends
 pub mod Formed
 pub mod Runs
 pub mod Marks
+pub mod Places
 pub mod Soundness
 pub mod Worked

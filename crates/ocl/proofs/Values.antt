@@ -14,7 +14,7 @@ use Rattle.ocl.specs.Types.{Simple, any, boolean, integer, class, Kind, 
 use Rattle.ocl.specs.Values.{Value, bool, int, obj, coll, Value-discrete, Values, nil, cons, count, size, sizes, order, holds, same, put, insert, append, add, addAll}
 use Rattle.ocl.specs.Model.{Row, Model, classBelow, isA, every, belongs, declared, nearest, rowRead}
 use Rattle.ocl.specs.Soundness.{Accepted}
-use Rattle.laws.proofs.Tests.{and-i, and-l, and-r, by-if, All?, all-none, all-some, Any?, any-some, all-imp, all-self}
+use Rattle.laws.proofs.Tests.{and-i, and-l, and-r, by-if, All?, all-none, all-some, Any?, any-some, all-imp, all-self, all-else, all-on}
 use Rattle.ocl.proofs.Types.{letter-trans, Climb, here, step, climb-trans, climb-eq, simpleSubtype→climb, climb→simpleSubtype, Subtype→subtype}
 
 -- ---- the same value
@@ -186,24 +186,33 @@ module _ (s : Model) (ok : Accepted s) where
   declared-above : (c name : ℕ) → All? (Above s c) (declared s c name (s .rowCount))
   declared-above c name = all-imp (λ i e. record { climb = climb-eq (ap class (sym e)) }) (declared-at c name (s .rowCount))
 
-  else-all : {P : ℕ → Type 0} {o q : Option ℕ} → All? P o → All? P q → All? P (orElse o q)
-  unfolding orElse
-  else-all all-none k = k
-  else-all (all-some h) k = all-some h
-
-  some-all : {P Q : ℕ → Type 0} {o : Option ℕ} {f : ℕ → Option ℕ} → All? P o → ((x : ℕ) → P x → All? Q (f x)) → All? Q (onSome o f)
-  unfolding onSome
-  some-all all-none k = all-none
-  some-all (all-some {x} h) k = k x h
-
   nearest-above : (name n c : ℕ) → All? (Above s c) (nearest s name n c)
   unfolding nearest up parentOr
   nearest-above name zero c = all-none
   nearest-above name (suc n) c =
-      else-all (declared-above c name)
-      (some-all (all-self (s .parent c))
+      all-else (declared-above c name)
+      (all-on (all-self (s .parent c))
       (λ p e. all-imp (λ i g. record { climb = step (climb-trans (climb-eq (ap parentOr e)) (g .climb)) }) (nearest-above name n p)))
 
   pub rowRead-above : (c name : ℕ) → All? (Above s c) (rowRead s c name)
   unfolding rowRead
   rowRead-above c name = nearest-above name (suc c) c
+
+-- ---- and it is one of the rows
+
+module _ (s : Model) where
+  declared-row : (c name n : ℕ) → All? (λ i. i < n) (declared s c name n)
+  unfolding declared
+  declared-row c name zero = all-none
+  declared-row c name (suc n) =
+      by-if (All? (λ i. i < suc n)) (eqb (s .row n .owner) c && eqb (s .row n .name) name) (some n) (declared s c name n)
+      (λ t. all-some (omega arith)) (λ t. all-imp (λ i h. omega arith) (declared-row c name n))
+
+  nearest-row : (name n c : ℕ) → All? (λ i. i < s .rowCount) (nearest s name n c)
+  unfolding nearest
+  nearest-row name zero c = all-none
+  nearest-row name (suc n) c = all-else (declared-row c name (s .rowCount)) (all-on (all-self (s .parent c)) (λ p e. nearest-row name n p))
+
+  pub rowRead-row : (c name : ℕ) → All? (λ i. i < s .rowCount) (rowRead s c name)
+  unfolding rowRead
+  rowRead-row c name = nearest-row name (suc c) c

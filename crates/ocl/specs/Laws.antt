@@ -3,16 +3,19 @@ use mathlib.Core.Path.{_≡_}
 use mathlib.Core.Logic.{_↔_}
 use mathlib.Core.Bool.{Bool}
 use mathlib.Core.Option.{some}
-use Prim.Native.Nat.{ℕ, Ordering, Ordering·lt, Ordering·eq}
+use mathlib.Core.List.{List, [], _∷_}
+use Prim.Native.Nat.{ℕ, _≤_, _<_, Ordering, Ordering·lt, Ordering·eq}
 use lib.IntN.{ℤ}
 use lib.Dec.{T}
+use Rattle.laws.specs.Lists.{member}
 use Rattle.laws.specs.Orders.{TotalOrder}
-use Rattle.ocl.specs.Types.{Kind, set, sequence, bag}
+use Rattle.ocl.specs.Types.{Kind, set, sequence, bag, Ty}
 use Rattle.ocl.specs.Values.{Value, bool, int, obj, coll, Values, nil, cons, order, same, has, add, addAll}
 use Rattle.ocl.specs.Model.{Model}
 use Rattle.ocl.specs.Environment.{Env}
-use Rattle.ocl.specs.Forms.{Expr}
-use Rattle.ocl.specs.Evaluation.{value, instances, evaluation}
+use Rattle.ocl.specs.Forms.{Expr, numbers}
+use Rattle.ocl.specs.Typing.{refused, Marks, typing}
+use Rattle.ocl.specs.Evaluation.{value, instances, evaluation, evaluateRule}
 
 -- ---- values: which are one, and their order
 
@@ -68,7 +71,36 @@ pub record FormedModel (s : Model) : Type 0 where
   pub stored-formed : (o i : ℕ) (v : Value) → s .valueOf o i ≡ some v → Formed v
 
 -- every value that evaluation ends in is formed, typed or not, from any marks and any steps so far
-abbrev pub FormedEnds : Type 0
-FormedEnds =
-    (s : Model) → FormedModel s → (mark : ℕ → ℕ) (e : Expr) (ρ : Env Value) → FormedEnv ρ → (n m : ℕ) (v : Value)
-    → evaluation s mark e ρ n ≡ value v m → Formed v
+pub record FormedEnds (s : Model) (mark : ℕ → ℕ) (e : Expr) : Type 0 where
+  pub from : (ρ : Env Value) → FormedEnv ρ → (n m : ℕ) (v : Value) → evaluation s mark e ρ n ≡ value v m → Formed v
+  -- so a rule's is
+  pub of-rule : (o m : ℕ) (v : Value) → evaluateRule s mark e o ≡ value v m → Formed v
+
+abbrev pub EvaluationForms : Type 0
+EvaluationForms = (s : Model) → FormedModel s → (mark : ℕ → ℕ) (e : Expr) → FormedEnds s mark e
+
+-- ---- typing: what it refuses, and what it marks
+
+-- typing's refusals are numbered 9 to 13, and name a node
+pub record Refusal (nodes : List ℕ) (n p : ℕ) : Type 0 where
+  pub low : 9 ≤ n
+  pub high : n ≤ 13
+  pub placed : T (member p nodes)
+
+-- a mark is at a node, and is a row of the model
+pub record Mark (s : Model) (nodes : List ℕ) (p i : ℕ) : Type 0 where
+  pub placed : T (member p nodes)
+  pub is-row : i < s .rowCount
+
+-- of each mark, its node first
+pub data EachMark (P : ℕ → ℕ → Type 0) : Marks → Type 0 where
+  no-mark : EachMark P []
+  mark-then : {p i : ℕ} {m : Marks} → P p i → EachMark P m → EachMark P ((p, i) ∷ m)
+
+-- both of the tree's own nodes, for every tree and environment, whether or not typing ends in a type
+pub record Typings (s : Model) (e : Expr) (Γ : Env Ty) : Type 0 where
+  pub refusals : (n p : ℕ) → typing s e Γ .answer ≡ refused n p → Refusal (numbers e) n p
+  pub marked : EachMark (Mark s (numbers e)) (typing s e Γ .marks)
+
+abbrev pub TypingPlaces : Type 0
+TypingPlaces = (s : Model) (e : Expr) (Γ : Env Ty) → Typings s e Γ
