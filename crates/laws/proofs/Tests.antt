@@ -57,6 +57,9 @@ any-imp k (any-some {x} h) = any-some (k x h)
 pub at-some : {A : Type 0} {P : A → Type 0} {x : A} → All? P (some x) → P x
 at-some (all-some h) = h
 
+pub at-any : {A : Type 0} {P : A → Type 0} {x : A} → Any? P (some x) → P x
+at-any (any-some h) = h
+
 pub any-self : {A : Type 0} {P : A → Type 0} {o : Option A} → Any? P o → All? (λ x. (o ≡ some x) × P x) o
 any-self (any-some h) = all-some (refl, h)
 

@@ -1,4 +1,5 @@
 pub mod Types
+pub mod Subtyping
 pub mod Values
 pub mod Order
 pub mod Sorted

@@ -1,21 +1,20 @@
 -- What is added to a collection, which values belong to a type, and that belonging goes up. Assumes nothing.
-use mathlib.Core.Path.{_≡_, refl, sym, ap, _∙_, subst}
+use mathlib.Core.Path.{_≡_, sym, ap}
 use mathlib.Core.Logic.{_↔_}
-use mathlib.Core.Bool.{Bool, true, false, not, _&&_, Bool-discrete}
+use mathlib.Core.Bool.{Bool, true, false, _&&_, Bool-discrete}
 use mathlib.Core.Option.{Option, none, some}
-use Prim.Native.Nat.{ℕ, zero, suc, _+_, _-_, _≤_, _<_, Ordering, Ordering·lt, Ordering·eq, Ordering·gt}
+use Prim.Native.Nat.{ℕ, zero, suc, _≤_, _<_, Ordering, Ordering·lt, Ordering·eq, Ordering·gt}
 use native.Mathlib.Omega.{arith}
 use native.Mathlib.Decide.{ℕ-discrete}
-use lib.IntN.{ℤ, pos, negsuc, ℤ-discrete}
-use lib.Dec.{T, eqb, eqb→eq, ltb, ltb→lt, nltb→le}
-use borrow.Author.Tests.{lt-ltb, le-ltb, ltb-true, ltb-false}
-use Rattle.laws.specs.Choice.{if_then_else_, orElse, onSome}
-use Rattle.ocl.specs.Types.{Simple, any, boolean, integer, class, Kind, set, sequence, bag, Kind-discrete, Letter, collection, exactly, Ty, void, simple, around, Parents, Subtype, simpleSubtype, letterSubtype, subtype, up, parentOr}
+use lib.IntN.{ℤ-discrete}
+use lib.Dec.{T, eqb, eqb→eq}
+use Rattle.ocl.specs.Types.{Simple, boolean, integer, class, Kind, set, sequence, bag, Kind-discrete, exactly, Ty, void, simple, around, simpleSubtype, letterSubtype, subtype, up, parentOr}
 use Rattle.ocl.specs.Values.{Value, bool, int, obj, coll, Value-discrete, Values, nil, cons, count, size, sizes, order, holds, same, put, insert, append, add, addAll}
-use Rattle.ocl.specs.Model.{Row, Model, classBelow, isA, every, belongs, declared, nearest, rowRead}
-use Rattle.ocl.specs.Soundness.{Accepted}
-use Rattle.laws.proofs.Tests.{and-i, and-l, and-r, by-if, All?, all-none, all-some, Any?, any-some, all-imp, all-self, all-else, all-on}
-use Rattle.ocl.proofs.Types.{letter-trans, Climb, here, step, climb-trans, climb-eq, simpleSubtype→climb, climb→simpleSubtype, Subtype→subtype}
+use Rattle.ocl.specs.Model.{Model, classBelow, isA, every, belongs, declared, nearest, rowRead}
+use Rattle.ocl.specs.Laws.{Small, BelongsUp}
+use Rattle.laws.proofs.Tests.{and-i, and-l, and-r, by-if, All?, all-none, all-some, all-imp, all-self, all-else, all-on}
+use Rattle.ocl.proofs.Types.{letter-trans, Climb, step, climb-trans, climb-eq, simpleSubtype→climb, climb→simpleSubtype}
+use Rattle.ocl.proofs.Subtyping.{Subtype→subtype}
 
 -- ---- the same value
 
@@ -138,11 +137,11 @@ belongs-test s (around l t) (coll k vs) h = and-i (letterSubtype (exactly k) l) 
 pub record Above (s : Model) (c i : ℕ) : Type 0 where
   pub climb : Climb (s .parent) (class c) (class (s .row i .owner))
 
-module _ (s : Model) (ok : Accepted s) where
+module _ (s : Model) (small : Small (s .parent)) where
   up-simple : (a b c : Simple) → T (simpleSubtype (s .parent) a b) → T (simpleSubtype (s .parent) b c) → T (simpleSubtype (s .parent) a c)
   up-simple a b c p q =
-      climb→simpleSubtype (s .parent) (ok .parents-smaller) a c
-      (climb-trans (simpleSubtype→climb (s .parent) (ok .parents-smaller) a b p) (simpleSubtype→climb (s .parent) (ok .parents-smaller) b c q))
+      climb→simpleSubtype (s .parent) small a c
+      (climb-trans (simpleSubtype→climb (s .parent) small a b p) (simpleSubtype→climb (s .parent) small b c q))
 
   class-up : (o : Option ℕ) (b c : Simple) → T (classBelow (s .parent) o b) → T (simpleSubtype (s .parent) b c) → T (classBelow (s .parent) o c)
   unfolding classBelow
@@ -170,10 +169,6 @@ module _ (s : Model) (ok : Accepted s) where
   belongs-up (around k t) (around l u) h (coll j vs) b =
       (letter-trans (exactly j) k l (b .0) (and-l (letterSubtype k l) _ h), every-imp (belongs-up t u (and-r (letterSubtype k l) _ h)) (b .1))
 
-  -- a value that belongs to a type belongs to every type above it
-  pub belongs-monotone : {t u : Ty} → Subtype (s .parent) t u → (v : Value) → T (belongs s t v) → T (belongs s u v)
-  belongs-monotone {t} {u} h v b = belongs-test s u v (belongs-up t u (Subtype→subtype (s .parent) (ok .parents-smaller) h) v (belongs-by s t v b))
-
   -- ---- the row found upward from a class is declared at that class or above it
 
   declared-at : (c name n : ℕ) → All? (λ i. s .row i .owner ≡ c) (declared s c name n)
@@ -197,6 +192,10 @@ module _ (s : Model) (ok : Accepted s) where
   pub rowRead-above : (c name : ℕ) → All? (Above s c) (rowRead s c name)
   unfolding rowRead
   rowRead-above c name = nearest-above name (suc c) c
+
+-- a value that belongs to a type belongs to every type above it
+pub belongs-monotone : BelongsUp
+belongs-monotone s small t u v h b = belongs-test s u v (belongs-up s small t u (Subtype→subtype (s .parent) small h) v (belongs-by s t v b))
 
 -- ---- and it is one of the rows
 

@@ -2,20 +2,54 @@
 use mathlib.Core.Path.{_≡_}
 use mathlib.Core.Logic.{_↔_}
 use mathlib.Core.Bool.{Bool}
-use mathlib.Core.Option.{some}
+use mathlib.Core.Option.{none, some}
 use mathlib.Core.List.{List, [], _∷_}
 use Prim.Native.Nat.{ℕ, _≤_, _<_, Ordering, Ordering·lt, Ordering·eq}
 use lib.IntN.{ℤ}
 use lib.Dec.{T}
 use Rattle.laws.specs.Lists.{member}
 use Rattle.laws.specs.Orders.{TotalOrder}
-use Rattle.ocl.specs.Types.{Kind, set, sequence, bag, Ty}
+use Rattle.ocl.specs.Types.{Kind, set, sequence, bag, Ty, Parents, Subtype, subtype, join}
 use Rattle.ocl.specs.Values.{Value, bool, int, obj, coll, Values, nil, cons, order, same, has, add, addAll}
-use Rattle.ocl.specs.Model.{Model}
+use Rattle.ocl.specs.Model.{Model, belongs}
 use Rattle.ocl.specs.Environment.{Env}
 use Rattle.ocl.specs.Forms.{Expr, numbers}
 use Rattle.ocl.specs.Typing.{refused, Marks, typing}
 use Rattle.ocl.specs.Evaluation.{value, instances, evaluation, evaluateRule}
+
+-- ---- types, of any parents that are smaller classes, as reading makes sure
+
+abbrev pub Small : Parents → Type 0
+Small parent = (c p : ℕ) → parent c ≡ some p → p < c
+
+pub record Subtyping (parent : Parents) : Type 0 where
+  -- the test says yes exactly of what the relation holds of
+  pub test-exact : (t u : Ty) → T (subtype parent t u) ↔ Subtype parent t u
+  -- and the relation is a partial order
+  pub same-below : (t : Ty) → Subtype parent t t
+  pub goes-on : (t u w : Ty) → Subtype parent t u → Subtype parent u w → Subtype parent t w
+  pub both-ways : (t u : Ty) → Subtype parent t u → Subtype parent u t → t ≡ u
+
+abbrev pub SubtypingLaw : Type 0
+SubtypingLaw = (parent : Parents) → Small parent → Subtyping parent
+
+pub record CommonType (parent : Parents) (t u : Ty) : Type 0 where
+  -- the common type is an upper bound, and below each upper bound
+  pub upper : (w : Ty) → join parent t u ≡ some w → Subtype parent t w × Subtype parent u w
+  pub least : (w x : Ty) → join parent t u ≡ some w → Subtype parent t x → Subtype parent u x → Subtype parent w x
+  -- where there is an upper bound, there is a common type
+  pub exists : (x : Ty) → Subtype parent t x → Subtype parent u x → (w : Ty) × (join parent t u ≡ some w)
+  -- and none is there exactly where no type is above both
+  pub none-exact : (join parent t u ≡ none) ↔ ((x : Ty) → Subtype parent t x → Subtype parent u x → ⊥)
+  -- it does not matter which of the two comes first
+  pub either-way : join parent t u ≡ join parent u t
+
+abbrev pub CommonTypeLaw : Type 0
+CommonTypeLaw = (parent : Parents) → Small parent → (t u : Ty) → CommonType parent t u
+
+-- a value that belongs to a type belongs to every type above it
+abbrev pub BelongsUp : Type 0
+BelongsUp = (s : Model) → Small (s .parent) → (t u : Ty) (v : Value) → Subtype (s .parent) t u → T (belongs s t v) → T (belongs s u v)
 
 -- ---- values: which are one, and their order
 
@@ -24,7 +58,7 @@ pub data Member (v : Value) : Values → Type 0 where
   first : {vs : Values} → Member v (cons v vs)
   later : {w : Value} {vs : Values} → Member v vs → Member v (cons w vs)
 
--- the tests of `eq` and `includes` say what they are for, and the order leaves no two values side by side
+-- the tests of `eq` and `includes` are exact, and of two different values one comes before the other
 pub record ValueOrder : Type 0 where
   pub same-exact : (v w : Value) → T (same v w) ↔ (v ≡ w)
   pub has-exact : (v : Value) (vs : Values) → T (has v vs) ↔ Member v vs
