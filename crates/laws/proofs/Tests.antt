@@ -3,7 +3,7 @@ use mathlib.Core.Path.{_≡_, refl}
 use mathlib.Core.Bool.{Bool, true, false, not, _&&_, _||_}
 use mathlib.Core.Option.{Option, none, some}
 use lib.Dec.{T}
-use Rattle.laws.specs.Choice.{if_then_else_}
+use Rattle.laws.specs.Choice.{if_then_else_, orElse, onSome}
 
 pub and-i : (a b : Bool) → T a → T b → T (a && b)
 and-i true b p q = q
@@ -57,5 +57,18 @@ any-imp k (any-some {x} h) = any-some (k x h)
 pub at-some : {A : Type 0} {P : A → Type 0} {x : A} → All? P (some x) → P x
 at-some (all-some h) = h
 
+pub at-any : {A : Type 0} {P : A → Type 0} {x : A} → Any? P (some x) → P x
+at-any (any-some h) = h
+
 pub any-self : {A : Type 0} {P : A → Type 0} {o : Option A} → Any? P o → All? (λ x. (o ≡ some x) × P x) o
 any-self (any-some h) = all-some (refl, h)
+
+pub all-else : {A : Type 0} {P : A → Type 0} {o q : Option A} → All? P o → All? P q → All? P (orElse o q)
+unfolding orElse
+all-else all-none k = k
+all-else (all-some h) k = all-some h
+
+pub all-on : {A B : Type 0} {P : A → Type 0} {Q : B → Type 0} {o : Option A} {f : A → Option B} → All? P o → ((x : A) → P x → All? Q (f x)) → All? Q (onSome o f)
+unfolding onSome
+all-on all-none k = all-none
+all-on (all-some {x} h) k = k x h

@@ -1,6 +1,12 @@
 pub mod Types
+pub mod Subtyping
 pub mod Values
+pub mod Order
+pub mod Sorted
+pub mod Ends
+pub mod Formed
 pub mod Runs
 pub mod Marks
+pub mod Places
 pub mod Soundness
 pub mod Worked

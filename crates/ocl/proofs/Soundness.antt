@@ -133,7 +133,7 @@ module _ (s : Model) (ok : Accepted s) (mark : ℕ → ℕ) where
   -- ---- values by type: what a value of a type is, and so what an operand of it may be handed
 
   ok-up : {t u : Ty} {v : Value} → t ⊑ u → Ok t v → Ok u v
-  ok-up {t} {u} {v} h p = record { bel = belongs-up s ok t u (h .le) v (p .bel); fits = p .fits }
+  ok-up {t} {u} {v} h p = record { bel = belongs-up s (ok .parents-smaller) t u (h .le) v (p .bel); fits = p .fits }
 
   obj-not-boolean : (c : Option ℕ) → T (classBelow (s .parent) c boolean) → ⊥
   unfolding classBelow
@@ -380,7 +380,7 @@ module _ (s : Model) (ok : Accepted s) (mark : ℕ → ℕ) where
   attribute-run {c = c} i a h = record {
     run = λ ρ r. safe-le (omega linear) (safe-bind {j = 0} (h .run ρ r) (λ v j. obj-sem v j (λ o g.
         safe-if (isA s o (class (s .row i .owner))) (λ t. given-sem (value-ok o i))
-        (λ t. absurd (T-not (isA s o (class (s .row i .owner))) t (isA-up s ok o (class c) (class (s .row i .owner)) g (climb→simpleSubtype (s .parent) (ok .parents-smaller) _ _ (a .climb))))))));
+        (λ t. absurd (T-not (isA s o (class (s .row i .owner))) t (isA-up s (ok .parents-smaller) o (class c) (class (s .row i .owner)) g (climb→simpleSubtype (s .parent) (ok .parents-smaller) _ _ (a .climb))))))));
   }
 
   row-means : {Γ : Env Ty} {k c : ℕ} {f : Run} {o : Option ℕ} (p : ℕ) → All? (Above s c) o → Sem Γ k (Class c) f → Means (λ u. Sem Γ k u (attributeRun s (mark p) f)) (rowType s p o)
@@ -399,7 +399,7 @@ module _ (s : Model) (ok : Accepted s) (mark : ℕ → ℕ) where
   attribute-sem p name (simple any) h = means-pure no-type
   attribute-sem p name (simple boolean) h = means-pure no-type
   attribute-sem p name (simple integer) h = means-pure no-type
-  attribute-sem p name (simple (class c)) h = row-means p (rowRead-above s ok c name) h
+  attribute-sem p name (simple (class c)) h = row-means p (rowRead-above s (ok .parents-smaller) c name) h
   attribute-sem p name (around l t) h = means-pure no-type
 
   quantified-sem : {Γ : Env Ty} {k n : ℕ} {l : Letter} {m b : Ty} {f g : Run} (q : Quantifier) (i : ℕ) → b ⊑ Boolean → Sem Γ k (around l m) f → Sem (extend Γ i m) n b g → Sem Γ (k + 127 * n) Boolean (quantifiedRun q i f g)

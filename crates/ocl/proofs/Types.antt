@@ -1,12 +1,12 @@
--- The subtype test is the least relation, and the common type is the least upper bound. Assumes nothing.
+-- The subtype test is a partial order, and the common type its least upper bound. Assumes nothing.
 use mathlib.Core.Path.{_≡_, refl, sym, ap, _∙_, subst}
-use mathlib.Core.Bool.{Bool, true, false, not, _&&_, _||_}
+use mathlib.Core.Bool.{Bool, true, false}
 use mathlib.Core.Option.{Option, none, some}
-use Prim.Native.Nat.{ℕ, zero, suc, _+_, _≤_, _<_}
+use Prim.Native.Nat.{ℕ, zero, suc, _≤_}
 use native.Mathlib.Omega.{arith}
-use lib.Dec.{T, eqb, eqb→eq, eqb-refl, T-not}
-use Rattle.laws.specs.Choice.{if_then_else_}
-use Rattle.ocl.specs.Types.{Simple, any, boolean, integer, class, Kind, set, sequence, bag, Letter, collection, exactly, Ty, void, simple, around, Any, Boolean, Integer, Class, Parents, Subtype, reflexive, transitive, void-below, boolean-any, integer-any, class-any, class-parent, kind-collection, covariant, parentOr, up, height, simpleCode, sameSimple, climbs, simpleSubtype, kindCode, sameKind, letterSubtype, subtype, firstAbove, simpleJoin, letterJoin, aroundSome, join}
+use lib.Dec.{T, eqb→eq, eqb-refl, T-not}
+use Rattle.ocl.specs.Types.{Simple, any, boolean, integer, class, Kind, set, sequence, bag, Letter, collection, exactly, Ty, void, simple, around, Parents, parentOr, up, height, simpleCode, sameSimple, climbs, simpleSubtype, kindCode, sameKind, letterSubtype, subtype, firstAbove, simpleJoin, letterJoin, aroundSome, join}
+use Rattle.ocl.specs.Laws.{Small}
 use Rattle.laws.proofs.Tests.{and-i, and-l, and-r, or-l, or-r, or-e, by-if, All?, all-none, all-some, Any?, any-some}
 
 -- ---- equality of bases and kinds, by a number with a way back
@@ -83,10 +83,6 @@ height-zero boolean h = absurd (omega arith)
 height-zero integer h = absurd (omega arith)
 height-zero (class n) h = absurd (omega arith)
 
--- what an accepted sheet gives: a parent is a smaller class
-abbrev pub Small : Parents → Type 0
-Small parent = (n p : ℕ) → parent n ≡ some p → p < n
-
 module _ (parent : Parents) (small : Small parent) where
   height-parent : (n : ℕ) (o : Option ℕ) → parent n ≡ o → height (parentOr o) ≤ n
   unfolding height parentOr
@@ -112,7 +108,7 @@ module _ (parent : Parents) (small : Small parent) where
   top-f zero a h = climb-eq (height-zero a h)
   top-f (suc f) a h = step (top-f f (up parent a) (height-up a f h))
 
-  top : (a : Simple) → Climb parent a any
+  pub top : (a : Simple) → Climb parent a any
   top a = top-f (height a) a (omega arith)
 
   pub simpleSubtype→climb : (a b : Simple) → T (simpleSubtype parent a b) → Climb parent a b
@@ -153,7 +149,7 @@ module _ (parent : Parents) (small : Small parent) where
 
 -- ---- the laws of types
 
-letter-refl : (k : Letter) → T (letterSubtype k k)
+pub letter-refl : (k : Letter) → T (letterSubtype k k)
 unfolding letterSubtype
 letter-refl collection = tt
 letter-refl (exactly k) = sameKind-refl k
@@ -276,54 +272,6 @@ module _ (parent : Parents) (small : Small parent) where
       around-least k l m w (and-l (letterSubtype k m) _ p) (and-l (letterSubtype l m) _ q)
       (join-least t u w (and-r (letterSubtype k m) _ p) (and-r (letterSubtype l m) _ q))
 
--- ---- the document's relation, rule for rule, and the test are one
-
-parent-step : {parent : Parents} (n : ℕ) (o : Option ℕ) → parent n ≡ o → Subtype parent (simple (class n)) (simple (parentOr o))
-unfolding parentOr
-parent-step n none e = class-any
-parent-step n (some p) e = class-parent e
-
-up-step : {parent : Parents} (a : Simple) → Subtype parent (simple a) (simple (up parent a))
-unfolding up
-up-step any = reflexive
-up-step boolean = boolean-any
-up-step integer = integer-any
-up-step {parent} (class n) = parent-step n (parent n) refl
-
-climb→Subtype : {parent : Parents} {a b : Simple} → Climb parent a b → Subtype parent (simple a) (simple b)
-climb→Subtype here = reflexive
-climb→Subtype (step {a} g) = transitive (up-step a) (climb→Subtype g)
-
-letter→Subtype : {parent : Parents} (k l : Letter) (t : Ty) → T (letterSubtype k l) → Subtype parent (around k t) (around l t)
-unfolding letterSubtype
-letter→Subtype collection collection t h = reflexive
-letter→Subtype collection (exactly l) t h = absurd h
-letter→Subtype (exactly k) collection t h = kind-collection
-letter→Subtype {parent} (exactly k) (exactly l) t h = subst (λ x. Subtype parent (around (exactly k) t) (around (exactly x) t)) (sameKind→eq k l h) reflexive
-
-module _ (parent : Parents) (small : Small parent) where
-  pub subtype→Subtype : (t u : Ty) → T (subtype parent t u) → Subtype parent t u
-  unfolding subtype
-  subtype→Subtype void u h = void-below
-  subtype→Subtype (simple a) void h = absurd h
-  subtype→Subtype (simple a) (simple b) h = climb→Subtype (simpleSubtype→climb parent small a b h)
-  subtype→Subtype (simple a) (around l u) h = absurd h
-  subtype→Subtype (around k t) void h = absurd h
-  subtype→Subtype (around k t) (simple b) h = absurd h
-  subtype→Subtype (around k t) (around l u) h = transitive (letter→Subtype k l t (and-l (letterSubtype k l) _ h)) (covariant (subtype→Subtype t u (and-r (letterSubtype k l) _ h)))
-
-  pub Subtype→subtype : {t u : Ty} → Subtype parent t u → T (subtype parent t u)
-  unfolding subtype letterSubtype up parentOr
-  Subtype→subtype (reflexive {t}) = subtype-refl parent small t
-  Subtype→subtype (transitive {t} {u} {w} g h) = subtype-trans parent small t u w (Subtype→subtype g) (Subtype→subtype h)
-  Subtype→subtype void-below = tt
-  Subtype→subtype boolean-any = climb→simpleSubtype parent small _ _ (step here)
-  Subtype→subtype integer-any = climb→simpleSubtype parent small _ _ (step here)
-  Subtype→subtype (class-any {c}) = climb→simpleSubtype parent small _ _ (top parent small (class c))
-  Subtype→subtype (class-parent e) = climb→simpleSubtype parent small _ _ (step (climb-eq (ap parentOr e)))
-  Subtype→subtype (kind-collection {t = t}) = subtype-refl parent small t
-  Subtype→subtype (covariant {l} {t} {u} g) = and-i (letterSubtype l l) (subtype parent t u) (letter-refl l) (Subtype→subtype g)
-
 -- ---- from a class a chain leads to classes and Any, from anything else to no class
 
 fromClass : Simple → Bool
@@ -380,30 +328,3 @@ boolean-not-class parent n h = noClass-climb (climbs→climb parent _ _ _ h) tt
 pub integer-not-class : (parent : Parents) (n : ℕ) → T (simpleSubtype parent integer (class n)) → ⊥
 unfolding simpleSubtype noClass
 integer-not-class parent n h = noClass-climb (climbs→climb parent _ _ _ h) tt
-
--- ---- in the words of the document, of any parents that are smaller classes
-
-pub record CommonType (parent : Parents) (t u : Ty) : Type 0 where
-  -- the common type is an upper bound, and below each upper bound
-  pub upper : (w : Ty) → join parent t u ≡ some w → Subtype parent t w × Subtype parent u w
-  pub least : (w x : Ty) → join parent t u ≡ some w → Subtype parent t x → Subtype parent u x → Subtype parent w x
-  -- where there is an upper bound, there is a common type
-  pub exists : (x : Ty) → Subtype parent t x → Subtype parent u x → (w : Ty) × (join parent t u ≡ some w)
-
-module _ (parent : Parents) (small : Small parent) where
-  upper-of : {t u : Ty} (o : Option Ty) → All? (λ w. T (subtype parent t w) × T (subtype parent u w)) o → (w : Ty) → o ≡ some w → Subtype parent t w × Subtype parent u w
-  upper-of {t} {u} (some x) (all-some h) w e = let f : x ≡ w = cc in rw (← f) (subtype→Subtype parent small t x (h .0), subtype→Subtype parent small u x (h .1))
-  upper-of none all-none w e = absurd (let z : _≡_ {A = ℕ} 0 1 = cc in omega arith)
-
-  least-of : {x : Ty} (o : Option Ty) → Any? (λ w. T (subtype parent w x)) o → (w : Ty) → o ≡ some w → Subtype parent w x
-  least-of {x} (some y) (any-some h) w e = let f : y ≡ w = cc in rw (← f) (subtype→Subtype parent small y x h)
-
-  there : {P : Ty → Type 0} (o : Option Ty) → Any? P o → (w : Ty) × (o ≡ some w)
-  there (some y) (any-some h) = (y, refl)
-
-  pub common-type : (t u : Ty) → CommonType parent t u
-  common-type t u = record {
-    upper = upper-of (join parent t u) (join-upper parent small t u);
-    least = λ w x e p q. least-of (join parent t u) (join-least parent small t u x (Subtype→subtype parent small p) (Subtype→subtype parent small q)) w e;
-    exists = λ x p q. there (join parent t u) (join-least parent small t u x (Subtype→subtype parent small p) (Subtype→subtype parent small q));
-  }

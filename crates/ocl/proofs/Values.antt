@@ -1,21 +1,20 @@
 -- What is added to a collection, which values belong to a type, and that belonging goes up. Assumes nothing.
-use mathlib.Core.Path.{_≡_, refl, sym, ap, _∙_, subst}
+use mathlib.Core.Path.{_≡_, sym, ap}
 use mathlib.Core.Logic.{_↔_}
-use mathlib.Core.Bool.{Bool, true, false, not, _&&_, Bool-discrete}
+use mathlib.Core.Bool.{Bool, true, false, _&&_, Bool-discrete}
 use mathlib.Core.Option.{Option, none, some}
-use Prim.Native.Nat.{ℕ, zero, suc, _+_, _-_, _≤_, _<_, Ordering, Ordering·lt, Ordering·eq, Ordering·gt}
+use Prim.Native.Nat.{ℕ, zero, suc, _≤_, _<_, Ordering, Ordering·lt, Ordering·eq, Ordering·gt}
 use native.Mathlib.Omega.{arith}
 use native.Mathlib.Decide.{ℕ-discrete}
-use lib.IntN.{ℤ, pos, negsuc, ℤ-discrete}
-use lib.Dec.{T, eqb, eqb→eq, ltb, ltb→lt, nltb→le}
-use borrow.Author.Tests.{lt-ltb, le-ltb, ltb-true, ltb-false}
-use Rattle.laws.specs.Choice.{if_then_else_, orElse, onSome}
-use Rattle.ocl.specs.Types.{Simple, any, boolean, integer, class, Kind, set, sequence, bag, Kind-discrete, Letter, collection, exactly, Ty, void, simple, around, Parents, Subtype, simpleSubtype, letterSubtype, subtype, up, parentOr}
+use lib.IntN.{ℤ-discrete}
+use lib.Dec.{T, eqb, eqb→eq}
+use Rattle.ocl.specs.Types.{Simple, boolean, integer, class, Kind, set, sequence, bag, Kind-discrete, exactly, Ty, void, simple, around, simpleSubtype, letterSubtype, subtype, up, parentOr}
 use Rattle.ocl.specs.Values.{Value, bool, int, obj, coll, Value-discrete, Values, nil, cons, count, size, sizes, order, holds, same, put, insert, append, add, addAll}
-use Rattle.ocl.specs.Model.{Row, Model, classBelow, isA, every, belongs, declared, nearest, rowRead}
-use Rattle.ocl.specs.Soundness.{Accepted}
-use Rattle.laws.proofs.Tests.{and-i, and-l, and-r, by-if, All?, all-none, all-some, Any?, any-some, all-imp, all-self}
-use Rattle.ocl.proofs.Types.{letter-trans, Climb, here, step, climb-trans, climb-eq, simpleSubtype→climb, climb→simpleSubtype, Subtype→subtype}
+use Rattle.ocl.specs.Model.{Model, classBelow, isA, every, belongs, declared, nearest, rowRead}
+use Rattle.ocl.specs.Laws.{Small, BelongsUp}
+use Rattle.laws.proofs.Tests.{and-i, and-l, and-r, by-if, All?, all-none, all-some, all-imp, all-self, all-else, all-on}
+use Rattle.ocl.proofs.Types.{letter-trans, Climb, step, climb-trans, climb-eq, simpleSubtype→climb, climb→simpleSubtype}
+use Rattle.ocl.proofs.Subtyping.{Subtype→subtype}
 
 -- ---- the same value
 
@@ -138,11 +137,11 @@ belongs-test s (around l t) (coll k vs) h = and-i (letterSubtype (exactly k) l) 
 pub record Above (s : Model) (c i : ℕ) : Type 0 where
   pub climb : Climb (s .parent) (class c) (class (s .row i .owner))
 
-module _ (s : Model) (ok : Accepted s) where
+module _ (s : Model) (small : Small (s .parent)) where
   up-simple : (a b c : Simple) → T (simpleSubtype (s .parent) a b) → T (simpleSubtype (s .parent) b c) → T (simpleSubtype (s .parent) a c)
   up-simple a b c p q =
-      climb→simpleSubtype (s .parent) (ok .parents-smaller) a c
-      (climb-trans (simpleSubtype→climb (s .parent) (ok .parents-smaller) a b p) (simpleSubtype→climb (s .parent) (ok .parents-smaller) b c q))
+      climb→simpleSubtype (s .parent) small a c
+      (climb-trans (simpleSubtype→climb (s .parent) small a b p) (simpleSubtype→climb (s .parent) small b c q))
 
   class-up : (o : Option ℕ) (b c : Simple) → T (classBelow (s .parent) o b) → T (simpleSubtype (s .parent) b c) → T (classBelow (s .parent) o c)
   unfolding classBelow
@@ -170,10 +169,6 @@ module _ (s : Model) (ok : Accepted s) where
   belongs-up (around k t) (around l u) h (coll j vs) b =
       (letter-trans (exactly j) k l (b .0) (and-l (letterSubtype k l) _ h), every-imp (belongs-up t u (and-r (letterSubtype k l) _ h)) (b .1))
 
-  -- a value that belongs to a type belongs to every type above it
-  pub belongs-monotone : {t u : Ty} → Subtype (s .parent) t u → (v : Value) → T (belongs s t v) → T (belongs s u v)
-  belongs-monotone {t} {u} h v b = belongs-test s u v (belongs-up t u (Subtype→subtype (s .parent) (ok .parents-smaller) h) v (belongs-by s t v b))
-
   -- ---- the row found upward from a class is declared at that class or above it
 
   declared-at : (c name n : ℕ) → All? (λ i. s .row i .owner ≡ c) (declared s c name n)
@@ -186,24 +181,37 @@ module _ (s : Model) (ok : Accepted s) where
   declared-above : (c name : ℕ) → All? (Above s c) (declared s c name (s .rowCount))
   declared-above c name = all-imp (λ i e. record { climb = climb-eq (ap class (sym e)) }) (declared-at c name (s .rowCount))
 
-  else-all : {P : ℕ → Type 0} {o q : Option ℕ} → All? P o → All? P q → All? P (orElse o q)
-  unfolding orElse
-  else-all all-none k = k
-  else-all (all-some h) k = all-some h
-
-  some-all : {P Q : ℕ → Type 0} {o : Option ℕ} {f : ℕ → Option ℕ} → All? P o → ((x : ℕ) → P x → All? Q (f x)) → All? Q (onSome o f)
-  unfolding onSome
-  some-all all-none k = all-none
-  some-all (all-some {x} h) k = k x h
-
   nearest-above : (name n c : ℕ) → All? (Above s c) (nearest s name n c)
   unfolding nearest up parentOr
   nearest-above name zero c = all-none
   nearest-above name (suc n) c =
-      else-all (declared-above c name)
-      (some-all (all-self (s .parent c))
+      all-else (declared-above c name)
+      (all-on (all-self (s .parent c))
       (λ p e. all-imp (λ i g. record { climb = step (climb-trans (climb-eq (ap parentOr e)) (g .climb)) }) (nearest-above name n p)))
 
   pub rowRead-above : (c name : ℕ) → All? (Above s c) (rowRead s c name)
   unfolding rowRead
   rowRead-above c name = nearest-above name (suc c) c
+
+-- a value that belongs to a type belongs to every type above it
+pub belongs-monotone : BelongsUp
+belongs-monotone s small t u v h b = belongs-test s u v (belongs-up s small t u (Subtype→subtype (s .parent) small h) v (belongs-by s t v b))
+
+-- ---- and it is one of the rows
+
+module _ (s : Model) where
+  declared-row : (c name n : ℕ) → All? (λ i. i < n) (declared s c name n)
+  unfolding declared
+  declared-row c name zero = all-none
+  declared-row c name (suc n) =
+      by-if (All? (λ i. i < suc n)) (eqb (s .row n .owner) c && eqb (s .row n .name) name) (some n) (declared s c name n)
+      (λ t. all-some (omega arith)) (λ t. all-imp (λ i h. omega arith) (declared-row c name n))
+
+  nearest-row : (name n c : ℕ) → All? (λ i. i < s .rowCount) (nearest s name n c)
+  unfolding nearest
+  nearest-row name zero c = all-none
+  nearest-row name (suc n) c = all-else (declared-row c name (s .rowCount)) (all-on (all-self (s .parent c)) (λ p e. nearest-row name n p))
+
+  pub rowRead-row : (c name : ℕ) → All? (λ i. i < s .rowCount) (rowRead s c name)
+  unfolding rowRead
+  rowRead-row c name = nearest-row name (suc c) c

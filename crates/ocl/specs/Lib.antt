@@ -6,4 +6,5 @@ pub mod Forms
 pub mod Typing
 pub mod Evaluation
 pub mod Soundness
+pub mod Laws
 pub mod Worked

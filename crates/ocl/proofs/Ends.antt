@@ -1,0 +1,100 @@
+-- What holds of every value that a run may end in, whatever else it ends in: a law for each piece that evaluation is written in.
+-- Assumes nothing.
+use mathlib.Core.Path.{_≡_, subst}
+use mathlib.Core.Bool.{Bool, true, false, not, Bool·beq}
+use mathlib.Core.Option.{Option}
+use Prim.Native.Nat.{ℕ, _+_}
+use native.Mathlib.Omega.{arith}
+use lib.IntN.{ℤ}
+use lib.Dec.{leb, ltb}
+use Rattle.laws.specs.Choice.{if_then_else_}
+use Rattle.ocl.specs.Types.{Kind}
+use Rattle.ocl.specs.Values.{Value, bool, int, obj, coll, Values, size}
+use Rattle.ocl.specs.Environment.{Env}
+use Rattle.ocl.specs.Forms.{Quantifier}
+use Rattle.ocl.specs.Evaluation.{Outcome, value, undefined, stuck, stop, Run, resume, bind, tick, form, given, bound, onBool, onInt, onObj, onColl, endsAt, search, fold}
+use Rattle.laws.proofs.Tests.{All?, all-none, all-some}
+use Rattle.ocl.proofs.Values.{Every, every-nil, every-cons}
+
+pub data Ends (P : Value → Type 0) : Outcome → Type 0 where
+  ends-value : {v : Value} {n : ℕ} → P v → Ends P (value v n)
+  ends-undefined : {n : ℕ} → Ends P (undefined n)
+  ends-stuck : Ends P stuck
+  ends-stop : {c n : ℕ} → Ends P (stop c n)
+
+pub ends-at : {P : Value → Type 0} {o : Outcome} {v : Value} {n : ℕ} → Ends P o → o ≡ value v n → P v
+ends-at {P} {v = w} (ends-value {v} p) e = let f : v ≡ w = cc in subst P f p
+ends-at ends-undefined e = absurd (let z : _≡_ {A = ℕ} 0 1 = cc in omega arith)
+ends-at ends-stuck e = absurd (let z : _≡_ {A = ℕ} 0 1 = cc in omega arith)
+ends-at ends-stop e = absurd (let z : _≡_ {A = ℕ} 0 1 = cc in omega arith)
+
+pub ends-resume : {P Q : Value → Type 0} {o : Outcome} {f : Value → ℕ → Outcome} {g : ℕ → Outcome} → Ends P o → ((v : Value) (n : ℕ) → P v → Ends Q (f v n))
+    → ((n : ℕ) → Ends Q (g n)) → Ends Q (resume o f g)
+ends-resume (ends-value {v} {n} p) h k = h v n p
+ends-resume (ends-undefined {n}) h k = k n
+ends-resume ends-stuck h k = ends-stuck
+ends-resume ends-stop h k = ends-stop
+
+pub ends-bind : {P Q : Value → Type 0} {o : Outcome} {f : Value → ℕ → Outcome} → Ends P o → ((v : Value) (n : ℕ) → P v → Ends Q (f v n)) → Ends Q (bind o f)
+ends-bind (ends-value {v} {n} p) h = h v n p
+ends-bind ends-undefined h = ends-undefined
+ends-bind ends-stuck h = ends-stuck
+ends-bind ends-stop h = ends-stop
+
+pub ends-if : {P : Value → Type 0} {x y : Outcome} (b : Bool) → Ends P x → Ends P y → Ends P (if b then x else y)
+ends-if true h k = h
+ends-if false h k = k
+
+pub ends-tick : {P : Value → Type 0} (f : Run) (ρ : Env Value) (n : ℕ) → ((m : ℕ) → Ends P (f ρ m)) → Ends P (tick f ρ n)
+unfolding tick
+ends-tick f ρ n h = ends-if (ltb n 1000000) (h (n + 1)) ends-stop
+
+pub ends-form : {P : Value → Type 0} (v : Value) (n : ℕ) → P v → Ends P (form v n)
+unfolding form
+ends-form v n p = ends-if (leb (size v) 128) (ends-value p) ends-stop
+
+pub ends-given : {P : Value → Type 0} {o : Option Value} (n : ℕ) → All? P o → Ends P (given o n)
+ends-given n all-none = ends-undefined
+ends-given n (all-some p) = ends-value p
+
+pub ends-bound : {P : Value → Type 0} {o : Option Value} (n : ℕ) → All? P o → Ends P (bound o n)
+ends-bound n all-none = ends-stuck
+ends-bound n (all-some p) = ends-value p
+
+pub ends-bool : {P : Value → Type 0} {k : Bool → Outcome} (v : Value) → ((b : Bool) → Ends P (k b)) → Ends P (onBool v k)
+ends-bool (bool b) h = h b
+ends-bool (int z) h = ends-stuck
+ends-bool (obj o) h = ends-stuck
+ends-bool (coll c vs) h = ends-stuck
+
+pub ends-int : {P : Value → Type 0} {k : ℤ → Outcome} (v : Value) → ((z : ℤ) → Ends P (k z)) → Ends P (onInt v k)
+ends-int (bool b) h = ends-stuck
+ends-int (int z) h = h z
+ends-int (obj o) h = ends-stuck
+ends-int (coll c vs) h = ends-stuck
+
+pub ends-obj : {P : Value → Type 0} {k : ℕ → Outcome} (v : Value) → ((o : ℕ) → Ends P (k o)) → Ends P (onObj v k)
+ends-obj (bool b) h = ends-stuck
+ends-obj (int z) h = ends-stuck
+ends-obj (obj o) h = h o
+ends-obj (coll c vs) h = ends-stuck
+
+-- what is known of the operand is known of the collection
+pub ends-coll : (P : Value → Type 0) {Q : Value → Type 0} {k : Kind → Values → Outcome} (v : Value) → P v → ((c : Kind) (vs : Values) → P (coll c vs) → Ends Q (k c vs)) → Ends Q (onColl v k)
+ends-coll P (bool b) p h = ends-stuck
+ends-coll P (int z) p h = ends-stuck
+ends-coll P (obj o) p h = ends-stuck
+ends-coll P (coll c vs) p h = h c vs p
+
+pub ends-search : {P Q R : Value → Type 0} {body : Value → ℕ → Outcome} (q : Quantifier) {vs : Values} (n : ℕ) → Every P vs → ((b : Bool) → Q (bool b))
+    → ((v : Value) (m : ℕ) → P v → Ends R (body v m)) → Ends Q (search q body vs n)
+unfolding search
+ends-search q n every-nil r g = ends-value (r (not (endsAt q)))
+ends-search q n (every-cons {v} p h) r g =
+    ends-bind (g v n p) (λ w m x. ends-bool w (λ b. ends-if (Bool·beq b (endsAt q)) (ends-value (r b)) (ends-search q m h r g)))
+
+pub ends-fold : {P Q : Value → Type 0} {body : Value → Value → ℕ → Outcome} {vs : Values} (a : Value) (n : ℕ) → Every P vs → Q a
+    → ((v a : Value) (m : ℕ) → P v → Q a → Ends Q (body v a m)) → Ends Q (fold body vs a n)
+unfolding fold
+ends-fold a n every-nil q g = ends-value q
+ends-fold a n (every-cons {v} p h) q g = ends-bind (g v a n p q) (λ b m r. ends-fold b m h r g)

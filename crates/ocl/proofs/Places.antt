@@ -1,0 +1,208 @@
+-- Where typing refuses and marks: one induction over the forms, with a law for each piece that typing is written in. Assumes nothing.
+use mathlib.Core.Path.{_≡_, subst}
+use mathlib.Core.Bool.{Bool, true, false, _&&_, _||_}
+use mathlib.Core.Option.{Option, none, some}
+use mathlib.Core.List.{List, _++_}
+use Prim.Native.Nat.{ℕ, _≤_, _<_}
+use native.Mathlib.Omega.{arith as linear}
+use lib.Dec.{T, leb, leb→le}
+use Rattle.laws.specs.Choice.{if_then_else_}
+use Rattle.laws.specs.Lists.{member, Each}
+use Rattle.ocl.specs.Environment.{Env, extend}
+use Rattle.ocl.specs.Types.{any, boolean, integer, class, Kind, Letter, collection, exactly, Ty, void, simple, around, Class, Boolean, Integer, depth, sameKind, subtype, join}
+use Rattle.ocl.specs.Model.{Model}
+use Rattle.ocl.specs.Forms.{Leaf, truth, undef, number, self, var, all, Unary, negation, sizeOf, convert, castTo, Binary, equal, less, arith, includes, including, union, Expr, node, Form, leaf, unary, binary, connective, isUndef, conditional, letIn, attribute, quantified, iterate, collect, Operands, noOperand, operand, numbers, numbersIn, numbersOf}
+use Rattle.ocl.specs.Typing.{Answer, typed, refused, Marks, Typed, pure, thenFor, andThen, below, common, wrap, onCollection, onKind, bound, leafType, castType, unaryType, bothBelow, binaryType, conditionalType, rowType, attributeType, leafTyping, unaryTyping, binaryTyping, connectiveTyping, isUndefTyping, conditionalTyping, letTyping, attributeTyping, quantifiedTyping, iterateTyping, noOperandTyping, operandTyping, collectTyping, typing, formTyping, operandsTyping}
+use Rattle.ocl.specs.Laws.{Refusal, EachMark, no-mark, mark-then, TypingPlaces}
+use Rattle.laws.proofs.Tests.{and-l, and-r, All?, all-none, all-some}
+use Rattle.laws.proofs.Lists.{each-left, each-right, each-head, each-member}
+use Rattle.ocl.proofs.Values.{rowRead-row}
+
+each-mark-append : {P : ℕ → ℕ → Type 0} {m n : Marks} → EachMark P m → EachMark P n → EachMark P (m ++ n)
+each-mark-append no-mark k = k
+each-mark-append (mark-then p h) k = mark-then p (each-mark-append h k)
+
+each-mark-imp : {P Q : ℕ → ℕ → Type 0} {m : Marks} → ((p i : ℕ) → P p i → Q p i) → EachMark P m → EachMark Q m
+each-mark-imp f no-mark = no-mark
+each-mark-imp f (mark-then {p} {i} h k) = mark-then (f p i h) (each-mark-imp f k)
+
+-- P of the nodes that may be named
+module _ (s : Model) (P : ℕ → Type 0) where
+  data Says : Answer → Type 0 where
+    yes-type : {t : Ty} → Says (typed t)
+    no-type : {n p : ℕ} → T (leb 9 n && leb n 13) → P p → Says (refused n p)
+
+  record Known (x : Typed) : Type 0 where
+    says : Says (x .answer)
+    marks : EachMark (λ p i. P p × (i < s .rowCount)) (x .marks)
+
+  -- ---- the pieces of typing
+
+  known-pure : {a : Answer} → Says a → Known (pure a)
+  known-pure h = record { says = h; marks = no-mark }
+
+  then-known : {k : Ty → Typed} {m : Marks} (a : Answer) → Says a → EachMark (λ p i. P p × (i < s .rowCount)) m → ((t : Ty) → Known (k t)) → Known (thenFor a m k)
+  unfolding thenFor
+  then-known (typed t) h e g = record { says = g t .says; marks = each-mark-append e (g t .marks) }
+  then-known (refused n p) h e g = record { says = h; marks = e }
+
+  known-then : {x : Typed} {k : Ty → Typed} → Known x → ((t : Ty) → Known (k t)) → Known (andThen x k)
+  unfolding andThen
+  known-then {x} h g = then-known (x .answer) (h .says) (h .marks) g
+
+  -- the last operand, then what the node asks
+  known-last : {x : Typed} {k : Ty → Answer} → Known x → ((t : Ty) → Says (k t)) → Known (andThen x (λ t. pure (k t)))
+  known-last h g = known-then h (λ t. known-pure (g t))
+
+  known-if : {x y : Typed} (b : Bool) → Known x → Known y → Known (if b then x else y)
+  known-if true h k = h
+  known-if false h k = k
+
+  known-collection : {x : Typed} {k : Letter → Ty → Typed} (t : Ty) → Known x → ((l : Letter) (m : Ty) → Known (k l m)) → Known (onCollection t x k)
+  unfolding onCollection
+  known-collection void h g = h
+  known-collection (simple b) h g = h
+  known-collection (around l m) h g = g l m
+
+  says-if : {x y : Answer} (b : Bool) → Says x → Says y → Says (if b then x else y)
+  says-if true h k = h
+  says-if false h k = k
+
+  says-below : {a : Answer} {p : ℕ} (t u : Ty) → P p → Says a → Says (below s p t u a)
+  says-below t u q h = says-if (subtype (s .parent) t u) h (no-type tt q)
+
+  says-common : {k : Ty → Answer} {p : ℕ} (o : Option Ty) → P p → ((w : Ty) → Says (k w)) → Says (common p o k)
+  unfolding common
+  says-common none q h = no-type tt q
+  says-common (some w) q h = h w
+
+  says-wrap : {p : ℕ} (l : Letter) (t : Ty) → P p → Says (wrap p l t)
+  unfolding wrap
+  says-wrap l t q = says-if (leb (depth t) 2) yes-type (no-type tt q)
+
+  says-collection : {p : ℕ} {k : Letter → Ty → Answer} (t : Ty) → P p → ((l : Letter) (m : Ty) → Says (k l m)) → Says (onCollection t (refused 11 p) k)
+  unfolding onCollection
+  says-collection void q h = no-type tt q
+  says-collection (simple b) q h = no-type tt q
+  says-collection (around l m) q h = h l m
+
+  says-kind : {p : ℕ} {k : Kind → Answer} (l : Letter) → P p → ((c : Kind) → Says (k c)) → Says (onKind l (refused 11 p) k)
+  unfolding onKind
+  says-kind collection q h = no-type tt q
+  says-kind (exactly c) q h = h c
+
+  says-bound : {p : ℕ} (o : Option Ty) → P p → Says (bound p o)
+  unfolding bound
+  says-bound none q = no-type tt q
+  says-bound (some t) q = yes-type
+
+  -- ---- what a node asks of its operands
+
+  leaf-says : {p : ℕ} (l : Leaf) (Γ : Env Ty) → P p → Says (leafType p l Γ)
+  unfolding leafType
+  leaf-says (truth b) Γ q = yes-type
+  leaf-says undef Γ q = yes-type
+  leaf-says (number z) Γ q = yes-type
+  leaf-says self Γ q = says-bound (Γ 0) q
+  leaf-says (var i) Γ q = says-bound (Γ i) q
+  leaf-says (all c) Γ q = yes-type
+
+  cast-says : {p : ℕ} (c : ℕ) (t : Ty) → P p → Says (castType s p c t)
+  unfolding castType
+  cast-says c void q = no-type tt q
+  cast-says c (simple any) q = yes-type
+  cast-says c (simple boolean) q = no-type tt q
+  cast-says c (simple integer) q = no-type tt q
+  cast-says c (simple (class d)) q = says-if (subtype (s .parent) (Class d) (Class c) || subtype (s .parent) (Class c) (Class d)) yes-type (no-type tt q)
+  cast-says c (around l t) q = no-type tt q
+
+  unary-says : {p : ℕ} (op : Unary) (t : Ty) → P p → Says (unaryType s p op t)
+  unfolding unaryType
+  unary-says negation t q = says-below t Boolean q yes-type
+  unary-says sizeOf t q = says-collection t q (λ l m. yes-type)
+  unary-says (convert k) t q = says-collection t q (λ l m. says-wrap (exactly k) m q)
+  unary-says (castTo c) t q = cast-says c t q
+
+  both-says : {p : ℕ} (w r t u : Ty) → P p → Says (bothBelow s p w r t u)
+  unfolding bothBelow
+  both-says w r t u q = says-below t w q (says-below u w q yes-type)
+
+  binary-says : {p : ℕ} (op : Binary) (t u : Ty) → P p → Says (binaryType s p op t u)
+  unfolding binaryType
+  binary-says equal t u q = says-common (join (s .parent) t u) q (λ w. yes-type)
+  binary-says less t u q = both-says Integer Boolean t u q
+  binary-says (arith o) t u q = both-says Integer Integer t u q
+  binary-says includes t u q = says-collection t q (λ l m. says-common (join (s .parent) m u) q (λ w. yes-type))
+  binary-says including t u q = says-collection t q (λ l m. says-kind l q (λ k. says-common (join (s .parent) m u) q (λ w. says-wrap (exactly k) w q)))
+  binary-says union t u q = says-collection t q (λ l m. says-kind l q (λ j. says-collection u q (λ r n. says-kind r q (λ k.
+      says-if (sameKind j k) (says-common (join (s .parent) m n) q (λ w. says-wrap (exactly j) w q)) (no-type tt q)))))
+
+  conditional-says : {p : ℕ} (c t u : Ty) → P p → Says (conditionalType s p c t u)
+  unfolding conditionalType
+  conditional-says c t u q = says-below c Boolean q (says-common (join (s .parent) t u) q (λ w. yes-type))
+
+  row-known : {p : ℕ} {o : Option ℕ} → P p → All? (λ i. i < s .rowCount) o → Known (rowType s p o)
+  unfolding rowType
+  row-known q all-none = known-pure (no-type tt q)
+  row-known q (all-some h) = record { says = yes-type; marks = mark-then (q, h) no-mark }
+
+  attribute-known : {p : ℕ} (name : ℕ) (t : Ty) → P p → Known (attributeType s p name t)
+  unfolding attributeType
+  attribute-known name void q = known-pure (no-type tt q)
+  attribute-known name (simple any) q = known-pure (no-type tt q)
+  attribute-known name (simple boolean) q = known-pure (no-type tt q)
+  attribute-known name (simple integer) q = known-pure (no-type tt q)
+  attribute-known name (simple (class c)) q = row-known q (rowRead-row s c name)
+  attribute-known name (around l t) q = known-pure (no-type tt q)
+
+  -- ---- the induction
+
+  mutual
+    unfolding numbers typing leafTyping unaryTyping binaryTyping connectiveTyping isUndefTyping conditionalTyping letTyping attributeTyping quantifiedTyping iterateTyping noOperandTyping operandTyping collectTyping
+
+    known : (e : Expr) → Each P (numbers e) → (Γ : Env Ty) → Known (typing s e Γ)
+    known (node p f) h Γ = known-form f p (each-left (numbersIn f) _ h) (each-head (each-right (numbersIn f) h)) Γ
+
+    known-form : (f : Form) (p : ℕ) → Each P (numbersIn f) → P p → (Γ : Env Ty) → Known (formTyping s p f Γ)
+    known-form (leaf l) p h q Γ = known-pure (leaf-says l Γ q)
+    known-form (unary op a) p h q Γ = known-last (known a h Γ) (λ t. unary-says op t q)
+    known-form (binary op a b) p h q Γ = known-then (known a (each-left (numbers a) _ h) Γ) (λ t. known-last (known b (each-right (numbers a) h) Γ) (λ u. binary-says op t u q))
+    known-form (connective c a b) p h q Γ =
+        known-then (known a (each-left (numbers a) _ h) Γ) (λ t. known-last (known b (each-right (numbers a) h) Γ) (λ u. both-says Boolean Boolean t u q))
+    known-form (isUndef a) p h q Γ = known-last (known a h Γ) (λ t. yes-type)
+    known-form (conditional c a b) p h q Γ = let r = each-right (numbers c) h in
+        known-then (known c (each-left (numbers c) _ h) Γ) (λ x. known-then (known a (each-left (numbers a) _ r) Γ) (λ t. known-last (known b (each-right (numbers a) r) Γ) (λ u. conditional-says x t u q)))
+    known-form (letIn i a b) p h q Γ = known-then (known a (each-left (numbers a) _ h) Γ) (λ t. known b (each-right (numbers a) h) (extend Γ i t))
+    known-form (attribute name a) p h q Γ = known-then (known a h Γ) (λ t. attribute-known name t q)
+    known-form (quantified z i a b) p h q Γ = known-then (known a (each-left (numbers a) _ h) Γ) (λ t. known-collection t (known-pure (no-type tt q))
+        (λ l m. known-last (known b (each-right (numbers a) h) (extend Γ i m)) (λ u. says-below u Boolean q yes-type)))
+    known-form (iterate i j t a e b) p h q Γ = let r = each-right (numbers a) h in
+        known-then (known a (each-left (numbers a) _ h) Γ) (λ c. known-then (known e (each-left (numbers e) _ r) Γ) (λ u. known-collection c (known-pure (no-type tt q))
+        (λ l m. known-if (subtype (s .parent) u t) (known-last (known b (each-right (numbers e) r) (extend (extend Γ i m) j t)) (λ w. says-below w t q yes-type)) (known-pure (no-type tt q)))))
+    known-form (collect k es) p h q Γ = known-last (known-operands es p h q Γ) (λ t. says-wrap (exactly k) t q)
+
+    known-operands : (es : Operands) (p : ℕ) → Each P (numbersOf es) → P p → (Γ : Env Ty) → Known (operandsTyping s p es Γ)
+    known-operands noOperand p h q Γ = known-pure yes-type
+    known-operands (operand e es) p h q Γ =
+        known-then (known e (each-left (numbers e) _ h) Γ) (λ t. known-last (known-operands es p (each-right (numbers e) h) q Γ) (λ u. says-common (join (s .parent) t u) q (λ w. yes-type)))
+
+-- ---- of the tree's own nodes
+
+refusal-of : {s : Model} {ns : List ℕ} {a : Answer} {n p : ℕ} → Says s (λ m. T (member m ns)) a → a ≡ refused n p → Refusal ns n p
+refusal-of {ns} {n = k} {p = o} (no-type {n} {p} h q) e =
+    let f : n ≡ k = cc in
+    let g : p ≡ o = cc in
+    record {
+      low = subst (λ x. 9 ≤ x) f (leb→le 9 n (and-l (leb 9 n) (leb n 13) h));
+      high = subst (λ x. x ≤ 13) f (leb→le n 13 (and-r (leb 9 n) (leb n 13) h));
+      placed = subst (λ x. T (member x ns)) g q;
+    }
+refusal-of yes-type e = absurd (let z : _≡_ {A = ℕ} 0 1 = cc in omega linear)
+
+pub typing-places : TypingPlaces
+typing-places s e Γ =
+    let h = known s (λ m. T (member m (numbers e))) e (each-member (numbers e)) Γ in
+    record {
+      refusals = λ n p r. refusal-of (h .says) r;
+      marked = each-mark-imp (λ p i q. record { placed = q .0; is-row = q .1 }) (h .marks);
+    }

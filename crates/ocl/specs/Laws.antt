@@ -1,0 +1,140 @@
+-- What is proved of types, values, evaluation and typing, besides demand 3 (Soundness.antt): the statements. proofs/ has the proofs.
+use mathlib.Core.Path.{_≡_}
+use mathlib.Core.Logic.{_↔_}
+use mathlib.Core.Bool.{Bool}
+use mathlib.Core.Option.{none, some}
+use mathlib.Core.List.{List, [], _∷_}
+use Prim.Native.Nat.{ℕ, _≤_, _<_, Ordering, Ordering·lt, Ordering·eq}
+use lib.IntN.{ℤ}
+use lib.Dec.{T}
+use Rattle.laws.specs.Lists.{member}
+use Rattle.laws.specs.Orders.{TotalOrder}
+use Rattle.ocl.specs.Types.{Kind, set, sequence, bag, Ty, Parents, Subtype, subtype, join}
+use Rattle.ocl.specs.Values.{Value, bool, int, obj, coll, Values, nil, cons, order, same, has, add, addAll}
+use Rattle.ocl.specs.Model.{Model, belongs}
+use Rattle.ocl.specs.Environment.{Env}
+use Rattle.ocl.specs.Forms.{Expr, numbers}
+use Rattle.ocl.specs.Typing.{refused, Marks, typing}
+use Rattle.ocl.specs.Evaluation.{value, instances, evaluation, evaluateRule}
+
+-- ---- types, of any parents that are smaller classes, as reading makes sure
+
+abbrev pub Small : Parents → Type 0
+Small parent = (c p : ℕ) → parent c ≡ some p → p < c
+
+pub record Subtyping (parent : Parents) : Type 0 where
+  -- the test says yes exactly of what the relation holds of
+  pub test-exact : (t u : Ty) → T (subtype parent t u) ↔ Subtype parent t u
+  -- and the relation is a partial order
+  pub same-below : (t : Ty) → Subtype parent t t
+  pub goes-on : (t u w : Ty) → Subtype parent t u → Subtype parent u w → Subtype parent t w
+  pub both-ways : (t u : Ty) → Subtype parent t u → Subtype parent u t → t ≡ u
+
+abbrev pub SubtypingLaw : Type 0
+SubtypingLaw = (parent : Parents) → Small parent → Subtyping parent
+
+pub record CommonType (parent : Parents) (t u : Ty) : Type 0 where
+  -- the common type is an upper bound, and below each upper bound
+  pub upper : (w : Ty) → join parent t u ≡ some w → Subtype parent t w × Subtype parent u w
+  pub least : (w x : Ty) → join parent t u ≡ some w → Subtype parent t x → Subtype parent u x → Subtype parent w x
+  -- where there is an upper bound, there is a common type
+  pub exists : (x : Ty) → Subtype parent t x → Subtype parent u x → (w : Ty) × (join parent t u ≡ some w)
+  -- and none is there exactly where no type is above both
+  pub none-exact : (join parent t u ≡ none) ↔ ((x : Ty) → Subtype parent t x → Subtype parent u x → ⊥)
+  -- it does not matter which of the two comes first
+  pub either-way : join parent t u ≡ join parent u t
+
+abbrev pub CommonTypeLaw : Type 0
+CommonTypeLaw = (parent : Parents) → Small parent → (t u : Ty) → CommonType parent t u
+
+-- a value that belongs to a type belongs to every type above it
+abbrev pub BelongsUp : Type 0
+BelongsUp = (s : Model) → Small (s .parent) → (t u : Ty) (v : Value) → Subtype (s .parent) t u → T (belongs s t v) → T (belongs s u v)
+
+-- ---- values: which are one, and their order
+
+-- v is one of the members
+pub data Member (v : Value) : Values → Type 0 where
+  first : {vs : Values} → Member v (cons v vs)
+  later : {w : Value} {vs : Values} → Member v vs → Member v (cons w vs)
+
+-- the tests of `eq` and `includes` are exact, and of two different values one comes before the other
+pub record ValueOrder : Type 0 where
+  pub same-exact : (v w : Value) → T (same v w) ↔ (v ≡ w)
+  pub has-exact : (v : Value) (vs : Values) → T (has v vs) ↔ Member v vs
+  pub total : TotalOrder order
+
+-- ---- formed values: each Set in them strictly ascending, each Bag ascending, each Sequence as it comes
+
+-- what a kind asks of a member and the next one, by how the order compares them
+pub data InOrder : Kind → Ordering → Type 0 where
+  ascends : {k : Kind} → InOrder k Ordering·lt
+  repeats : InOrder bag Ordering·eq
+  anyhow : {o : Ordering} → InOrder sequence o
+
+-- each member and the next one are as the kind asks
+pub data Sorted (k : Kind) : Values → Type 0 where
+  sorted-nil : Sorted k nil
+  sorted-one : {v : Value} → Sorted k (cons v nil)
+  sorted-cons : {v w : Value} {ws : Values} → InOrder k (order v w) → Sorted k (cons w ws) → Sorted k (cons v (cons w ws))
+
+mutual
+  pub data Formed : Value → Type 0 where
+    formed-bool : {b : Bool} → Formed (bool b)
+    formed-int : {z : ℤ} → Formed (int z)
+    formed-obj : {o : ℕ} → Formed (obj o)
+    formed-coll : {k : Kind} {vs : Values} → Sorted k vs → FormedAll vs → Formed (coll k vs)
+
+  pub data FormedAll : Values → Type 0 where
+    formed-nil : FormedAll nil
+    formed-cons : {v : Value} {vs : Values} → Formed v → FormedAll vs → FormedAll (cons v vs)
+
+-- adding keeps members as their kind asks, so that what is gathered from nothing is formed; the instances of a class are gathered
+-- in ascending order already
+pub record Adding : Type 0 where
+  pub add-sorted : (k : Kind) (v : Value) (vs : Values) → Sorted k vs → Sorted k (add k v vs)
+  pub addAll-sorted : (k : Kind) (vs ws : Values) → Sorted k ws → Sorted k (addAll k vs ws)
+  pub gathered : (k : Kind) (vs : Values) → FormedAll vs → Formed (coll k (addAll k vs nil))
+  pub instances-sorted : (s : Model) (c n : ℕ) → Sorted set (instances s c n)
+
+-- whatever is there is formed: in an environment, in a model
+pub record FormedEnv (ρ : Env Value) : Type 0 where
+  pub bound-formed : (i : ℕ) (v : Value) → ρ i ≡ some v → Formed v
+
+pub record FormedModel (s : Model) : Type 0 where
+  pub stored-formed : (o i : ℕ) (v : Value) → s .valueOf o i ≡ some v → Formed v
+
+-- every value that evaluation ends in is formed, typed or not, from any marks and any steps so far
+pub record FormedEnds (s : Model) (mark : ℕ → ℕ) (e : Expr) : Type 0 where
+  pub from : (ρ : Env Value) → FormedEnv ρ → (n m : ℕ) (v : Value) → evaluation s mark e ρ n ≡ value v m → Formed v
+  -- so a rule's is
+  pub of-rule : (o m : ℕ) (v : Value) → evaluateRule s mark e o ≡ value v m → Formed v
+
+abbrev pub EvaluationForms : Type 0
+EvaluationForms = (s : Model) → FormedModel s → (mark : ℕ → ℕ) (e : Expr) → FormedEnds s mark e
+
+-- ---- typing: what it refuses, and what it marks
+
+-- typing's refusals are numbered 9 to 13, and name a node
+pub record Refusal (nodes : List ℕ) (n p : ℕ) : Type 0 where
+  pub low : 9 ≤ n
+  pub high : n ≤ 13
+  pub placed : T (member p nodes)
+
+-- a mark is at a node, and is a row of the model
+pub record Mark (s : Model) (nodes : List ℕ) (p i : ℕ) : Type 0 where
+  pub placed : T (member p nodes)
+  pub is-row : i < s .rowCount
+
+-- of each mark, its node first
+pub data EachMark (P : ℕ → ℕ → Type 0) : Marks → Type 0 where
+  no-mark : EachMark P []
+  mark-then : {p i : ℕ} {m : Marks} → P p i → EachMark P m → EachMark P ((p, i) ∷ m)
+
+-- both of the tree's own nodes, for every tree and environment, whether or not typing ends in a type
+pub record Typings (s : Model) (e : Expr) (Γ : Env Ty) : Type 0 where
+  pub refusals : (n p : ℕ) → typing s e Γ .answer ≡ refused n p → Refusal (numbers e) n p
+  pub marked : EachMark (Mark s (numbers e)) (typing s e Γ .marks)
+
+abbrev pub TypingPlaces : Type 0
+TypingPlaces = (s : Model) (e : Expr) (Γ : Env Ty) → Typings s e Γ
