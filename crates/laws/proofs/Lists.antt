@@ -35,26 +35,26 @@ member-append n (m ∷ a) b = rw (member-append n a b) (or-assoc (eqb n m) (memb
 
 -- ---- each
 
-pub each-imp : {P Q : ℕ → Type 0} {ns : List ℕ} → ((n : ℕ) → P n → Q n) → Each P ns → Each Q ns
+pub each-imp : {A : Type 0} {P Q : A → Type 0} {ns : List A} → ((n : A) → P n → Q n) → Each P ns → Each Q ns
 each-imp f each-nil = each-nil
 each-imp f (each-cons {n} p h) = each-cons (f n p) (each-imp f h)
 
-pub each-append : {P : ℕ → Type 0} {a b : List ℕ} → Each P a → Each P b → Each P (a ++ b)
+pub each-append : {A : Type 0} {P : A → Type 0} {a b : List A} → Each P a → Each P b → Each P (a ++ b)
 each-append each-nil k = k
 each-append (each-cons p h) k = each-cons p (each-append h k)
 
-pub each-left : {P : ℕ → Type 0} (a b : List ℕ) → Each P (a ++ b) → Each P a
+pub each-left : {A : Type 0} {P : A → Type 0} (a b : List A) → Each P (a ++ b) → Each P a
 each-left [] b h = each-nil
 each-left (n ∷ a) b (each-cons p h) = each-cons p (each-left a b h)
 
-pub each-right : {P : ℕ → Type 0} (a : List ℕ) {b : List ℕ} → Each P (a ++ b) → Each P b
+pub each-right : {A : Type 0} {P : A → Type 0} (a : List A) {b : List A} → Each P (a ++ b) → Each P b
 each-right [] h = h
 each-right (n ∷ a) (each-cons p h) = each-right a h
 
-pub each-head : {P : ℕ → Type 0} {n : ℕ} {ns : List ℕ} → Each P (n ∷ ns) → P n
+pub each-head : {A : Type 0} {P : A → Type 0} {n : A} {ns : List A} → Each P (n ∷ ns) → P n
 each-head (each-cons p h) = p
 
-pub each-at : {P : ℕ → Type 0} {n : ℕ} {ns : List ℕ} → Each P ns → List·Memᴰ n ns → P n
+pub each-at : {A : Type 0} {P : A → Type 0} {n : A} {ns : List A} → Each P ns → List·Memᴰ n ns → P n
 each-at (each-cons p h) (List·Memᴰ·head e) = rw e p
 each-at (each-cons p h) (List·Memᴰ·tail m) = each-at h m
 

@@ -20,10 +20,10 @@ unfoldable pub concat : {A : Type 0} → List (List A) → List A
 concat [] = []
 concat (x ∷ xs) = x ++ concat xs
 
--- each of the numbers
-pub data Each (P : ℕ → Type 0) : List ℕ → Type 0 where
+-- each of the elements
+pub data Each {A : Type 0} (P : A → Type 0) : List A → Type 0 where
   each-nil : Each P []
-  each-cons : {n : ℕ} {ns : List ℕ} → P n → Each P ns → Each P (n ∷ ns)
+  each-cons : {n : A} {ns : List A} → P n → Each P ns → Each P (n ∷ ns)
 
 -- no number twice
 pub data Distinct : List ℕ → Type 0 where
