@@ -1,2 +1,3 @@
 pub mod Forest
+pub mod Acceptance
 pub mod Examples
