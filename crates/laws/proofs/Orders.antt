@@ -124,7 +124,7 @@ compare-chain a b c = go (three a b) (three b c)
     go (over l) (same m) = rw (compare-gt a b l, compare-eq b c m, compare-gt a c (omega arith)) left
     go (over l) (over m) = rw (compare-gt a b l, compare-gt b c m, compare-gt a c (omega arith)) twice
 
--- a comparison that is its own reverse, tells all apart and chains is a total order
+-- what is enough for a total order
 pub total-order : {A : Type 0} (order : A → A → Ordering) → ((x y : A) → order x y ≡ Ordering·eq → x ≡ y) → ((x y : A) → order y x ≡ reverse (order x y))
     → ((x y z : A) → Chain (order x y) (order y z) (order x z)) → TotalOrder order
 total-order order one turn chain = record {

@@ -9,6 +9,7 @@ reverse Ordering·lt = Ordering·gt
 reverse Ordering·eq = Ordering·eq
 reverse Ordering·gt = Ordering·lt
 
+-- any two are in order one way, and one way only
 pub record TotalOrder {A : Type 0} (order : A → A → Ordering) : Type 0 where
   -- two are the same in the order exactly where they are one
   pub same : (x y : A) → (order x y ≡ Ordering·eq) ↔ (x ≡ y)

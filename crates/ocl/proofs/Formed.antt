@@ -13,7 +13,7 @@ use Rattle.ocl.specs.Model.{Model, isA}
 use Rattle.ocl.specs.Environment.{Env, extend, start}
 use Rattle.ocl.specs.Forms.{Arith, plus, minus, times, div, modulo, Connective, Quantifier, Leaf, truth, undef, number, self, var, all, Unary, negation, sizeOf, convert, castTo, Binary, equal, less, arith, includes, including, union, Expr, node, Form, leaf, unary, binary, connective, isUndef, conditional, letIn, attribute, quantified, iterate, collect, Operands, noOperand, operand}
 use Rattle.ocl.specs.Evaluation.{value, Run, isLess, inRange, ranged, unlessZero, arithmetic, leafRun, cast, unaryApply, unaryRun, leftFits, binaryApply, binaryRun, decides, connectiveRun, isUndefRun, conditionalRun, letRun, attributeRun, quantifiedRun, iterateRun, Gather, noOperandRun, operandRun, collectRun, evaluation, formRun, operandsRun, evaluateRule}
-use Rattle.ocl.specs.Laws.{Sorted, sorted-nil, Formed, formed-bool, formed-int, formed-obj, formed-coll, FormedAll, formed-nil, formed-cons, Adding, FormedEnv, FormedModel, EvaluationForms}
+use Rattle.ocl.specs.Laws.{Sorted, sorted-nil, Formed, formed-bool, formed-int, formed-obj, formed-coll, FormedAll, formed-nil, formed-cons, Adding, FormedEnv, FormedModel, FormedEndsLaw}
 use Rattle.laws.proofs.Tests.{by-if, All?, all-none, all-some, all-imp, all-self}
 use Rattle.ocl.proofs.Values.{Every, every-nil, every-cons, every-imp, add-every, addAll-every}
 use Rattle.ocl.proofs.Sorted.{add-sorted, addAll-sorted, Under, under, instances-under, instances-sorted}
@@ -241,9 +241,9 @@ start-formed : (o : ℕ) → FormedEnv (start (obj o))
 unfolding start
 start-formed o = extend-formed 0 (record { bound-formed = λ i v e. absurd (let z : _≡_ {A = ℕ} 0 1 = cc in omega linear) }) formed-obj
 
-pub evaluation-forms : EvaluationForms
+pub formed-ends : FormedEndsLaw
 unfolding evaluateRule
-evaluation-forms s ok mark e = record {
+formed-ends s ok mark e = record {
   from = λ ρ r n m v h. ends-at (all-forms s ok mark e .run ρ r n) h;
   of-rule = λ o m v h. ends-at (all-forms s ok mark e .run (start (obj o)) (start-formed o) 0) h;
 }

@@ -13,7 +13,7 @@ use Rattle.ocl.specs.Types.{any, boolean, integer, class, Kind, Letter, 
 use Rattle.ocl.specs.Model.{Model}
 use Rattle.ocl.specs.Forms.{Leaf, truth, undef, number, self, var, all, Unary, negation, sizeOf, convert, castTo, Binary, equal, less, arith, includes, including, union, Expr, node, Form, leaf, unary, binary, connective, isUndef, conditional, letIn, attribute, quantified, iterate, collect, Operands, noOperand, operand, numbers, numbersIn, numbersOf}
 use Rattle.ocl.specs.Typing.{Answer, typed, refused, Marks, Typed, pure, thenFor, andThen, below, common, wrap, onCollection, onKind, bound, leafType, castType, unaryType, bothBelow, binaryType, conditionalType, rowType, attributeType, leafTyping, unaryTyping, binaryTyping, connectiveTyping, isUndefTyping, conditionalTyping, letTyping, attributeTyping, quantifiedTyping, iterateTyping, noOperandTyping, operandTyping, collectTyping, typing, formTyping, operandsTyping}
-use Rattle.ocl.specs.Laws.{Refusal, EachMark, no-mark, mark-then, TypingPlaces}
+use Rattle.ocl.specs.Laws.{Refusal, EachMark, no-mark, mark-then, TypingPlacesLaw}
 use Rattle.laws.proofs.Tests.{and-l, and-r, All?, all-none, all-some}
 use Rattle.laws.proofs.Lists.{each-left, each-right, each-head, each-member}
 use Rattle.ocl.proofs.Values.{rowRead-row}
@@ -199,7 +199,7 @@ refusal-of {ns} {n = k} {p = o} (no-type {n} {p} h q) e =
     }
 refusal-of yes-type e = absurd (let z : _≡_ {A = ℕ} 0 1 = cc in omega linear)
 
-pub typing-places : TypingPlaces
+pub typing-places : TypingPlacesLaw
 typing-places s e Γ =
     let h = known s (λ m. T (member m (numbers e))) e (each-member (numbers e)) Γ in
     record {

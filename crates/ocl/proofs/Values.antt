@@ -11,7 +11,7 @@ use lib.Dec.{T, eqb, eqb→eq}
 use Rattle.ocl.specs.Types.{Simple, boolean, integer, class, Kind, set, sequence, bag, Kind-discrete, exactly, Ty, void, simple, around, simpleSubtype, letterSubtype, subtype, up, parentOr}
 use Rattle.ocl.specs.Values.{Value, bool, int, obj, coll, Value-discrete, Values, nil, cons, count, size, sizes, order, holds, same, put, insert, append, add, addAll}
 use Rattle.ocl.specs.Model.{Model, classBelow, isA, every, belongs, declared, nearest, rowRead}
-use Rattle.ocl.specs.Laws.{Small, BelongsUp}
+use Rattle.ocl.specs.Laws.{Small, BelongsUpLaw}
 use Rattle.laws.proofs.Tests.{and-i, and-l, and-r, by-if, All?, all-none, all-some, all-imp, all-self, all-else, all-on}
 use Rattle.ocl.proofs.Types.{letter-trans, Climb, step, climb-trans, climb-eq, simpleSubtype→climb, climb→simpleSubtype}
 use Rattle.ocl.proofs.Subtyping.{Subtype→subtype}
@@ -194,7 +194,7 @@ module _ (s : Model) (small : Small (s .parent)) where
   rowRead-above c name = nearest-above name (suc c) c
 
 -- a value that belongs to a type belongs to every type above it
-pub belongs-monotone : BelongsUp
+pub belongs-monotone : BelongsUpLaw
 belongs-monotone s small t u v h b = belongs-test s u v (belongs-up s small t u (Subtype→subtype (s .parent) small h) v (belongs-by s t v b))
 
 -- ---- and it is one of the rows

@@ -48,8 +48,8 @@ abbrev pub CommonTypeLaw : Type 0
 CommonTypeLaw = (parent : Parents) → Small parent → (t u : Ty) → CommonType parent t u
 
 -- a value that belongs to a type belongs to every type above it
-abbrev pub BelongsUp : Type 0
-BelongsUp = (s : Model) → Small (s .parent) → (t u : Ty) (v : Value) → Subtype (s .parent) t u → T (belongs s t v) → T (belongs s u v)
+abbrev pub BelongsUpLaw : Type 0
+BelongsUpLaw = (s : Model) → Small (s .parent) → (t u : Ty) (v : Value) → Subtype (s .parent) t u → T (belongs s t v) → T (belongs s u v)
 
 -- ---- values: which are one, and their order
 
@@ -89,29 +89,31 @@ mutual
     formed-nil : FormedAll nil
     formed-cons : {v : Value} {vs : Values} → Formed v → FormedAll vs → FormedAll (cons v vs)
 
--- adding keeps members as their kind asks, so that what is gathered from nothing is formed; the instances of a class are gathered
--- in ascending order already
 pub record Adding : Type 0 where
+  -- members that are as their kind asks stay so, whatever is added
   pub add-sorted : (k : Kind) (v : Value) (vs : Values) → Sorted k vs → Sorted k (add k v vs)
   pub addAll-sorted : (k : Kind) (vs ws : Values) → Sorted k ws → Sorted k (addAll k vs ws)
+  -- so a collection that is gathered from formed members is formed
   pub gathered : (k : Kind) (vs : Values) → FormedAll vs → Formed (coll k (addAll k vs nil))
+  -- the instances of a class come in ascending order, each once
   pub instances-sorted : (s : Model) (c n : ℕ) → Sorted set (instances s c n)
 
--- whatever is there is formed: in an environment, in a model
+-- each variable's value is formed
 pub record FormedEnv (ρ : Env Value) : Type 0 where
   pub bound-formed : (i : ℕ) (v : Value) → ρ i ≡ some v → Formed v
 
+-- each attribute's value is
 pub record FormedModel (s : Model) : Type 0 where
   pub stored-formed : (o i : ℕ) (v : Value) → s .valueOf o i ≡ some v → Formed v
 
--- every value that evaluation ends in is formed, typed or not, from any marks and any steps so far
+-- every value that evaluation ends in is formed: typed or not, with any marks, from any number of steps
 pub record FormedEnds (s : Model) (mark : ℕ → ℕ) (e : Expr) : Type 0 where
   pub from : (ρ : Env Value) → FormedEnv ρ → (n m : ℕ) (v : Value) → evaluation s mark e ρ n ≡ value v m → Formed v
   -- so a rule's is
   pub of-rule : (o m : ℕ) (v : Value) → evaluateRule s mark e o ≡ value v m → Formed v
 
-abbrev pub EvaluationForms : Type 0
-EvaluationForms = (s : Model) → FormedModel s → (mark : ℕ → ℕ) (e : Expr) → FormedEnds s mark e
+abbrev pub FormedEndsLaw : Type 0
+FormedEndsLaw = (s : Model) → FormedModel s → (mark : ℕ → ℕ) (e : Expr) → FormedEnds s mark e
 
 -- ---- typing: what it refuses, and what it marks
 
@@ -131,10 +133,10 @@ pub data EachMark (P : ℕ → ℕ → Type 0) : Marks → Type 0 where
   no-mark : EachMark P []
   mark-then : {p i : ℕ} {m : Marks} → P p i → EachMark P m → EachMark P ((p, i) ∷ m)
 
--- both of the tree's own nodes, for every tree and environment, whether or not typing ends in a type
-pub record Typings (s : Model) (e : Expr) (Γ : Env Ty) : Type 0 where
+-- refusals and marks are at nodes of the tree that is typed; a refusal leaves the marks made before it
+pub record TypingPlaces (s : Model) (e : Expr) (Γ : Env Ty) : Type 0 where
   pub refusals : (n p : ℕ) → typing s e Γ .answer ≡ refused n p → Refusal (numbers e) n p
   pub marked : EachMark (Mark s (numbers e)) (typing s e Γ .marks)
 
-abbrev pub TypingPlaces : Type 0
-TypingPlaces = (s : Model) (e : Expr) (Γ : Env Ty) → Typings s e Γ
+abbrev pub TypingPlacesLaw : Type 0
+TypingPlacesLaw = (s : Model) (e : Expr) (Γ : Env Ty) → TypingPlaces s e Γ
