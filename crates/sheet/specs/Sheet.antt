@@ -108,7 +108,7 @@ grow f (collect k es) = Form.collect k (growAll f es)
 
 -- the tree of node a of the rule; an operand is a node before it, so that another is never asked for
 unfoldable pub treeOf : List Expr → ℕ → Expr
-treeOf trees a = getD trees a (node a (Form.leaf undef))
+treeOf trees a = getD trees a (node 0 (Form.leaf undef))
 
 -- the rule with one node more
 unfoldable pub withNode : Current → Shape → Current
