@@ -6,3 +6,5 @@ pub mod Refusals
 pub mod Reading
 pub mod Calls
 pub mod Report
+pub mod Soundness
+pub mod Laws

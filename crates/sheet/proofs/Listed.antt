@@ -1,0 +1,83 @@
+-- Reading refuses with listed numbers at lines of the text. One law for each piece that reading is written in. Assumes nothing.
+use mathlib.Core.Path.{_≡_, refl, sym, ap, _∙_, subst}
+use mathlib.Core.Bool.{Bool, true, false}
+use mathlib.Core.Option.{Option, none, some}
+use mathlib.Core.List.{List, [], _∷_}
+use Prim.Native.Nat.{ℕ, zero, suc, _+_, _≤_, _<_}
+use native.Mathlib.Omega.{arith}
+use lib.ListN.{length}
+use lib.Dec.{T, ltb}
+use Rattle.laws.specs.Choice.{if_then_else_}
+use Rattle.laws.proofs.Tests.{by-if}
+use Rattle.sheet.specs.Text.{Bytes, linesOf, fieldsOf}
+use Rattle.sheet.specs.Lines.{Line, lineOf, firstIsN}
+use Rattle.sheet.specs.Sheet.{Current, Sheet, empty, endFor, endRule}
+use Rattle.sheet.specs.Refusals.{withinLimits, inOrder, partsKnown, suits, treeHolds}
+use Rattle.sheet.specs.Reading.{Step, next, refuse, must, stepLine, stepSpelled, step, Reading, accepted, refused, onStep, onEnd, closing, readLast, readLines, readText}
+use Rattle.sheet.specs.Laws.{ReadRefusal, long-sheet, at-line, ReadRefusals}
+
+-- a line's refusal is 3 to 8
+data LineStep : Step → Type 0 where
+  goes-on : {s : Sheet} → LineStep (next s)
+  refuses : {n : ℕ} → 3 ≤ n → n ≤ 8 → LineStep (refuse n)
+
+must-listed : (b : Bool) (n : ℕ) {x : Step} → 3 ≤ n → n ≤ 8 → LineStep x → LineStep (must b n x)
+unfolding must
+must-listed true n l h k = k
+must-listed false n l h k = refuses l h
+
+spelled-listed : (s : Sheet) (k : ℕ) (o : Option Line) → LineStep (stepSpelled s k o)
+unfolding stepSpelled stepLine
+spelled-listed s k none = refuses {n = 3} (omega arith) (omega arith)
+spelled-listed s k (some l) =
+    must-listed (withinLimits s l) 4 (omega arith) (omega arith) (must-listed (inOrder s l) 5 (omega arith) (omega arith)
+    (must-listed (partsKnown s l) 6 (omega arith) (omega arith) (must-listed (suits s l) 7 (omega arith) (omega arith)
+    (must-listed (treeHolds s l) 8 (omega arith) (omega arith) goes-on))))
+
+-- a reading's refusal is at one of the first m lines
+data Listed (m : ℕ) : Reading → Type 0 where
+  sheet-there : {s : Sheet} → Listed m (accepted s)
+  listed : {n k : ℕ} → 3 ≤ n → n ≤ 8 → 1 ≤ k → k ≤ m → Listed m (refused n k)
+
+on-step : {m : ℕ} {x : Step} (k : ℕ) {f : Sheet → Reading} → LineStep x → 1 ≤ k → k ≤ m → ((s : Sheet) → Listed m (f s)) → Listed m (onStep x k f)
+unfolding onStep
+on-step k (goes-on {s}) a b h = h s
+on-step k (refuses l r) a b h = listed l r a b
+
+-- no rule is open before the first line
+abbrev Opened : ℕ → Sheet → Type 0
+Opened k s = k ≡ 0 → s .current ≡ none
+
+on-end : {m : ℕ} (s : Sheet) (k : ℕ) {f : Sheet → Reading} (o : Option Current) → (k ≡ 0 → o ≡ none) → k ≤ m → ((t : Sheet) → Listed m (f t)) → (e : Option Sheet) → endFor s o ≡ e → Listed m (onEnd e k f)
+unfolding onEnd endFor
+on-end s k o h l g (some t) e = g t
+on-end s zero o h l g none e = absurd (let q = h refl in let z : some s ≡ none = sym (ap (endFor s) q) ∙ e in let y : _≡_ {A = ℕ} 0 1 = cc in omega arith)
+on-end s (suc k) o h l g none e = listed {n = 8} {k = suc k} (omega arith) (omega arith) (omega arith) l
+
+on-closing : {m : ℕ} (s : Sheet) (k : ℕ) (fs : List Bytes) {f : Sheet → Reading} → Opened k s → k ≤ m → ((t : Sheet) → Listed m (f t)) → Listed m (closing s k fs f)
+unfolding closing endRule
+on-closing {m} s k fs h l g = by-if (Listed m) (firstIsN fs) _ _ (λ t. g s) (λ t. on-end s k (s .current) h l g (endFor s (s .current)) refl)
+
+on-last : {m : ℕ} (k : ℕ) (l : Bytes) (s : Sheet) → suc k ≤ m → Listed m (readLast k l s)
+unfolding readLast
+on-last k [] s h = sheet-there
+on-last k (b ∷ l) s h = listed {n = 3} {k = suc k} (omega arith) (omega arith) (omega arith) h
+
+listed-lines : {m : ℕ} (s : Sheet) (k : ℕ) (ls : List Bytes) → Opened k s → k + length ls ≤ m → Listed m (readLines s k ls)
+unfolding readLines step
+listed-lines s k [] h l = sheet-there
+listed-lines s k (x ∷ []) h l = on-closing s k (fieldsOf x) h (omega arith) (λ t. on-last k x t (omega arith))
+listed-lines s k (x ∷ y ∷ ls) h l =
+    on-closing s k (fieldsOf x) h (omega arith) (λ t. on-step (suc k) (spelled-listed t (suc k) (lineOf (fieldsOf x))) (omega arith) (omega arith)
+    (λ u. listed-lines u (suc k) (y ∷ ls) (λ e. absurd (omega arith)) (omega arith)))
+
+refusal-of : {m : ℕ} {r : Reading} → Listed m r → (n k : ℕ) → r ≡ refused n k → (3 ≤ n) × (n ≤ 8) × (1 ≤ k) × (k ≤ m)
+refusal-of sheet-there n k e = absurd (let z : _≡_ {A = ℕ} 0 1 = cc in omega arith)
+refusal-of {m} (listed {n = a} {k = b} p q r s) n k e = let y : a ≡ n = cc in let z : b ≡ k = cc in rw (← y, ← z) (p, q, r, s)
+
+pub read-refusals : ReadRefusals
+unfolding readText
+read-refusals text n k e =
+    by-if (λ r. r ≡ refused n k → ReadRefusal text n k) (ltb 49152 (length text)) _ _
+    (λ t q. long-sheet (let z : n ≡ 2 = cc in z) (let z : k ≡ 0 = cc in z))
+    (λ t q. let h = refusal-of (listed-lines empty 0 (linesOf text) (λ z. unfold empty in refl) (omega arith)) n k q in at-line (h .0) (h .1) (h .2) (h .3)) e

@@ -1,0 +1,72 @@
+-- Document 01, Evaluation, on demand 3: stated from the bytes, over what the calls answer.
+use mathlib.Core.Path.{_≡_}
+use mathlib.Core.Logic.{_≢_}
+use mathlib.Core.Bool.{Bool, true, false}
+use mathlib.Core.Option.{Option, none, some}
+use mathlib.Core.List.{List, []}
+use Prim.Native.Nat.{ℕ, _≤_}
+use lib.ListN.{length, getElem?}
+use lib.Dec.{T}
+use Rattle.ocl.specs.Types.{class, Ty}
+use Rattle.ocl.specs.Values.{Value}
+use Rattle.ocl.specs.Model.{Model, isA, belongs}
+use Rattle.ocl.specs.Forms.{reach}
+use Rattle.sheet.specs.Text.{Bytes, bytes}
+use Rattle.sheet.specs.Spelling.{spellType, spellValue}
+use Rattle.sheet.specs.Sheet.{Rule, Sheet, empty, modelOf}
+use Rattle.sheet.specs.Reading.{Reading, accepted, refused, readText}
+use Rattle.sheet.specs.Calls.{Verdict, answer, readCall, typeCall, evaluateCall}
+
+-- every lent slice is at its minimum or above
+pub record Lent (w0 w1 w2 : List ℕ) (out : Bytes) : Type 0 where
+  pub words0 : 8192 ≤ length w0
+  pub words1 : 8192 ≤ length w1
+  pub words2 : 8192 ≤ length w2
+  pub output : 2048 ≤ length out
+
+-- the sheet of an accepted text; nothing is asked of another
+unfoldable pub sheetFrom : Reading → Sheet
+sheetFrom (accepted s) = s
+sheetFrom (refused n k) = empty
+
+unfoldable pub sheetIn : Bytes → Sheet
+sheetIn text = sheetFrom (readText text)
+
+-- a rule's reach is its root's
+unfoldable pub ruleReach : Option Rule → ℕ
+ruleReach none = 0
+ruleReach (some x) = reach (x .body)
+
+unfoldable pub reachOf : Bytes → ℕ → ℕ
+reachOf text r = ruleReach (getElem? (sheetIn text .rules) r)
+
+-- the object is of the rule's context class or below
+unfoldable pub contextHas : Sheet → Option Rule → ℕ → Bool
+contextHas s none o = false
+contextHas s (some x) o = isA (modelOf s) o (class (x .context))
+
+unfoldable pub ofContext : Bytes → ℕ → ℕ → Bool
+ofContext text r o = contextHas (sheetIn text) (getElem? (sheetIn text .rules) r) o
+
+-- how evaluate may end for a rule of type t: undefined, a value of that type, the step stop, the size stop
+pub data Ending (m : Model) (t : Ty) : Verdict → Type 0 where
+  undefined-end : {n : ℕ} → Ending m t (record { number = 0; steps = n; place = 0; output = bytes "u" })
+  value-end : {n : ℕ} (v : Value) → T (belongs m t v) → Ending m t (record { number = 0; steps = n; place = 0; output = spellValue v })
+  step-stop : {n : ℕ} → Ending m t (record { number = 16; steps = n; place = 0; output = [] })
+  size-stop : {n : ℕ} → Ending m t (record { number = 17; steps = n; place = 0; output = [] })
+
+pub record SoundCall (text : Bytes) (r : ℕ) (t : Ty) (v : Verdict) : Type 0 where
+  pub ending : Ending (modelOf (sheetIn text)) t v
+  -- the steps are within the rule's reach
+  pub in-reach : v .steps ≤ reachOf text r
+  -- no step stop where the reach is within the limit
+  pub no-step-stop : reachOf text r ≤ 1000000 → v .number ≢ 16
+
+-- the text is accepted, rule r gets type t, and object o is of its context class or below
+abbrev pub Demand3 : Type 0
+Demand3 =
+    (text : Bytes) (w0 w1 w2 : List ℕ) (out : Bytes) → Lent w0 w1 w2 out → (r o : ℕ) (t : Ty)
+    → readCall text w0 w1 w2 .number ≡ 0
+    → typeCall text r w0 w1 w2 out ≡ answer (spellType t)
+    → T (ofContext text r o)
+    → SoundCall text r t (evaluateCall text r o w0 w1 w2 out)
