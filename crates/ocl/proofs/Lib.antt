@@ -10,3 +10,4 @@ pub mod Marks
 pub mod Places
 pub mod Soundness
 pub mod Worked
+pub mod Mistakes

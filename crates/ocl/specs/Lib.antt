@@ -8,3 +8,4 @@ pub mod Evaluation
 pub mod Soundness
 pub mod Laws
 pub mod Worked
+pub mod Mistakes

@@ -1,4 +1,4 @@
--- Small sheets, from their text to what the program prints, by computation. Assumes nothing.
+-- The table of small sheets, by computation. Assumes nothing.
 use mathlib.Core.Path.{_≡_, refl}
 use Rattle.laws.specs.Choice.{orElse, onSome, mapSome, isSome}
 use Rattle.laws.specs.Lists.{allOf, member, concat}
@@ -19,7 +19,41 @@ use Rattle.sheet.specs.Refusals.{classBelow as classInBelow, typeWithin 
 use Rattle.sheet.specs.Reading.{must, stepLine, stepSpelled, step, onStep, onEnd, closing, readLast, readLines, readText}
 use Rattle.sheet.specs.Calls.{answer, refusalAt, refusal, onSheet, onRule, typingOf, onType, onObject, outcomeOf, ended}
 use Rattle.sheet.specs.Report.{spellOutcome, reportLine, objectLines, ruleLines, onTypes, fitting, reportOf, printed, program}
+use Rattle.sheet.specs.Examples.{tabbed, lines, prints, Examples}
 
-pub example : program (bytes "C\t0\t-\nC\t1\t0\nA\t0\t0\t5\tInt\nO\t0\t1\nO\t1\t0\nV\t0\t0\t9\nR\t0\t0\nN\t0\tself\nN\t1\tattr\t0\t5\nN\t2\tint\t12\nN\t3\tless\t1\t2\n") ≡ bytes "0 0 t 4\n0 1 u 3\n"
-unfolding orElse onSome mapSome isSome allOf member concat join simpleJoin firstAbove simpleSubtype climbs sameSimple simpleCode up parentOr height letterJoin letterSubtype sameKind kindCode aroundSome subtype depth size add addAll insert put order headOrder thenOrder sort rank ofBool orderInt members count append holds same has classBelow isA every belongs declared nearest rowRead extend start levels thenFor andThen common wrap onCollection onKind bound leafType castType unaryType bothBelow binaryType conditionalType rowType attributeType leafTyping unaryTyping binaryTyping connectiveTyping isUndefTyping conditionalTyping letTyping attributeTyping quantifiedTyping iterateTyping noOperandTyping operandTyping collectTyping typing typeRule markOr markOf tick form isLess inRange ranged unlessZero quotient remainder arithmetic instances leafRun cast unaryApply unaryRun leftFits binaryApply binaryRun decides connectiveRun isUndefRun conditionalRun letRun attributeRun endsAt search quantifiedRun fold iterateRun noOperandRun operandRun collectRun evaluation evaluateRule stepsOf bytes onto split linesOf fieldsOf nothing after literal behind _or_ _then_ given atEnd whole isDigit digits afterDigits plain valueOfDigits number minus integer spellDigits spellNumber spellInteger collectionType typeWithin readType letterByte spellSimple spellType valueWithin readValue kindByte spellBool spellValue is next done each aNumber anInteger aParent aKind oneOperand twoOperands threeNumbers iterateFields atMostFour collectFields shapeOf aWord lineOf firstIsN empty lookup noRow modelOf operandsOf growAll grow treeOf withNode added lastTree allUsed withRule endOf endFor endRule simpleClassBelow everyPart objectBelow partWithin nesting mayFollow followed ordered isClass isVariable isNode leafWithin unaryWithin formWithin parentWithin totalSize withinLimits blockOf declares afterSlots nextNode twoVariables numbered inOrder parentSmaller leafKnown unaryKnown formKnown partsKnown suits fresh operandsFresh treeHolds classInBelow typeLimits valueLimits must stepLine stepSpelled step onStep onEnd closing readLast readLines readText answer refusalAt refusal onSheet onRule typingOf onType onObject outcomeOf ended spellOutcome reportLine objectLines ruleLines onTypes fitting reportOf printed program
-example = refl
+pub examples : Examples
+unfolding orElse onSome mapSome isSome allOf member concat join simpleJoin firstAbove simpleSubtype climbs sameSimple simpleCode up parentOr height letterJoin letterSubtype sameKind kindCode aroundSome subtype depth size add addAll insert put order headOrder thenOrder sort rank ofBool orderInt members count append holds same has classBelow isA every belongs declared nearest rowRead extend start levels thenFor andThen common wrap onCollection onKind bound leafType castType unaryType bothBelow binaryType conditionalType rowType attributeType leafTyping unaryTyping binaryTyping connectiveTyping isUndefTyping conditionalTyping letTyping attributeTyping quantifiedTyping iterateTyping noOperandTyping operandTyping collectTyping typing typeRule markOr markOf tick form isLess inRange ranged unlessZero quotient remainder arithmetic instances leafRun cast unaryApply unaryRun leftFits binaryApply binaryRun decides connectiveRun isUndefRun conditionalRun letRun attributeRun endsAt search quantifiedRun fold iterateRun noOperandRun operandRun collectRun evaluation evaluateRule stepsOf bytes onto split linesOf fieldsOf nothing after literal behind _or_ _then_ given atEnd whole isDigit digits afterDigits plain valueOfDigits number minus integer spellDigits spellNumber spellInteger collectionType typeWithin readType letterByte spellSimple spellType valueWithin readValue kindByte spellBool spellValue is next done each aNumber anInteger aParent aKind oneOperand twoOperands threeNumbers iterateFields atMostFour collectFields shapeOf aWord lineOf firstIsN empty lookup noRow modelOf operandsOf growAll grow treeOf withNode added lastTree allUsed withRule endOf endFor endRule simpleClassBelow everyPart objectBelow partWithin nesting mayFollow followed ordered isClass isVariable isNode leafWithin unaryWithin formWithin parentWithin totalSize withinLimits blockOf declares afterSlots nextNode twoVariables numbered inOrder parentSmaller leafKnown unaryKnown formKnown partsKnown suits fresh operandsFresh treeHolds classInBelow typeLimits valueLimits must stepLine stepSpelled step onStep onEnd closing readLast readLines readText answer refusalAt refusal onSheet onRule typingOf onType onObject outcomeOf ended spellOutcome reportLine objectLines ruleLines onTypes fitting reportOf printed program tabbed lines prints
+examples = record {
+  paper = refl;
+  nothing = refl;
+  no-line-feed = refl;
+  leading-zero = refl;
+  field-too-many = refl;
+  minus-zero = refl;
+  no-undefined = refl;
+  five-members = refl;
+  class-64 = refl;
+  integer-range = refl;
+  four-deep = refl;
+  gap = refl;
+  block-again = refl;
+  name-twice = refl;
+  members-order = refl;
+  one-variable = refl;
+  own-parent = refl;
+  wrong-value = refl;
+  used-twice = refl;
+  unused = refl;
+  no-node = refl;
+  unbound = refl;
+  no-common-type = refl;
+  not-boolean = refl;
+  no-attribute = refl;
+  too-deep-type = refl;
+  source-first = refl;
+  static-row = refl;
+  sum = refl;
+  decided = refl;
+  size-stop = refl;
+  spelled = refl;
+}

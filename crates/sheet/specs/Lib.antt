@@ -6,5 +6,6 @@ pub mod Refusals
 pub mod Reading
 pub mod Calls
 pub mod Report
+pub mod Examples
 pub mod Soundness
 pub mod Laws

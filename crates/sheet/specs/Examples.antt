@@ -1,0 +1,79 @@
+-- Small sheets and what the program prints for each, as one table. Document 01's own sheet is the first.
+use mathlib.Core.Path.{_≡_}
+use mathlib.Core.List.{List, [], _∷_, _++_, map}
+use Prim.Native.Nat.{ℕ}
+use Prim.Native.String.{String}
+use lib.Dec.{eqb}
+use Rattle.laws.specs.Choice.{if_then_else_}
+use Rattle.laws.specs.Lists.{concat}
+use Rattle.sheet.specs.Text.{Bytes, byte, bytes}
+use Rattle.sheet.specs.Report.{program}
+
+-- a space stands for the tab between two fields
+unfoldable pub tabbed : Bytes → Bytes
+tabbed [] = []
+tabbed (b ∷ s) = (if eqb b 32 then 9 else b) ∷ tabbed s
+
+-- each text is a line, with its line feed
+unfoldable pub lines : List String → Bytes
+lines [] = []
+lines (l ∷ ls) = tabbed (bytes l) ++ bytes "\n" ++ lines ls
+
+-- what the program prints for the lines
+unfoldable pub prints : List String → Bytes
+prints ls = program (lines ls)
+
+pub record Examples : Type 0 where
+  pub paper : prints ("C 0 -" ∷ "C 1 0" ∷ "A 0 0 5 Int" ∷ "O 0 1" ∷ "O 1 0" ∷ "V 0 0 9" ∷ "R 0 0"
+      ∷ "N 0 self" ∷ "N 1 attr 0 5" ∷ "N 2 int 12" ∷ "N 3 less 1 2" ∷ []) ≡ bytes "0 0 t 4\n0 1 u 3\n"
+  pub nothing : prints [] ≡ []
+  -- 3: no line feed; a leading zero; a field too many; -0; `u` as a value
+  pub no-line-feed : program (bytes "C\t0\t-") ≡ bytes "! 3 1\n"
+  pub leading-zero : prints ("C 0 -" ∷ "C 01 0" ∷ []) ≡ bytes "! 3 2\n"
+  pub field-too-many : prints ("C 0 - 1" ∷ []) ≡ bytes "! 3 1\n"
+  pub minus-zero : prints ("C 0 -" ∷ "R 0 0" ∷ "N 0 int -0" ∷ []) ≡ bytes "! 3 3\n"
+  pub no-undefined : prints ("C 0 -" ∷ "A 0 0 5 S(Int)" ∷ "O 0 0" ∷ "V 0 0 S(u)" ∷ []) ≡ bytes "! 3 4\n"
+  pub five-members : prints ("C 0 -" ∷ "R 0 0" ∷ "N 0 coll S 9 9 9 9 9" ∷ []) ≡ bytes "! 3 3\n"
+  -- 4: a class number of 64; an Integer out of range; four letters deep. It comes before 5 and 6
+  pub class-64 : prints ("C 64 7" ∷ []) ≡ bytes "! 4 1\n"
+  pub integer-range : prints ("C 0 -" ∷ "R 0 0" ∷ "N 0 int 2147483648" ∷ []) ≡ bytes "! 4 3\n"
+  pub four-deep : prints ("C 0 -" ∷ "A 0 9 5 S(Q(B(C(Int))))" ∷ []) ≡ bytes "! 4 2\n"
+  -- 5: a gap; a block that comes again; a name twice in a class; members out of order, before 6; the same variable twice
+  pub gap : prints ("C 0 -" ∷ "C 2 0" ∷ []) ≡ bytes "! 5 2\n"
+  pub block-again : prints ("C 0 -" ∷ "O 0 0" ∷ "C 1 0" ∷ []) ≡ bytes "! 5 3\n"
+  pub name-twice : prints ("C 0 -" ∷ "A 0 0 5 Int" ∷ "A 1 0 5 Bool" ∷ []) ≡ bytes "! 5 3\n"
+  pub members-order : prints ("C 0 -" ∷ "A 0 0 5 S(#0)" ∷ "O 0 0" ∷ "V 0 0 S(@7,@7)" ∷ []) ≡ bytes "! 5 4\n"
+  pub one-variable : prints ("C 0 -" ∷ "R 0 0" ∷ "N 0 iter 5 1 1 Int 6 7" ∷ []) ≡ bytes "! 5 3\n"
+  -- 6: a parent that is the class itself
+  pub own-parent : prints ("C 0 0" ∷ []) ≡ bytes "! 6 1\n"
+  -- 7: a value of another type
+  pub wrong-value : prints ("C 0 -" ∷ "A 0 0 5 Int" ∷ "O 0 0" ∷ "V 0 0 t" ∷ []) ≡ bytes "! 7 4\n"
+  -- 8: an operand used twice; a node unused, at the rule's last line and before the next line's 3; no node; at the text's end
+  pub used-twice : prints ("C 0 -" ∷ "R 0 0" ∷ "N 0 true" ∷ "N 1 and 0 0" ∷ []) ≡ bytes "! 8 4\n"
+  pub unused : prints ("C 0 -" ∷ "R 0 0" ∷ "N 0 true" ∷ "N 1 true" ∷ "x" ∷ []) ≡ bytes "! 8 4\n"
+  pub no-node : prints ("C 0 -" ∷ "R 0 0" ∷ []) ≡ bytes "! 8 2\n"
+  -- 9 to 13, at the node's line
+  pub unbound : prints ("C 0 -" ∷ "R 0 0" ∷ "N 0 true" ∷ "N 1 var 3" ∷ "N 2 and 0 1" ∷ []) ≡ bytes "! 9 4\n"
+  pub no-common-type : prints ("C 0 -" ∷ "R 0 0" ∷ "N 0 true" ∷ "N 1 coll S" ∷ "N 2 eq 0 1" ∷ []) ≡ bytes "! 10 5\n"
+  pub not-boolean : prints ("C 0 -" ∷ "R 0 0" ∷ "N 0 int 1" ∷ "N 1 not 0" ∷ []) ≡ bytes "! 11 4\n"
+  pub no-attribute : prints ("C 0 -" ∷ "R 0 0" ∷ "N 0 self" ∷ "N 1 attr 0 5" ∷ []) ≡ bytes "! 12 4\n"
+  pub too-deep-type : prints ("C 0 -" ∷ "R 0 0" ∷ "N 0 coll S" ∷ "N 1 coll S 0" ∷ "N 2 coll S 1" ∷ "N 3 coll S 2" ∷ []) ≡ bytes "! 13 6\n"
+  -- the source is checked before the body is typed
+  pub source-first : prints ("C 0 -" ∷ "R 0 0" ∷ "N 0 var 2" ∷ "N 1 int 1" ∷ "N 2 forAll 1 1 0" ∷ []) ≡ bytes "! 11 5\n"
+  -- the static class decides the row; two rules, and objects of the class or below it alone
+  pub static-row : prints ("C 0 -" ∷ "C 1 0" ∷ "A 0 0 5 Int" ∷ "A 1 1 5 Bool" ∷ "O 0 0" ∷ "O 1 1" ∷ "V 1 0 7" ∷ "V 1 1 t"
+      ∷ "R 0 0" ∷ "N 0 self" ∷ "N 1 attr 0 5" ∷ "R 1 1" ∷ "N 0 self" ∷ "N 1 attr 0 5" ∷ []) ≡ bytes "0 0 u 2\n0 1 7 2\n1 1 t 2\n"
+  -- the sum of a Sequence's members, and each body counted
+  pub sum : prints ("C 0 -" ∷ "O 0 0" ∷ "R 0 0" ∷ "N 0 int 3" ∷ "N 1 int 1" ∷ "N 2 int -9" ∷ "N 3 coll Q 0 1 2" ∷ "N 4 int 0"
+      ∷ "N 5 var 1" ∷ "N 6 var 2" ∷ "N 7 plus 5 6" ∷ "N 8 iter 3 1 2 Int 4 7" ∷ []) ≡ bytes "0 0 -5 15\n"
+  -- a quantifier ends at the member that decides; a Set is in order
+  pub decided : prints ("C 0 -" ∷ "O 0 0" ∷ "R 0 0" ∷ "N 0 int 4" ∷ "N 1 int 1" ∷ "N 2 coll S 0 1" ∷ "N 3 var 1" ∷ "N 4 int 2" ∷ "N 5 less 3 4"
+      ∷ "N 6 exists 2 1 5" ∷ []) ≡ bytes "0 0 t 7\n"
+  -- 2, 4, .. 128 members: 17 with the steps begun
+  pub size-stop : prints ("C 0 -" ∷ "O 0 0" ∷ "R 0 0" ∷ "N 0 int 1" ∷ "N 1 int 1" ∷ "N 2 coll Q 0 1" ∷ "N 3 var 1" ∷ "N 4 var 1" ∷ "N 5 union 3 4"
+      ∷ "N 6 var 2" ∷ "N 7 var 2" ∷ "N 8 union 6 7" ∷ "N 9 var 3" ∷ "N 10 var 3" ∷ "N 11 union 9 10" ∷ "N 12 var 4" ∷ "N 13 var 4" ∷ "N 14 union 12 13"
+      ∷ "N 15 var 5" ∷ "N 16 var 5" ∷ "N 17 union 15 16" ∷ "N 18 var 6" ∷ "N 19 var 6" ∷ "N 20 union 18 19"
+      ∷ "N 21 let 6 17 20" ∷ "N 22 let 5 14 21" ∷ "N 23 let 4 11 22" ∷ "N 24 let 3 8 23" ∷ "N 25 let 2 5 24" ∷ "N 26 let 1 2 25" ∷ []) ≡ bytes "0 0 !17 27\n"
+  -- values with members, as they are spelled
+  pub spelled : prints ("C 0 -" ∷ "A 0 0 5 S(Q(Any))" ∷ "O 0 0" ∷ "V 0 0 S(Q(),Q(f,-3),Q(@0,t))" ∷ "R 0 0" ∷ "N 0 self" ∷ "N 1 attr 0 5" ∷ "N 2 asBag 1" ∷ [])
+      ≡ bytes "0 0 B(Q(),Q(f,-3),Q(@0,t)) 3\n"
