@@ -6,3 +6,4 @@ pub mod Refusals
 pub mod Reading
 pub mod Calls
 pub mod Report
+pub mod SpellingLaws
