@@ -1,11 +1,13 @@
 -- One law for each way of putting parsers together, for what is read back and for what can be read. Assumes nothing.
 use mathlib.Core.Path.{_≡_, refl, sym, ap, _∙_, subst}
+use mathlib.Core.Logic.{_≢_}
 use mathlib.Core.Bool.{Bool, true, false, not}
 use mathlib.Core.Option.{Option, none, some, Option·none-ne-some, Option·some-injective}
 use mathlib.Core.List.{List, [], _∷_, _++_, append-nil, append-assoc}
 use Prim.Native.Nat.{ℕ, zero, suc}
 use Prim.Native.String.{String}
 use lib.Dec.{T, eqb, eqb-refl, eqb→eq}
+use borrow.Author.Tests.{ne-eqb}
 use Rattle.laws.specs.Choice.{if_then_else_, orElse, onSome, mapSome}
 use Rattle.laws.proofs.Options.{test-true, if-some, orElse-some, onSome-some, mapSome-some}
 use Rattle.sheet.specs.Text.{Bytes, bytes, Parser, nothing, after, literal, behind, _or_, _then_, given, atEnd, whole, isDigit}
@@ -54,6 +56,26 @@ then-reads k {v} {w} r h s =
 pub given-reads : {A B : Type 0} (f : A → B) {p : Parser A} {w : Bytes} {x : A} → Reads p w x → Reads (given f p) w (f x)
 unfolding given mapSome
 given-reads f r = record { read = λ rest st. rw (r .read rest st) }
+
+-- the first byte of w is so
+pub data Begins (P : ℕ → Type 0) : Bytes → Type 0 where
+  begins : {b : ℕ} {s : Bytes} → P b → Begins P (b ∷ s)
+
+pub begins-imp : {P Q : ℕ → Type 0} {w : Bytes} → ((b : ℕ) → P b → Q b) → Begins P w → Begins Q w
+begins-imp f (begins {b} p) = begins (f b p)
+
+-- a word is not there where another byte than its first one stands
+pub other-byte : {b : ℕ} (w : Bytes) {v : Bytes} (rest : Bytes) → Begins (λ c. b ≢ c) v → after (b ∷ w) (v ++ rest) ≡ none
+unfolding after
+other-byte {b} w rest (begins {b = c} ne) = rw (ne-eqb b c ne)
+
+pub literal-misses : {A : Type 0} (w : String) (x : A) (v : Bytes) → ((rest : Bytes) → after (bytes w) (v ++ rest) ≡ none) → Misses (literal w x) v
+unfolding literal mapSome
+literal-misses w x v h = record { missed = λ rest. rw (h rest) }
+
+pub behind-misses : {A : Type 0} (w : String) (p : Parser A) (v : Bytes) → ((rest : Bytes) → after (bytes w) (v ++ rest) ≡ none) → Misses (behind w p) v
+unfolding behind onSome
+behind-misses w p v h = record { missed = λ rest. rw (h rest) }
 
 pub whole-reads : {A : Type 0} {p : Parser A} {w : Bytes} {x : A} → Reads p w x → whole p w ≡ some x
 unfolding whole onSome atEnd

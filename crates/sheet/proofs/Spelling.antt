@@ -1,0 +1,85 @@
+-- Types and values are read back as they are written, and only so. Assumes nothing.
+use mathlib.Core.Path.{_≡_, refl, sym, ap, _∙_, subst}
+use mathlib.Core.Logic.{_≢_}
+use mathlib.Core.Bool.{Bool, true, false, not}
+use mathlib.Core.Option.{Option, none, some}
+use mathlib.Core.List.{List, [], _∷_, _++_, append-nil, append-assoc}
+use Prim.Native.Nat.{ℕ, zero, suc, _+_, _≤_, _<_}
+use native.Mathlib.Omega.{arith}
+use lib.IntN.{ℤ, pos, negsuc}
+use lib.ListN.{length, length-append}
+use lib.Dec.{T}
+use Rattle.laws.specs.Choice.{if_then_else_, orElse, onSome, mapSome}
+use Rattle.laws.specs.Lists.{Each, each-nil, each-cons}
+use Rattle.ocl.specs.Types.{Simple, any, boolean, class, Kind, set, sequence, bag, Letter, collection, exactly, Ty, void, simple, around, Any, Boolean, Integer, Class}
+use Rattle.ocl.specs.Types.{integer as integerType}
+use Rattle.ocl.specs.Values.{Value, bool, int, obj, coll, Values, nil, cons}
+use Rattle.sheet.specs.Text.{Bytes, byte, bytes, Parser, nothing, after, literal, behind, _or_, _then_, given, whole, isDigit, digits, plain, number, minus, integer, spellNumber, spellInteger}
+use Rattle.sheet.specs.Spelling.{collectionType, typeWithin, readType, letterByte, spellSimple, spellType, valueWithin, membersWithin, moreWithin, readValue, kindByte, spellBool, spellValue, spellMembers, spellMore}
+use Rattle.sheet.specs.SpellingLaws.{Stops, at-end, no-digit}
+use Rattle.sheet.proofs.Numbers.{digit-from, digit-to, spell-digits, digits-some, number-back, number-only}
+use Rattle.sheet.proofs.Parsers.{Reads, Misses, Halts, Begins, begins, begins-imp, other-byte, literal-reads, literal-misses, behind-reads, behind-misses, first-reads, second-reads, then-reads, given-reads, whole-reads, Spells, nothing-spells, literal-spells, behind-spells, or-spells, then-spells, given-spells, whole-spells}
+
+-- ---- numbers and Integers, read back
+
+pub number-reads : (n : ℕ) → Reads number (spellNumber n) n
+number-reads n = record { read = number-back n }
+
+-- a digit is first
+number-begins : (n : ℕ) → Begins (λ b. T (isDigit b)) (spellNumber n)
+number-begins n = first (spellNumber n) (spell-digits n) (digits-some n)
+  where
+    first : (d : Bytes) → Each (λ b. T (isDigit b)) d → 1 ≤ length d → Begins (λ b. T (isDigit b)) d
+    first [] each-nil h = absurd (omega arith)
+    first (b ∷ d) (each-cons t ts) h = begins t
+
+-- a digit, or the sign
+integer-begins : (z : ℤ) → Begins (λ b. (44 < b) × (b < 58)) (spellInteger z)
+unfolding spellInteger
+integer-begins (pos n) = begins-imp (λ b t. let p = digit-from b t in let q = digit-to b t in (omega arith, omega arith)) (number-begins n)
+integer-begins (negsuc n) = begins {b = 45} (omega arith, omega arith)
+
+negative-reads : (n : ℕ) → Reads (number then minus) (spellNumber (suc n)) (negsuc n)
+unfolding _then_ onSome minus
+negative-reads n = record { read = λ rest st. rw (number-back (suc n) rest st) }
+
+pub integer-reads : (z : ℤ) → Reads integer (spellInteger z) z
+unfolding integer spellInteger bytes
+integer-reads (pos n) =
+    second-reads (behind-misses "-" _ (spellNumber n) (λ rest. other-byte [] rest (begins-imp (λ b t e. let p = digit-from b t in omega arith) (number-begins n))))
+    (given-reads pos (number-reads n))
+integer-reads (negsuc n) = first-reads _ (behind-reads "-" (negative-reads n))
+
+-- ---- types, read back
+
+-- what ends a type or a member stops a number
+close-halts : Halts (bytes ")")
+unfolding bytes isDigit
+close-halts = record { halts = λ rest. no-digit tt }
+
+letter-reads : (l : Letter) (t : Ty) (n : ℕ) → Reads (typeWithin n) (spellType t) t → Reads (typeWithin (suc n)) (spellType (around l t)) (around l t)
+unfolding typeWithin collectionType spellType letterByte bytes after literal behind _or_ _then_ orElse onSome mapSome
+letter-reads collection t n r = record { read = λ rest st. rw (append-assoc (spellType t) (bytes ")") rest, r .read (bytes ")" ++ rest) (close-halts .halts rest)) }
+letter-reads (exactly set) t n r = record { read = λ rest st. rw (append-assoc (spellType t) (bytes ")") rest, r .read (bytes ")" ++ rest) (close-halts .halts rest)) }
+letter-reads (exactly sequence) t n r = record { read = λ rest st. rw (append-assoc (spellType t) (bytes ")") rest, r .read (bytes ")" ++ rest) (close-halts .halts rest)) }
+letter-reads (exactly bag) t n r = record { read = λ rest st. rw (append-assoc (spellType t) (bytes ")") rest, r .read (bytes ")" ++ rest) (close-halts .halts rest)) }
+
+-- as many letters may be read as there are bytes
+type-reads : (t : Ty) (n : ℕ) → length (spellType t) ≤ n → Reads (typeWithin n) (spellType t) t
+unfolding typeWithin spellType spellSimple bytes after literal behind _or_ given orElse onSome mapSome
+type-reads void zero h = absurd (omega arith)
+type-reads void (suc n) h = record { read = λ rest st. refl }
+type-reads (simple any) zero h = absurd (omega arith)
+type-reads (simple any) (suc n) h = record { read = λ rest st. refl }
+type-reads (simple boolean) zero h = absurd (omega arith)
+type-reads (simple boolean) (suc n) h = record { read = λ rest st. refl }
+type-reads (simple integerType) zero h = absurd (omega arith)
+type-reads (simple integerType) (suc n) h = record { read = λ rest st. refl }
+type-reads (simple (class c)) zero h = absurd (omega arith)
+type-reads (simple (class c)) (suc n) h = record { read = λ rest st. rw (number-back c rest st) }
+type-reads (around l t) zero h = absurd (omega arith)
+type-reads (around l t) (suc n) h = letter-reads l t n (type-reads t n (omega (arith, length-append (spellType t) (bytes ")"))))
+
+pub type-back : (t : Ty) → readType (spellType t) ≡ some t
+unfolding readType
+type-back t = whole-reads (type-reads t (length (spellType t)) (omega arith))
