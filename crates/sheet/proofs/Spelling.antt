@@ -83,3 +83,95 @@ type-reads (around l t) (suc n) h = letter-reads l t n (type-reads t n (omega (a
 pub type-back : (t : Ty) → readType (spellType t) ≡ some t
 unfolding readType
 type-back t = whole-reads (type-reads t (length (spellType t)) (omega arith))
+
+-- ---- values, read back
+
+integer-value-reads : (z : ℤ) (n : ℕ) → Reads (valueWithin (suc n)) (spellInteger z) (int z)
+unfolding valueWithin bytes
+integer-value-reads z n =
+    second-reads (literal-misses "t" (bool true) (spellInteger z) (λ rest. other-byte [] rest (begins-imp (λ b h e. omega arith) (integer-begins z))))
+    (second-reads (literal-misses "f" (bool false) (spellInteger z) (λ rest. other-byte [] rest (begins-imp (λ b h e. omega arith) (integer-begins z))))
+    (first-reads _ (given-reads int (integer-reads z))))
+
+collection-reads : (k : Kind) (vs : Values) (n : ℕ) → Reads (membersWithin n) (spellMembers vs) vs → Reads (valueWithin (suc n)) (spellValue (coll k vs)) (coll k vs)
+unfolding valueWithin spellValue kindByte letterByte bytes after literal behind _or_ _then_ given orElse onSome mapSome integer number digits plain isDigit
+collection-reads set vs n r = record { read = λ rest st. rw (r .read rest st) }
+collection-reads sequence vs n r = record { read = λ rest st. rw (r .read rest st) }
+collection-reads bag vs n r = record { read = λ rest st. rw (r .read rest st) }
+
+-- a value does not begin with the bracket that ends its collection
+no-bracket : (v : Value) → Begins (λ b. 41 ≢ b) (spellValue v)
+unfolding spellValue spellBool kindByte letterByte bytes
+no-bracket (bool true) = begins {b = 116} (omega arith)
+no-bracket (bool false) = begins {b = 102} (omega arith)
+no-bracket (int z) = begins-imp (λ b h e. omega arith) (integer-begins z)
+no-bracket (obj o) = begins {b = 64} (omega arith)
+no-bracket (coll set vs) = begins {b = 83} (omega arith)
+no-bracket (coll sequence vs) = begins {b = 81} (omega arith)
+no-bracket (coll bag vs) = begins {b = 66} (omega arith)
+
+value-long : (v : Value) → 1 ≤ length (spellValue v)
+value-long v = long (no-bracket v)
+  where
+    long : {w : Bytes} → Begins (λ b. 41 ≢ b) w → 1 ≤ length w
+    long (begins p) = omega arith
+
+-- a bracket or a comma
+more-halts : (vs : Values) → Halts (spellMore vs)
+unfolding spellMore bytes isDigit
+more-halts nil = close-halts
+more-halts (cons v vs) = record { halts = λ rest. no-digit tt }
+
+more-long : (vs : Values) → 1 ≤ length (spellMore vs)
+unfolding spellMore bytes
+more-long nil = omega arith
+more-long (cons v vs) = omega arith
+
+members-long : (vs : Values) → 1 ≤ length (spellMembers vs)
+unfolding spellMembers bytes
+members-long nil = omega arith
+members-long (cons v vs) = omega (arith, length-append (spellValue v) (spellMore vs), value-long v)
+
+member-reads : (n : ℕ) (v : Value) (vs : Values) → Reads (valueWithin n) (spellValue v) v → Reads (moreWithin n) (spellMore vs) vs → Reads (valueWithin n then (λ w. given (cons w) (moreWithin n))) (spellValue v ++ spellMore vs) (cons v vs)
+member-reads n v vs r s = then-reads (λ w. given (cons w) (moreWithin n)) r (more-halts vs) (given-reads (cons v) s)
+
+first-reads-member : (n : ℕ) (v : Value) (vs : Values) → Reads (valueWithin n) (spellValue v) v → Reads (moreWithin n) (spellMore vs) vs → Reads (membersWithin (suc n)) (spellMembers (cons v vs)) (cons v vs)
+unfolding membersWithin spellMembers bytes
+first-reads-member n v vs r s =
+    second-reads (literal-misses ")" nil (spellValue v ++ spellMore vs) (λ rest. rw (append-assoc (spellValue v) (spellMore vs) rest) (other-byte [] (spellMore vs ++ rest) (no-bracket v))))
+    (member-reads n v vs r s)
+
+next-reads-member : (n : ℕ) (v : Value) (vs : Values) → Reads (valueWithin n) (spellValue v) v → Reads (moreWithin n) (spellMore vs) vs → Reads (moreWithin (suc n)) (spellMore (cons v vs)) (cons v vs)
+unfolding moreWithin spellMore bytes after
+next-reads-member n v vs r s = second-reads (literal-misses ")" nil (spellMore (cons v vs)) (λ rest. refl)) (behind-reads "," (member-reads n v vs r s))
+
+-- as many parts may be read as there are bytes
+mutual
+  unfolding valueWithin spellValue spellBool bytes after literal behind _or_ given orElse onSome mapSome integer number digits plain isDigit
+  value-reads : (n : ℕ) (v : Value) → length (spellValue v) ≤ n → Reads (valueWithin n) (spellValue v) v
+  value-reads zero v h = absurd (omega (arith, value-long v))
+  value-reads (suc n) (bool true) h = record { read = λ rest st. refl }
+  value-reads (suc n) (bool false) h = record { read = λ rest st. refl }
+  value-reads (suc n) (int z) h = integer-value-reads z n
+  value-reads (suc n) (obj o) h = record { read = λ rest st. rw (number-back o rest st) }
+  value-reads (suc n) (coll k vs) h = collection-reads k vs n (members-read n vs (omega arith))
+
+  members-read : (n : ℕ) (vs : Values) → length (spellMembers vs) ≤ n → Reads (membersWithin n) (spellMembers vs) vs
+  members-read zero vs h = absurd (omega (arith, members-long vs))
+  members-read (suc n) nil h = record { read = λ rest st. refl }
+  members-read (suc n) (cons v vs) h =
+      let all = length-append (spellValue v) (spellMore vs) in
+      let one = value-long v in
+      let more = more-long vs in
+      first-reads-member n v vs (value-reads n v (omega arith)) (more-read n vs (omega arith))
+
+  more-read : (n : ℕ) (vs : Values) → length (spellMore vs) ≤ n → Reads (moreWithin n) (spellMore vs) vs
+  more-read zero vs h = absurd (omega (arith, more-long vs))
+  more-read (suc n) nil h = record { read = λ rest st. refl }
+  more-read (suc n) (cons v vs) h =
+      let all = length-append (spellValue v) (spellMore vs) in
+      next-reads-member n v vs (value-reads n v (omega arith)) (more-read n vs (omega arith))
+
+pub value-back : (v : Value) → readValue (spellValue v) ≡ some v
+unfolding readValue
+value-back v = whole-reads (value-reads (length (spellValue v)) v (omega arith))
