@@ -2,9 +2,10 @@
 use mathlib.Core.Path.{_≡_, refl, sym, ap, _∙_, subst}
 use mathlib.Core.Logic.{_≢_}
 use mathlib.Core.Bool.{Bool, true, false, not}
-use mathlib.Core.Option.{Option, none, some}
+use mathlib.Core.Option.{Option, none, some, Option·none-ne-some, Option·some-injective}
 use mathlib.Core.List.{List, [], _∷_, _++_, append-nil, append-assoc}
 use Prim.Native.Nat.{ℕ, zero, suc, _+_, _≤_, _<_}
+use Prim.Native.String.{String}
 use native.Mathlib.Omega.{arith}
 use lib.IntN.{ℤ, pos, negsuc}
 use lib.ListN.{length, length-append}
@@ -175,3 +176,65 @@ mutual
 pub value-back : (v : Value) → readValue (spellValue v) ≡ some v
 unfolding readValue
 value-back v = whole-reads (value-reads (length (spellValue v)) v (omega arith))
+
+-- ---- nothing else is read
+
+number-spells : Spells [] number spellNumber
+number-spells = record { spelled = number-only }
+
+minus-spells : (n : ℕ) → Spells (bytes "-" ++ spellNumber n) (minus n) spellInteger
+unfolding minus spellInteger bytes
+minus-spells zero = record { spelled = λ s z rest e. absurd (Option·none-ne-some _ e) }
+minus-spells (suc n) = record { spelled = λ s z rest e. ap (λ (x : ℤ × Bytes). spellInteger (x .0) ++ x .1) (Option·some-injective _ _ e) }
+
+integer-spells : Spells [] integer spellInteger
+unfolding integer spellInteger
+integer-spells = or-spells (behind-spells "-" (then-spells number-spells minus-spells)) (given-spells pos number-spells (λ n. refl))
+
+letter-spells : (w : String) (l : Letter) {p : Parser Ty} → Spells [] p spellType → ((t : Ty) → bytes w ++ spellType t ++ bytes ")" ≡ spellType (around l t)) → Spells [] (collectionType w l p) spellType
+unfolding collectionType
+letter-spells w l h e = behind-spells w (then-spells h (λ t. literal-spells ")" (around l t) (e t)))
+
+type-spells : (n : ℕ) → Spells [] (typeWithin n) spellType
+unfolding typeWithin spellType spellSimple letterByte bytes
+type-spells zero = nothing-spells
+type-spells (suc n) =
+    or-spells (literal-spells "Void" void refl)
+    (or-spells (literal-spells "Bool" Boolean refl)
+    (or-spells (literal-spells "Int" Integer refl)
+    (or-spells (literal-spells "Any" Any refl)
+    (or-spells (behind-spells "#" (given-spells Class number-spells (λ c. refl)))
+    (or-spells (letter-spells "S(" (exactly set) (type-spells n) (λ t. refl))
+    (or-spells (letter-spells "Q(" (exactly sequence) (type-spells n) (λ t. refl))
+    (or-spells (letter-spells "B(" (exactly bag) (type-spells n) (λ t. refl))
+    (letter-spells "C(" collection (type-spells n) (λ t. refl)))))))))
+
+pub type-only : (f : Bytes) (t : Ty) → readType f ≡ some t → f ≡ spellType t
+unfolding readType
+type-only f t e = whole-spells (type-spells (length f)) f t e
+
+mutual
+  unfolding valueWithin spellValue spellBool kindByte letterByte bytes
+  value-spells : (n : ℕ) → Spells [] (valueWithin n) spellValue
+  value-spells zero = nothing-spells
+  value-spells (suc n) =
+      or-spells (literal-spells "t" (bool true) refl)
+      (or-spells (literal-spells "f" (bool false) refl)
+      (or-spells (given-spells int integer-spells (λ z. refl))
+      (or-spells (behind-spells "@" (given-spells obj number-spells (λ o. refl)))
+      (or-spells (behind-spells "S(" (given-spells (coll set) (members-spell n) (λ vs. refl)))
+      (or-spells (behind-spells "Q(" (given-spells (coll sequence) (members-spell n) (λ vs. refl)))
+      (behind-spells "B(" (given-spells (coll bag) (members-spell n) (λ vs. refl))))))))
+
+  members-spell : (n : ℕ) → Spells [] (membersWithin n) spellMembers
+  members-spell zero = nothing-spells
+  members-spell (suc n) = or-spells (literal-spells ")" nil refl) (then-spells (value-spells n) (λ v. given-spells (cons v) (more-spell n) (λ vs. refl)))
+
+  more-spell : (n : ℕ) → Spells [] (moreWithin n) spellMore
+  more-spell zero = nothing-spells
+  more-spell (suc n) =
+      or-spells (literal-spells ")" nil refl) (behind-spells "," (then-spells (value-spells n) (λ v. given-spells (cons v) (more-spell n) (λ vs. refl))))
+
+pub value-only : (f : Bytes) (v : Value) → readValue f ≡ some v → f ≡ spellValue v
+unfolding readValue
+value-only f v e = whole-spells (value-spells (length f)) f v e
