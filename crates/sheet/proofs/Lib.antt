@@ -2,3 +2,4 @@ pub mod Examples
 pub mod Numbers
 pub mod Parsers
 pub mod Spelling
+pub mod Split
