@@ -3,3 +3,4 @@ pub mod Numbers
 pub mod Parsers
 pub mod Spelling
 pub mod Split
+pub mod Lengths

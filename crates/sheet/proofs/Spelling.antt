@@ -17,8 +17,8 @@ use Rattle.ocl.specs.Types.{integer as integerType}
 use Rattle.ocl.specs.Values.{Value, bool, int, obj, coll, Values, nil, cons}
 use Rattle.sheet.specs.Text.{Bytes, byte, bytes, Parser, nothing, after, literal, behind, _or_, _then_, given, whole, isDigit, digits, plain, number, minus, integer, spellNumber, spellInteger}
 use Rattle.sheet.specs.Spelling.{collectionType, typeWithin, readType, letterByte, spellSimple, spellType, valueWithin, membersWithin, moreWithin, readValue, kindByte, spellBool, spellValue, spellMembers, spellMore}
-use Rattle.sheet.specs.SpellingLaws.{Stops, at-end, no-digit}
-use Rattle.sheet.proofs.Numbers.{digit-from, digit-to, spell-digits, digits-some, number-back, number-only}
+use Rattle.sheet.specs.SpellingLaws.{no-digit, OneSpelling, OneSpellingInFront, SpellingLaws}
+use Rattle.sheet.proofs.Numbers.{decimal, digit-from, digit-to, spell-digits, digits-some, number-back, number-only}
 use Rattle.sheet.proofs.Parsers.{Reads, Misses, Halts, Begins, begins, begins-imp, other-byte, literal-reads, literal-misses, behind-reads, behind-misses, first-reads, second-reads, then-reads, given-reads, whole-reads, Spells, nothing-spells, literal-spells, behind-spells, or-spells, then-spells, given-spells, whole-spells}
 
 -- ---- numbers and Integers, read back
@@ -149,6 +149,7 @@ next-reads-member n v vs r s = second-reads (literal-misses ")" nil (spellMore (
 -- as many parts may be read as there are bytes
 mutual
   unfolding valueWithin spellValue spellBool bytes after literal behind _or_ given orElse onSome mapSome integer number digits plain isDigit
+
   value-reads : (n : ℕ) (v : Value) → length (spellValue v) ≤ n → Reads (valueWithin n) (spellValue v) v
   value-reads zero v h = absurd (omega (arith, value-long v))
   value-reads (suc n) (bool true) h = record { read = λ rest st. refl }
@@ -215,6 +216,7 @@ type-only f t e = whole-spells (type-spells (length f)) f t e
 
 mutual
   unfolding valueWithin spellValue spellBool kindByte letterByte bytes
+
   value-spells : (n : ℕ) → Spells [] (valueWithin n) spellValue
   value-spells zero = nothing-spells
   value-spells (suc n) =
@@ -238,3 +240,17 @@ mutual
 pub value-only : (f : Bytes) (v : Value) → readValue f ≡ some v → f ≡ spellValue v
 unfolding readValue
 value-only f v e = whole-spells (value-spells (length f)) f v e
+
+-- ---- all of it
+
+pub spelling-laws : SpellingLaws
+spelling-laws =
+    record {
+      decimal = decimal;
+      numbers = record { back = λ n. whole-reads (number-reads n); only = whole-spells number-spells };
+      numbers-in-front = record { back = number-back; only = number-only };
+      integers = record { back = λ z. whole-reads (integer-reads z); only = whole-spells integer-spells };
+      integers-in-front = record { back = λ z. integer-reads z .read; only = integer-spells .spelled };
+      types = record { back = type-back; only = type-only };
+      values = record { back = value-back; only = value-only };
+    }
