@@ -1,16 +1,15 @@
 -- How many bytes spell a number, a type and a value. Assumes nothing.
-use mathlib.Core.Bool.{Bool, true, false, _&&_}
-use mathlib.Core.List.{List, [], _∷_, _++_}
-use Prim.Native.Nat.{ℕ, zero, suc, _+_, _*_, _^_, _≤_, _<_}
+use mathlib.Core.Bool.{true, false}
+use Prim.Native.Nat.{suc, _+_, _*_, _≤_, _<_}
 use native.Mathlib.Omega.{arith}
 use lib.IntN.{ℤ, pos, negsuc}
 use lib.ListN.{length, length-append}
 use lib.Dec.{T, ltb→lt}
 use Rattle.laws.proofs.Tests.{and-l, and-r}
-use Rattle.ocl.specs.Types.{Simple, any, boolean, integer, class, Letter, Ty, void, simple, around, depth}
+use Rattle.ocl.specs.Types.{Simple, any, boolean, integer, class, Ty, void, simple, around, depth}
 use Rattle.ocl.specs.Values.{Value, bool, int, obj, coll, Values, nil, cons, size, sizes}
 use Rattle.ocl.specs.Evaluation.{inRange}
-use Rattle.sheet.specs.Text.{bytes, spellNumber, spellInteger}
+use Rattle.sheet.specs.Text.{bytes, spellInteger}
 use Rattle.sheet.specs.Spelling.{spellSimple, spellType, spellBool, spellValue, spellMembers, spellMore}
 use Rattle.sheet.specs.Refusals.{simpleClassBelow, classBelow, everyPart, everyParts, partWithin}
 use Rattle.sheet.specs.SpellingLaws.{LengthLaws}
@@ -35,7 +34,7 @@ simple-length any t = omega arith
 simple-length boolean t = omega arith
 simple-length integer t = omega arith
 simple-length (class c) t =
-    let h = ltb→lt c 64 t in
+    let h = ltb→lt c _ t in
     let d = digits-at-most 2 c (omega arith) (omega arith) in
     omega arith
 
@@ -57,7 +56,7 @@ mutual
   value-length (bool false) h = omega arith
   value-length (int z) h = omega (arith, integer-length z h)
   value-length (obj o) h =
-      let l = ltb→lt o 96 h in
+      let l = ltb→lt o _ h in
       let d = digits-at-most 2 o (omega arith) (omega arith) in
       omega arith
   value-length (coll k vs) h = omega (arith, members-length vs h)

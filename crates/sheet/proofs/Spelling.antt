@@ -1,25 +1,25 @@
 -- Types and values are read back as they are written, and only so. Assumes nothing.
-use mathlib.Core.Path.{_≡_, refl, sym, ap, _∙_, subst}
+use mathlib.Core.Path.{_≡_, refl, ap}
 use mathlib.Core.Logic.{_≢_}
-use mathlib.Core.Bool.{Bool, true, false, not}
-use mathlib.Core.Option.{Option, none, some, Option·none-ne-some, Option·some-injective}
-use mathlib.Core.List.{List, [], _∷_, _++_, append-nil, append-assoc}
-use Prim.Native.Nat.{ℕ, zero, suc, _+_, _≤_, _<_}
+use mathlib.Core.Bool.{Bool, true, false}
+use mathlib.Core.Option.{some, Option·none-ne-some, Option·some-injective}
+use mathlib.Core.List.{[], _∷_, _++_, append-assoc}
+use Prim.Native.Nat.{ℕ, zero, suc, _≤_, _<_}
 use Prim.Native.String.{String}
 use native.Mathlib.Omega.{arith}
 use lib.IntN.{ℤ, pos, negsuc}
 use lib.ListN.{length, length-append}
 use lib.Dec.{T}
-use Rattle.laws.specs.Choice.{if_then_else_, orElse, onSome, mapSome}
+use Rattle.laws.specs.Choice.{orElse, onSome, mapSome}
 use Rattle.laws.specs.Lists.{Each, each-nil, each-cons}
-use Rattle.ocl.specs.Types.{Simple, any, boolean, class, Kind, set, sequence, bag, Letter, collection, exactly, Ty, void, simple, around, Any, Boolean, Integer, Class}
+use Rattle.ocl.specs.Types.{any, boolean, class, Kind, set, sequence, bag, Letter, collection, exactly, Ty, void, simple, around, Any, Boolean, Integer, Class}
 use Rattle.ocl.specs.Types.{integer as integerType}
 use Rattle.ocl.specs.Values.{Value, bool, int, obj, coll, Values, nil, cons}
-use Rattle.sheet.specs.Text.{Bytes, byte, bytes, Parser, nothing, after, literal, behind, _or_, _then_, given, whole, isDigit, digits, plain, number, minus, integer, spellNumber, spellInteger}
+use Rattle.sheet.specs.Text.{Bytes, byte, bytes, Parser, after, literal, behind, _or_, _then_, given, isDigit, digits, plain, number, minus, integer, spellNumber, spellInteger}
 use Rattle.sheet.specs.Spelling.{collectionType, typeWithin, readType, letterByte, spellSimple, spellType, valueWithin, membersWithin, moreWithin, readValue, kindByte, spellBool, spellValue, spellMembers, spellMore}
-use Rattle.sheet.specs.SpellingLaws.{no-digit, OneSpelling, OneSpellingInFront, SpellingLaws}
+use Rattle.sheet.specs.SpellingLaws.{no-digit, SpellingLaws}
 use Rattle.sheet.proofs.Numbers.{decimal, digit-from, digit-to, spell-digits, digits-some, number-back, number-only}
-use Rattle.sheet.proofs.Parsers.{Reads, Misses, Halts, Begins, begins, begins-imp, other-byte, literal-reads, literal-misses, behind-reads, behind-misses, first-reads, second-reads, then-reads, given-reads, whole-reads, Spells, nothing-spells, literal-spells, behind-spells, or-spells, then-spells, given-spells, whole-spells}
+use Rattle.sheet.proofs.Parsers.{Reads, Halts, Begins, begins, begins-imp, other-byte, literal-reads, literal-misses, behind-reads, behind-misses, first-reads, second-reads, then-reads, given-reads, whole-reads, Spells, nothing-spells, literal-spells, behind-spells, or-spells, then-spells, given-spells, whole-spells}
 
 -- ---- numbers and Integers, read back
 
@@ -58,12 +58,19 @@ close-halts : Halts (bytes ")")
 unfolding bytes isDigit
 close-halts = record { halts = λ rest. no-digit tt }
 
+-- behind a letter and its bracket nothing but a collection type is read
+letter-first : (l : Letter) (n : ℕ) (s : Bytes) {x : Ty × Bytes} → (typeWithin n then (λ t. literal ")" (around l t))) s ≡ some x → typeWithin (suc n) (letterByte l ∷ byte "(" ∷ s) ≡ some x
+unfolding typeWithin collectionType letterByte bytes after literal behind _or_ _then_ orElse onSome mapSome
+letter-first collection n s e = e
+letter-first (exactly set) n s e = rw e
+letter-first (exactly sequence) n s e = rw e
+letter-first (exactly bag) n s e = rw e
+
 letter-reads : (l : Letter) (t : Ty) (n : ℕ) → Reads (typeWithin n) (spellType t) t → Reads (typeWithin (suc n)) (spellType (around l t)) (around l t)
-unfolding typeWithin collectionType spellType letterByte bytes after literal behind _or_ _then_ orElse onSome mapSome
-letter-reads collection t n r = record { read = λ rest st. rw (append-assoc (spellType t) (bytes ")") rest, r .read (bytes ")" ++ rest) (close-halts .halts rest)) }
-letter-reads (exactly set) t n r = record { read = λ rest st. rw (append-assoc (spellType t) (bytes ")") rest, r .read (bytes ")" ++ rest) (close-halts .halts rest)) }
-letter-reads (exactly sequence) t n r = record { read = λ rest st. rw (append-assoc (spellType t) (bytes ")") rest, r .read (bytes ")" ++ rest) (close-halts .halts rest)) }
-letter-reads (exactly bag) t n r = record { read = λ rest st. rw (append-assoc (spellType t) (bytes ")") rest, r .read (bytes ")" ++ rest) (close-halts .halts rest)) }
+unfolding spellType
+letter-reads l t n r =
+    let inside = then-reads (λ u. literal ")" (around l u)) r close-halts (literal-reads ")" (around l t)) in
+    record { read = λ rest st. letter-first l n (spellType t ++ bytes ")" ++ rest) (inside .read rest st) }
 
 -- as many letters may be read as there are bytes
 type-reads : (t : Ty) (n : ℕ) → length (spellType t) ≤ n → Reads (typeWithin n) (spellType t) t
@@ -87,18 +94,29 @@ type-back t = whole-reads (type-reads t (length (spellType t)) (omega arith))
 
 -- ---- values, read back
 
+-- an Integer does not begin with a letter
+no-letter : (b : ℕ) → 57 < b → (z : ℤ) → Begins (λ c. b ≢ c) (spellInteger z)
+no-letter b l z = begins-imp (λ c h e. omega arith) (integer-begins z)
+
 integer-value-reads : (z : ℤ) (n : ℕ) → Reads (valueWithin (suc n)) (spellInteger z) (int z)
 unfolding valueWithin bytes
 integer-value-reads z n =
-    second-reads (literal-misses "t" (bool true) (spellInteger z) (λ rest. other-byte [] rest (begins-imp (λ b h e. omega arith) (integer-begins z))))
-    (second-reads (literal-misses "f" (bool false) (spellInteger z) (λ rest. other-byte [] rest (begins-imp (λ b h e. omega arith) (integer-begins z))))
+    second-reads (literal-misses "t" (bool true) (spellInteger z) (λ rest. other-byte [] rest (no-letter 116 (omega arith) z)))
+    (second-reads (literal-misses "f" (bool false) (spellInteger z) (λ rest. other-byte [] rest (no-letter 102 (omega arith) z)))
     (first-reads _ (given-reads int (integer-reads z))))
 
+-- behind a letter and its bracket nothing but members are read
+kind-first : (k : Kind) (n : ℕ) (s : Bytes) {x : Value × Bytes} → given (coll k) (membersWithin n) s ≡ some x → valueWithin (suc n) (kindByte k ∷ byte "(" ∷ s) ≡ some x
+unfolding valueWithin kindByte letterByte bytes after literal behind _or_ given orElse onSome mapSome integer number digits plain isDigit
+kind-first set n s e = rw e
+kind-first sequence n s e = rw e
+kind-first bag n s e = e
+
 collection-reads : (k : Kind) (vs : Values) (n : ℕ) → Reads (membersWithin n) (spellMembers vs) vs → Reads (valueWithin (suc n)) (spellValue (coll k vs)) (coll k vs)
-unfolding valueWithin spellValue kindByte letterByte bytes after literal behind _or_ _then_ given orElse onSome mapSome integer number digits plain isDigit
-collection-reads set vs n r = record { read = λ rest st. rw (r .read rest st) }
-collection-reads sequence vs n r = record { read = λ rest st. rw (r .read rest st) }
-collection-reads bag vs n r = record { read = λ rest st. rw (r .read rest st) }
+unfolding spellValue
+collection-reads k vs n r =
+    let inside = given-reads (coll k) r in
+    record { read = λ rest st. kind-first k n (spellMembers vs ++ rest) (inside .read rest st) }
 
 -- a value does not begin with the bracket that ends its collection
 no-bracket : (v : Value) → Begins (λ b. 41 ≢ b) (spellValue v)

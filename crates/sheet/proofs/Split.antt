@@ -1,9 +1,9 @@
 -- Lines of a text and fields of a line. Assumes nothing.
-use mathlib.Core.Path.{_≡_, refl, sym, ap, _∙_, subst}
+use mathlib.Core.Path.{_≡_, refl, ap, _∙_, subst}
 use mathlib.Core.Logic.{_≢_}
-use mathlib.Core.Bool.{Bool, true, false, not}
+use mathlib.Core.Bool.{Bool, true, false}
 use mathlib.Core.List.{List, [], _∷_, _++_}
-use Prim.Native.Nat.{ℕ, zero, suc, _≤_, _<_}
+use Prim.Native.Nat.{ℕ, _≤_}
 use native.Mathlib.Omega.{arith}
 use lib.ListN.{length}
 use lib.Dec.{T, eqb, eqb→eq, eqb-refl, T-not}
@@ -11,7 +11,7 @@ use borrow.Author.Tests.{ne-eqb}
 use Rattle.laws.specs.Choice.{if_then_else_}
 use Rattle.laws.specs.Lists.{Each, each-nil, each-cons}
 use Rattle.laws.proofs.Tests.{by-if}
-use Rattle.laws.proofs.Options.{test-true, by-test}
+use Rattle.laws.proofs.Options.{test-true}
 use Rattle.sheet.specs.Text.{Bytes, onto, split}
 use Rattle.sheet.specs.SpellingLaws.{joined, Parted, parted-nil, parted-cons, SplitLaws}
 
