@@ -34,6 +34,24 @@ pub by-if {κ} : {A : Type 0} (P : A → Type κ) (b : Bool) (x y : A) → (T b 
 by-if P true x y f g = f tt
 by-if P false x y f g = g tt
 
+pub test-true : (b : Bool) → T b → b ≡ true
+test-true true t = refl
+test-true false t = absurd t
+
+pub test-false : (b : Bool) → T (not b) → b ≡ false
+test-false true t = absurd t
+test-false false t = refl
+
+-- by cases that know the test
+pub by-test {ℓ} : {C : Type ℓ} (b : Bool) → (T b → C) → (T (not b) → C) → C
+by-test true f g = f tt
+by-test false f g = g tt
+
+-- two choices by one test
+pub same-choice : {A : Type 0} (b : Bool) {x y z w : A} → (T b → x ≡ z) → (T (not b) → y ≡ w) → (if b then x else y) ≡ (if b then z else w)
+same-choice true f g = f tt
+same-choice false f g = g tt
+
 -- ---- options: All? holds of the value if there is one, Any? also says that there is one
 
 pub data All? {A : Type 0} (P : A → Type 0) : Option A → Type 0 where

@@ -3,3 +3,8 @@ pub mod Acceptance
 pub mod Listed
 pub mod Soundness
 pub mod Examples
+pub mod Numbers
+pub mod Parsers
+pub mod Spelling
+pub mod Split
+pub mod Lengths

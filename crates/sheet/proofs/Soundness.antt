@@ -2,7 +2,7 @@
 use mathlib.Core.Path.{_≡_, refl, sym, ap, _∙_, subst}
 use mathlib.Core.Logic.{_≢_}
 use mathlib.Core.Bool.{Bool, true, false, _||_}
-use mathlib.Core.Option.{Option, none, some}
+use mathlib.Core.Option.{Option, none, some, Option·some-injective}
 use mathlib.Core.List.{List, [], _∷_}
 use Prim.Native.Nat.{ℕ, zero, suc, _≤_, _<_}
 use native.Mathlib.Omega.{arith}
@@ -26,12 +26,13 @@ use Rattle.ocl.specs.Soundness.{stepsOf, Sound}
 use Rattle.ocl.proofs.Soundness.{soundness}
 use Rattle.ocl.proofs.Places.{typing-places}
 use Rattle.sheet.specs.Text.{Bytes, bytes}
-use Rattle.sheet.specs.Spelling.{spellType, spellValue}
+use Rattle.sheet.specs.Spelling.{readType, spellType, spellValue}
 use Rattle.sheet.specs.Sheet.{Rule, Sheet, modelOf}
 use Rattle.sheet.specs.Reading.{Reading, accepted, refused, readText}
 use Rattle.sheet.specs.Calls.{Verdict, answer, refusalAt, refusal, shortWords, shortOutput, onSheet, readCall, onRule, typingOf, onType, typeOn, typeCall, onObject, outcomeOf, ended, evaluateOn, evaluateCall}
 use Rattle.sheet.specs.Soundness.{Lent, sheetFrom, sheetIn, ruleReach, reachOf, contextHas, ofContext, Ending, undefined-end, value-end, step-stop, size-stop, SoundCall, Demand3}
 use Rattle.sheet.specs.Laws.{ReadRefusal, long-sheet, at-line, TypeRefusals}
+use Rattle.sheet.proofs.Spelling.{type-back}
 use Rattle.sheet.proofs.Listed.{read-refusals}
 use Rattle.sheet.proofs.Acceptance.{Good, RuleOk, accepted-good, good-model}
 
@@ -113,61 +114,63 @@ read-number text n k e = by (read-refusals text n k e)
     by (at-line a b c d) = omega arith
 
 -- a type has a spelling of its own
-module _ (spellType-one : (t u : Ty) → spellType t ≡ spellType u → t ≡ u) where
-  -- the type that typing answers with
-  type-answer : (s : Sheet) (a : Answer) (t : Ty) → ((n p : ℕ) → a ≡ untyped n p → 9 ≤ n) → onType s a (λ u. answer (spellType u)) ≡ answer (spellType t) → a ≡ typed t
-  unfolding onType answer refusalAt
-  type-answer s (typed u) t h e = ap typed (spellType-one u t (ap (λ (v : Verdict). v .output) e))
-  type-answer s (untyped n p) t h e = absurd (no-number n (let k = h n p refl in omega arith) (ap (λ (v : Verdict). v .number) e))
+spellType-one : (t u : Ty) → spellType t ≡ spellType u → t ≡ u
+spellType-one t u e = Option·some-injective t u (sym (type-back t) ∙ ap readType e ∙ type-back u)
 
-  type-given : (s : Sheet) (x : Option Rule) (t : Ty) → onRule x (λ y. onType s (typingOf s y .answer) (λ u. answer (spellType u))) ≡ answer (spellType t)
-      → (y : Rule) → x ≡ some y → typingOf s y .answer ≡ typed t
-  unfolding onRule typingOf typeRule answer refusal refusalAt
-  type-given s none t e y q = absurd (let z : _≡_ {A = ℕ} 0 1 = cc in omega arith)
-  type-given s (some x) t e y q = let z : x ≡ y = cc in
-      subst (λ w. typingOf s w .answer ≡ typed t) z
-      (type-answer s (typingOf s x .answer) t (λ n p a. typing-places (modelOf s) (x .body) (start (Class (x .context))) .refusals n p a .low) e)
+-- the type that typing answers with
+type-answer : (s : Sheet) (a : Answer) (t : Ty) → ((n p : ℕ) → a ≡ untyped n p → 9 ≤ n) → onType s a (λ u. answer (spellType u)) ≡ answer (spellType t) → a ≡ typed t
+unfolding onType answer refusalAt
+type-answer s (typed u) t h e = ap typed (spellType-one u t (ap (λ (v : Verdict). v .output) e))
+type-answer s (untyped n p) t h e = absurd (no-number n (let k = h n p refl in omega arith) (ap (λ (v : Verdict). v .number) e))
 
-  -- ---- on a sheet, and on a text
+type-given : (s : Sheet) (x : Option Rule) (t : Ty) → onRule x (λ y. onType s (typingOf s y .answer) (λ u. answer (spellType u))) ≡ answer (spellType t)
+    → (y : Rule) → x ≡ some y → typingOf s y .answer ≡ typed t
+unfolding onRule typingOf typeRule answer refusal refusalAt
+type-given s none t e y q = absurd (let z : _≡_ {A = ℕ} 0 1 = cc in omega arith)
+type-given s (some x) t e y q = let z : x ≡ y = cc in
+    subst (λ w. typingOf s w .answer ≡ typed t) z
+    (type-answer s (typingOf s x .answer) t (λ n p a. typing-places (modelOf s) (x .body) (start (Class (x .context))) .refusals n p a .low) e)
 
-  record SoundOn (s : Sheet) (x : Option Rule) (t : Ty) (v : Verdict) : Type 0 where
-    ending : Ending (modelOf s) t v
-    in-reach : v .steps ≤ ruleReach x
-    no-step-stop : ruleReach x ≤ 1000000 → v .number ≢ 16
+-- ---- on a sheet, and on a text
 
-  -- an object of the context class is there, so that evaluate answers by the outcome
-  object-there : (m : Model) (d : Option ℕ) (o c : ℕ) (v : Verdict) → m .classOf o ≡ d → T (isA m o (class c)) → onObject m d o c v ≡ v
-  unfolding onObject isA classBelow
-  object-there m none o c v e h = absurd (rw e at h)
-  object-there m (some d) o c v e h = by-if (λ w. w ≡ v) (isA m o (class c)) v (refusal 15) (λ t. refl) (λ t. absurd (T-not (isA m o (class c)) t h))
+record SoundOn (s : Sheet) (x : Option Rule) (t : Ty) (v : Verdict) : Type 0 where
+  ending : Ending (modelOf s) t v
+  in-reach : v .steps ≤ ruleReach x
+  no-step-stop : ruleReach x ≤ 1000000 → v .number ≢ 16
 
-  sound-sheet : (s : Sheet) → Good s → (r o : ℕ) (t : Ty) (x : Option Rule) → getElem? (s .rules) r ≡ x
-      → onRule x (λ y. onType s (typingOf s y .answer) (λ u. answer (spellType u))) ≡ answer (spellType t) → T (contextHas s x o)
-      → SoundOn s x t (onRule x (λ y. onObject (modelOf s) (modelOf s .classOf o) o (y .context) (onType s (typingOf s y .answer) (λ u. ended (outcomeOf s y o)))))
-  unfolding contextHas onRule onType ruleReach
-  sound-sheet s g r o t none e h c = absurd c
-  sound-sheet s g r o t (some y) e h c =
-      let d = type-given s (some y) t h y refl in
-      let z = sound-rule s g r o y t e d c in
-      rw (object-there (modelOf s) (modelOf s .classOf o) o (y .context) (onType s (typingOf s y .answer) (λ u. ended (outcomeOf s y o))) refl c, d)
-      (record {
-        ending = end-of (modelOf s) t (reach (y .body)) (outcomeOf s y o) z;
-        in-reach = steps-of (modelOf s) t (reach (y .body)) (outcomeOf s y o) z;
-        no-step-stop = no-stop (modelOf s) t (reach (y .body)) (outcomeOf s y o) z;
-      })
+-- an object of the context class is there, so that evaluate answers by the outcome
+object-there : (m : Model) (d : Option ℕ) (o c : ℕ) (v : Verdict) → m .classOf o ≡ d → T (isA m o (class c)) → onObject m d o c v ≡ v
+unfolding onObject isA classBelow
+object-there m none o c v e h = absurd (rw e at h)
+object-there m (some d) o c v e h = by-if (λ w. w ≡ v) (isA m o (class c)) v (refusal 15) (λ t. refl) (λ t. absurd (T-not (isA m o (class c)) t h))
 
-  sound-reading : (text : Bytes) (r o : ℕ) (t : Ty) (x : Reading) → readText text ≡ x → onSheet x (λ s. answer []) .number ≡ 0
-      → onSheet x (λ s. typeOn s r) ≡ answer (spellType t) → T (contextHas (sheetFrom x) (getElem? (sheetFrom x .rules) r) o)
-      → SoundOn (sheetFrom x) (getElem? (sheetFrom x .rules) r) t (onSheet x (λ s. evaluateOn s r o))
-  unfolding onSheet sheetFrom typeOn evaluateOn refusalAt
-  sound-reading text r o t (accepted s) e q h c = sound-sheet s (accepted-good text s e) r o t (getElem? (s .rules) r) refl h c
-  sound-reading text r o t (refused n k) e q h c = absurd (no-number n (read-number text n k e) q)
+sound-sheet : (s : Sheet) → Good s → (r o : ℕ) (t : Ty) (x : Option Rule) → getElem? (s .rules) r ≡ x
+    → onRule x (λ y. onType s (typingOf s y .answer) (λ u. answer (spellType u))) ≡ answer (spellType t) → T (contextHas s x o)
+    → SoundOn s x t (onRule x (λ y. onObject (modelOf s) (modelOf s .classOf o) o (y .context) (onType s (typingOf s y .answer) (λ u. ended (outcomeOf s y o)))))
+unfolding contextHas onRule onType ruleReach
+sound-sheet s g r o t none e h c = absurd c
+sound-sheet s g r o t (some y) e h c =
+    let d = type-given s (some y) t h y refl in
+    let z = sound-rule s g r o y t e d c in
+    rw (object-there (modelOf s) (modelOf s .classOf o) o (y .context) (onType s (typingOf s y .answer) (λ u. ended (outcomeOf s y o))) refl c, d)
+    (record {
+      ending = end-of (modelOf s) t (reach (y .body)) (outcomeOf s y o) z;
+      in-reach = steps-of (modelOf s) t (reach (y .body)) (outcomeOf s y o) z;
+      no-step-stop = no-stop (modelOf s) t (reach (y .body)) (outcomeOf s y o) z;
+    })
 
-  pub demand3 : Demand3
-  unfolding reachOf ofContext sheetIn
-  demand3 text w0 w1 w2 out l r o t a b c =
-      let z = sound-reading text r o t (readText text) refl (rw (read-lent text w0 w1 w2 out l) at a) (rw (type-lent text w0 w1 w2 out l r) at b) c in
-      rw (evaluate-lent text w0 w1 w2 out l r o) (record { ending = z .ending; in-reach = z .in-reach; no-step-stop = z .no-step-stop })
+sound-reading : (text : Bytes) (r o : ℕ) (t : Ty) (x : Reading) → readText text ≡ x → onSheet x (λ s. answer []) .number ≡ 0
+    → onSheet x (λ s. typeOn s r) ≡ answer (spellType t) → T (contextHas (sheetFrom x) (getElem? (sheetFrom x .rules) r) o)
+    → SoundOn (sheetFrom x) (getElem? (sheetFrom x .rules) r) t (onSheet x (λ s. evaluateOn s r o))
+unfolding onSheet sheetFrom typeOn evaluateOn refusalAt
+sound-reading text r o t (accepted s) e q h c = sound-sheet s (accepted-good text s e) r o t (getElem? (s .rules) r) refl h c
+sound-reading text r o t (refused n k) e q h c = absurd (no-number n (read-number text n k e) q)
+
+pub demand3 : Demand3
+unfolding reachOf ofContext sheetIn
+demand3 text w0 w1 w2 out l r o t a b c =
+    let z = sound-reading text r o t (readText text) refl (rw (read-lent text w0 w1 w2 out l) at a) (rw (type-lent text w0 w1 w2 out l r) at b) c in
+    rw (evaluate-lent text w0 w1 w2 out l r o) (record { ending = z .ending; in-reach = z .in-reach; no-step-stop = z .no-step-stop })
 
 -- ---- typing's refusals, on an accepted sheet
 

@@ -1,5 +1,6 @@
 pub mod Text
 pub mod Spelling
+pub mod SpellingLaws
 pub mod Lines
 pub mod Sheet
 pub mod Refusals

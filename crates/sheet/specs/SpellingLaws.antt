@@ -1,0 +1,90 @@
+-- Document 01, The sheet, and Values and types: what is written is read back, nothing else is read so, and how long it can be.
+-- proofs/Spelling.antt, proofs/Lengths.antt and proofs/Split.antt prove it.
+use mathlib.Core.Path.{_≡_}
+use mathlib.Core.Logic.{_≢_}
+use mathlib.Core.Bool.{not}
+use mathlib.Core.Option.{Option, some}
+use mathlib.Core.List.{List, [], _∷_, _++_}
+use Prim.Native.Nat.{ℕ, _≤_, _<_, _^_}
+use lib.IntN.{ℤ}
+use lib.ListN.{length}
+use lib.Dec.{T}
+use Rattle.laws.specs.Lists.{Each}
+use Rattle.ocl.specs.Types.{Ty, depth}
+use Rattle.ocl.specs.Values.{Value, size}
+use Rattle.ocl.specs.Evaluation.{inRange}
+use Rattle.sheet.specs.Text.{Bytes, split, Parser, whole, isDigit, plain, number, integer, spellNumber, spellInteger}
+use Rattle.sheet.specs.Spelling.{readType, spellType, readValue, spellValue}
+use Rattle.sheet.specs.Refusals.{classBelow, everyPart, partWithin}
+
+-- ---- one spelling for each number, type and value
+
+-- no digit stands in front, so that a number may end here
+pub data Stops : Bytes → Type 0 where
+  at-end : Stops []
+  no-digit : {b : ℕ} {s : Bytes} → T (not (isDigit b)) → Stops (b ∷ s)
+
+-- digits, one or more, of which 0 leads no other
+pub record Decimal (d : Bytes) : Type 0 where
+  pub all-digits : Each (λ b. T (isDigit b)) d
+  pub no-leading-zero : T (plain d)
+
+-- the spelling of x is read as x, and no other field is
+pub record OneSpelling {A : Type 0} (read : Bytes → Option A) (spell : A → Bytes) : Type 0 where
+  pub back : (x : A) → read (spell x) ≡ some x
+  pub only : (f : Bytes) (x : A) → read f ≡ some x → f ≡ spell x
+
+-- the same where other bytes follow, of which the first is no digit
+pub record OneSpellingInFront {A : Type 0} (p : Parser A) (spell : A → Bytes) : Type 0 where
+  pub back : (x : A) (rest : Bytes) → Stops rest → p (spell x ++ rest) ≡ some (x, rest)
+  pub only : (s : Bytes) (x : A) (rest : Bytes) → p s ≡ some (x, rest) → s ≡ spell x ++ rest
+
+pub record SpellingLaws : Type 0 where
+  pub decimal : (n : ℕ) → Decimal (spellNumber n)
+  pub numbers : OneSpelling (whole number) spellNumber
+  pub numbers-in-front : OneSpellingInFront number spellNumber
+  pub integers : OneSpelling (whole integer) spellInteger
+  pub integers-in-front : OneSpellingInFront integer spellInteger
+  -- whatever the nesting
+  pub types : OneSpelling readType spellType
+  pub values : OneSpelling readValue spellValue
+
+-- ---- lengths, by which the room that an answer asks for is known
+
+pub record LengthLaws : Type 0 where
+  -- below the k-th power of ten there are at most k digits
+  pub number-length : (k n : ℕ) → 1 ≤ k → n < 10 ^ k → length (spellNumber n) ≤ k
+  -- so many digits has a number of steps at most
+  pub steps-length : (n : ℕ) → n ≤ 1000000 → length (spellNumber n) ≤ 7
+  -- ten digits and a sign
+  pub integer-length : (z : ℤ) → T (inRange z) → length (spellInteger z) ≤ 11
+  -- three letters with their brackets, and four bytes
+  pub type-length : (t : Ty) → depth t ≤ 3 → T (classBelow 64 t) → length (spellType t) ≤ 20
+  -- twelve bytes for each part: eleven of an Integer, and what parts it from the next
+  pub value-length : (v : Value) → T (everyPart partWithin v) → size v ≤ 128 → length (spellValue v) ≤ 1536
+
+-- ---- separators
+
+-- the parts, with the separator between two
+unfoldable pub joined : ℕ → List Bytes → Bytes
+joined sep [] = []
+joined sep (p ∷ []) = p
+joined sep (p ∷ q ∷ ps) = p ++ sep ∷ joined sep (q ∷ ps)
+
+-- no part holds the separator
+pub data Parted (sep : ℕ) : List Bytes → Type 0 where
+  parted-nil : Parted sep []
+  parted-cons : {p : Bytes} {ps : List Bytes} → Each (λ b. b ≢ sep) p → Parted sep ps → Parted sep (p ∷ ps)
+
+-- what `split` gives, at any separator, so at line feeds and at tabs
+pub record SplitLaws (sep : ℕ) : Type 0 where
+  -- at least one part, and no separator in a part
+  pub some-part : (s : Bytes) → 1 ≤ length (split sep s)
+  pub parts-free : (s : Bytes) → Parted sep (split sep s)
+  -- the parts make the text, and no other parts do
+  pub rejoined : (s : Bytes) → joined sep (split sep s) ≡ s
+  pub no-other-parts : (ps : List Bytes) → 1 ≤ length ps → Parted sep ps → split sep (joined sep ps) ≡ ps
+  -- a text may be cut at any separator; cut at the first one, what stands before it is the first part
+  pub cut : (a b : Bytes) → split sep (a ++ sep ∷ b) ≡ split sep a ++ split sep b
+  pub first-part : (a b : Bytes) → Each (λ c. c ≢ sep) a → split sep (a ++ sep ∷ b) ≡ a ∷ split sep b
+  pub only-part : (a : Bytes) → Each (λ c. c ≢ sep) a → split sep a ≡ a ∷ []
