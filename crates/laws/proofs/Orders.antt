@@ -67,6 +67,15 @@ compare-same a b h = go (three a b)
     go (same e) = e
     go (over l) = absurd (gt-not-eq (sym (compare-gt a b l) ∙ h))
 
+-- two pairs that stand alike
+pub compare-like : (a b m n : ℕ) → (a < b → m < n) → (a ≡ b → m ≡ n) → (b < a → n < m) → compare m n ≡ compare a b
+compare-like a b m n f g h = by (three a b)
+  where
+    by : Three a b → compare m n ≡ compare a b
+    by (less l) = compare-lt m n (f l) ∙ sym (compare-lt a b l)
+    by (same l) = compare-eq m n (g l) ∙ sym (compare-eq a b l)
+    by (over l) = compare-gt m n (h l) ∙ sym (compare-gt a b l)
+
 pub compare-turned : (a b : ℕ) → compare b a ≡ reverse (compare a b)
 unfolding reverse
 compare-turned a b = go (three a b)
