@@ -1,17 +1,17 @@
 -- The order of values is a total order, and the tests on members are exact. Assumes nothing.
 use mathlib.Core.Path.{_≡_, refl, sym, ap, _∙_, subst}
+use mathlib.Core.Logic.{_↔_}
 use mathlib.Core.Bool.{true, false}
 use Prim.Native.Nat.{ℕ, zero, suc, compare, Ordering, Ordering·lt, Ordering·eq, Ordering·gt}
 use native.Mathlib.Omega.{arith}
 use lib.IntN.{ℤ, pos, negsuc}
-use lib.Dec.{T}
+use lib.Dec.{T, isEq}
 use Rattle.laws.specs.Orders.{reverse}
 use Rattle.ocl.specs.Types.{set, sequence, bag}
 use Rattle.ocl.specs.Values.{Value, bool, int, obj, coll, Values, nil, cons, count, thenOrder, sort, ofBool, rank, orderInt, members, headOrder, order, orders, same, has}
 use Rattle.ocl.specs.Laws.{Member, first, later, ValueOrder}
 use Rattle.laws.proofs.Tests.{or-l, or-r, or-e}
-use Rattle.laws.proofs.Orders.{lt-not-eq, gt-not-eq, compare-same, compare-turned, Chain, left, right, twice, up-down, down-up, chain-swap, chain-lt, chain-gt, compare-chain, total-order}
-use Rattle.ocl.proofs.Values.{same-is}
+use Rattle.laws.proofs.Orders.{lt-not-eq, gt-not-eq, reverse-same, compare-same, compare-turned, Chain, left, right, twice, up-down, down-up, chain-swap, chain-lt, chain-gt, compare-chain, total-order}
 
 -- ---- one comparison, then another
 
@@ -242,6 +242,20 @@ chained-more u us p q (cons v vs) (cons w ws) m n = then-chain _ _ _ (p v w) (λ
 
 order-chain : (u v w : Value) → Chain (order u v) (order v w) (order u w)
 order-chain u = by-members Chained ChainedAll chained-whole chained-none chained-more u
+
+-- ---- one and the same
+
+eq-test : (o : Ordering) → T (isEq o) → o ≡ Ordering·eq
+eq-test Ordering·lt h = absurd h
+eq-test Ordering·eq h = refl
+eq-test Ordering·gt h = absurd h
+
+order-self : (v : Value) → order v v ≡ Ordering·eq
+order-self v = reverse-same (order v v) (order-turned v v)
+
+pub same-is : (v w : Value) → T (same v w) ↔ (v ≡ w)
+unfolding same
+same-is v w = (λ h. order-same v w (eq-test (order v w) h), λ e. subst (λ x. T (isEq (order v x))) e (subst (λ o. T (isEq o)) (sym (order-self v)) tt))
 
 -- ---- members
 

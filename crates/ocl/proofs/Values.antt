@@ -1,36 +1,17 @@
 -- What is added to a collection, which values belong to a type, and that belonging goes up. Assumes nothing.
 use mathlib.Core.Path.{_≡_, sym, ap}
-use mathlib.Core.Logic.{_↔_}
-use mathlib.Core.Bool.{Bool, true, false, _&&_, Bool-discrete}
+use mathlib.Core.Bool.{Bool, true, false, _&&_}
 use mathlib.Core.Option.{Option, none, some}
 use Prim.Native.Nat.{ℕ, zero, suc, _≤_, _<_, Ordering, Ordering·lt, Ordering·eq, Ordering·gt}
 use native.Mathlib.Omega.{arith}
-use native.Mathlib.Decide.{ℕ-discrete}
-use lib.IntN.{ℤ-discrete}
 use lib.Dec.{T, eqb, eqb→eq}
-use Rattle.ocl.specs.Types.{Simple, boolean, integer, class, Kind, set, sequence, bag, Kind-discrete, exactly, Ty, void, simple, around, simpleSubtype, letterSubtype, subtype, up, parentOr}
-use Rattle.ocl.specs.Values.{Value, bool, int, obj, coll, Value-discrete, Values, nil, cons, count, size, sizes, order, holds, same, put, insert, append, add, addAll}
+use Rattle.ocl.specs.Types.{Simple, boolean, integer, class, Kind, set, sequence, bag, exactly, Ty, void, simple, around, simpleSubtype, letterSubtype, subtype, up, parentOr}
+use Rattle.ocl.specs.Values.{Value, bool, int, obj, coll, Values, nil, cons, count, size, sizes, order, put, insert, append, add, addAll}
 use Rattle.ocl.specs.Model.{Model, classBelow, isA, every, belongs, declared, nearest, rowRead}
 use Rattle.ocl.specs.Laws.{Small, BelongsUpLaw}
 use Rattle.laws.proofs.Tests.{and-i, and-l, and-r, by-if, All?, all-none, all-some, all-imp, all-self, all-else, all-on}
 use Rattle.ocl.proofs.Types.{letter-trans, Climb, step, climb-trans, climb-eq, simpleSubtype→climb, climb→simpleSubtype}
 use Rattle.ocl.proofs.Subtyping.{Subtype→subtype}
-
--- ---- the same value
-
-holds-yes : {A : Type 0} (d : Dec A) → T (holds d) → A
-unfolding holds
-holds-yes (yes p) h = p
-holds-yes (no q) h = absurd h
-
-holds-is : {A : Type 0} (d : Dec A) → A → T (holds d)
-unfolding holds
-holds-is (yes p) a = tt
-holds-is (no q) a = q a
-
-pub same-is : (v w : Value) → T (same v w) ↔ (v ≡ w)
-unfolding same
-same-is v w = (holds-yes (Value-discrete Bool-discrete ℤ-discrete ℕ-discrete Kind-discrete v w), holds-is (Value-discrete Bool-discrete ℤ-discrete ℕ-discrete Kind-discrete v w))
 
 -- ---- every member
 

@@ -14,7 +14,6 @@ pub data Simple : Type 0 where
 -- the kinds of a collection value: Set, Sequence, Bag
 pub data Kind : Type 0 where
   set sequence bag : Kind
-  deriving Discrete as Kind-discrete
 
 -- the letters of a collection type: C for any kind, else one kind
 pub data Letter : Type 0 where

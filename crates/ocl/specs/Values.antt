@@ -1,9 +1,9 @@
 -- Document 01, Values and types: values, their size and order; Evaluation: how a member is added.
-use mathlib.Core.Bool.{Bool, true, false, _||_, Bool-discrete}
+use mathlib.Core.Bool.{Bool, true, false, _||_}
 use Prim.Native.Nat.{ℕ, zero, suc, _+_, compare, Ordering, Ordering·lt, Ordering·eq, Ordering·gt}
-use native.Mathlib.Decide.{ℕ-discrete}
-use lib.IntN.{ℤ, pos, negsuc, ℤ-discrete}
-use Rattle.ocl.specs.Types.{Kind, set, sequence, bag, Kind-discrete}
+use lib.IntN.{ℤ, pos, negsuc}
+use lib.Dec.{isEq}
+use Rattle.ocl.specs.Types.{Kind, set, sequence, bag}
 
 -- what is defined: true or false, an Integer, an object, a collection. Undefined stands apart, since it is never a member
 mutual
@@ -12,12 +12,10 @@ mutual
     int : ℤ → Value
     obj : ℕ → Value
     coll : Kind → Values → Value
-    deriving Discrete as Value-discrete
 
   pub data Values : Type 0 where
     nil : Values
     cons : Value → Values → Values
-    deriving Discrete as Values-discrete
 
 -- how many members
 unfoldable pub count : Values → ℕ
@@ -96,14 +94,9 @@ unfoldable mutual
   orders (cons v vs) nil = Ordering·gt
   orders (cons v vs) (cons w ws) = thenOrder (order v w) (orders vs ws)
 
--- is it decided that A holds
-unfoldable pub holds : {A : Type 0} → Dec A → Bool
-holds (yes p) = true
-holds (no q) = false
-
--- are the two one and the same value
+-- are the two one and the same value: neither comes before the other (proofs/Order.antt: this is equality)
 unfoldable pub same : Value → Value → Bool
-same v w = holds (Value-discrete Bool-discrete ℤ-discrete ℕ-discrete Kind-discrete v w)
+same v w = isEq (order v w)
 
 -- is v one of the members
 unfoldable pub has : Value → Values → Bool
