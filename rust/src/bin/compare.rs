@@ -1,0 +1,130 @@
+//! `compare FIRST COUNT`: compares the linked calls, and the program that
+//! CHECKER_PROGRAM names, with the second evaluator over the vectors and the
+//! sheets of COUNT seeds from FIRST on. `--stand-in` compares the second
+//! evaluator with itself in place of the linked calls.
+
+use second_evaluator::generate::{asks, sheet, vector_asks, Ask, Call};
+use second_evaluator::harness::linked::Linked;
+use second_evaluator::harness::program::long_texts;
+use second_evaluator::harness::run::{self, Difference};
+use second_evaluator::harness::standin::{Fault, StandIn};
+use second_evaluator::harness::tally::Tally;
+use second_evaluator::harness::Calls;
+use std::io::IsTerminal;
+use std::path::PathBuf;
+use std::process::ExitCode;
+
+/// Where the sheet of a difference is written.
+const DIFFERENCE: &str = "difference.sheet";
+
+struct Comparison {
+    calls: Box<dyn Calls>,
+    linked: bool,
+    program: Option<PathBuf>,
+    tally: Tally,
+}
+
+impl Comparison {
+    /// Whether the sheet shows no difference; a difference is printed.
+    fn sheet(&mut self, name: &str, seed: u64, text: &[u8], asks: &[Ask]) -> bool {
+        let mut result = Ok(());
+        if self.linked {
+            result = run::sheet(&*self.calls, text, seed, asks, &mut self.tally);
+        }
+        if let (Ok(()), Some(program)) = (&result, &self.program) {
+            result = run::program_sheet(program, text).expect("the program can be run");
+        }
+        let Err(Difference { text, ask, how }) = result else {
+            return true;
+        };
+        match ask {
+            Some(ask) => println!("{name} differs in {ask:?}, garbage of seed {seed}:"),
+            None => println!("{name} differs in what the program prints:"),
+        }
+        println!("{how}");
+        match std::fs::write(DIFFERENCE, &text) {
+            Ok(()) => println!("The sheet, shortened, is in {DIFFERENCE}."),
+            Err(error) => println!("The sheet could not be written: {error}"),
+        }
+        false
+    }
+}
+
+fn main() -> ExitCode {
+    let (options, numbers): (Vec<String>, Vec<String>) = std::env::args()
+        .skip(1)
+        .partition(|arg| arg.starts_with("--"));
+    let numbers: Option<Vec<u64>> = numbers.iter().map(|arg| arg.parse().ok()).collect();
+    let (Some([first, count]), true) = (
+        numbers.as_deref(),
+        options.iter().all(|option| option == "--stand-in"),
+    ) else {
+        eprintln!("usage: compare [--stand-in] FIRST COUNT");
+        return ExitCode::from(2);
+    };
+    let calls: Box<dyn Calls> = if options.is_empty() {
+        Box::new(Linked)
+    } else {
+        Box::new(StandIn { fault: Fault::None })
+    };
+    let each = [
+        Call::Read,
+        Call::Type { rule: 0 },
+        Call::Evaluate { rule: 0, object: 0 },
+        Call::Report,
+    ];
+    let mut comparison = Comparison {
+        linked: each.into_iter().any(|call| calls.has(call)),
+        calls,
+        program: std::env::var_os("CHECKER_PROGRAM").map(PathBuf::from),
+        tally: Tally::default(),
+    };
+    if !comparison.linked && comparison.program.is_none() {
+        eprintln!("No call is linked and CHECKER_PROGRAM is not set: nothing to compare.");
+        return ExitCode::from(2);
+    }
+
+    let vectors = run::vectors().expect("the vectors can be read");
+    for (seed, (name, text)) in vectors.iter().enumerate() {
+        let asks = vector_asks(seed as u64, text);
+        if !comparison.sheet(&format!("vector {name}"), seed as u64, text, &asks) {
+            return ExitCode::FAILURE;
+        }
+    }
+    for text in long_texts() {
+        let name = format!("a text of {} bytes", text.len());
+        let seed = text.len() as u64;
+        if !comparison.sheet(&name, seed, &text, &asks(seed, &text)) {
+            return ExitCode::FAILURE;
+        }
+    }
+    // Should a call end the process, the last seed shown is near.
+    let often = if std::io::stderr().is_terminal() {
+        1
+    } else {
+        1_000
+    };
+    for seed in (*first..).take(*count as usize) {
+        if (seed - first) % often == 0 {
+            eprint!("seed {seed}\r");
+        }
+        let text = sheet(seed);
+        if !comparison.sheet(&format!("seed {seed}"), seed, &text, &asks(seed, &text)) {
+            return ExitCode::FAILURE;
+        }
+    }
+    println!(
+        "No difference in {} vectors and {count} sheets.",
+        vectors.len()
+    );
+    if !comparison.linked {
+        return ExitCode::SUCCESS;
+    }
+    println!("{}", comparison.tally);
+    let missing = comparison.tally.missing(&*comparison.calls);
+    if missing.is_empty() {
+        return ExitCode::SUCCESS;
+    }
+    println!("Never compared: {}.", missing.join(", "));
+    ExitCode::FAILURE
+}

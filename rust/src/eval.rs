@@ -1,0 +1,255 @@
+//! The evaluation of a rule. It reads no types, only the rows typing marked.
+
+use crate::model::{Model, Rule};
+use crate::tree::{Form, Node};
+use crate::types::Kind;
+use crate::values::{Collection, Value};
+use std::rc::Rc;
+
+pub const MOST_STEPS: u64 = 1_000_000;
+
+/// How a node can end without a value. `?` hands Undefined on, which is what
+/// makes a form strict.
+#[derive(Clone, Copy, PartialEq, Eq, Debug)]
+enum End {
+    Undefined,
+    Stop(Stop),
+}
+
+/// What ends the whole evaluation.
+#[derive(Clone, Copy, PartialEq, Eq, Debug)]
+pub enum Stop {
+    Steps,
+    Size,
+    /// An operand of a wrong kind or an unbound variable: no typed rule ends so.
+    Stuck,
+}
+
+const STUCK: End = End::Stop(Stop::Stuck);
+
+type Outcome = Result<Value, End>;
+
+struct Evaluation<'m> {
+    model: &'m Model,
+    object: u8,
+    steps: u64,
+    /// The values of the variables, by number.
+    environment: [Option<Value>; 16],
+}
+
+/// What a rule ends with for an object, none being undefined, and the steps begun.
+pub fn evaluate(model: &Model, rule: &Rule, object: u8) -> (Result<Option<Value>, Stop>, u64) {
+    let mut evaluation = Evaluation {
+        model,
+        object,
+        steps: 0,
+        environment: Default::default(),
+    };
+    let outcome = match evaluation.node(&rule.root) {
+        Ok(value) => Ok(Some(value)),
+        Err(End::Undefined) => Ok(None),
+        Err(End::Stop(stop)) => Err(stop),
+    };
+    (outcome, evaluation.steps)
+}
+
+impl Evaluation<'_> {
+    fn node(&mut self, node: &Node) -> Outcome {
+        if self.steps == MOST_STEPS {
+            return Err(End::Stop(Stop::Steps));
+        }
+        self.steps += 1;
+        let operands = &node.operands;
+        match &node.form {
+            Form::True => Ok(Value::Bool(true)),
+            Form::False => Ok(Value::Bool(false)),
+            Form::Undef => Err(End::Undefined),
+            Form::Int(number) => Ok(Value::Int(*number)),
+            Form::SelfObject => Ok(Value::Object(self.object)),
+            Form::Var(variable) => {
+                let bound = &self.environment[usize::from(*variable)];
+                bound.clone().ok_or(STUCK)
+            }
+            Form::Coll(kind) => {
+                let members: Result<Vec<Value>, End> =
+                    operands.iter().map(|operand| self.node(operand)).collect();
+                formed(Collection::formed(*kind, members?))
+            }
+            Form::Let(variable) => {
+                let value = self.node(&operands[0])?;
+                self.with(*variable, value, &operands[1])
+            }
+            Form::If => {
+                let condition = self.truth(&operands[0])?;
+                self.node(&operands[if condition { 1 } else { 2 }])
+            }
+            Form::And => self.connective(operands, false),
+            Form::Or => self.connective(operands, true),
+            Form::Not => Ok(Value::Bool(!self.truth(&operands[0])?)),
+            Form::IsUndef => match self.node(&operands[0]) {
+                Ok(_) => Ok(Value::Bool(false)),
+                Err(End::Undefined) => Ok(Value::Bool(true)),
+                stop => stop,
+            },
+            Form::Eq => {
+                let left = self.node(&operands[0])?;
+                let right = self.node(&operands[1])?;
+                Ok(Value::Bool(left == right))
+            }
+            Form::Less => {
+                let left = self.integer(&operands[0])?;
+                let right = self.integer(&operands[1])?;
+                Ok(Value::Bool(left < right))
+            }
+            Form::Plus => self.arithmetic(operands, |a, b| Some(a + b)),
+            Form::Minus => self.arithmetic(operands, |a, b| Some(a - b)),
+            Form::Times => self.arithmetic(operands, |a, b| Some(a * b)),
+            Form::Div => self.arithmetic(operands, i64::checked_div),
+            Form::Mod => self.arithmetic(operands, i64::checked_rem),
+            Form::Attr { row, .. } => self.attribute(&operands[0], *row),
+            Form::All(class) => {
+                let objects = self.model.objects_of(*class).map(Value::Object);
+                formed(Collection::as_given(Kind::Set, objects.collect()))
+            }
+            Form::As(class) => match self.node(&operands[0])? {
+                Value::Collection(_) => Err(STUCK),
+                Value::Object(object) if self.model.is_of(object, *class) => {
+                    Ok(Value::Object(object))
+                }
+                _ => Err(End::Undefined),
+            },
+            Form::Size => {
+                let source = self.collection(&operands[0])?;
+                Ok(Value::Int(source.members.len() as i32))
+            }
+            Form::Includes => {
+                let source = self.collection(&operands[0])?;
+                let value = self.node(&operands[1])?;
+                Ok(Value::Bool(source.includes(&value)))
+            }
+            Form::Convert(kind) => {
+                let source = self.collection(&operands[0])?;
+                formed(Collection::formed(*kind, source.members.clone()))
+            }
+            Form::Including => {
+                let source = self.collection(&operands[0])?;
+                let value = self.node(&operands[1])?;
+                formed(source.including(value))
+            }
+            Form::Union => {
+                let left = self.collection(&operands[0])?;
+                let right = self.collection(&operands[1])?;
+                if left.kind != right.kind {
+                    return Err(STUCK);
+                }
+                formed(left.union(&right))
+            }
+            Form::Iter {
+                member,
+                accumulator,
+                ..
+            } => {
+                let source = self.collection(&operands[0])?;
+                let mut value = self.node(&operands[1])?;
+                for element in &source.members {
+                    let slot = usize::from(*accumulator);
+                    let outer = self.environment[slot].replace(value);
+                    let next = self.with(*member, element.clone(), &operands[2]);
+                    self.environment[slot] = outer;
+                    value = next?;
+                }
+                Ok(value)
+            }
+            Form::ForAll(variable) => self.quantifier(operands, *variable, false),
+            Form::Exists(variable) => self.quantifier(operands, *variable, true),
+        }
+    }
+
+    /// A body's outcome with the variable bound, the outer binding put back after.
+    fn with(&mut self, variable: u8, value: Value, body: &Node) -> Outcome {
+        let slot = usize::from(variable);
+        let outer = self.environment[slot].replace(value);
+        let outcome = self.node(body);
+        self.environment[slot] = outer;
+        outcome
+    }
+
+    /// `and` and `or`: the deciding truth on either side decides, a deciding
+    /// left side leaves the right unrun, else undefined on either side is undefined.
+    fn connective(&mut self, operands: &[Node], deciding: bool) -> Outcome {
+        let left = self.truth(&operands[0]);
+        match left {
+            Ok(left) if left == deciding => return Ok(Value::Bool(deciding)),
+            Ok(_) | Err(End::Undefined) => {}
+            Err(stop) => return Err(stop),
+        }
+        let right = self.truth(&operands[1])?;
+        if right == deciding {
+            return Ok(Value::Bool(deciding));
+        }
+        left.map(Value::Bool)
+    }
+
+    /// `forAll` and `exists`: the first body that gives the deciding truth
+    /// decides, the first undefined one ends undefined.
+    fn quantifier(&mut self, operands: &[Node], variable: u8, deciding: bool) -> Outcome {
+        let source = self.collection(&operands[0])?;
+        for element in &source.members {
+            let outcome = self.with(variable, element.clone(), &operands[1])?;
+            if truth(outcome)? == deciding {
+                return Ok(Value::Bool(deciding));
+            }
+        }
+        Ok(Value::Bool(!deciding))
+    }
+
+    /// No operation on two Integers of 32 bits overflows 64.
+    fn arithmetic(&mut self, operands: &[Node], operation: fn(i64, i64) -> Option<i64>) -> Outcome {
+        let left = i64::from(self.integer(&operands[0])?);
+        let right = i64::from(self.integer(&operands[1])?);
+        let exact = operation(left, right).ok_or(End::Undefined)?;
+        let within = i32::try_from(exact).map_err(|_| End::Undefined)?;
+        Ok(Value::Int(within))
+    }
+
+    fn attribute(&mut self, operand: &Node, row: Option<u8>) -> Outcome {
+        let row = row.expect("typing marks the row of every attr");
+        let class = self.model.rows[usize::from(row)].class;
+        match self.node(operand)? {
+            Value::Object(object) if self.model.is_of(object, class) => {
+                let value = self.model.value(object, row);
+                value.cloned().ok_or(End::Undefined)
+            }
+            _ => Err(STUCK),
+        }
+    }
+
+    fn truth(&mut self, node: &Node) -> Result<bool, End> {
+        truth(self.node(node)?)
+    }
+
+    fn integer(&mut self, node: &Node) -> Result<i32, End> {
+        match self.node(node)? {
+            Value::Int(number) => Ok(number),
+            _ => Err(STUCK),
+        }
+    }
+
+    fn collection(&mut self, node: &Node) -> Result<Rc<Collection>, End> {
+        match self.node(node)? {
+            Value::Collection(collection) => Ok(collection),
+            _ => Err(STUCK),
+        }
+    }
+}
+
+fn truth(value: Value) -> Result<bool, End> {
+    match value {
+        Value::Bool(truth) => Ok(truth),
+        _ => Err(STUCK),
+    }
+}
+
+fn formed(value: Option<Value>) -> Outcome {
+    value.ok_or(End::Stop(Stop::Size))
+}

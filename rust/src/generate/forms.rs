@@ -1,0 +1,175 @@
+//! The forms that give one type and few others.
+
+use super::rules::{Grown, Growth};
+use crate::types::{Kind, Type};
+
+impl Growth<'_> {
+    pub fn particular(&mut self, ty: &Type, depth: usize) -> Grown {
+        match ty {
+            Type::Bool => (self.truth(depth), Type::Bool),
+            Type::Int => (self.integer(depth), Type::Int),
+            Type::Class(class) => {
+                let cast = self.cast(*class, depth);
+                cast.unwrap_or_else(|| self.leaf(ty))
+            }
+            Type::Any => {
+                let class = self.random.below(self.model.classes.0.len()) as u8;
+                let simple = [Type::Bool, Type::Int, Type::Class(class)];
+                let ty = self.random.pick(&simple).clone();
+                self.grow(&ty, depth)
+            }
+            Type::Of(kind, member) => self.collection(*kind, member, depth),
+            Type::Collection(member) => {
+                let kind = *self.random.pick(&Kind::ALL);
+                self.collection(kind, member, depth)
+            }
+            Type::Void => self.leaf(ty),
+        }
+    }
+
+    /// A cast from Any or from a related class, where one is in reach.
+    fn cast(&mut self, class: u8, depth: usize) -> Option<Grown> {
+        let mark = self.draft.lines.len();
+        let own = Type::Class(self.context);
+        let (operand, found) = if depth > 2 && self.random.one_in(2) {
+            let simple = self.random.pick(&[Type::Bool, Type::Int]).clone();
+            self.choice(&simple, &own, depth - 1)
+        } else {
+            let top = self.model.classes.upward(class).last()?;
+            self.solid(&Type::Class(top), depth - 1)?
+        };
+        let classes = &self.model.classes;
+        let related = match found {
+            Type::Any => true,
+            Type::Class(from) => classes.is_below(from, class) || classes.is_below(class, from),
+            _ => false,
+        };
+        let mistaken = self.faulty && self.random.one_in(4);
+        if !related && !mistaken {
+            self.draft.lines.truncate(mark);
+            return None;
+        }
+        let node = self.draft.line(&format!("as % {class}"), &[operand]);
+        Some((node, Type::Class(class)))
+    }
+
+    fn one(&mut self, words: &str, ty: &Type, depth: usize) -> usize {
+        let (operand, _) = self.grow(ty, depth - 1);
+        self.draft.line(words, &[operand])
+    }
+
+    fn two(&mut self, words: &str, ty: &Type, depth: usize) -> usize {
+        let (left, _) = self.grow(ty, depth - 1);
+        let (right, _) = self.grow(ty, depth - 1);
+        self.draft.line(words, &[left, right])
+    }
+
+    fn truth(&mut self, depth: usize) -> usize {
+        match self.random.below(11) {
+            0 | 1 => self.two("and % %", &Type::Bool, depth),
+            2 | 3 => self.two("or % %", &Type::Bool, depth),
+            4 => self.one("not %", &Type::Bool, depth),
+            5 => {
+                let ty = self.any_type();
+                self.one("isUndef %", &ty, depth)
+            }
+            6 => {
+                let ty = self.any_type();
+                self.two("eq % %", &ty, depth)
+            }
+            7 => self.two("less % %", &Type::Int, depth),
+            8 => {
+                let (source, member) = self.source(depth);
+                let (value, _) = self.grow(&member, depth - 1);
+                self.draft.line("includes % %", &[source, value])
+            }
+            other => {
+                let (source, member) = self.source(depth);
+                let variable = self.any_variable();
+                let (body, _) = self.body(variable, member, &Type::Bool, depth);
+                let form = if other == 9 { "forAll" } else { "exists" };
+                let words = format!("{form} % {variable} %");
+                self.draft.line(&words, &[source, body])
+            }
+        }
+    }
+
+    fn integer(&mut self, depth: usize) -> usize {
+        if self.random.one_in(5) {
+            let (source, _) = self.source(depth);
+            return self.draft.line("size %", &[source]);
+        }
+        let forms = ["plus % %", "minus % %", "times % %", "div % %", "mod % %"];
+        let form = *self.random.pick(&forms);
+        self.two(form, &Type::Int, depth)
+    }
+
+    fn collection(&mut self, kind: Kind, member: &Type, depth: usize) -> Grown {
+        let ty = Type::of(kind, member.clone());
+        let (node, member) = match self.random.below(8) {
+            0 | 1 => {
+                let (left, low) = self.members(&ty, depth);
+                let (right, high) = self.members(&ty, depth);
+                let node = self.draft.line("union % %", &[left, right]);
+                (node, self.common(&low, &high))
+            }
+            2 | 3 => {
+                let (source, low) = self.members(&ty, depth);
+                let (value, high) = self.grow(member, depth - 1);
+                let node = self.draft.line("including % %", &[source, value]);
+                (node, self.common(&low, &high))
+            }
+            4 => {
+                let from = match self.random.below(4) {
+                    3 => Type::Collection(Box::new(member.clone())),
+                    other => Type::of(Kind::ALL[other], member.clone()),
+                };
+                let (source, member) = self.members(&from, depth);
+                let form = match kind {
+                    Kind::Set => "asSet %",
+                    Kind::Sequence => "asSequence %",
+                    Kind::Bag => "asBag %",
+                };
+                (self.draft.line(form, &[source]), member)
+            }
+            5 if self.faulty && self.random.one_in(3) => {
+                // Around a collection as deep as can be.
+                let deep = self.any_type();
+                let deep = Type::of(kind, Type::of(kind, Type::of(kind, deep)));
+                self.listed(kind, &deep, depth)
+            }
+            6 if self.faulty && self.random.one_in(3) => {
+                // Members that may have no common type.
+                let left = self.grow(member, depth - 1);
+                let ty = self.any_type();
+                let right = self.grow(&ty, depth - 1);
+                let words = format!("coll {} % %", char::from(kind.letter()));
+                (self.draft.line(&words, &[left.0, right.0]), left.1)
+            }
+            _ => self.listed(kind, member, depth),
+        };
+        (node, Type::of(kind, member))
+    }
+
+    /// A `coll` and its member type.
+    fn listed(&mut self, kind: Kind, member: &Type, depth: usize) -> Grown {
+        let mut operands = Vec::new();
+        let mut common = Type::Void;
+        for _ in 0..self.random.between(0, 4) {
+            let (operand, ty) = self.grow(member, depth - 1);
+            operands.push(operand);
+            common = self.common(&common, &ty);
+        }
+        let words = format!("coll {}", char::from(kind.letter()));
+        let words = words + &" %".repeat(operands.len());
+        (self.draft.line(&words, &operands), common)
+    }
+
+    /// A collection operand and its member type.
+    fn members(&mut self, ty: &Type, depth: usize) -> Grown {
+        let grown = self.solid(ty, depth - 1);
+        let (source, ty) = grown.expect("a collection can always be grown");
+        let member = ty.member().cloned();
+        (source, member.unwrap_or(Type::Void))
+    }
+}

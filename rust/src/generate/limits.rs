@@ -1,0 +1,176 @@
+//! Sheets at a limit, or over it by one.
+
+use super::full::full;
+use super::random::Random;
+
+pub const KINDS: usize = 15;
+
+/// A sheet at the limit of the kind, or one over it.
+pub fn limit(random: &mut Random, kind: usize) -> Vec<u8> {
+    let over = usize::from(random.one_in(2));
+    let text = match kind {
+        0 => lines(64 + over, |n| format!("C\t{n}\t-")),
+        1 => "C\t0\t-\n".to_string() + &lines(64 + over, |n| format!("A\t{n}\t0\t{n}\tInt")),
+        2 => "C\t0\t-\n".to_string() + &lines(96 + over, |n| format!("O\t{n}\t0")),
+        3 => many_values(1_024 + over),
+        4 => value_sizes(over),
+        5 => {
+            let size = random.between(126, 127) + over;
+            one_value("Q(Int)", &sequence(size)) + "R\t0\t0\nN\t0\tself\nN\t1\tattr\t0\t0\n"
+        }
+        6 => rules(64) + if over == 1 { "N\t12\tnot\t11\n" } else { "" },
+        7 => "C\t0\t-\n".to_string() + &lines(64 + over, |n| format!("R\t{n}\t0\nN\t0\tint\t{n}")),
+        8 => "C\t0\t-\nO\t0\t0\nR\t0\t0\n".to_string() + &chain(12 + over),
+        9 => return full(49_152 + over, 128),
+        10 => steps(random, 1_000_000 + over),
+        11 => formed_size(random, over),
+        12 => nested(random, 3 + over),
+        13 => long_report(random),
+        _ => {
+            let operands = (0..4 + over).map(|n| format!("\t{n}")).collect::<String>();
+            let ints = lines(4 + over, |n| format!("N\t{n}\tint\t{n}"));
+            let kind = random.pick(&["S", "Q", "B"]);
+            let last = 4 + over;
+            format!("C\t0\t-\nO\t0\t0\nR\t0\t0\n{ints}N\t{last}\tcoll\t{kind}{operands}\n")
+        }
+    };
+    text.into_bytes()
+}
+
+fn lines(count: usize, line: impl Fn(usize) -> String) -> String {
+    (0..count).map(|n| line(n) + "\n").collect()
+}
+
+pub fn sequence(count: usize) -> String {
+    let members: Vec<String> = (0..count).map(|n| n.to_string()).collect();
+    format!("Q({})", members.join(","))
+}
+
+/// One class, one row, one object and its value: 4 lines.
+pub fn one_value(ty: &str, value: &str) -> String {
+    format!("C\t0\t-\nA\t0\t0\t0\t{ty}\nO\t0\t0\nV\t0\t0\t{value}\n")
+}
+
+fn many_values(count: usize) -> String {
+    "C\t0\t-\n".to_string()
+        + &lines(64, |n| format!("A\t{n}\t0\t{n}\tInt"))
+        + &lines(17, |n| format!("O\t{n}\t0"))
+        + &lines(count, |n| format!("V\t{}\t{}\t{n}", n / 64, n % 64))
+}
+
+fn value_sizes(over: usize) -> String {
+    let value = sequence(127);
+    let last = if over == 1 { "V\t0\t16\tQ()\n" } else { "" };
+    "C\t0\t-\n".to_string()
+        + &lines(17, |n| format!("A\t{n}\t0\t{n}\tQ(Int)"))
+        + "O\t0\t0\n"
+        + &lines(16, |n| format!("V\t0\t{n}\t{value}"))
+        + last
+}
+
+/// N lines of a chain so many nodes deep.
+fn chain(depth: usize) -> String {
+    "N\t0\ttrue\n".to_string() + &lines(depth - 1, |n| format!("N\t{}\tnot\t{n}", n + 1))
+}
+
+fn rules(count: usize) -> String {
+    let chain = chain(12);
+    "C\t0\t-\nO\t0\t0\n".to_string()
+        + &(0..count)
+            .map(|n| format!("R\t{n}\t0\n{chain}"))
+            .collect::<String>()
+}
+
+/// Three quantifiers inside each other and a few nodes around them, so that
+/// the rule takes exactly so many steps.
+pub fn steps(random: &mut Random, steps: usize) -> String {
+    let mut found = Vec::new();
+    for wraps in 1..7 {
+        for a in 60..128 {
+            for b in 60..128 {
+                let Some(rest) = (steps - wraps - 3).checked_sub(a * (3 + 3 * b)) else {
+                    continue;
+                };
+                if rest % (a * b) == 0 && (1..128).contains(&(rest / (a * b))) {
+                    found.push((wraps, a, b, rest / (a * b)));
+                }
+            }
+        }
+    }
+    let (wraps, a, b, c) = *random.pick(&found);
+    let mut text = "C\t0\t-\n".to_string();
+    text += &lines(3, |n| format!("A\t{n}\t0\t{n}\tQ(Int)"));
+    text += "O\t0\t0\n";
+    for (row, count) in [a, b, c].into_iter().enumerate() {
+        text += &format!("V\t0\t{row}\t{}\n", sequence(count));
+    }
+    let (form, body) = *random.pick(&[("forAll", "true"), ("exists", "false")]);
+    text += "R\t0\t0\n";
+    for row in 0..3 {
+        text += &format!(
+            "N\t{}\tself\nN\t{}\tattr\t{}\t{row}\n",
+            2 * row,
+            2 * row + 1,
+            2 * row
+        );
+    }
+    text += &format!("N\t6\t{body}\n");
+    text += &format!("N\t7\t{form}\t5\t3\t6\nN\t8\t{form}\t3\t2\t7\nN\t9\t{form}\t1\t1\t8\n");
+    text + &lines(wraps, |n| format!("N\t{}\tisUndef\t{}", n + 10, n + 9))
+}
+
+/// A value of size 128 or 129 formed by including, a union or a collection.
+fn formed_size(random: &mut Random, over: usize) -> String {
+    let kind = *random.pick(&["S", "Q", "B"]);
+    let form = random.below(3);
+    let count = [126, 62, 62][form] + over;
+    let value = sequence(count).replacen('Q', kind, 1);
+    let tail = match form {
+        0 => "N\t2\tint\t1000\nN\t3\tincluding\t1\t2\n".to_string(),
+        1 => {
+            // 62 members twice and two or three more: 127 or 128, or two over.
+            let extra = random.between(0, 1);
+            let mut text = String::new();
+            let mut node = 2;
+            let mut top = 1;
+            for n in 0..2 + extra {
+                text += &format!("N\t{node}\tint\t{}\n", 2_000 + n);
+                text += &format!("N\t{}\tincluding\t{top}\t{node}\n", node + 1);
+                top = node + 1;
+                node += 2;
+            }
+            text + &format!("N\t{node}\tself\nN\t{}\tattr\t{node}\t0\n", node + 1)
+                + &format!("N\t{}\tunion\t{top}\t{}\n", node + 2, node + 1)
+        }
+        _ => format!("N\t2\tself\nN\t3\tattr\t2\t0\nN\t4\tcoll\t{kind}\t1\t3\n"),
+    };
+    one_value(&format!("{kind}(Int)"), &value) + "R\t0\t0\nN\t0\tself\nN\t1\tattr\t0\t0\n" + &tail
+}
+
+/// A type, a value or collection forms nested so deep.
+fn nested(random: &mut Random, deep: usize) -> String {
+    let open: String = (0..deep)
+        .map(|_| *random.pick(&["S(", "Q(", "B("]))
+        .collect();
+    let close = ")".repeat(deep);
+    match random.below(3) {
+        0 => format!("C\t0\t-\nA\t0\t0\t0\t{open}Int{close}\n"),
+        1 => one_value("S(S(S(Int)))", &format!("{}1{close}", "S(".repeat(deep))),
+        _ => {
+            "C\t0\t-\nO\t0\t0\nR\t0\t0\nN\t0\tint\t1\n".to_string()
+                + &lines(deep, |n| format!("N\t{}\tcoll\tS\t{n}", n + 1))
+        }
+    }
+}
+
+/// A report near the program's 65,536 output bytes.
+fn long_report(random: &mut Random) -> String {
+    let value = ["-2147483648"; 127].join(",");
+    let objects = random.between(40, 46);
+    "C\t0\t-\nC\t1\t-\nA\t0\t0\t0\tQ(Int)\nA\t1\t1\t0\t#0\n".to_string()
+        + "O\t0\t0\n"
+        + &lines(objects, |n| format!("O\t{}\t1", n + 1))
+        + &format!("V\t0\t0\tQ({value})\n")
+        + &lines(objects, |n| format!("V\t{}\t1\t@0", n + 1))
+        + "R\t0\t1\nN\t0\tself\nN\t1\tattr\t0\t0\nN\t2\tattr\t1\t0\n"
+}

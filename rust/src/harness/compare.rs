@@ -1,0 +1,99 @@
+//! One call compared: all four numbers, every word and byte lent, and the words
+//! and bytes around them.
+
+use super::{second, Calls};
+use crate::calls::{Answer, Words};
+use crate::generate::random::Random;
+use crate::generate::{Ask, Call};
+use std::thread;
+
+/// Words and bytes around each slice that no call may touch.
+const MARGIN: usize = 16;
+
+/// What is lent, in the middle of what is not, all of it garbage.
+#[derive(Clone, PartialEq, Eq)]
+struct Lent {
+    words: [Vec<u64>; 3],
+    out: Vec<u8>,
+}
+
+impl Lent {
+    fn garbage(seed: u64, ask: Ask) -> Lent {
+        let mut random = Random::new(seed);
+        let words = ask.words.map(|length| {
+            let whole = 0..length + 2 * MARGIN;
+            whole.map(|_| random.word()).collect()
+        });
+        let out = (0..ask.out + 2 * MARGIN)
+            .map(|_| random.word() as u8)
+            .collect();
+        Lent { words, out }
+    }
+
+    fn slices(&mut self) -> (Words<'_>, &mut [u8]) {
+        let words = (self.words.each_mut()).map(|words| {
+            let end = words.len() - MARGIN;
+            &mut words[MARGIN..end]
+        });
+        let end = self.out.len() - MARGIN;
+        (words, &mut self.out[MARGIN..end])
+    }
+}
+
+/// What the second evaluator answers and, where the other differs, how.
+pub struct Compared {
+    pub answer: Answer,
+    pub difference: Option<String>,
+}
+
+/// The garbage in what is lent follows from the seed.
+pub fn compare(calls: &dyn Calls, text: &[u8], ask: Ask, seed: u64) -> Compared {
+    let mut ours = Lent::garbage(seed, ask);
+    let mut theirs = ours.clone();
+    let (words, out) = ours.slices();
+    let answer = second(ask.call, text, words, out);
+    let copy = text.to_vec();
+    let (words, out) = theirs.slices();
+    let other = on_stack(calls, ask.call, &copy, words, out);
+    let difference = if answer != other {
+        Some(format!("expected {answer:?}\n     got {other:?}"))
+    } else if let Some(slice) = (0..3).find(|slice| ours.words[*slice] != theirs.words[*slice]) {
+        let place = first_unlike(&ours.words[slice], &theirs.words[slice]);
+        Some(format!("word {place} of word slice {slice}"))
+    } else if ours.out != theirs.out {
+        let place = first_unlike(&ours.out, &theirs.out);
+        let (ours, theirs) = (spelt(&mut ours, answer), spelt(&mut theirs, answer));
+        Some(format!(
+            "byte {place} of the output\nexpected {ours}\n     got {theirs}"
+        ))
+    } else {
+        (copy != text).then(|| "the text was changed".to_string())
+    };
+    Compared { answer, difference }
+}
+
+/// Where two slices differ first, counted from the start of what is lent.
+fn first_unlike<T: PartialEq>(left: &[T], right: &[T]) -> isize {
+    let unlike = left
+        .iter()
+        .zip(right)
+        .position(|(left, right)| left != right);
+    unlike.unwrap_or(left.len()) as isize - MARGIN as isize
+}
+
+fn spelt(lent: &mut Lent, answer: Answer) -> String {
+    let (_, out) = lent.slices();
+    let length = (answer.length as usize).min(out.len());
+    String::from_utf8_lossy(&out[..length]).into_owned()
+}
+
+fn on_stack(calls: &dyn Calls, call: Call, text: &[u8], words: Words, out: &mut [u8]) -> Answer {
+    thread::scope(|scope| {
+        thread::Builder::new()
+            .stack_size(calls.stack())
+            .spawn_scoped(scope, || calls.call(call, text, words, out))
+            .expect("a thread can be started")
+            .join()
+            .expect("the call returns")
+    })
+}

@@ -1,0 +1,35 @@
+//! Compares the product's calls and program with the second evaluator's.
+
+pub mod compare;
+pub mod linked;
+pub mod program;
+pub mod run;
+pub mod shrink;
+pub mod standin;
+pub mod tally;
+
+use crate::calls::{self, Answer, Words};
+use crate::generate::Call;
+
+/// An implementation of the four calls.
+pub trait Calls: Sync {
+    /// Whether the call is there to be compared.
+    fn has(&self, call: Call) -> bool;
+
+    /// The stack the calls must do with.
+    fn stack(&self) -> usize;
+
+    /// The call, which reads nothing but the text and what is lent. Read gets
+    /// no output.
+    fn call(&self, call: Call, text: &[u8], words: Words, out: &mut [u8]) -> Answer;
+}
+
+/// The second evaluator's own answer.
+pub fn second(call: Call, text: &[u8], words: Words, out: &mut [u8]) -> Answer {
+    match call {
+        Call::Read => calls::read_sheet(text, words),
+        Call::Type { rule } => calls::type_rule(text, rule, words, out),
+        Call::Evaluate { rule, object } => calls::evaluate_rule(text, rule, object, words, out),
+        Call::Report => calls::report(text, words, out),
+    }
+}

@@ -1,0 +1,83 @@
+//! Comparisons over many sheets, up to the first difference.
+
+use super::compare::compare;
+use super::program;
+use super::shrink::shrink;
+use super::tally::Tally;
+use super::Calls;
+use crate::calls;
+use crate::generate::Ask;
+use std::fs;
+use std::io;
+use std::path::Path;
+
+/// The first case in which the two differ, its sheet shortened.
+pub struct Difference {
+    pub text: Vec<u8>,
+    /// None where the program differs.
+    pub ask: Option<Ask>,
+    pub how: String,
+}
+
+/// What is asked about one sheet, with garbage by the seed.
+pub fn sheet(
+    calls: &dyn Calls,
+    text: &[u8],
+    seed: u64,
+    asks: &[Ask],
+    tally: &mut Tally,
+) -> Result<(), Difference> {
+    for ask in asks.iter().copied() {
+        if !calls.has(ask.call) {
+            continue;
+        }
+        let compared = compare(calls, text, ask, seed);
+        tally.add(ask.call, compared.answer);
+        if compared.difference.is_some() {
+            let how = |text: &[u8]| compare(calls, text, ask, seed).difference;
+            let text = shrink(text, |text| how(text).is_some());
+            return Err(Difference {
+                how: how(&text).unwrap_or_default(),
+                ask: Some(ask),
+                text,
+            });
+        }
+    }
+    Ok(())
+}
+
+/// What the product's program prints for one sheet.
+pub fn program_sheet(product: &Path, text: &[u8]) -> io::Result<Result<(), Difference>> {
+    if program::run(product, text)? == calls::program(text) {
+        return Ok(Ok(()));
+    }
+    let differs =
+        |text: &[u8]| program::run(product, text).is_ok_and(|got| got != calls::program(text));
+    let text = shrink(text, differs);
+    let got = program::run(product, &text)?;
+    let spelt = |bytes: &[u8]| String::from_utf8_lossy(bytes).into_owned();
+    let expected = calls::program(&text);
+    Ok(Err(Difference {
+        text,
+        ask: None,
+        how: format!("expected\n{}got\n{}", spelt(&expected), spelt(&got)),
+    }))
+}
+
+/// The sheets among the vectors, by name.
+pub fn vectors() -> io::Result<Vec<(String, Vec<u8>)>> {
+    let folder = Path::new(env!("CARGO_MANIFEST_DIR")).join("../tests/vectors");
+    let mut vectors = Vec::new();
+    for entry in fs::read_dir(folder)? {
+        let path = entry?.path();
+        if path
+            .extension()
+            .is_some_and(|extension| extension == "sheet")
+        {
+            let name = path.file_stem().unwrap_or_default().to_string_lossy();
+            vectors.push((name.into_owned(), fs::read(&path)?));
+        }
+    }
+    vectors.sort();
+    Ok(vectors)
+}

@@ -1,0 +1,138 @@
+//! Stands in for the product: the second evaluator itself, with a fault or
+//! without, to show that the comparison finds what it must.
+
+use super::{second, Calls};
+use crate::calls::{Answer, Words, LEAST_OUTPUT, LEAST_WORDS};
+use crate::generate::Call;
+
+#[derive(Clone, Copy, PartialEq, Eq, Debug)]
+pub enum Fault {
+    None,
+    /// A place one too high where there is one.
+    Place,
+    /// A place given where there is none.
+    PlaceOfStop,
+    /// A step too many in answers.
+    Steps,
+    /// Steps forgotten with a stop.
+    StepsOfStop,
+    /// A length one too high in answers.
+    Length,
+    /// A refusal for its neighbour.
+    Number,
+    /// The last word to be wiped is not.
+    WordLeft,
+    /// The first word not to be wiped is.
+    WordBeyond,
+    /// Words wiped though the bench is short.
+    WipedWhenShort,
+    /// A byte of output touched by a refusal.
+    OutputOfRefusal,
+    /// A byte of output touched after an answer's end.
+    OutputBeyond,
+    /// The last byte of an answer wrong.
+    OutputWrong,
+    /// A slice one word short taken for long enough.
+    ShortWords,
+    /// An output one byte short taken for long enough.
+    ShortOutput,
+    /// Only the lower 32 bits of a rule number read.
+    RuleCut,
+    /// Only the lower 8 bits of an object number read.
+    ObjectCut,
+    /// A report that just fits refused, or one that just does not, cut.
+    ReportRoom,
+}
+
+impl Fault {
+    pub const ALL: [Fault; 17] = [
+        Fault::Place,
+        Fault::PlaceOfStop,
+        Fault::Steps,
+        Fault::StepsOfStop,
+        Fault::Length,
+        Fault::Number,
+        Fault::WordLeft,
+        Fault::WordBeyond,
+        Fault::WipedWhenShort,
+        Fault::OutputOfRefusal,
+        Fault::OutputBeyond,
+        Fault::OutputWrong,
+        Fault::ShortWords,
+        Fault::ShortOutput,
+        Fault::RuleCut,
+        Fault::ObjectCut,
+        Fault::ReportRoom,
+    ];
+}
+
+pub struct StandIn {
+    pub fault: Fault,
+}
+
+impl Calls for StandIn {
+    fn has(&self, _: Call) -> bool {
+        true
+    }
+
+    fn stack(&self) -> usize {
+        2 * 1024 * 1024
+    }
+
+    fn call(&self, call: Call, text: &[u8], words: Words, out: &mut [u8]) -> Answer {
+        let [first, middle, last] = words;
+        let left = middle.get(LEAST_WORDS - 1).copied();
+        let call = match (self.fault, call) {
+            (Fault::RuleCut, Call::Type { rule }) => Call::Type {
+                rule: rule as u32 as u64,
+            },
+            (Fault::ObjectCut, Call::Evaluate { rule, object }) => Call::Evaluate {
+                rule,
+                object: object as u8 as u64,
+            },
+            _ => call,
+        };
+        let mut answer = match self.fault {
+            Fault::ShortWords if last.len() == LEAST_WORDS - 1 => {
+                let mut longer = vec![0; LEAST_WORDS];
+                let answer = second(call, text, [&mut *first, &mut *middle, &mut longer], out);
+                last.fill(0);
+                answer
+            }
+            Fault::ShortOutput if out.len() == LEAST_OUTPUT - 1 => {
+                let mut longer = vec![0; LEAST_OUTPUT];
+                let words = [&mut *first, &mut *middle, &mut *last];
+                let answer = second(call, text, words, &mut longer);
+                out[..answer.length as usize].copy_from_slice(&longer[..answer.length as usize]);
+                answer
+            }
+            Fault::ReportRoom if call == Call::Report && out.len() > LEAST_OUTPUT => {
+                let words = [&mut *first, &mut *middle, &mut *last];
+                let room = out.len() - 1;
+                second(call, text, words, &mut out[..room])
+            }
+            _ => {
+                let words = [&mut *first, &mut *middle, &mut *last];
+                second(call, text, words, out)
+            }
+        };
+        let number = answer.number;
+        let length = answer.length as usize;
+        match self.fault {
+            Fault::Place if answer.place > 0 => answer.place += 1,
+            Fault::PlaceOfStop if number == 16 || number == 17 => answer.place = 1,
+            Fault::Steps if answer.steps > 0 => answer.steps += 1,
+            Fault::StepsOfStop if number == 17 => answer.steps = 0,
+            Fault::Length if answer.length > 0 => answer.length += 1,
+            Fault::Number if number == 10 => answer.number = 11,
+            Fault::WordLeft if number != 1 => middle[LEAST_WORDS - 1] = left.unwrap_or(0),
+            Fault::WordBeyond if number != 1 && last.len() > LEAST_WORDS => last[LEAST_WORDS] = 0,
+            Fault::WipedWhenShort if number == 1 => first.fill(0),
+            Fault::OutputOfRefusal if number > 1 && call != Call::Read => out[0] ^= 1,
+            Fault::OutputBeyond if length > 0 && length < out.len() => out[length] ^= 1,
+            Fault::OutputWrong if length > 0 => out[length - 1] ^= 1,
+            _ => {}
+        }
+        answer
+    }
+}

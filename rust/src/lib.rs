@@ -1,0 +1,17 @@
+//! An independent second evaluator for the job sheet's rule checker, written
+//! from document 01 alone: the yardstick the product is compared with.
+
+pub mod calls;
+pub mod eval;
+pub mod generate;
+pub mod harness;
+pub mod model;
+pub mod read;
+pub mod refusal;
+pub mod report;
+pub mod statistics;
+pub mod tree;
+pub mod types;
+pub mod typing;
+pub mod values;
+pub mod workloads;

@@ -1,0 +1,201 @@
+//! Reading a sheet, line by line.
+
+mod fields;
+mod nodes;
+mod spelling;
+
+use crate::model::{Row, Rule, Sheet};
+use crate::refusal::{Refusal, Refused};
+use crate::tree::{Node, DEEPEST_RULE};
+use fields::Fields;
+
+const MOST_VALUES: usize = 1_024;
+const MOST_VALUE_SIZES: usize = 2_048;
+
+/// The blocks in their order.
+#[derive(Clone, Copy, Default, PartialEq, Eq, PartialOrd, Ord)]
+enum Block {
+    #[default]
+    Classes,
+    Attributes,
+    Objects,
+    Values,
+    Rules,
+}
+
+/// A rule whose end has not come yet.
+struct OpenRule {
+    context: u8,
+    last_line: usize,
+    /// The nodes so far; a node that became an operand has moved into its user.
+    nodes: Vec<Option<Node>>,
+}
+
+#[derive(Default)]
+struct Reader {
+    sheet: Sheet,
+    block: Block,
+    /// The sizes of the V lines together.
+    value_sizes: usize,
+    /// The nodes of all rules together.
+    nodes: usize,
+    open_rule: Option<OpenRule>,
+}
+
+pub fn read(text: &[u8]) -> Result<Sheet, Refused> {
+    let mut reader = Reader::default();
+    for (index, line) in text.split_inclusive(|byte| *byte == b'\n').enumerate() {
+        let place = index + 1;
+        let whole = line.strip_suffix(b"\n");
+        let mut fields = Fields::of(whole.unwrap_or(line));
+        let letter = fields.next();
+        if letter != b"N" {
+            reader.end_rule()?;
+        }
+        if whole.is_none() {
+            return Err(Refusal::BadLine.at(place));
+        }
+        reader
+            .line(letter, fields, place)
+            .map_err(|refusal| refusal.at(place))?;
+    }
+    reader.end_rule()?;
+    Ok(reader.sheet)
+}
+
+impl Reader {
+    fn line(&mut self, letter: &[u8], fields: Fields, place: usize) -> Result<(), Refusal> {
+        match letter {
+            b"C" => self.class(fields),
+            b"A" => self.attribute(fields),
+            b"O" => self.object(fields),
+            b"V" => self.value(fields),
+            b"R" => self.rule(fields, place),
+            b"N" => self.node(fields, place),
+            _ => Err(Refusal::BadLine),
+        }
+    }
+
+    /// A line of a block must not come after a later block began, and its
+    /// number must be the next.
+    fn in_row(&mut self, block: Block, number: u8, count: usize) -> Result<(), Refusal> {
+        self.in_block(block)?;
+        require(usize::from(number) == count, Refusal::OutOfRow)
+    }
+
+    fn in_block(&mut self, block: Block) -> Result<(), Refusal> {
+        require(self.block <= block, Refusal::OutOfRow)?;
+        self.block = block;
+        Ok(())
+    }
+
+    fn known_class(&self, class: Option<u8>) -> Result<(), Refusal> {
+        let known = class.is_none_or(|class| self.sheet.model.classes.holds(class));
+        require(known, Refusal::UnknownPart)
+    }
+
+    fn class(&mut self, mut fields: Fields) -> Result<(), Refusal> {
+        let number = fields.class();
+        let parent = fields.parent();
+        fields.end()?;
+        self.in_row(Block::Classes, number, self.sheet.model.classes.0.len())?;
+        let smaller = parent.is_none_or(|parent| parent < number);
+        require(smaller, Refusal::UnknownPart)?;
+        self.sheet.model.classes.0.push(parent);
+        Ok(())
+    }
+
+    fn attribute(&mut self, mut fields: Fields) -> Result<(), Refusal> {
+        let number = fields.row();
+        let class = fields.class();
+        let name = fields.name();
+        let ty = fields.ty();
+        fields.end()?;
+        self.in_row(Block::Attributes, number, self.sheet.model.rows.len())?;
+        let same = |row: &Row| row.class == class && row.name == name;
+        let declared = self.sheet.model.rows.iter().any(same);
+        require(!declared, Refusal::OutOfRow)?;
+        self.known_class(Some(class))?;
+        self.known_class(ty.class())?;
+        self.sheet.model.rows.push(Row { class, name, ty });
+        Ok(())
+    }
+
+    fn object(&mut self, mut fields: Fields) -> Result<(), Refusal> {
+        let number = fields.object();
+        let class = fields.class();
+        fields.end()?;
+        self.in_row(Block::Objects, number, self.sheet.model.objects.len())?;
+        self.known_class(Some(class))?;
+        self.sheet.model.objects.push(class);
+        Ok(())
+    }
+
+    fn value(&mut self, mut fields: Fields) -> Result<(), Refusal> {
+        let object = fields.object();
+        let row = fields.row();
+        let value = fields.value();
+        if self.sheet.model.values.len() == MOST_VALUES
+            || self.value_sizes + value.size() > MOST_VALUE_SIZES
+        {
+            fields.note(Refusal::OverMeasure);
+        }
+        fields.end()?;
+        self.in_block(Block::Values)?;
+        let model = &mut self.sheet.model;
+        let last = model.values.last();
+        let ascends = last.is_none_or(|(last, _)| *last < (object, row));
+        require(ascends && value.is_ordered(), Refusal::OutOfRow)?;
+        let objects = model.objects.len();
+        let known = usize::from(object) < objects
+            && usize::from(row) < model.rows.len()
+            && value.objects_below(objects);
+        require(known, Refusal::UnknownPart)?;
+        let declared = &model.rows[usize::from(row)];
+        let suits = model.is_of(object, declared.class) && model.belongs(&value, &declared.ty);
+        require(suits, Refusal::WrongThread)?;
+        self.value_sizes += value.size();
+        model.values.push(((object, row), value));
+        Ok(())
+    }
+
+    fn rule(&mut self, mut fields: Fields, place: usize) -> Result<(), Refusal> {
+        let number = fields.number(0, 63) as u8;
+        let context = fields.class();
+        fields.end()?;
+        self.in_row(Block::Rules, number, self.sheet.rules.len())?;
+        self.known_class(Some(context))?;
+        self.open_rule = Some(OpenRule {
+            context,
+            last_line: place,
+            nodes: Vec::new(),
+        });
+        Ok(())
+    }
+
+    /// At a rule's end there is a root, every other node is an operand, and the
+    /// tree is not too deep.
+    fn end_rule(&mut self) -> Result<(), Refused> {
+        let Some(mut rule) = self.open_rule.take() else {
+            return Ok(());
+        };
+        let root = rule.nodes.pop().flatten();
+        let all_used = rule.nodes.iter().all(Option::is_none);
+        match root {
+            Some(root) if all_used && root.depth() <= DEEPEST_RULE => {
+                let context = rule.context;
+                self.sheet.rules.push(Rule { context, root });
+                Ok(())
+            }
+            _ => Err(Refusal::BrokenTree.at(rule.last_line)),
+        }
+    }
+}
+
+fn require(holds: bool, refusal: Refusal) -> Result<(), Refusal> {
+    if holds {
+        Ok(())
+    } else {
+        Err(refusal)
+    }
+}

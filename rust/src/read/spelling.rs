@@ -1,0 +1,141 @@
+//! How numbers, types and values are spelt on a sheet.
+
+use crate::refusal::Refusal;
+use crate::types::{Kind, Type, DEEPEST};
+use crate::values::{Collection, Value};
+
+pub const LAST_CLASS: u64 = 63;
+pub const LAST_OBJECT: u64 = 95;
+
+/// What is spelt, or BadLine, or OverMeasure for a good spelling outside its limits.
+pub type Spelt<T> = Result<T, Refusal>;
+
+/// Decimal digits without a leading zero. Numbers beyond 64 bits count as the
+/// largest of them, which is outside every limit.
+fn digits(field: &[u8]) -> Spelt<u64> {
+    let leading_zero = field.len() > 1 && field[0] == b'0';
+    if field.is_empty() || leading_zero || !field.iter().all(u8::is_ascii_digit) {
+        return Err(Refusal::BadLine);
+    }
+    Ok(field.iter().fold(0, |number: u64, digit| {
+        number
+            .saturating_mul(10)
+            .saturating_add(u64::from(digit - b'0'))
+    }))
+}
+
+pub fn number(field: &[u8], least: u64, most: u64) -> Spelt<u64> {
+    let number = digits(field)?;
+    if number < least || number > most {
+        return Err(Refusal::OverMeasure);
+    }
+    Ok(number)
+}
+
+pub fn integer(field: &[u8]) -> Spelt<i32> {
+    let (minus, magnitude) = match field.strip_prefix(b"-") {
+        Some(magnitude) => (true, digits(magnitude)?),
+        None => (false, digits(field)?),
+    };
+    if minus && magnitude == 0 {
+        return Err(Refusal::BadLine);
+    }
+    let magnitude = i64::try_from(magnitude).unwrap_or(i64::MAX);
+    let number = if minus { -magnitude } else { magnitude };
+    i32::try_from(number).map_err(|_| Refusal::OverMeasure)
+}
+
+pub fn ty(field: &[u8]) -> Spelt<Type> {
+    let mut letters = Vec::new();
+    let mut base = field;
+    while let [letter @ (b'S' | b'Q' | b'B' | b'C'), b'(', inside @ ..] = base {
+        letters.push(*letter);
+        base = inside.strip_suffix(b")").ok_or(Refusal::BadLine)?;
+    }
+    let base = match base {
+        b"Void" => Type::Void,
+        b"Bool" => Type::Bool,
+        b"Int" => Type::Int,
+        b"Any" => Type::Any,
+        [b'#', class @ ..] => Type::Class(number(class, 0, LAST_CLASS)? as u8),
+        _ => return Err(Refusal::BadLine),
+    };
+    if letters.len() > DEEPEST {
+        return Err(Refusal::OverMeasure);
+    }
+    Ok(letters
+        .iter()
+        .rev()
+        .fold(base, |member, letter| match Kind::from_letter(*letter) {
+            Some(kind) => Type::of(kind, member),
+            None => Type::Collection(Box::new(member)),
+        }))
+}
+
+/// A value without members. `u` is none on a sheet.
+fn simple(field: &[u8]) -> Spelt<Value> {
+    match field {
+        b"t" => Ok(Value::Bool(true)),
+        b"f" => Ok(Value::Bool(false)),
+        [b'@', object @ ..] => Ok(Value::Object(number(object, 0, LAST_OBJECT)? as u8)),
+        _ => integer(field).map(Value::Int),
+    }
+}
+
+/// A value as written, its members in the order given. A misspelling anywhere
+/// goes before a measure crossed, so reading goes on after the latter. The open
+/// collections stand in a list, since a line can nest thousands of them.
+pub fn value(field: &[u8]) -> Spelt<Value> {
+    let mut rest = field;
+    let mut open: Vec<(Kind, Vec<Value>)> = Vec::new();
+    let mut over = false;
+    // A value that is over measure; what stands in its place is not looked at.
+    let lost = Value::Bool(false);
+    loop {
+        let mut whole = match rest {
+            [letter @ (b'S' | b'Q' | b'B'), b'(', inside @ ..] => {
+                rest = inside;
+                let kind = Kind::from_letter(*letter).ok_or(Refusal::BadLine)?;
+                open.push((kind, Vec::new()));
+                over |= open.len() > DEEPEST;
+                if rest.first() != Some(&b')') {
+                    continue;
+                }
+                None
+            }
+            _ => {
+                let part = |byte: &u8| *byte == b',' || *byte == b')';
+                let end = rest.iter().position(part).unwrap_or(rest.len());
+                let spelt = simple(&rest[..end]);
+                rest = &rest[end..];
+                over |= spelt == Err(Refusal::OverMeasure);
+                Some(match spelt {
+                    Err(Refusal::OverMeasure) => lost.clone(),
+                    other => other?,
+                })
+            }
+        };
+        // After a member come its comma or the end of collections.
+        loop {
+            if let (Some(member), Some((_, members))) = (&whole, open.last_mut()) {
+                members.push(member.clone());
+            }
+            match rest {
+                [b',', after @ ..] if !open.is_empty() => {
+                    rest = after;
+                    break;
+                }
+                [b')', after @ ..] => {
+                    rest = after;
+                    let (kind, members) = open.pop().ok_or(Refusal::BadLine)?;
+                    let formed = Collection::as_given(kind, members).filter(|_| !over);
+                    over |= formed.is_none();
+                    whole = Some(formed.unwrap_or_else(|| lost.clone()));
+                }
+                [] if open.is_empty() && over => return Err(Refusal::OverMeasure),
+                [] if open.is_empty() => return whole.ok_or(Refusal::BadLine),
+                _ => return Err(Refusal::BadLine),
+            }
+        }
+    }
+}

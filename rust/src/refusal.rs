@@ -1,0 +1,39 @@
+//! The refusals by their numbers.
+
+#[derive(Clone, Copy, PartialEq, Eq, PartialOrd, Ord, Debug)]
+pub enum Refusal {
+    ShortBench = 1,
+    LongSheet,
+    BadLine,
+    OverMeasure,
+    OutOfRow,
+    UnknownPart,
+    WrongThread,
+    BrokenTree,
+    LooseEnd,
+    NoMatch,
+    WrongPiece,
+    NoSuchMark,
+    TooManyLayers,
+    NotListed,
+    OtherClass,
+    StepStop,
+    SizeStop,
+    SlipTooLong,
+}
+
+/// A refusal with its line from 1, or 0 where no line is to blame.
+#[derive(Clone, Copy, PartialEq, Eq, Debug)]
+pub struct Refused {
+    pub refusal: Refusal,
+    pub place: usize,
+}
+
+impl Refusal {
+    pub fn at(self, place: usize) -> Refused {
+        Refused {
+            refusal: self,
+            place,
+        }
+    }
+}

@@ -1,0 +1,178 @@
+//! How often the generated sheets reach each refusal, form, outcome and value kind.
+
+use crate::calls::{self, Answer, LEAST_WORDS, LONGEST_SHEET};
+use crate::eval::{evaluate, Stop};
+use crate::generate::{asks, sheet, Ask, Call};
+use crate::read::read;
+use crate::tree::Node;
+use crate::types::Kind;
+use crate::typing::type_rule;
+use crate::values::Value;
+use std::collections::BTreeMap;
+use std::fmt;
+
+const FORMS: [&str; 33] = [
+    "true",
+    "false",
+    "undef",
+    "int",
+    "self",
+    "var",
+    "coll",
+    "let",
+    "if",
+    "and",
+    "or",
+    "not",
+    "isUndef",
+    "eq",
+    "less",
+    "plus",
+    "minus",
+    "times",
+    "div",
+    "mod",
+    "attr",
+    "all",
+    "as",
+    "size",
+    "includes",
+    "asSet",
+    "asBag",
+    "asSequence",
+    "including",
+    "union",
+    "iter",
+    "forAll",
+    "exists",
+];
+const OUTCOMES: [&str; 5] = ["value", "undefined", "16", "17", "stuck"];
+const KINDS: [&str; 7] = ["f", "t", "Integer", "object", "Set", "Sequence", "Bag"];
+
+/// The objects evaluated for each rule, so that large sheets do not take all the time.
+const OBJECTS: usize = 4;
+
+pub struct Statistics {
+    /// Answers by number, 0 to 18.
+    pub numbers: [u64; 19],
+    pub forms: BTreeMap<&'static str, u64>,
+    pub outcomes: BTreeMap<&'static str, u64>,
+    pub kinds: BTreeMap<&'static str, u64>,
+}
+
+impl Statistics {
+    pub fn over(seeds: std::ops::Range<u64>) -> Statistics {
+        let zeros = |names: &[&'static str]| names.iter().map(|name| (*name, 0)).collect();
+        let mut statistics = Statistics {
+            numbers: [0; 19],
+            forms: zeros(&FORMS),
+            outcomes: zeros(&OUTCOMES),
+            kinds: zeros(&KINDS),
+        };
+        for seed in seeds {
+            statistics.add(seed);
+        }
+        statistics
+    }
+
+    fn add(&mut self, seed: u64) {
+        let text = sheet(seed);
+        for ask in asks(seed, &text) {
+            self.numbers[answer(&text, ask).number as usize] += 1;
+        }
+        let Ok(mut sheet) = read(&text) else {
+            return;
+        };
+        for rule in &mut sheet.rules {
+            if text.len() > LONGEST_SHEET || type_rule(&sheet.model, rule).is_err() {
+                continue;
+            }
+            self.forms(&rule.root);
+            for object in sheet.model.objects_of(rule.context).take(OBJECTS) {
+                let outcome = match evaluate(&sheet.model, rule, object).0 {
+                    Ok(Some(value)) => {
+                        *self.kinds.entry(kind(&value)).or_default() += 1;
+                        "value"
+                    }
+                    Ok(None) => "undefined",
+                    Err(Stop::Steps) => "16",
+                    Err(Stop::Size) => "17",
+                    Err(Stop::Stuck) => "stuck",
+                };
+                *self.outcomes.entry(outcome).or_default() += 1;
+            }
+        }
+    }
+
+    fn forms(&mut self, node: &Node) {
+        *self.forms.entry(node.form.word()).or_default() += 1;
+        for operand in &node.operands {
+            self.forms(operand);
+        }
+    }
+
+    /// What was never reached.
+    pub fn missing(&self) -> Vec<String> {
+        let counts = [&self.forms, &self.outcomes, &self.kinds];
+        let named = counts.into_iter().flatten();
+        let mut missing: Vec<String> = (named.filter(|(_, count)| **count == 0))
+            .map(|(name, _)| name.to_string())
+            .collect();
+        for (number, count) in self.numbers.iter().enumerate() {
+            if *count == 0 {
+                missing.push(format!("number {number}"));
+            }
+        }
+        missing
+    }
+}
+
+/// The second evaluator's answer, what it writes left aside.
+pub fn answer(text: &[u8], ask: Ask) -> Answer {
+    let mut slices: [Vec<u64>; 3] = ask.words.map(|length| vec![0; length.min(LEAST_WORDS)]);
+    let words = slices.each_mut().map(Vec::as_mut_slice);
+    let mut out = vec![0; ask.out];
+    match ask.call {
+        Call::Read => calls::read_sheet(text, words),
+        Call::Type { rule } => calls::type_rule(text, rule, words, &mut out),
+        Call::Evaluate { rule, object } => {
+            calls::evaluate_rule(text, rule, object, words, &mut out)
+        }
+        Call::Report => calls::report(text, words, &mut out),
+    }
+}
+
+fn kind(value: &Value) -> &'static str {
+    match value {
+        Value::Bool(false) => "f",
+        Value::Bool(true) => "t",
+        Value::Int(_) => "Integer",
+        Value::Object(_) => "object",
+        Value::Collection(collection) => match collection.kind {
+            Kind::Set => "Set",
+            Kind::Sequence => "Sequence",
+            Kind::Bag => "Bag",
+        },
+    }
+}
+
+impl fmt::Display for Statistics {
+    fn fmt(&self, out: &mut fmt::Formatter) -> fmt::Result {
+        writeln!(out, "Answers by number, 0 being no refusal:")?;
+        for (number, count) in self.numbers.iter().enumerate() {
+            writeln!(out, "  {number:>10} {count:>10}")?;
+        }
+        let named = [
+            ("Forms in rules that type:", &self.forms),
+            ("Outcomes:", &self.outcomes),
+            ("Kinds of values:", &self.kinds),
+        ];
+        for (title, counts) in named {
+            writeln!(out, "{title}")?;
+            for (name, count) in counts {
+                writeln!(out, "  {name:>10} {count:>10}")?;
+            }
+        }
+        Ok(())
+    }
+}

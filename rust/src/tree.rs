@@ -1,0 +1,105 @@
+//! A rule's nodes as a tree that owns its operands.
+
+use crate::types::{Kind, Type};
+
+/// The greatest depth of a rule, its root being depth 1.
+pub const DEEPEST_RULE: usize = 12;
+
+/// What a node does, without its operands.
+#[derive(Clone, PartialEq, Eq, Debug)]
+pub enum Form {
+    True,
+    False,
+    Undef,
+    Int(i32),
+    SelfObject,
+    Var(u8),
+    Coll(Kind),
+    Let(u8),
+    If,
+    And,
+    Or,
+    Not,
+    IsUndef,
+    Eq,
+    Less,
+    Plus,
+    Minus,
+    Times,
+    Div,
+    Mod,
+    /// Typing marks the row that is read.
+    Attr {
+        name: u8,
+        row: Option<u8>,
+    },
+    All(u8),
+    As(u8),
+    Size,
+    Includes,
+    /// asSet, asBag and asSequence.
+    Convert(Kind),
+    Including,
+    Union,
+    Iter {
+        member: u8,
+        accumulator: u8,
+        ty: Type,
+    },
+    ForAll(u8),
+    Exists(u8),
+}
+
+impl Form {
+    /// The word a sheet has for the form.
+    pub fn word(&self) -> &'static str {
+        match self {
+            Form::True => "true",
+            Form::False => "false",
+            Form::Undef => "undef",
+            Form::Int(_) => "int",
+            Form::SelfObject => "self",
+            Form::Var(_) => "var",
+            Form::Coll(_) => "coll",
+            Form::Let(_) => "let",
+            Form::If => "if",
+            Form::And => "and",
+            Form::Or => "or",
+            Form::Not => "not",
+            Form::IsUndef => "isUndef",
+            Form::Eq => "eq",
+            Form::Less => "less",
+            Form::Plus => "plus",
+            Form::Minus => "minus",
+            Form::Times => "times",
+            Form::Div => "div",
+            Form::Mod => "mod",
+            Form::Attr { .. } => "attr",
+            Form::All(_) => "all",
+            Form::As(_) => "as",
+            Form::Size => "size",
+            Form::Includes => "includes",
+            Form::Convert(Kind::Set) => "asSet",
+            Form::Convert(Kind::Sequence) => "asSequence",
+            Form::Convert(Kind::Bag) => "asBag",
+            Form::Including => "including",
+            Form::Union => "union",
+            Form::Iter { .. } => "iter",
+            Form::ForAll(_) => "forAll",
+            Form::Exists(_) => "exists",
+        }
+    }
+}
+
+pub struct Node {
+    pub form: Form,
+    pub operands: Vec<Node>,
+    /// The line the node stands on.
+    pub line: usize,
+}
+
+impl Node {
+    pub fn depth(&self) -> usize {
+        1 + self.operands.iter().map(Node::depth).max().unwrap_or(0)
+    }
+}

@@ -1,0 +1,187 @@
+//! The type of a rule, and the row each `attr` reads.
+
+use crate::model::{Model, Rule};
+use crate::refusal::{Refusal, Refused};
+use crate::tree::{Form, Node};
+use crate::types::{Kind, Type, DEEPEST};
+
+/// The types of the variables, by number.
+type Environment = [Option<Type>; 16];
+
+struct Typing<'m> {
+    model: &'m Model,
+    context: u8,
+    environment: Environment,
+}
+
+pub fn type_rule(model: &Model, rule: &mut Rule) -> Result<Type, Refused> {
+    let mut typing = Typing {
+        model,
+        context: rule.context,
+        environment: Environment::default(),
+    };
+    typing.node(&mut rule.root)
+}
+
+impl Typing<'_> {
+    /// The node's type: what an operand refuses goes before what the node does.
+    fn node(&mut self, node: &mut Node) -> Result<Type, Refused> {
+        let here = |refusal: Refusal| refusal.at(node.line);
+        let operands = &mut node.operands;
+        match &mut node.form {
+            Form::Let(variable) => {
+                let bound = self.node(&mut operands[0])?;
+                self.with(*variable, bound, &mut operands[1])
+            }
+            Form::Iter {
+                member,
+                accumulator,
+                ty,
+            } => {
+                let source = self.node(&mut operands[0])?;
+                let start = self.node(&mut operands[1])?;
+                let element = member_type(&source).map_err(here)?;
+                self.below(&start, ty).map_err(here)?;
+                let outer = self.environment[usize::from(*accumulator)].replace(ty.clone());
+                let body = self.with(*member, element, &mut operands[2]);
+                self.environment[usize::from(*accumulator)] = outer;
+                self.below(&body?, ty).map_err(here)?;
+                Ok(ty.clone())
+            }
+            Form::ForAll(variable) | Form::Exists(variable) => {
+                let source = self.node(&mut operands[0])?;
+                let element = member_type(&source).map_err(here)?;
+                let body = self.with(*variable, element, &mut operands[1])?;
+                self.below(&body, &Type::Bool).map_err(here)?;
+                Ok(Type::Bool)
+            }
+            form => {
+                let types: Result<Vec<Type>, Refused> = operands
+                    .iter_mut()
+                    .map(|operand| self.node(operand))
+                    .collect();
+                self.unbinding(form, &types?).map_err(here)
+            }
+        }
+    }
+
+    /// The type of a body in which the variable has the type given.
+    fn with(&mut self, variable: u8, ty: Type, body: &mut Node) -> Result<Type, Refused> {
+        let variable = usize::from(variable);
+        let outer = self.environment[variable].replace(ty);
+        let result = self.node(body);
+        self.environment[variable] = outer;
+        result
+    }
+
+    /// A form that binds no variable, from its operands' types. Checks stand in
+    /// the order 11, 10, 12, 13.
+    fn unbinding(&self, form: &mut Form, types: &[Type]) -> Result<Type, Refusal> {
+        match form {
+            Form::True | Form::False => Ok(Type::Bool),
+            Form::Undef => Ok(Type::Void),
+            Form::Int(_) => Ok(Type::Int),
+            Form::SelfObject => Ok(Type::Class(self.context)),
+            Form::Var(variable) => {
+                let bound = &self.environment[usize::from(*variable)];
+                bound.clone().ok_or(Refusal::LooseEnd)
+            }
+            Form::Coll(kind) => {
+                let member = types
+                    .iter()
+                    .try_fold(Type::Void, |common, ty| self.common(&common, ty))?;
+                layered(*kind, member)
+            }
+            Form::If => {
+                self.below(&types[0], &Type::Bool)?;
+                self.common(&types[1], &types[2])
+            }
+            Form::And | Form::Or | Form::Not => {
+                self.all_below(types, &Type::Bool)?;
+                Ok(Type::Bool)
+            }
+            Form::IsUndef => Ok(Type::Bool),
+            Form::Eq => {
+                self.common(&types[0], &types[1])?;
+                Ok(Type::Bool)
+            }
+            Form::Less => {
+                self.all_below(types, &Type::Int)?;
+                Ok(Type::Bool)
+            }
+            Form::Plus | Form::Minus | Form::Times | Form::Div | Form::Mod => {
+                self.all_below(types, &Type::Int)?;
+                Ok(Type::Int)
+            }
+            Form::Attr { name, row } => {
+                let Type::Class(class) = types[0] else {
+                    return Err(Refusal::WrongPiece);
+                };
+                let found = self.model.row(class, *name).ok_or(Refusal::NoSuchMark)?;
+                *row = Some(found);
+                Ok(self.model.rows[usize::from(found)].ty.clone())
+            }
+            Form::All(class) => Ok(Type::of(Kind::Set, Type::Class(*class))),
+            Form::As(class) => {
+                let classes = &self.model.classes;
+                let related = match types[0] {
+                    Type::Any => true,
+                    Type::Class(from) => {
+                        classes.is_below(from, *class) || classes.is_below(*class, from)
+                    }
+                    _ => return Err(Refusal::WrongPiece),
+                };
+                let cast = Type::Class(*class);
+                related.then_some(cast).ok_or(Refusal::NoMatch)
+            }
+            Form::Size => member_type(&types[0]).map(|_| Type::Int),
+            Form::Includes => {
+                let member = member_type(&types[0])?;
+                self.common(&member, &types[1])?;
+                Ok(Type::Bool)
+            }
+            Form::Convert(kind) => Ok(Type::of(*kind, member_type(&types[0])?)),
+            Form::Including => {
+                let Type::Of(kind, member) = &types[0] else {
+                    return Err(Refusal::WrongPiece);
+                };
+                layered(*kind, self.common(member, &types[1])?)
+            }
+            Form::Union => match (&types[0], &types[1]) {
+                (Type::Of(kind, left), Type::Of(other, right)) if kind == other => {
+                    Ok(Type::of(*kind, self.common(left, right)?))
+                }
+                _ => Err(Refusal::WrongPiece),
+            },
+            Form::Let(_) | Form::Iter { .. } | Form::ForAll(_) | Form::Exists(_) => {
+                unreachable!("a form that binds a variable")
+            }
+        }
+    }
+
+    fn below(&self, low: &Type, high: &Type) -> Result<(), Refusal> {
+        let below = low.is_below(high, &self.model.classes);
+        below.then_some(()).ok_or(Refusal::WrongPiece)
+    }
+
+    fn all_below(&self, types: &[Type], high: &Type) -> Result<(), Refusal> {
+        types.iter().try_for_each(|ty| self.below(ty, high))
+    }
+
+    fn common(&self, left: &Type, right: &Type) -> Result<Type, Refusal> {
+        let common = left.common(right, &self.model.classes);
+        common.ok_or(Refusal::NoMatch)
+    }
+}
+
+fn member_type(source: &Type) -> Result<Type, Refusal> {
+    source.member().cloned().ok_or(Refusal::WrongPiece)
+}
+
+/// The kind around a member type that may be deep already.
+fn layered(kind: Kind, member: Type) -> Result<Type, Refusal> {
+    let within = member.depth() < DEEPEST;
+    within
+        .then(|| Type::of(kind, member))
+        .ok_or(Refusal::TooManyLayers)
+}

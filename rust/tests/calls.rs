@@ -1,0 +1,207 @@
+//! What the four calls answer, beyond what a report can show.
+
+use second_evaluator::calls::{self, Answer, Words};
+
+const SHEET: &str = "C 0 -|C 1 0|C 2 -|A 0 0 5 Int|O 0 1|O 1 0|O 2 2|V 0 0 9|\
+    R 0 0|N 0 self|N 1 attr 0 5|N 2 int 12|N 3 less 1 2|\
+    R 1 1|N 0 self|N 1 coll Q 0|\
+    R 2 0|N 0 var 1|\
+    R 3 0|N 0 all 0|N 1 int 1|N 2 including 0 1";
+
+fn text(sheet: &str) -> Vec<u8> {
+    let lines = sheet.split('|').map(|line| line.replace(' ', "\t") + "\n");
+    lines.collect::<String>().into_bytes()
+}
+
+/// The answer and what was written, with all that was lent checked.
+fn lent(call: impl Fn(Words, &mut [u8]) -> Answer) -> (Answer, String) {
+    lent_with([8_192, 8_193, 9_000], 2_048, call)
+}
+
+fn lent_with(
+    lengths: [usize; 3],
+    room: usize,
+    call: impl Fn(Words, &mut [u8]) -> Answer,
+) -> (Answer, String) {
+    let mut slices = lengths.map(|length| vec![7; length]);
+    let mut out = vec![b'~'; room];
+    let answer = call(slices.each_mut().map(Vec::as_mut_slice), &mut out);
+    let wiped = if answer.number == 1 { 0 } else { 8_192 };
+    for slice in &slices {
+        assert!(slice[..wiped].iter().all(|word| *word == 0));
+        assert!(slice[wiped..].iter().all(|word| *word == 7));
+    }
+    let length = answer.length as usize;
+    assert!(out[length..].iter().all(|byte| *byte == b'~'));
+    (answer, String::from_utf8(out[..length].to_vec()).unwrap())
+}
+
+fn answer(number: u64, steps: u64, place: u64, written: &str) -> (Answer, String) {
+    let length = written.len() as u64;
+    let answer = Answer {
+        number,
+        steps,
+        place,
+        length,
+    };
+    (answer, written.to_string())
+}
+
+fn read(sheet: &str) -> (Answer, String) {
+    lent(|words, _| calls::read_sheet(&text(sheet), words))
+}
+
+fn type_rule(rule: u64) -> (Answer, String) {
+    lent(|words, out| calls::type_rule(&text(SHEET), rule, words, out))
+}
+
+fn evaluate(rule: u64, object: u64) -> (Answer, String) {
+    lent(|words, out| calls::evaluate_rule(&text(SHEET), rule, object, words, out))
+}
+
+#[test]
+fn read_answers_nothing_but_its_number_and_place() {
+    assert_eq!(read(SHEET), answer(0, 0, 0, ""));
+    assert_eq!(read("C 0 -|C 1 1"), answer(6, 0, 2, ""));
+}
+
+#[test]
+fn typing_writes_the_type() {
+    assert_eq!(type_rule(0), answer(0, 0, 0, "Bool"));
+    assert_eq!(type_rule(1), answer(0, 0, 0, "Q(#1)"));
+    assert_eq!(type_rule(3), answer(0, 0, 0, "S(Any)"));
+    assert_eq!(type_rule(2), answer(9, 0, 18, ""));
+    for off in [4, 64, 256, 1 << 32, u64::MAX] {
+        assert_eq!(type_rule(off), answer(14, 0, 0, ""), "{off}");
+    }
+}
+
+#[test]
+fn typing_spells_every_kind_of_type() {
+    let cases = [
+        ("undef", "Void"),
+        ("true", "Bool"),
+        ("int 1", "Int"),
+        ("self", "#1"),
+        ("all 0", "S(#0)"),
+        ("coll B", "B(Void)"),
+        // P10 and P11.
+        ("self;int 1;coll S 0 1", "S(Any)"),
+        ("true;self;int 1;if 0 1 2", "Any"),
+        ("int 1;coll S 0;int 1;coll Q 2;true;if 4 1 3", "C(Int)"),
+        ("coll S;coll B 0;coll Q 1", "Q(B(S(Void)))"),
+        ("coll S;coll Q;coll B 0 1;coll S 2", "S(B(C(Void)))"),
+        // Below #1, and beside it in no class at all.
+        ("self;all 0;coll S 0;union 1 2", "S(#0)"),
+        ("all 2;all 1;union 0 1", "S(Any)"),
+        ("self;attr 0 5", "Int"),
+        ("self;as 0 0", "#0"),
+        (
+            "coll S;undef;undef;iter 0 1 2 C(C(C(Any))) 1 2",
+            "C(C(C(Any)))",
+        ),
+        ("int 1;var 1;let 1 0 1", "Int"),
+        ("coll Q;int 1;including 0 1", "Q(Int)"),
+        ("all 1;asSequence 0", "Q(#1)"),
+    ];
+    for (nodes, ty) in cases {
+        let nodes = nodes.split(';').enumerate();
+        let nodes: String = nodes
+            .map(|(node, words)| format!("|N {node} {words}"))
+            .collect();
+        let sheet = text(&format!("C 0 -|C 1 0|C 2 -|A 0 0 5 Int|R 0 1{nodes}"));
+        let typed = lent(|words, out| calls::type_rule(&sheet, 0, words, out));
+        assert_eq!(typed, answer(0, 0, 0, ty), "{nodes}");
+    }
+}
+
+#[test]
+fn evaluating_writes_the_value_and_counts_steps() {
+    assert_eq!(evaluate(0, 0), answer(0, 4, 0, "t"));
+    assert_eq!(evaluate(0, 1), answer(0, 3, 0, "u"));
+    assert_eq!(evaluate(1, 0), answer(0, 2, 0, "Q(@0)"));
+    assert_eq!(evaluate(3, 0), answer(0, 3, 0, "S(1,@0,@1)"));
+}
+
+#[test]
+fn evaluating_refuses_14_then_15_then_by_typing() {
+    assert_eq!(evaluate(4, 0), answer(14, 0, 0, ""));
+    assert_eq!(evaluate(0, 3), answer(14, 0, 0, ""));
+    assert_eq!(evaluate(0, 256), answer(14, 0, 0, ""));
+    assert_eq!(evaluate(0, u64::MAX), answer(14, 0, 0, ""));
+    // Rule 2 does not type: an object off the sheet or of another class comes first.
+    assert_eq!(evaluate(2, 3), answer(14, 0, 0, ""));
+    assert_eq!(evaluate(2, 2), answer(15, 0, 0, ""));
+    assert_eq!(evaluate(1, 1), answer(15, 0, 0, ""));
+    assert_eq!(evaluate(2, 0), answer(9, 0, 18, ""));
+}
+
+#[test]
+fn a_stop_has_steps_and_no_place() {
+    let members = (0..127)
+        .map(|n| n.to_string())
+        .collect::<Vec<_>>()
+        .join(",");
+    let start =
+        format!("C 0 -|A 0 0 0 Q(Int)|O 0 0|V 0 0 Q({members})|R 0 0|N 0 self|N 1 attr 0 0");
+    let size = text(&(start.clone() + "|N 2 coll Q 1|N 3 isUndef 2"));
+    let stop = lent(|words, out| calls::evaluate_rule(&size, 0, 0, words, out));
+    assert_eq!(stop, answer(17, 4, 0, ""));
+    let nest = "|N 2 self|N 3 attr 2 0|N 4 self|N 5 attr 4 0|N 6 true|\
+        N 7 forAll 5 3 6|N 8 forAll 3 2 7|N 9 forAll 1 1 8";
+    let steps = text(&(start + nest));
+    let stop = lent(|words, out| calls::evaluate_rule(&steps, 0, 0, words, out));
+    assert_eq!(stop, answer(16, 1_000_000, 0, ""));
+}
+
+#[test]
+fn a_short_slice_goes_before_all_and_leaves_all_untouched() {
+    let long = vec![b'\n'; 49_153];
+    for slice in 0..3 {
+        for length in [0, 1, 8_191] {
+            let mut lengths = [8_192; 3];
+            lengths[slice] = length;
+            let short = lent_with(lengths, 2_048, |words, _| calls::read_sheet(&long, words));
+            assert_eq!(short, answer(1, 0, 0, ""));
+        }
+    }
+    for room in [0, 2_047] {
+        let short = lent_with([8_192; 3], room, |words, out| {
+            calls::report(&long, words, out)
+        });
+        assert_eq!(short, answer(1, 0, 0, ""));
+    }
+    let long = lent(|words, out| calls::type_rule(&long, 0, words, out));
+    assert_eq!(long, answer(2, 0, 0, ""));
+}
+
+#[test]
+fn a_report_may_fill_the_output_but_not_exceed_it() {
+    // 96 lines, those of objects from 10 on a byte longer.
+    let objects: String = (0..96).map(|n| format!("O {n} 0|")).collect();
+    let value = i32::MIN;
+    let sheet = text(&format!(
+        "C 0 -|{objects}R 0 0|N 0 int {value}|N 1 int 0|N 2 coll B 0 1"
+    ));
+    let line = "0 0 B(-2147483648,0) 3\n".len();
+    let length = 96 * line + 86;
+    let fits = lent_with([8_192; 3], length, |words, out| {
+        calls::report(&sheet, words, out)
+    });
+    assert_eq!(fits.0.length as usize, length);
+    assert_eq!(fits.0.number, 0);
+    let short = lent_with([8_192; 3], length - 1, |words, out| {
+        calls::report(&sheet, words, out)
+    });
+    assert_eq!(short, answer(18, 0, 0, ""));
+}
+
+#[test]
+fn a_report_types_all_rules_before_it_is_too_long() {
+    let objects: String = (0..96).map(|n| format!("O {n} 0|")).collect();
+    let sheet = text(&format!(
+        "C 0 -|{objects}R 0 0|N 0 int -1000000000|N 1 int 1|N 2 coll B 0 1|R 1 0|N 0 var 1"
+    ));
+    let refused = lent(|words, out| calls::report(&sheet, words, out));
+    assert_eq!(refused, answer(9, 0, 103, ""));
+}

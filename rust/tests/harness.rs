@@ -1,0 +1,86 @@
+//! The comparison finds every fault of a stand-in, and none where there is none.
+
+use second_evaluator::generate::{self, Ask, Call};
+use second_evaluator::harness::compare::compare;
+use second_evaluator::harness::run;
+use second_evaluator::harness::shrink::shrink;
+use second_evaluator::harness::standin::{Fault, StandIn};
+use second_evaluator::harness::tally::Tally;
+
+fn first_difference(fault: Fault, sheets: u64) -> Option<run::Difference> {
+    let standin = StandIn { fault };
+    let mut tally = Tally::default();
+    (0..sheets).find_map(|seed| {
+        let text = generate::sheet(seed);
+        let asks = generate::asks(seed, &text);
+        run::sheet(&standin, &text, seed, &asks, &mut tally).err()
+    })
+}
+
+#[test]
+fn no_fault_is_no_difference_and_everything_is_reached() {
+    let standin = StandIn { fault: Fault::None };
+    let mut tally = Tally::default();
+    let vectors = run::vectors().unwrap();
+    for (seed, (name, text)) in vectors.iter().enumerate() {
+        let asks = generate::vector_asks(seed as u64, text);
+        let result = run::sheet(&standin, text, seed as u64, &asks, &mut tally);
+        assert!(result.is_ok(), "{name}");
+    }
+    for seed in 0..1_500 {
+        let text = generate::sheet(seed);
+        let asks = generate::asks(seed, &text);
+        let result = run::sheet(&standin, &text, seed, &asks, &mut tally);
+        assert!(result.is_ok(), "{seed}");
+    }
+    assert!(tally.missing(&standin).is_empty(), "{tally}");
+}
+
+#[test]
+fn every_fault_is_found() {
+    for fault in Fault::ALL {
+        assert!(first_difference(fault, 3_000).is_some(), "{fault:?}");
+    }
+}
+
+#[test]
+fn what_was_never_compared_is_missing() {
+    let standin = StandIn { fault: Fault::None };
+    let mut tally = Tally::default();
+    let asks = generate::asks(0, b"");
+    assert!(run::sheet(&standin, b"", 0, &asks, &mut tally).is_ok());
+    let missing = tally.missing(&standin);
+    assert!(missing.contains(&"read 8".to_string()), "{missing:?}");
+    assert!(!missing.contains(&"read 9".to_string()), "{missing:?}");
+}
+
+#[test]
+fn a_difference_says_where() {
+    let ask = Ask {
+        call: Call::Read,
+        words: [8_192; 3],
+        out: 2_048,
+    };
+    let how = |fault, ask| compare(&StandIn { fault }, b"C\t0\n", ask, 7).difference;
+    assert_eq!(how(Fault::None, ask), None);
+    let place = how(Fault::Place, ask).unwrap();
+    assert!(
+        place.contains("place: 1") && place.contains("place: 2"),
+        "{place}"
+    );
+    let word = how(Fault::WordLeft, ask).unwrap();
+    assert_eq!(word, "word 8191 of word slice 1");
+    let report = Ask {
+        call: Call::Report,
+        ..ask
+    };
+    let byte = how(Fault::OutputOfRefusal, report).unwrap();
+    assert!(byte.starts_with("byte 0 of the output"), "{byte}");
+}
+
+#[test]
+fn a_shown_sheet_is_short() {
+    let text = b"a\nb\nc\nd\ne\nf\n";
+    let shows = |text: &[u8]| text.windows(2).any(|pair| pair == b"d\n");
+    assert_eq!(shrink(text, shows), b"d\n");
+}

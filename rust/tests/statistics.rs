@@ -1,0 +1,9 @@
+//! The generated sheets reach everything there is to reach.
+
+use second_evaluator::statistics::Statistics;
+
+#[test]
+fn everything_but_stuck_is_reached() {
+    let statistics = Statistics::over(0..1_500);
+    assert_eq!(statistics.missing(), ["stuck"], "{statistics}");
+}
