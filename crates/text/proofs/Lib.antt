@@ -1,3 +1,5 @@
 pub mod PartLaws
 pub mod WordLaws
 pub mod FormLaws
+pub mod NumberLaws
+pub mod IntegerLaws
