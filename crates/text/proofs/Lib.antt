@@ -3,3 +3,4 @@ pub mod WordLaws
 pub mod FormLaws
 pub mod NumberLaws
 pub mod IntegerLaws
+pub mod WrittenLaws
