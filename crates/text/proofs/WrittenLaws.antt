@@ -131,3 +131,25 @@ module _ (p : ℕ) where
   pub spell-plus : 2147483648 ≤ p → spellInteger (unbias p) ≡ spellNumber (p - 2147483648)
   unfolding unbias spellInteger
   spell-plus h = rw (le-ltb p 2147483648 h)
+
+-- what `put_integer` asks of the calls in it, and what they give
+module _ (p at : ℕ) (a : Bytes) (room : at + length (spellInteger (unbias p)) ≤ length a) where
+  module _ (h : p < 2147483648) where
+    pub room-minus : at < length a
+    room-minus = omega (arith, ap length (spell-minus p h))
+
+    module _ {b : Bytes} {e : ℕ} (sign : Puts at (45 ∷ []) a b e) where
+      pub room-magnitude : e + length (spellNumber (2147483648 - p)) ≤ length b
+      room-magnitude =
+          let one : at + 1 ≤ length a = omega (arith, room-minus) in
+          omega (arith, ap length (spell-minus p h), puts-length sign one, sign .end)
+
+      pub puts-minus : {c : Bytes} {r : ℕ} → Puts e (spellNumber (2147483648 - p)) b c r → Puts at (spellInteger (unbias p)) a c r
+      puts-minus q = rw (spell-minus p h) (puts-then sign q (omega (arith, ap length (spell-minus p h))))
+
+  module _ (h : 2147483648 ≤ p) where
+    pub room-plus : at + length (spellNumber (p - 2147483648)) ≤ length a
+    room-plus = omega (arith, ap length (spell-plus p h))
+
+    pub puts-plus : {b : Bytes} {r : ℕ} → Puts at (spellNumber (p - 2147483648)) a b r → Puts at (spellInteger (unbias p)) a b r
+    puts-plus q = rw (spell-plus p h) q
