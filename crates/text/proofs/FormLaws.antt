@@ -49,7 +49,7 @@ forms =
     ∷ (bytes "size", 8) ∷ (bytes "includes", 20) ∷ (bytes "asSet", 9) ∷ (bytes "asBag", 11) ∷ (bytes "asSequence", 10)
     ∷ (bytes "including", 21) ∷ (bytes "union", 22) ∷ (bytes "iter", 34) ∷ (bytes "forAll", 25) ∷ (bytes "exists", 26) ∷ []
 
-forms-code : (w : Bytes) → formCode w ≡ codeIn w forms
+pub forms-code : (w : Bytes) → formCode w ≡ codeIn w forms
 unfolding formCode codeIn forms
 forms-code w = refl
 

@@ -12,6 +12,7 @@ use lib.IntN.{ℤ, pos, negsuc}
 use lib.ListN.{length, getD, take, drop, drop-of-length-le, length-drop}
 use lib.Seq.{drop-drop}
 use Rattle.laws.specs.Choice.{if_then_else_, mapSome, onSome, orElse}
+use Rattle.laws.proofs.Tests.{Any?, any-some}
 use Rattle.laws.proofs.Parts.{at-next}
 use Rattle.ocl.specs.Evaluation.{inRange}
 use Rattle.sheet.specs.Text.{Bytes, byte, bytes, after, behind, _or_, _then_, given, isDigit, digits, afterDigits, plain, valueOfDigits, number, minus, integer}
@@ -183,3 +184,38 @@ module _ {f : Bytes} {e : ℕ} (to : IntegerEnd f 0 e) where
   pub not-an-integer : (e ≡ length f → ⊥) → anInteger f ≡ none
   unfolding anInteger
   not-an-integer h = whole-left integer f (drop e f) (leadingInteger f) (integer-from to) (at-next 0 f e (omega (arith, to .digits .within)))
+
+-- ---- what a caller learns of the field by the answer
+
+pub whole-bad : (o : Option ℤ) → Bad ≡ wholeOf o → o ≡ none
+unfolding wholeOf ranged
+whole-bad none h = refl
+whole-bad (some z) h = absurd (go (inRange z) h)
+  where
+    go : (t : Bool) → Bad ≡ (if t then Is (bias z) else Out) → ⊥
+    go true h = let z : _≡_ {A = ℕ} 0 1 = cc in omega arith
+    go false h = let z : _≡_ {A = ℕ} 0 1 = cc in omega arith
+
+pub whole-out : (o : Option ℤ) → Out ≡ wholeOf o → Any? (λ z. inRange z ≡ false) o
+unfolding wholeOf ranged
+whole-out none h = absurd (let z : _≡_ {A = ℕ} 0 1 = cc in omega arith)
+whole-out (some z) h = any-some (go (inRange z) h)
+  where
+    go : (t : Bool) → Out ≡ (if t then Is (bias z) else Out) → t ≡ false
+    go true h = absurd (let z : _≡_ {A = ℕ} 0 1 = cc in omega arith)
+    go false h = refl
+
+pub whole-is : {p : ℕ} (o : Option ℤ) → Is p ≡ wholeOf o → Any? (λ z. (inRange z ≡ true) × (p ≡ bias z)) o
+unfolding wholeOf ranged
+whole-is none h = absurd (let z : _≡_ {A = ℕ} 0 1 = cc in omega arith)
+whole-is {p} (some z) h = any-some (go (inRange z) h)
+  where
+    go : (t : Bool) → Is p ≡ (if t then Is (bias z) else Out) → (t ≡ true) × (p ≡ bias z)
+    go true h = (refl, cc)
+    go false h = absurd (let z : _≡_ {A = ℕ} 0 1 = cc in omega arith)
+
+-- an Integer of the range fits 32 bits
+pub bias-small : (z : ℤ) → inRange z ≡ true → bias z < 4294967296
+unfolding bias inRange
+bias-small (pos n) h = omega (arith, ltb-true n 2147483648 h)
+bias-small (negsuc n) h = omega arith

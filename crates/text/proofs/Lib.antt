@@ -4,3 +4,4 @@ pub mod FormLaws
 pub mod NumberLaws
 pub mod IntegerLaws
 pub mod WrittenLaws
+pub mod ShapeLaws

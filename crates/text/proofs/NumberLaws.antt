@@ -1,17 +1,17 @@
--- Laws of decimal numbers: where their digits end, what they stand for, and that no test below the bound sees the cut. Assumes
--- nothing.
+-- Laws of decimal numbers: where their digits end, and what they stand for. That no test below the bound sees the cut is in
+-- crates/laws, Bounds. Assumes nothing.
 use Prim.Native.Nat.{ℕ, zero, suc, _+_, _-_, _*_, _<_, _≤_, min}
 use mathlib.Core.Path.{_≡_, refl, sym, ap, _∙_}
 use mathlib.Core.Bool.{Bool, true, false, not}
 use mathlib.Core.Option.{Option, none, some}
 use mathlib.Core.List.{List, [], _∷_}
 use native.Mathlib.Omega.{arith}
-use native.Mathlib.Decide.{decLt}
-use borrow.Author.Tests.{eq-eqb, ne-eqb, lt-ltb, le-ltb}
-use lib.Dec.{eqb, ltb}
+use borrow.Author.Tests.{eq-eqb, ne-eqb}
+use lib.Dec.{eqb}
 use lib.ListN.{length, getD, take, drop, drop-of-length-le, length-drop}
 use lib.Seq.{drop-drop}
 use Rattle.laws.specs.Choice.{if_then_else_, mapSome, onSome}
+use Rattle.laws.proofs.Tests.{Any?, any-some}
 use Rattle.laws.proofs.Parts.{at-next, part-next, part-none}
 use Rattle.sheet.specs.Text.{Bytes, Parser, isDigit, digits, afterDigits, plain, valueOfDigits, number, whole, atEnd}
 use Rattle.sheet.specs.Lines.{aNumber}
@@ -21,21 +21,6 @@ use Rattle.text.specs.declared.numbers.Num.the-variants.{Bad, Is}
 use Rattle.text.proofs.WordLaws.{digit-by-kind}
 
 -- ---- the cut
-
-module _ (n c k : ℕ) where
-  pub cut-lt : k ≤ c → ltb (min n c) k ≡ ltb n k
-  cut-lt h = go (decLt n k)
-    where
-      go : Dec (n < k) → ltb (min n c) k ≡ ltb n k
-      go (yes l) = lt-ltb (min n c) k (omega arith) ∙ sym (lt-ltb n k l)
-      go (no l) = le-ltb (min n c) k (omega arith) ∙ sym (le-ltb n k (omega arith))
-
-  pub cut-eq : k < c → eqb (min n c) k ≡ eqb n k
-  cut-eq h = go (decLt n c)
-    where
-      go : Dec (n < c) → eqb (min n c) k ≡ eqb n k
-      go (yes l) = ap (λ (m : ℕ). eqb m k) (omega arith)
-      go (no l) = ne-eqb (min n c) k (λ e. omega arith) ∙ sym (ne-eqb n k (λ e. omega arith))
 
 -- digits after a number that was cut
 pub cut-digits : (c : ℕ) (s : Bytes) (n : ℕ) → min (valueOfDigits (min n c) s) c ≡ min (valueOfDigits n s) c
@@ -192,3 +177,15 @@ module _ {f : Bytes} {e : ℕ} (to : DigitsEnd f 0 e) where
   pub not-a-number : (e ≡ length f → ⊥) → aNumber f ≡ none
   unfolding aNumber
   not-a-number h = whole-left number f (drop e f) (leading f) (number-from to) (at-next 0 f e (omega (arith, to .within)))
+
+-- ---- what a caller learns of the field by the answer
+
+pub num-bad : (o : Option ℕ) → Bad ≡ numOf o → o ≡ none
+unfolding numOf
+num-bad none h = refl
+num-bad (some n) h = absurd (let z : _≡_ {A = ℕ} 0 1 = cc in omega arith)
+
+pub num-is : {m : ℕ} (o : Option ℕ) → Is m ≡ numOf o → Any? (λ n. m ≡ min n 1000000) o
+unfolding numOf
+num-is none h = absurd (let z : _≡_ {A = ℕ} 0 1 = cc in omega arith)
+num-is (some n) h = any-some {x = n} (cc)

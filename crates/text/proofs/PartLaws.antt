@@ -142,7 +142,15 @@ cut-full {line} {n} {at} {ends} so h = record
   { counted = omega (arith, simp length-drop at (ap length (so .rest)), split-some 9 (drop at line))
   ; each = λ k l t. so .each k (omega arith) }
 
--- ---- a field of a line that was cut
+-- ---- a line that was cut, and a field of it
+
+-- every line has a field, and up to ten fields the count is exact
+pub counted-some : {line : Bytes} {f : Fields} → Cut line f → 0 < f .count
+unfolding fieldsOf
+counted-some {line} is = omega (arith, is .counted, split-some 9 line)
+
+pub counted-exact : {line : Bytes} {f : Fields} → Cut line f → f .count < 11 → length (fieldsOf line) ≡ f .count
+counted-exact is h = omega (arith, is .counted)
 
 start-first : (ends : List ℕ) (k : ℕ) → k ≡ 0 → startOf ends k ≡ 0
 unfolding startOf
