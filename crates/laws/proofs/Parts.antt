@@ -1,8 +1,8 @@
 -- Laws of the parts of a list, in the forms that code has them: `i + 1`, and `&s[a..]` as a part with an end. Assumes nothing.
-use Prim.Native.Nat.{ℕ, zero, suc, _+_, _-_, _<_, _≤_}
-use mathlib.Core.Path.{_≡_, refl, sym, ap, _∙_}
+use Prim.Native.Nat.{ℕ, suc, _+_, _-_, _<_, _≤_}
+use mathlib.Core.Path.{_≡_}
 use mathlib.Core.List.{List, [], _∷_}
-use native.Mathlib.Numerals.{add-one, sub-one}
+use native.Mathlib.Numerals.{add-one}
 use native.Mathlib.Omega.{arith}
 use lib.ListN.{length, getD, take, drop, length-drop}
 use lib.Seq.{drop-cons, take-all}
@@ -23,7 +23,3 @@ part-next d s i e h l =
 
 pub part-none : {A : Type 0} (s : List A) (i e : ℕ) → e ≤ i → take (e - i) (drop i s) ≡ []
 part-none s i e h = let z : e - i ≡ 0 = omega arith in rw z
-
-pub getD-tail : {A : Type 0} (d p : A) (ps : List A) (k : ℕ) → 0 < k → getD (p ∷ ps) k d ≡ getD ps (k - 1) d
-getD-tail d p ps zero h = absurd (omega arith)
-getD-tail d p ps (suc k) h = rw (sub-one (suc k))

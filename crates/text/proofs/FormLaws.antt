@@ -1,5 +1,5 @@
 -- Laws of the codes of forms: the words of a field's own length are enough. Assumes nothing.
-use Prim.Native.Nat.{ℕ, zero, suc, _+_, _-_, _*_, _<_, _≤_}
+use Prim.Native.Nat.{ℕ, suc, _+_, _-_, _*_, _<_, _≤_}
 use mathlib.Core.Path.{_≡_, refl, sym, ap, _∙_}
 use mathlib.Core.Bool.{Bool, true, false, _&&_, true≢false}
 use mathlib.Core.List.{List, [], _∷_}
@@ -78,7 +78,7 @@ none-longer n [] m h = refl
 none-longer n (x ∷ t) m h = go (leb 2 (length (x .0))) (leb (length (x .0)) 10) (λ k. none-longer n t k h) refl refl m
   where
     go : (a b : Bool) → (moderate t ≡ true → ofLength n t ≡ []) → a ≡ leb 2 (length (x .0)) → b ≡ leb (length (x .0)) 10 → (a && b && moderate t) ≡ true
-      → (if eqb (length (x .0)) n then x ∷ ofLength n t else ofLength n t) ≡ []
+        → (if eqb (length (x .0)) n then x ∷ ofLength n t else ofLength n t) ≡ []
     go true true ih p q m =
         rw (ne-eqb (length (x .0)) n (λ e. h (rw e at (leb-true 2 (length (x .0)) (sym p))) (rw e at (leb-true (length (x .0)) 10 (sym q))))) (ih m)
     go true false ih p q m = absurd (true≢false (sym m))
@@ -99,6 +99,7 @@ no-length w a b c d e f g h i = sym (forms-code w ∙ sym (by-length w forms) �
   where
     out : 2 ≤ length w → length w ≤ 10 → ⊥
     out p q = not-le-of-lt (above (above (above (above (above (above (above (above (above p a) b) c) d) e) f) g) h) i) q
+
     none : ofLength (length w) forms ≡ []
     none = none-longer (length w) forms all-moderate out
 
@@ -127,11 +128,12 @@ module _ {w words codes : Bytes} {at k : ℕ} (left : Left w words codes at k) w
 
     pub left-next : k < length codes → t ≡ false → Left w words codes (at + length w + 1) (k + 1)
     unfolding codeAmong
-    left-next h e = record
-      { room = omega (arith, rows-left (length codes) k (length w + 1) h, left .room)
-      ; code =
+    left-next h e = record {
+      room = omega (arith, rows-left (length codes) k (length w + 1) h, left .room);
+      code =
           let q : at + (length w + 1) ≡ at + length w + 1 = omega arith in
-          rw (at-next 0 codes k h, ← word-here, e, drop-drop (length w + 1) at words, q) at (left .code) }
+          rw (at-next 0 codes k h, ← word-here, e, drop-drop (length w + 1) at words, q) at (left .code);
+    }
 
   pub left-none : length codes ≤ k → 99 ≡ codeAmong w words codes
   unfolding codeAmong

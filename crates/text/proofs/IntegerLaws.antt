@@ -3,7 +3,7 @@ use Prim.Native.Nat.{ℕ, zero, suc, _+_, _-_, _<_, _≤_, min}
 use mathlib.Core.Path.{_≡_, refl, sym, ap, _∙_}
 use mathlib.Core.Bool.{Bool, true, false}
 use mathlib.Core.Option.{Option, none, some}
-use mathlib.Core.List.{List, [], _∷_, _++_}
+use mathlib.Core.List.{[], _∷_}
 use native.Mathlib.Omega.{arith}
 use native.Mathlib.Decide.{decLt}
 use borrow.Author.Tests.{eq-eqb, ne-eqb, lt-ltb, le-ltb, ltb-true, eqb-true}
@@ -15,7 +15,7 @@ use Rattle.laws.specs.Choice.{if_then_else_, mapSome, onSome, orElse}
 use Rattle.laws.proofs.Tests.{Any?, any-some}
 use Rattle.laws.proofs.Parts.{at-next}
 use Rattle.ocl.specs.Evaluation.{inRange}
-use Rattle.sheet.specs.Text.{Bytes, byte, bytes, after, behind, _or_, _then_, given, isDigit, digits, afterDigits, plain, valueOfDigits, number, minus, integer}
+use Rattle.sheet.specs.Text.{Bytes, bytes, after, behind, _or_, _then_, given, isDigit, digits, afterDigits, plain, valueOfDigits, number, minus, integer}
 use Rattle.sheet.specs.Lines.{anInteger}
 use Rattle.text.specs.Numbers.{leading, DigitsEnd, IntegerEnd, bias, unbias, ranged, wholeOf, minusAt, signed, leadingInteger}
 use Rattle.text.specs.declared.numbers.Whole.the-variants.{Bad, Out, Is}

@@ -1,14 +1,14 @@
 -- Laws of decimal numbers: where their digits end, and what they stand for. That no test below the bound sees the cut is in
 -- crates/laws, Bounds. Assumes nothing.
-use Prim.Native.Nat.{ℕ, zero, suc, _+_, _-_, _*_, _<_, _≤_, min}
+use Prim.Native.Nat.{ℕ, suc, _+_, _-_, _*_, _<_, _≤_, min}
 use mathlib.Core.Path.{_≡_, refl, sym, ap, _∙_}
 use mathlib.Core.Bool.{Bool, true, false, not}
 use mathlib.Core.Option.{Option, none, some}
-use mathlib.Core.List.{List, [], _∷_}
+use mathlib.Core.List.{[], _∷_}
 use native.Mathlib.Omega.{arith}
 use borrow.Author.Tests.{eq-eqb, ne-eqb}
 use lib.Dec.{eqb}
-use lib.ListN.{length, getD, take, drop, drop-of-length-le, length-drop}
+use lib.ListN.{length, getD, take, drop, drop-of-length-le}
 use lib.Seq.{drop-drop}
 use Rattle.laws.specs.Choice.{if_then_else_, mapSome, onSome}
 use Rattle.laws.proofs.Tests.{Any?, any-some}
@@ -79,6 +79,7 @@ number-leading s = go (plain (digits s))
   where
     read : Option (ℕ × Bytes)
     read = some (valueOfDigits 0 (digits s), afterDigits s)
+
     go : (t : Bool) → (if t then read else none) ≡ mapSome (λ n. (n, afterDigits s)) (if t then some (valueOfDigits 0 (digits s)) else none)
     go true = refl
     go false = refl

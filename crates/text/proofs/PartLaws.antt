@@ -1,5 +1,5 @@
 -- Laws of the first separator, of `split`, and of a line cut into fields. Assumes nothing.
-use Prim.Native.Nat.{ℕ, zero, suc, _+_, _-_, _<_, _≤_, min}
+use Prim.Native.Nat.{ℕ, zero, suc, _+_, _-_, _<_, _≤_}
 use mathlib.Core.Path.{_≡_, refl, sym, ap, _∙_}
 use mathlib.Core.Bool.{Bool, true, false}
 use mathlib.Core.List.{List, [], _∷_}
@@ -39,7 +39,7 @@ split-more sep [] h = absurd (omega arith)
 split-more sep (b ∷ s) h = go (eqb b sep) (split-more sep s) h
   where
     go : (t : Bool) → (endOf sep s < length s → split sep s ≡ take (endOf sep s) s ∷ split sep (drop (endOf sep s + 1) s)) → (if t then 0 else endOf sep s + 1) < suc (length s)
-      → (if t then [] ∷ split sep s else onto b (split sep s)) ≡ take (if t then 0 else endOf sep s + 1) (b ∷ s) ∷ split sep (drop ((if t then 0 else endOf sep s + 1) + 1) (b ∷ s))
+        → (if t then [] ∷ split sep s else onto b (split sep s)) ≡ take (if t then 0 else endOf sep s + 1) (b ∷ s) ∷ split sep (drop ((if t then 0 else endOf sep s + 1) + 1) (b ∷ s))
     go true ih h = refl
     go false ih h = rw (ih (omega arith), add-one (endOf sep s), add-one (suc (endOf sep s)))
 
@@ -49,7 +49,7 @@ split-last sep [] h = refl
 split-last sep (b ∷ s) h = go (eqb b sep) (split-last sep s) h
   where
     go : (t : Bool) → (length s ≤ endOf sep s → split sep s ≡ s ∷ []) → suc (length s) ≤ (if t then 0 else endOf sep s + 1)
-      → (if t then [] ∷ split sep s else onto b (split sep s)) ≡ (b ∷ s) ∷ []
+        → (if t then [] ∷ split sep s else onto b (split sep s)) ≡ (b ∷ s) ∷ []
     go true ih h = absurd (omega arith)
     go false ih h = rw (ih (omega arith))
 
@@ -127,20 +127,22 @@ module _ {line : Bytes} {n at r : ℕ} {ends : List ℕ} (so : CutTo line n at e
   cut-last h = record { counted = omega (arith, simp length-drop at (ap length (so .rest ∙ only-part ends-at (simp length-drop (omega arith))))); each = λ k l t. each-more k l }
 
   pub cut-next : (at + r ≡ length line → ⊥) → CutTo line (n + 1) (at + r + 1) (set ends n (at + r))
-  cut-next h = record
-    { within = omega (arith, end-within)
-    ; room = length-set ends n (at + r) ∙ so .room
-    ; start = start-next ends n (at + r) (omega (arith, so .room))
-    ; rest =
+  cut-next h = record {
+    within = omega (arith, end-within);
+    room = length-set ends n (at + r) ∙ so .room;
+    start = start-next ends n (at + r) (omega (arith, so .room));
+    rest =
         let q : at + (r + 1) ≡ at + r + 1 = omega arith in
-        sym (drop-drop 1 n (fieldsOf line)) ∙ rw (so .rest, first-part ends-at (simp length-drop (omega (arith, end-within))), drop-drop (r + 1) at line, q)
-    ; each = each-more }
+        sym (drop-drop 1 n (fieldsOf line)) ∙ rw (so .rest, first-part ends-at (simp length-drop (omega (arith, end-within))), drop-drop (r + 1) at line, q);
+    each = each-more;
+  }
 
 -- ten fields, and a tab after the tenth: at least one field more
 pub cut-full : {line : Bytes} {n at : ℕ} {ends : List ℕ} → CutTo line n at ends → n ≡ 10 → Cut line (record { count = 11; ends = ends })
-cut-full {line} {n} {at} {ends} so h = record
-  { counted = omega (arith, simp length-drop at (ap length (so .rest)), split-some 9 (drop at line))
-  ; each = λ k l t. so .each k (omega arith) }
+cut-full {line} {n} {at} {ends} so h = record {
+  counted = omega (arith, simp length-drop at (ap length (so .rest)), split-some 9 (drop at line));
+  each = λ k l t. so .each k (omega arith);
+}
 
 -- ---- a line that was cut, and a field of it
 

@@ -55,7 +55,7 @@ by-code (r ∷ t) [] w h = refl
 by-code (r ∷ t) (x ∷ xs) w h = go (is w (r .0)) (fresh (r .1) t) refl (by-code t xs w) h
   where
     go : (a f : Bool) → f ≡ fresh (r .1) t → (apart t ≡ true → byWord t xs w ≡ byCode t xs (codeIn w t)) → (f && apart t) ≡ true
-      → (if a then x else byWord t xs w) ≡ (if eqb (if a then r .1 else codeIn w t) (r .1) then x else byCode t xs (if a then r .1 else codeIn w t))
+        → (if a then x else byWord t xs w) ≡ (if eqb (if a then r .1 else codeIn w t) (r .1) then x else byCode t xs (if a then r .1 else codeIn w t))
     go a false e ih h = absurd (true≢false (sym h))
     go true true e ih h = rw (eq-eqb (r .1) (r .1) refl)
     go false true e ih h = rw (fresh-code (r .1) t w (sym e)) (ih h)

@@ -1,21 +1,19 @@
 -- Laws of bytes written at a position, and of spelled numbers digit by digit. Assumes nothing.
-use Prim.Native.Nat.{ℕ, zero, suc, _+_, _-_, _*_, _/_, _%_, _^_, _<_, _≤_}
+use Prim.Native.Nat.{ℕ, zero, suc, _+_, _-_, _/_, _%_, _^_, _<_, _≤_}
 use mathlib.Core.Path.{_≡_, refl, sym, ap, _∙_}
-use mathlib.Core.Bool.{Bool, true, false}
-use mathlib.Core.List.{List, [], _∷_, _++_, append-assoc}
+use mathlib.Core.List.{[], _∷_, _++_, append-assoc}
 use native.Mathlib.Nat.{pow-suc}
 use native.Mathlib.Numerals.{add-one}
 use native.Mathlib.Omega.{arith}
 use native.Mathlib.Decide.{decLt}
-use borrow.Author.Tests.{lt-ltb, le-ltb, ltb-true}
+use borrow.Author.Tests.{lt-ltb, le-ltb}
 use lib.Dec.{ltb}
-use lib.IntN.{ℤ, pos, negsuc}
 use lib.ListN.{length, getD, take, drop, set, length-append, length-take, length-drop, length-set}
 use lib.Seq.{append-snoc, set-split, take-at, drop-append-add, drop-drop, take-length, paste-zero, paste-suc, paste}
 use Rattle.laws.specs.Choice.{if_then_else_}
 use Rattle.sheet.specs.Text.{Bytes, spellDigits, spellNumber, spellInteger}
 use Rattle.text.specs.Numbers.{unbias}
-use Rattle.text.specs.Written.{put, Puts, LastOf}
+use Rattle.text.specs.Written.{Puts, LastOf}
 use Rattle.text.specs.declared.spelling.Tail.{Tail}
 
 -- ---- bytes at a position
@@ -26,16 +24,20 @@ module _ {at r : ℕ} {w before after : Bytes} (puts : Puts at w before after r)
 
 -- one thing behind another
 pub puts-then : {at r q : ℕ} {v w a b c : Bytes} → Puts at v a b r → Puts r w b c q → at + length v + length w ≤ length a → Puts at (v ++ w) a c q
-puts-then {at} {r} {q} {v} {w} {a} {b} {c} p s room = record
-  { is = s .is ∙ rw (p .is, front, back) (ap (λ (l : Bytes). l ++ drop (at + length v + length w) a) (append-assoc (take at a) v w) ∙ ap (λ (k : ℕ). take at a ++ (v ++ w) ++ drop k a) behind)
-  ; end = s .end ∙ simp length-append (omega (arith, p .end)) }
+puts-then {at} {r} {q} {v} {w} {a} {b} {c} p s room = record {
+  is = s .is ∙ rw (p .is, front, back) (ap (λ (l : Bytes). l ++ drop (at + length v + length w) a) (append-assoc (take at a) v w) ∙ ap (λ (k : ℕ). take at a ++ (v ++ w) ++ drop k a) behind);
+  end = s .end ∙ simp length-append (omega (arith, p .end));
+}
   where
     long : length (take at a ++ v) ≡ r
     long = simp (length-append, length-take) (omega (arith, p .end))
+
     front : take r (take at a ++ v ++ drop (at + length v) a) ≡ take at a ++ v
     front = take-at (take at a ++ v) (drop (at + length v) a) r long
+
     back : drop (r + length w) (take at a ++ v ++ drop (at + length v) a) ≡ drop (at + length v + length w) a
     back = rw (← long) (drop-append-add (take at a ++ v) (drop (at + length v) a) (length w)) ∙ drop-drop (length w) (at + length v) a
+
     behind : at + length v + length w ≡ at + length (v ++ w)
     behind = simp length-append (omega arith)
 
@@ -52,9 +54,10 @@ module _ (at : ℕ) (w before : Bytes) (room : at + length w ≤ length before) 
   put-none = record { is = paste-zero before at w; long = refl }
 
   pub put-next : {now : Bytes} {i : ℕ} → PutTo at w before now i → i < length w → PutTo at w before (set now (at + i) (getD w i 0)) (i + 1)
-  put-next {now} {i} so h = record
-    { is = rw (so .is, add-one i) (paste-suc before at w i 0 (omega arith) h)
-    ; long = length-set now (at + i) (getD w i 0) ∙ so .long }
+  put-next {now} {i} so h = record {
+    is = rw (so .is, add-one i) (paste-suc before at w i 0 (omega arith) h);
+    long = length-set now (at + i) (getD w i 0) ∙ so .long;
+  }
 
   pub put-all : {now : Bytes} {i : ℕ} → PutTo at w before now i → i ≡ length w → Puts at w before now (at + i)
   put-all {now} {i} so h = record { is = so .is ∙ rw (h, take-length w); end = ap (λ (k : ℕ). at + k) h }
@@ -69,7 +72,7 @@ enough (suc f) zero n p q = absurd (omega arith)
 enough (suc f) (suc g) n p q = go (decLt n 10) (enough f g (n / 10))
   where
     go : Dec (n < 10) → (n / 10 < f → n / 10 < g → spellDigits f (n / 10) ≡ spellDigits g (n / 10))
-      → (if ltb n 10 then (48 + n) ∷ [] else spellDigits f (n / 10) ++ ((48 + n % 10) ∷ [])) ≡ (if ltb n 10 then (48 + n) ∷ [] else spellDigits g (n / 10) ++ ((48 + n % 10) ∷ []))
+        → (if ltb n 10 then (48 + n) ∷ [] else spellDigits f (n / 10) ++ ((48 + n % 10) ∷ [])) ≡ (if ltb n 10 then (48 + n) ∷ [] else spellDigits g (n / 10) ++ ((48 + n % 10) ∷ []))
     go (yes l) ih = rw (lt-ltb n 10 l)
     go (no l) ih = rw (ih (omega arith) (omega arith))
 

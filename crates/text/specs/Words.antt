@@ -1,7 +1,7 @@
 -- Kinds of bytes, a field's one letter, and the codes of the forms' words. proofs/WordLaws.antt ties each to crates/sheet's
 -- tests of a word.
-use Prim.Native.Nat.{ℕ, zero, suc, _+_}
-use mathlib.Core.List.{List, [], _∷_}
+use Prim.Native.Nat.{ℕ, _+_}
+use mathlib.Core.List.{[], _∷_}
 use lib.ListN.{length, take, drop}
 use lib.Dec.{eqb}
 use Rattle.laws.specs.Choice.{if_then_else_}

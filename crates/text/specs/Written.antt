@@ -1,7 +1,7 @@
 -- Bytes written at a position. proofs/WrittenLaws.antt: one thing written behind another is both written at once.
 use Prim.Native.Nat.{ℕ, _+_, _/_, _%_}
 use mathlib.Core.Path.{_≡_}
-use mathlib.Core.List.{List, _++_}
+use mathlib.Core.List.{_++_}
 use lib.ListN.{length, take, drop}
 use Rattle.sheet.specs.Text.{Bytes}
 use Rattle.text.specs.declared.spelling.Tail.{Tail}

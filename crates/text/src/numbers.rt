@@ -1,13 +1,11 @@
 // Decimal numbers and Integers: of any length, without a leading zero and without `-0`. A number's value is cut at a bound
 // on the way, so that it fits a word; no limit of document 01 lies above the bound.
 ghost use mathlib.Core.Path.{_≡_};
-ghost use mathlib.Core.Option.{Option};
 ghost use Prim.Native.Nat.{_+_, _-_, _≤_, min};
 ghost use lib.ListN.{length, take, drop};
 ghost use Rattle.sheet.specs.Text.{plain as plainOf, valueOfDigits};
 ghost use Rattle.sheet.specs.Lines.{aNumber, anInteger};
 ghost use Rattle.text.specs.Numbers.{numOf, leading, DigitsEnd, wholeOf, minusAt, signed, leadingInteger, IntegerEnd};
-
 use crate::words::byte_kind;
 
 // A number as far as a million; one above it reads as a million.

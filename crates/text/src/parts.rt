@@ -1,5 +1,5 @@
 // Lines and fields: where a part of a text ends, and a line cut into its fields.
-ghost use lib.ListN.{length, getD};
+ghost use lib.ListN.{getD};
 ghost use mathlib.Core.Path.{_≡_};
 ghost use mathlib.Core.List.{[]};
 ghost use Prim.Native.Nat.{_<_};
@@ -40,11 +40,17 @@ pub fn cut(line: &[u8]) -> Fields
         ends[n] = e;
         n += 1;
         if e == line.len() {
-            return Fields { count: n, ends: ends };
+            return Fields {
+                count: n,
+                ends: ends,
+            };
         }
         at = e + 1;
     }
-    Fields { count: 11, ends: ends }
+    Fields {
+        count: 11,
+        ends: ends,
+    }
 }
 
 // The field k of a line that was cut into `f`.

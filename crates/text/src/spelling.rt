@@ -1,5 +1,4 @@
 // Writing bytes and numbers at a position. Each function answers the position after what it wrote.
-ghost use mathlib.Core.Path.{_≡_};
 ghost use mathlib.Core.List.{[], _∷_};
 ghost use Prim.Native.Nat.{_+_, _<_, _≤_};
 ghost use lib.ListN.{length};
@@ -37,7 +36,10 @@ pub fn put_bytes(out: &mut [u8], at: usize, w: &[u8]) -> usize
 fn last_digit(n: u64) -> Tail
     ensures { λ r. ⌜ LastOf n r ⌝ }
 {
-    Tail { rest: n / 10, digit: 48 + (n % 10) as u8 }
+    Tail {
+        rest: n / 10,
+        digit: 48 + (n % 10) as u8,
+    }
 }
 
 pub fn put_number(out: &mut [u8], at: usize, n: u64) -> usize

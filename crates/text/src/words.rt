@@ -81,9 +81,21 @@ pub fn form_code(f: &[u8]) -> u64
 {
     match f.len() {
         2 => among(f, b"if or eq as", &[31, 24, 13, 12]),
-        3 => among(f, b"int var let and not div mod all", &[3, 5, 32, 23, 7, 18, 19, 6]),
-        4 => among(f, b"true self coll less plus attr size iter", &[1, 4, 27, 14, 15, 33, 8, 34]),
-        5 => among(f, b"false undef minus times asSet asBag union", &[0, 2, 16, 17, 9, 11, 22]),
+        3 => among(
+            f,
+            b"int var let and not div mod all",
+            &[3, 5, 32, 23, 7, 18, 19, 6],
+        ),
+        4 => among(
+            f,
+            b"true self coll less plus attr size iter",
+            &[1, 4, 27, 14, 15, 33, 8, 34],
+        ),
+        5 => among(
+            f,
+            b"false undef minus times asSet asBag union",
+            &[0, 2, 16, 17, 9, 11, 22],
+        ),
         6 => among(f, b"forAll exists", &[25, 26]),
         7 => among(f, b"isUndef", &[30]),
         8 => among(f, b"includes", &[20]),

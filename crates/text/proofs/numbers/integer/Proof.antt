@@ -1,27 +1,20 @@
+-- `integer` meets its contract. The field is an Integer exactly if its digits end where it ends. Assumes nothing.
 use mathlib.Core.Path.{_∙_, sym, ap}
 use Rattle.text.specs.Numbers.{wholeOf}
 use Rattle.text.proofs.IntegerLaws.{an-integer, not-an-integer}
 use borrow.Author.Needs.{needs}
 use Rattle.text.proofs.numbers.integer.Statement.{statement}
 use Rattle.text.proofs.numbers.integer.Tie as tie
-use Rattle.text.proofs.numbers.integer.Reads as reads
-use Rattle.text.proofs.numbers.integer.Lts as lts
-use Rattle.text.proofs.numbers.integer_at.Reads as integer-at-reads
-use Rattle.text.proofs.numbers.integer_end.Reads as integer-end-reads
 
--- src/numbers.rt:164:9
 integer-end-requires : tie.Need-integer-end-requires
 integer-end-requires c κs = search needs
 
--- src/numbers.rt:166:9
 integer-at-requires : tie.Need-integer-at-requires
 integer-at-requires c κs = search needs
 
--- src/numbers.rt:166:9
 returns : tie.Need-returns
 returns c = c .integer-at .ensures ∙ ap wholeOf (sym (an-integer (c .before .before .integer-end .ensures) (c .before .if1 .taken)))
 
--- src/numbers.rt:161:1
 returns-2 : tie.Need-returns-2
 unfolding wholeOf
 returns-2 c = sym (ap wholeOf (not-an-integer (c .before .integer-end .ensures) (c .if1 .left)))

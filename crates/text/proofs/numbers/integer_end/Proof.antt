@@ -1,26 +1,19 @@
+-- `integer_end` meets its contract. The digits behind the sign end there. Assumes nothing.
 use native.Mathlib.Omega.{arith}
 use Rattle.text.proofs.IntegerLaws.{minus-room, integer-ends}
 use borrow.Author.Needs.{needs}
 use Rattle.text.proofs.numbers.integer_end.Statement.{statement}
 use Rattle.text.proofs.numbers.integer_end.Tie as tie
-use Rattle.text.proofs.numbers.integer_end.Reads as reads
-use Rattle.text.proofs.numbers.integer_end.Lts as lts
-use Rattle.text.proofs.numbers.digits_end.Reads as digits-end-reads
-use Rattle.text.proofs.numbers.minus_at.Reads as minus-at-reads
 
--- src/numbers.rt:143:21
 minus-at-requires : tie.Need-minus-at-requires
 minus-at-requires c κs = search needs
 
--- src/numbers.rt:143:16
 add-from : tie.Need-add-from
 add-from c = omega (arith, minus-room _ (c .before .before .pre) (c .minus-at .ensures))
 
--- src/numbers.rt:144:5
 digits-end-requires : tie.Need-digits-end-requires
 digits-end-requires c κs = minus-room _ (c .before .before .pre) (c .minus-at .ensures)
 
--- src/numbers.rt:139:1
 returns : tie.Need-returns
 returns c = integer-ends (c .before .minus-at .ensures) (c .digits-end .ensures)
 

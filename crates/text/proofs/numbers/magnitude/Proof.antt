@@ -1,16 +1,13 @@
+-- `magnitude` meets its contract. The digits that are left, after the number so far, stand for the whole number, both cut at the bound. Assumes nothing.
 use Prim.Native.Nat.{_≤_, _-_, min}
 use mathlib.Core.Path.{_≡_, refl}
-use lib.ListN.{length, take, drop}
+use lib.ListN.{take, drop}
 use borrow.Author.Needs.{needs}
 use native.Mathlib.Omega.{arith}
 use Rattle.sheet.specs.Text.{valueOfDigits}
 use Rattle.text.proofs.NumberLaws.{value-next, value-end}
 use Rattle.text.proofs.numbers.magnitude.Statement.{statement}
 use Rattle.text.proofs.numbers.magnitude.Tie as tie
-use Rattle.text.proofs.numbers.magnitude.Reads as reads
-use Rattle.text.proofs.numbers.magnitude.Lts as lts
-use Rattle.text.proofs.numbers.at_most.Reads as at-most-reads
-use Rattle.text.proofs.numbers.digit.Reads as digit-reads
 
 abbrev Inv-loop : tie.InvT-loop
 Inv-loop s a e n₀ i₀ n i = (i ≤ e) × (n ≤ 10000000000) × (min (valueOfDigits n (take (e - i) (drop i s))) 10000000000 ≡ min (valueOfDigits 0 (take (e - a) (drop a s))) 10000000000)
@@ -18,43 +15,33 @@ Inv-loop s a e n₀ i₀ n i = (i ≤ e) × (n ≤ 10000000000) × (min (valueOf
 abbrev μ-loop : tie.MeasureT-loop
 μ-loop s a e n₀ i₀ n i = e - i
 
--- src/numbers.rt:78:5
 loop-holds : tie.Need-loop-holds Inv-loop μ-loop
 loop-holds c = (search needs, search needs, refl)
 
--- src/numbers.rt:79:21
 mul-at-most : tie.Need-mul-at-most Inv-loop μ-loop
 mul-at-most c = search needs
 
--- src/numbers.rt:79:36
 shared-slice-read-digit : tie.Need-shared-slice-read-digit Inv-loop μ-loop
 shared-slice-read-digit c = search needs
 
--- src/numbers.rt:79:30
 digit-requires : tie.Need-digit-requires Inv-loop μ-loop
 digit-requires c κs = search needs
 
--- src/numbers.rt:79:21
 add-at-most : tie.Need-add-at-most Inv-loop μ-loop
 add-at-most c = omega (arith, c .before .before .before .before .shared-slice-known .given (c .before .before .before .loop .i))
 
--- src/numbers.rt:79:9
 at-most-requires : tie.Need-at-most-requires Inv-loop μ-loop
 at-most-requires c κs = search needs
 
--- src/numbers.rt:80:9
 add-i : tie.Need-add-i Inv-loop μ-loop
 add-i c = search needs
 
--- src/numbers.rt:78:5
 loop-less : tie.Need-loop-less Inv-loop μ-loop
 loop-less c = search needs
 
--- src/numbers.rt:78:5
 loop-again : tie.Need-loop-again Inv-loop μ-loop
 loop-again c = (search needs, omega arith, value-next _ _ _ _ _ (c .before .before .before .before .before .before .pre .1) (c .before .before .before .before .loop .inv .2) (c .before .before .before .loop-test .taken) (c .before .digit .ensures) (c .at-most .ensures))
 
--- src/numbers.rt:72:1
 returns : tie.Need-returns Inv-loop μ-loop
 returns c = value-end _ _ _ _ _ (c .before .before .before .pre .1) (c .before .loop .inv .2) (c .before .loop .inv .1) (c .loop-test .left)
 

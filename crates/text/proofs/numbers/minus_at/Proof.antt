@@ -1,23 +1,18 @@
+-- `minus_at` meets its contract. By the byte at the position, if there is one. Assumes nothing.
 use Rattle.text.proofs.IntegerLaws.{minus-here, minus-not, minus-past}
 use borrow.Author.Needs.{needs}
 use Rattle.text.proofs.numbers.minus_at.Statement.{statement}
 use Rattle.text.proofs.numbers.minus_at.Tie as tie
-use Rattle.text.proofs.numbers.minus_at.Reads as reads
-use Rattle.text.proofs.numbers.minus_at.Lts as lts
 
--- src/numbers.rt:112:12
 shared-slice-read-if2 : tie.Need-shared-slice-read-if2
 shared-slice-read-if2 c = search needs
 
--- src/numbers.rt:113:13
 returns : tie.Need-returns
 returns c = minus-here _ _ (c .before .before .if1 .taken) (c .if2 .taken)
 
--- src/numbers.rt:108:1
 returns-2 : tie.Need-returns-2
 returns-2 c = minus-not _ _ (c .before .before .if1 .taken) (c .if2 .left)
 
--- src/numbers.rt:108:1
 returns-3 : tie.Need-returns-3
 returns-3 c = minus-past _ _ (c .if1 .left)
 

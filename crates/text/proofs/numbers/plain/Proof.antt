@@ -1,31 +1,24 @@
+-- `plain` meets its contract. By the number of digits, then by the first. Assumes nothing.
 use Rattle.text.proofs.NumberLaws.{plain-none, plain-one, plain-zero, plain-other}
 use borrow.Author.Needs.{needs}
 use Rattle.text.proofs.numbers.plain.Statement.{statement}
 use Rattle.text.proofs.numbers.plain.Tie as tie
-use Rattle.text.proofs.numbers.plain.Reads as reads
-use Rattle.text.proofs.numbers.plain.Lts as lts
 
--- src/numbers.rt:47:9
 returns : tie.Need-returns
 returns c = plain-none _ _ _ (c .before .pre .1) (c .if1 .taken)
 
--- src/numbers.rt:49:8
 add-if2 : tie.Need-add-if2
 add-if2 c = search needs
 
--- src/numbers.rt:50:9
 returns-2 : tie.Need-returns-2
 returns-2 c = plain-one _ _ _ (c .before .before .pre .1) (c .if2 .taken)
 
--- src/numbers.rt:52:8
 shared-slice-read-if3 : tie.Need-shared-slice-read-if3
 shared-slice-read-if3 c = search needs
 
--- src/numbers.rt:53:9
 returns-3 : tie.Need-returns-3
 returns-3 c = plain-zero _ _ _ (c .before .before .before .before .pre .1) (c .before .before .before .before .pre .0) (c .before .before .before .if1 .left) (c .before .before .if2 .left) (c .if3 .taken)
 
--- src/numbers.rt:42:1
 returns-4 : tie.Need-returns-4
 returns-4 c = plain-other _ _ _ (c .before .before .before .before .pre .1) (c .before .before .before .before .pre .0) (c .before .before .before .if1 .left) (c .before .before .if2 .left) (c .if3 .left)
 

@@ -1,3 +1,4 @@
+-- `cut` meets its contract. The first n fields lie where the ends say, and the rest of the line is the rest of the fields. Assumes nothing.
 use Prim.Native.Nat.{_≤_, _-_}
 use mathlib.Core.Path.{refl}
 use borrow.Author.Needs.{needs}
@@ -5,9 +6,6 @@ use native.Mathlib.Omega.{arith}
 use Rattle.text.proofs.PartLaws.{CutTo, cut-none, end-within, cut-last, cut-next, cut-full}
 use Rattle.text.proofs.parts.cut.Statement.{statement}
 use Rattle.text.proofs.parts.cut.Tie as tie
-use Rattle.text.proofs.parts.cut.Reads as reads
-use Rattle.text.proofs.parts.cut.Lts as lts
-use Rattle.text.proofs.parts.find.Reads as find-reads
 
 abbrev Inv-loop : tie.InvT-loop
 Inv-loop line ends₀ at₀ n₀ ends at n = CutTo line n at ends × (n ≤ 10)
@@ -15,59 +13,45 @@ Inv-loop line ends₀ at₀ n₀ ends at n = CutTo line n at ends × (n ≤ 10)
 abbrev μ-loop : tie.MeasureT-loop
 μ-loop line ends₀ at₀ n₀ ends at n = 10 - n
 
--- src/parts.rt:37:5
 loop-holds : tie.Need-loop-holds Inv-loop μ-loop
 loop-holds c = (cut-none _ _ refl, search needs)
 
--- src/parts.rt:38:20
 sub-rest : tie.Need-sub-rest Inv-loop μ-loop
 sub-rest c = search needs
 
--- src/parts.rt:38:20
 part-rest-start : tie.Need-part-rest-start Inv-loop μ-loop
 part-rest-start c = search needs
 
--- src/parts.rt:38:20
 part-rest-end : tie.Need-part-rest-end Inv-loop μ-loop
 part-rest-end c = search needs
 
--- src/parts.rt:39:22
 find-requires : tie.Need-find-requires Inv-loop μ-loop
 find-requires c κs = search needs
 
--- src/parts.rt:39:17
 add-e : tie.Need-add-e Inv-loop μ-loop
 add-e c = omega (arith, end-within (c .before .before .before .loop .inv .0) (c .before .before .loop-test .taken) (c .find .ensures))
 
--- src/parts.rt:40:9
 mul-ends : tie.Need-mul-ends Inv-loop μ-loop
 mul-ends c = search needs
 
--- src/parts.rt:40:9
 array-write-ends : tie.Need-array-write-ends Inv-loop μ-loop
 array-write-ends c = search needs
 
--- src/parts.rt:41:9
 add-n : tie.Need-add-n Inv-loop μ-loop
 add-n c = search needs
 
--- src/parts.rt:43:13
 returns : tie.Need-returns Inv-loop μ-loop
 returns c = cut-last (c .before .before .before .before .loop .inv .0) (c .before .before .before .loop-test .taken) (c .before .find .ensures) (c .if1 .taken)
 
--- src/parts.rt:45:14
 add-at : tie.Need-add-at Inv-loop μ-loop
 add-at c = omega (arith, end-within (c .before .before .before .before .loop .inv .0) (c .before .before .before .loop-test .taken) (c .before .find .ensures))
 
--- src/parts.rt:37:5
 loop-less : tie.Need-loop-less Inv-loop μ-loop
 loop-less c = search needs
 
--- src/parts.rt:37:5
 loop-again : tie.Need-loop-again Inv-loop μ-loop
 loop-again c = (cut-next (c .before .before .before .before .loop .inv .0) (c .before .before .before .loop-test .taken) (c .before .find .ensures) (c .if1 .left), search needs)
 
--- src/parts.rt:31:1
 returns-2 : tie.Need-returns-2 Inv-loop μ-loop
 returns-2 c = cut-full (c .before .loop .inv .0) (omega arith)
 

@@ -1,3 +1,4 @@
+-- `put_number` meets its contract. The digits before the last are written first; the number falls with each call. Assumes nothing.
 use mathlib.Core.Path.{_∙_}
 use borrow.Author.Needs.{needs}
 use native.Mathlib.Omega.{arith}
@@ -24,7 +25,6 @@ abbrev put-number-below : ℕ → In 1 put-number-kinds.ps
 put-number-below t =
     and 1 put-number-kinds.ps (falls 1 put-number-kinds.ps _<_ μ-put-number t) put-number.Pre
 
--- src/spelling.rt:47:9
 put-number-last-digit-requires : (t : ℕ) → put-number-lts.Need-last-digit-requires (
   last-digit-reads.Asked,
   last-digit-reads.Learnt,
@@ -35,7 +35,6 @@ put-number-last-digit-requires : (t : ℕ) → put-number-lts.Need-last-digit-re
 ) (put-number-at t) put-number.Post
 put-number-last-digit-requires t c κs = search needs
 
--- src/spelling.rt:51:9
 put-number-put-byte-requires : (t : ℕ) → put-number-lts.Need-put-byte-requires (
   last-digit-reads.Asked,
   last-digit-reads.Learnt,
@@ -46,7 +45,6 @@ put-number-put-byte-requires : (t : ℕ) → put-number-lts.Need-put-byte-requir
 ) (put-number-at t) put-number.Post
 put-number-put-byte-requires t c κs = room-only (c .before .before .last-digit .ensures) _ (c .before .before .before .before .args .out .now) (c .before .before .before .before .pre .1) (c .before .if1 .taken)
 
--- src/spelling.rt:51:9
 put-number-same-length : (t : ℕ) → put-number-lts.Need-same-length (
   last-digit-reads.Asked,
   last-digit-reads.Learnt,
@@ -57,7 +55,6 @@ put-number-same-length : (t : ℕ) → put-number-lts.Need-same-length (
 ) (put-number-at t) put-number.Post
 put-number-same-length t c = c .before .before .put-byte .kept .0
 
--- src/spelling.rt:51:9
 put-number-returns : (t : ℕ) → put-number-lts.Need-returns (
   last-digit-reads.Asked,
   last-digit-reads.Learnt,
@@ -68,7 +65,6 @@ put-number-returns : (t : ℕ) → put-number-lts.Need-returns (
 ) (put-number-at t) put-number.Post
 put-number-returns t c = puts-only (c .before .before .before .before .before .last-digit .ensures) _ _ (c .before .before .before .before .before .before .before .pre .1) (c .before .before .before .before .if1 .taken) (c .before .before .put-byte .ensures)
 
--- src/spelling.rt:53:9
 put-number-put-number-requires : (t : ℕ) → put-number-lts.Need-put-number-requires (
   last-digit-reads.Asked,
   last-digit-reads.Learnt,
@@ -79,7 +75,6 @@ put-number-put-number-requires : (t : ℕ) → put-number-lts.Need-put-number-re
 ) (put-number-at t) put-number.Post
 put-number-put-number-requires t c κs = (omega (arith, c .before .before .before .before .pre .0, last-less (c .before .before .last-digit .ensures) (c .before .if1 .left)), room-front (c .before .before .last-digit .ensures) _ (c .before .before .before .before .args .out .now) (c .before .before .before .before .pre .1) (c .before .if1 .left))
 
--- src/spelling.rt:54:5
 put-number-put-byte-requires-2 : (t : ℕ) → put-number-lts.Need-put-byte-requires-2 (
   last-digit-reads.Asked,
   last-digit-reads.Learnt,
@@ -90,7 +85,6 @@ put-number-put-byte-requires-2 : (t : ℕ) → put-number-lts.Need-put-byte-requ
 ) (put-number-at t) put-number.Post
 put-number-put-byte-requires-2 t c κs = room-back (c .before .before .before .before .before .before .last-digit .ensures) _ _ (c .before .before .before .before .before .before .before .before .pre .1) (c .before .before .before .before .before .if1 .left) (c .before .before .before .put-number .ensures)
 
--- src/spelling.rt:43:1
 put-number-same-length-2 : (t : ℕ) → put-number-lts.Need-same-length-2 (
   last-digit-reads.Asked,
   last-digit-reads.Learnt,
@@ -101,7 +95,6 @@ put-number-same-length-2 : (t : ℕ) → put-number-lts.Need-same-length-2 (
 ) (put-number-at t) put-number.Post
 put-number-same-length-2 t c = c .before .before .put-byte2 .kept .0 ∙ c .before .before .before .before .before .before .put-number .kept .0
 
--- src/spelling.rt:43:1
 put-number-returns-2 : (t : ℕ) → put-number-lts.Need-returns-2 (
   last-digit-reads.Asked,
   last-digit-reads.Learnt,
