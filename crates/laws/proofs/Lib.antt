@@ -2,3 +2,5 @@ pub mod Tests
 pub mod Options
 pub mod Lists
 pub mod Orders
+pub mod Parts
+pub mod Bounds

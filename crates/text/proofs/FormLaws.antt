@@ -1,0 +1,140 @@
+-- Laws of the codes of forms: the words of a field's own length are enough. Assumes nothing.
+use Prim.Native.Nat.{ℕ, suc, _+_, _-_, _*_, _<_, _≤_}
+use mathlib.Core.Path.{_≡_, refl, sym, ap, _∙_}
+use mathlib.Core.Bool.{Bool, true, false, _&&_, true≢false}
+use mathlib.Core.List.{List, [], _∷_}
+use native.Mathlib.Nat.{suc-mul, not-le-of-lt}
+use native.Mathlib.Omega.{arith}
+use borrow.Author.Tests.{eqb-false, ne-eqb, leb-true}
+use lib.Dec.{eqb, leb}
+use lib.ListN.{length, getD, take, drop, drop-of-length-le}
+use lib.Seq.{drop-drop}
+use Rattle.laws.specs.Choice.{if_then_else_}
+use Rattle.laws.specs.Lists.{allOf}
+use Rattle.laws.proofs.Parts.{at-next}
+use Rattle.sheet.specs.Text.{Bytes, bytes}
+use Rattle.sheet.specs.Lines.{is}
+use Rattle.text.specs.Words.{codeAmong, formCode}
+use Rattle.text.proofs.WordLaws.{other-length}
+
+-- a table of words with their codes, and the code of the first word that w is
+abbrev pub Table : Type 0
+Table = List (Bytes × ℕ)
+
+unfoldable pub codeIn : Bytes → Table → ℕ
+codeIn w [] = 99
+codeIn w (x ∷ t) = if is w (x .0) then x .1 else codeIn w t
+
+-- the rows whose word has n bytes
+unfoldable pub ofLength : ℕ → Table → Table
+ofLength n [] = []
+ofLength n (x ∷ t) = if eqb (length (x .0)) n then x ∷ ofLength n t else ofLength n t
+
+-- no other row can be meant
+by-length : (w : Bytes) (t : Table) → codeIn w (ofLength (length w) t) ≡ codeIn w t
+unfolding codeIn ofLength
+by-length w [] = refl
+by-length w (x ∷ t) = go (eqb (length (x .0)) (length w)) (by-length w t) refl
+  where
+    go : (u : Bool) → codeIn w (ofLength (length w) t) ≡ codeIn w t → u ≡ eqb (length (x .0)) (length w) → codeIn w (if u then x ∷ ofLength (length w) t else ofLength (length w) t) ≡ codeIn w (x ∷ t)
+    go true ih e = ap (λ (k : ℕ). if is w (x .0) then x .1 else k) ih
+    go false ih e = rw (← other-length w (x .0) (λ q. eqb-false _ _ (sym e) (sym q))) ih
+
+unfoldable pub forms : Table
+forms =
+    (bytes "true", 1) ∷ (bytes "false", 0) ∷ (bytes "undef", 2) ∷ (bytes "int", 3) ∷ (bytes "self", 4) ∷ (bytes "var", 5)
+    ∷ (bytes "coll", 27) ∷ (bytes "let", 32) ∷ (bytes "if", 31) ∷ (bytes "and", 23) ∷ (bytes "or", 24) ∷ (bytes "not", 7)
+    ∷ (bytes "isUndef", 30) ∷ (bytes "eq", 13) ∷ (bytes "less", 14) ∷ (bytes "plus", 15) ∷ (bytes "minus", 16)
+    ∷ (bytes "times", 17) ∷ (bytes "div", 18) ∷ (bytes "mod", 19) ∷ (bytes "attr", 33) ∷ (bytes "all", 6) ∷ (bytes "as", 12)
+    ∷ (bytes "size", 8) ∷ (bytes "includes", 20) ∷ (bytes "asSet", 9) ∷ (bytes "asBag", 11) ∷ (bytes "asSequence", 10)
+    ∷ (bytes "including", 21) ∷ (bytes "union", 22) ∷ (bytes "iter", 34) ∷ (bytes "forAll", 25) ∷ (bytes "exists", 26) ∷ []
+
+pub forms-code : (w : Bytes) → formCode w ≡ codeIn w forms
+unfolding formCode codeIn forms
+forms-code w = refl
+
+-- the rows of words of n bytes with a byte after each
+unfoldable pub rowsOf : ℕ → Bytes → Bytes → Table
+rowsOf n words [] = []
+rowsOf n words (c ∷ codes) = (take n words, c) ∷ rowsOf n (drop (n + 1) words) codes
+
+among-rows : (w words codes : Bytes) → codeAmong w words codes ≡ codeIn w (rowsOf (length w) words codes)
+unfolding codeAmong codeIn rowsOf
+among-rows w words [] = refl
+among-rows w words (c ∷ codes) = ap (λ (k : ℕ). if is w (take (length w) words) then c else k) (among-rows w (drop (length w + 1) words) codes)
+
+-- the words of the length of w
+module _ (w words codes : Bytes) (n : ℕ) where
+  pub of-length : {r : ℕ} → length w ≡ n → ofLength n forms ≡ rowsOf n words codes → r ≡ codeAmong w words codes → r ≡ formCode w
+  of-length e q h = h ∙ among-rows w words codes ∙ rw (e, ← q, ← e) (by-length w forms) ∙ sym (forms-code w)
+
+-- each word of a table has 2 to 10 bytes
+unfoldable moderate : Table → Bool
+moderate t = allOf (λ x. leb 2 (length (x .0)) && leb (length (x .0)) 10) t
+
+none-longer : (n : ℕ) (t : Table) → moderate t ≡ true → (2 ≤ n → n ≤ 10 → ⊥) → ofLength n t ≡ []
+unfolding moderate allOf ofLength
+none-longer n [] m h = refl
+none-longer n (x ∷ t) m h = go (leb 2 (length (x .0))) (leb (length (x .0)) 10) (λ k. none-longer n t k h) refl refl m
+  where
+    go : (a b : Bool) → (moderate t ≡ true → ofLength n t ≡ []) → a ≡ leb 2 (length (x .0)) → b ≡ leb (length (x .0)) 10 → (a && b && moderate t) ≡ true
+        → (if eqb (length (x .0)) n then x ∷ ofLength n t else ofLength n t) ≡ []
+    go true true ih p q m =
+        rw (ne-eqb (length (x .0)) n (λ e. h (rw e at (leb-true 2 (length (x .0)) (sym p))) (rw e at (leb-true (length (x .0)) 10 (sym q))))) (ih m)
+    go true false ih p q m = absurd (true≢false (sym m))
+    go false b ih p q m = absurd (true≢false (sym m))
+
+all-moderate : moderate forms ≡ true
+unfolding moderate allOf forms bytes
+all-moderate = refl
+
+-- a number that is at least k, and not k
+above : {n k : ℕ} → k ≤ n → (n ≡ k → ⊥) → k + 1 ≤ n
+above p h = omega arith
+
+-- no word has the length of w
+pub no-length : (w : Bytes) → (length w ≡ 2 → ⊥) → (length w ≡ 3 → ⊥) → (length w ≡ 4 → ⊥) → (length w ≡ 5 → ⊥) → (length w ≡ 6 → ⊥) → (length w ≡ 7 → ⊥) → (length w ≡ 8 → ⊥) → (length w ≡ 9 → ⊥) → (length w ≡ 10 → ⊥) → 99 ≡ formCode w
+unfolding codeIn
+no-length w a b c d e f g h i = sym (forms-code w ∙ sym (by-length w forms) ∙ ap (codeIn w) none)
+  where
+    out : 2 ≤ length w → length w ≤ 10 → ⊥
+    out p q = not-le-of-lt (above (above (above (above (above (above (above (above (above p a) b) c) d) e) f) g) h) i) q
+
+    none : ofLength (length w) forms ≡ []
+    none = none-longer (length w) forms all-moderate out
+
+-- the turns of `among`: the words and codes that are left, and room for a word to each code
+pub record Left (w words codes : Bytes) (at k : ℕ) : Type 0 where
+  pub room : (length codes - k) * (length w + 1) + at ≤ length words + 1
+  pub code : codeAmong w (drop at words) (drop k codes) ≡ codeAmong w words codes
+
+pub left-all : (w words codes : Bytes) → length codes * (length w + 1) ≤ length words + 1 → Left w words codes 0 0
+left-all w words codes h = let q : length codes - 0 ≡ length codes = omega arith in record { room = rw q (omega arith); code = refl }
+
+rows-left : (c k n : ℕ) → k < c → (c - k) * n ≡ n + (c - (k + 1)) * n
+rows-left c k n h = let q : c - k ≡ suc (c - (k + 1)) = omega arith in rw (q, suc-mul (c - (k + 1)) n) (omega arith)
+
+module _ {w words codes : Bytes} {at k : ℕ} (left : Left w words codes at k) where
+  pub word-within : k < length codes → at + length w ≤ length words
+  word-within h = omega (arith, rows-left (length codes) k (length w + 1) h, left .room)
+
+  module _ {t : Bool} (told : t ≡ is w (take ((at + length w) - at) (drop at words))) where
+    word-here : t ≡ is w (take (length w) (drop at words))
+    word-here = let q : (at + length w) - at ≡ length w = omega arith in rw q at told
+
+    pub left-found : k < length codes → t ≡ true → getD codes k 0 ≡ codeAmong w words codes
+    unfolding codeAmong
+    left-found h e = rw (at-next 0 codes k h, ← word-here, e) at (left .code)
+
+    pub left-next : k < length codes → t ≡ false → Left w words codes (at + length w + 1) (k + 1)
+    unfolding codeAmong
+    left-next h e = record {
+      room = omega (arith, rows-left (length codes) k (length w + 1) h, left .room);
+      code =
+          let q : at + (length w + 1) ≡ at + length w + 1 = omega arith in
+          rw (at-next 0 codes k h, ← word-here, e, drop-drop (length w + 1) at words, q) at (left .code);
+    }
+
+  pub left-none : length codes ≤ k → 99 ≡ codeAmong w words codes
+  unfolding codeAmong
+  left-none h = rw (drop-of-length-le codes h) at (left .code)

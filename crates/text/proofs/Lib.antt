@@ -1,0 +1,7 @@
+pub mod PartLaws
+pub mod WordLaws
+pub mod FormLaws
+pub mod NumberLaws
+pub mod IntegerLaws
+pub mod WrittenLaws
+pub mod ShapeLaws

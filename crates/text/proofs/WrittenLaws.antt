@@ -1,0 +1,158 @@
+-- Laws of bytes written at a position, and of spelled numbers digit by digit. Assumes nothing.
+use Prim.Native.Nat.{ℕ, zero, suc, _+_, _-_, _/_, _%_, _^_, _<_, _≤_}
+use mathlib.Core.Path.{_≡_, refl, sym, ap, _∙_}
+use mathlib.Core.List.{[], _∷_, _++_, append-assoc}
+use native.Mathlib.Nat.{pow-suc}
+use native.Mathlib.Numerals.{add-one}
+use native.Mathlib.Omega.{arith}
+use native.Mathlib.Decide.{decLt}
+use borrow.Author.Tests.{lt-ltb, le-ltb}
+use lib.Dec.{ltb}
+use lib.ListN.{length, getD, take, drop, set, length-append, length-take, length-drop, length-set}
+use lib.Seq.{append-snoc, set-split, take-at, drop-append-add, drop-drop, take-length, paste-zero, paste-suc, paste}
+use Rattle.laws.specs.Choice.{if_then_else_}
+use Rattle.sheet.specs.Text.{Bytes, spellDigits, spellNumber, spellInteger}
+use Rattle.text.specs.Numbers.{unbias}
+use Rattle.text.specs.Written.{Puts, LastOf}
+use Rattle.text.specs.declared.spelling.Tail.{Tail}
+
+-- ---- bytes at a position
+
+module _ {at r : ℕ} {w before after : Bytes} (puts : Puts at w before after r) (room : at + length w ≤ length before) where
+  pub puts-length : length after ≡ length before
+  puts-length = ap length (puts .is) ∙ simp (length-append, length-take, length-drop) (omega arith)
+
+-- one thing behind another
+pub puts-then : {at r q : ℕ} {v w a b c : Bytes} → Puts at v a b r → Puts r w b c q → at + length v + length w ≤ length a → Puts at (v ++ w) a c q
+puts-then {at} {r} {q} {v} {w} {a} {b} {c} p s room = record {
+  is = s .is ∙ rw (p .is, front, back) (ap (λ (l : Bytes). l ++ drop (at + length v + length w) a) (append-assoc (take at a) v w) ∙ ap (λ (k : ℕ). take at a ++ (v ++ w) ++ drop k a) behind);
+  end = s .end ∙ simp length-append (omega (arith, p .end));
+}
+  where
+    long : length (take at a ++ v) ≡ r
+    long = simp (length-append, length-take) (omega (arith, p .end))
+
+    front : take r (take at a ++ v ++ drop (at + length v) a) ≡ take at a ++ v
+    front = take-at (take at a ++ v) (drop (at + length v) a) r long
+
+    back : drop (r + length w) (take at a ++ v ++ drop (at + length v) a) ≡ drop (at + length v + length w) a
+    back = rw (← long) (drop-append-add (take at a ++ v) (drop (at + length v) a) (length w)) ∙ drop-drop (length w) (at + length v) a
+
+    behind : at + length v + length w ≡ at + length (v ++ w)
+    behind = simp length-append (omega arith)
+
+pub byte-puts : (out : Bytes) (at b : ℕ) → at < length out → Puts at (b ∷ []) out (set out at b) (at + 1)
+byte-puts out at b h = record { is = set-split out at b h ∙ rw (add-one at) (sym (append-snoc (take at out) b (drop (suc at) out))); end = refl }
+
+-- the turns of `put_bytes`: i bytes of w are written
+pub record PutTo (at : ℕ) (w before now : Bytes) (i : ℕ) : Type 0 where
+  pub is : now ≡ paste before at w i
+  pub long : length now ≡ length before
+
+module _ (at : ℕ) (w before : Bytes) (room : at + length w ≤ length before) where
+  pub put-none : PutTo at w before before 0
+  put-none = record { is = paste-zero before at w; long = refl }
+
+  pub put-next : {now : Bytes} {i : ℕ} → PutTo at w before now i → i < length w → PutTo at w before (set now (at + i) (getD w i 0)) (i + 1)
+  put-next {now} {i} so h = record {
+    is = rw (so .is, add-one i) (paste-suc before at w i 0 (omega arith) h);
+    long = length-set now (at + i) (getD w i 0) ∙ so .long;
+  }
+
+  pub put-all : {now : Bytes} {i : ℕ} → PutTo at w before now i → i ≡ length w → Puts at w before now (at + i)
+  put-all {now} {i} so h = record { is = so .is ∙ rw (h, take-length w); end = ap (λ (k : ℕ). at + k) h }
+
+-- ---- digits
+
+-- one digit more than are needed does no harm
+enough : (f g n : ℕ) → n < f → n < g → spellDigits f n ≡ spellDigits g n
+unfolding spellDigits
+enough zero g n p q = absurd (omega arith)
+enough (suc f) zero n p q = absurd (omega arith)
+enough (suc f) (suc g) n p q = go (decLt n 10) (enough f g (n / 10))
+  where
+    go : Dec (n < 10) → (n / 10 < f → n / 10 < g → spellDigits f (n / 10) ≡ spellDigits g (n / 10))
+        → (if ltb n 10 then (48 + n) ∷ [] else spellDigits f (n / 10) ++ ((48 + n % 10) ∷ [])) ≡ (if ltb n 10 then (48 + n) ∷ [] else spellDigits g (n / 10) ++ ((48 + n % 10) ∷ []))
+    go (yes l) ih = rw (lt-ltb n 10 l)
+    go (no l) ih = rw (ih (omega arith) (omega arith))
+
+spell-one : (n : ℕ) → n < 10 → spellNumber n ≡ (48 + n) ∷ []
+unfolding spellNumber spellDigits
+spell-one n h = rw (lt-ltb n 10 h)
+
+spell-more : (n : ℕ) → 10 ≤ n → spellNumber n ≡ spellNumber (n / 10) ++ ((48 + n % 10) ∷ [])
+unfolding spellNumber spellDigits
+spell-more n h = rw (le-ltb n 10 h) (ap (λ (l : Bytes). l ++ ((48 + n % 10) ∷ [])) (enough n (suc (n / 10)) (n / 10) (omega arith) (omega arith)))
+
+module _ {n : ℕ} {t : Tail} (last : LastOf n t) where
+  pub last-only : t .rest ≡ 0 → (t .digit ∷ []) ≡ spellNumber n
+  last-only h = sym (spell-one n (omega (arith, last .rest)) ∙ ap (λ (d : ℕ). d ∷ []) (omega (arith, last .rest, last .digit)))
+
+  pub last-more : (t .rest ≡ 0 → ⊥) → spellNumber (t .rest) ++ (t .digit ∷ []) ≡ spellNumber n
+  last-more h = rw (last .rest, last .digit) (sym (spell-more n (omega (arith, last .rest))))
+
+  last-room : (t .rest ≡ 0 → ⊥) → length (spellNumber (t .rest)) + 1 ≡ length (spellNumber n)
+  last-room h = sym (length-append (spellNumber (t .rest)) (t .digit ∷ [])) ∙ ap length (last-more h)
+
+  pub last-less : (t .rest ≡ 0 → ⊥) → t .rest < n
+  last-less h = omega (arith, last .rest)
+
+  -- what `put_number` asks of the calls in it, and what they give
+  module _ (at : ℕ) (a : Bytes) (room : at + length (spellNumber n) ≤ length a) where
+    pub room-only : t .rest ≡ 0 → at < length a
+    room-only h = omega (arith, ap length (last-only h))
+
+    pub puts-only : {b : Bytes} {r : ℕ} → t .rest ≡ 0 → Puts at (t .digit ∷ []) a b r → Puts at (spellNumber n) a b r
+    puts-only h p = rw (last-only h) at p
+
+    pub room-front : (t .rest ≡ 0 → ⊥) → at + length (spellNumber (t .rest)) ≤ length a
+    room-front h = omega (arith, last-room h)
+
+    module _ {b : Bytes} {e : ℕ} (h : t .rest ≡ 0 → ⊥) (front : Puts at (spellNumber (t .rest)) a b e) where
+      pub room-back : e < length b
+      room-back = omega (arith, last-room h, puts-length front (room-front h), front .end)
+
+      pub puts-back : {c : Bytes} {r : ℕ} → Puts e (t .digit ∷ []) b c r → Puts at (spellNumber n) a c r
+      puts-back p = rw (last-more h) at (puts-then front p (omega (arith, last-room h)))
+
+-- a number below a power of ten has no more digits
+pub spell-short : (k n : ℕ) → n < 10 ^ suc k → length (spellNumber n) ≤ suc k
+spell-short zero n h = rw (spell-one n h) (omega arith)
+spell-short (suc k) n h = go (decLt n 10) (spell-short k (n / 10) (omega (arith, rw (pow-suc 10 (suc k)) at h)))
+  where
+    go : Dec (n < 10) → length (spellNumber (n / 10)) ≤ suc k → length (spellNumber n) ≤ suc (suc k)
+    go (yes l) ih = rw (spell-one n l) (omega arith)
+    go (no l) ih = rw (spell-more n (omega arith), length-append (spellNumber (n / 10)) ((48 + n % 10) ∷ [])) (omega arith)
+
+-- ---- Integers
+
+module _ (p : ℕ) where
+  pub spell-minus : p < 2147483648 → spellInteger (unbias p) ≡ 45 ∷ spellNumber (2147483648 - p)
+  unfolding unbias spellInteger
+  spell-minus h = rw (lt-ltb p 2147483648 h) (ap (λ (k : ℕ). 45 ∷ spellNumber k) (omega arith))
+
+  pub spell-plus : 2147483648 ≤ p → spellInteger (unbias p) ≡ spellNumber (p - 2147483648)
+  unfolding unbias spellInteger
+  spell-plus h = rw (le-ltb p 2147483648 h)
+
+-- what `put_integer` asks of the calls in it, and what they give
+module _ (p at : ℕ) (a : Bytes) (room : at + length (spellInteger (unbias p)) ≤ length a) where
+  module _ (h : p < 2147483648) where
+    pub room-minus : at < length a
+    room-minus = omega (arith, ap length (spell-minus p h))
+
+    module _ {b : Bytes} {e : ℕ} (sign : Puts at (45 ∷ []) a b e) where
+      pub room-magnitude : e + length (spellNumber (2147483648 - p)) ≤ length b
+      room-magnitude =
+          let one : at + 1 ≤ length a = omega (arith, room-minus) in
+          omega (arith, ap length (spell-minus p h), puts-length sign one, sign .end)
+
+      pub puts-minus : {c : Bytes} {r : ℕ} → Puts e (spellNumber (2147483648 - p)) b c r → Puts at (spellInteger (unbias p)) a c r
+      puts-minus q = rw (spell-minus p h) (puts-then sign q (omega (arith, ap length (spell-minus p h))))
+
+  module _ (h : 2147483648 ≤ p) where
+    pub room-plus : at + length (spellNumber (p - 2147483648)) ≤ length a
+    room-plus = omega (arith, ap length (spell-plus p h))
+
+    pub puts-plus : {b : Bytes} {r : ℕ} → Puts at (spellNumber (p - 2147483648)) a b r → Puts at (spellInteger (unbias p)) a b r
+    puts-plus q = rw (spell-plus p h) q

@@ -1,0 +1,78 @@
+-- `among` meets its contract. The words and codes that are left tell the code, and leave room for a word to each code. Assumes nothing.
+use Prim.Native.Nat.{_-_}
+use mathlib.Core.Path.{_∙_}
+use lib.ListN.{length}
+use borrow.Author.Needs.{needs}
+use native.Mathlib.Omega.{arith}
+use Rattle.text.proofs.FormLaws.{Left, left-all, word-within, left-found, left-next, left-none}
+use Rattle.text.proofs.words.among.Statement.{statement}
+use Rattle.text.proofs.words.among.Tie as tie
+
+abbrev Inv-loop : tie.InvT-loop
+Inv-loop f words codes n at₀ k₀ at k = Left f words codes at k
+
+abbrev μ-loop : tie.MeasureT-loop
+μ-loop f words codes n at₀ k₀ at k = length codes - k
+
+loop-holds : tie.Need-loop-holds Inv-loop μ-loop
+loop-holds c = left-all _ _ _ (c .before .before .before .pre)
+
+add-e : tie.Need-add-e Inv-loop μ-loop
+add-e c = omega (arith, word-within (c .before .loop .inv) (c .loop-test .taken))
+
+sub-same : tie.Need-sub-same Inv-loop μ-loop
+sub-same c = search needs
+
+part-same-start : tie.Need-part-same-start Inv-loop μ-loop
+part-same-start c = search needs
+
+part-same-end : tie.Need-part-same-end Inv-loop μ-loop
+part-same-end c = word-within (c .before .loop .inv) (c .loop-test .taken)
+
+same-requires : tie.Need-same-requires Inv-loop μ-loop
+same-requires c κs = search needs
+
+shared-slice-read-wide : tie.Need-shared-slice-read-wide Inv-loop μ-loop
+shared-slice-read-wide c = search needs
+
+wide-requires : tie.Need-wide-requires Inv-loop μ-loop
+wide-requires c κs = search needs
+
+returns : tie.Need-returns Inv-loop μ-loop
+returns c = c .wide .ensures ∙ left-found (c .before .before .before .before .before .before .loop .inv) (c .before .before .before .same .ensures) (c .before .before .before .before .before .loop-test .taken) (c .before .before .if1 .taken)
+
+add-at : tie.Need-add-at Inv-loop μ-loop
+add-at c = omega (arith, word-within (c .before .before .before .before .loop .inv) (c .before .before .before .loop-test .taken))
+
+add-k : tie.Need-add-k Inv-loop μ-loop
+add-k c = search needs
+
+loop-less : tie.Need-loop-less Inv-loop μ-loop
+loop-less c = search needs
+
+loop-again : tie.Need-loop-again Inv-loop μ-loop
+loop-again c = left-next (c .before .before .before .before .loop .inv) (c .before .same .ensures) (c .before .before .before .loop-test .taken) (c .if1 .left)
+
+returns-2 : tie.Need-returns-2 Inv-loop μ-loop
+returns-2 c = left-none (c .before .loop .inv) (c .loop-test .left)
+
+pub among-spec : {M : Type 1} → statement M
+among-spec =
+    tie.close
+    (tie.spec
+    Inv-loop
+    μ-loop
+    loop-holds
+    add-e
+    sub-same
+    part-same-start
+    part-same-end
+    same-requires
+    shared-slice-read-wide
+    wide-requires
+    returns
+    add-at
+    add-k
+    loop-less
+    loop-again
+    returns-2)

@@ -1,0 +1,69 @@
+-- Decimal numbers and Integers as the code has them: cut at a bound, and Integers as natural numbers. proofs/NumberLaws.antt
+-- ties them to crates/sheet's `number` and `integer`, and shows that no test sees the cut.
+use Prim.Native.Nat.{ℕ, zero, suc, _+_, _-_, _≤_, min}
+use mathlib.Core.Path.{_≡_}
+use mathlib.Core.Option.{Option, none, some}
+use mathlib.Core.List.{[], _∷_}
+use lib.IntN.{ℤ, pos, negsuc}
+use lib.ListN.{length, drop}
+use lib.Dec.{eqb, ltb}
+use Rattle.laws.specs.Choice.{if_then_else_, onSome}
+use Rattle.ocl.specs.Evaluation.{inRange}
+use Rattle.sheet.specs.Text.{Bytes, byte, digits, plain, valueOfDigits}
+use Rattle.text.specs.declared.numbers.Num.{Num}
+use Rattle.text.specs.declared.numbers.Num.the-variants.{Bad, Is}
+use Rattle.text.specs.declared.numbers.Whole.{Whole}
+use Rattle.text.specs.declared.numbers.Whole.the-variants.{Bad as BadWhole, Out, Is as IsWhole}
+
+-- ---- numbers
+
+-- a number, cut at a million, which is above each limit of document 01 on numbers of things
+unfoldable pub numOf : Option ℕ → Num
+numOf none = Bad
+numOf (some n) = Is (min n 1000000)
+
+-- the number in front of a text: what crates/sheet's `number` reads
+unfoldable pub leading : Bytes → Option ℕ
+leading s = if plain (digits s) then some (valueOfDigits 0 (digits s)) else none
+
+-- the digits from `at` on end at r
+pub record DigitsEnd (s : Bytes) (at r : ℕ) : Type 0 where
+  pub is : r ≡ at + length (digits (drop at s))
+  pub within : r ≤ length s
+
+-- ---- Integers
+
+-- an Integer as a natural number: an Integer of the range as one below 4294967296
+unfoldable pub bias : ℤ → ℕ
+bias (pos n) = 2147483648 + n
+bias (negsuc n) = 2147483648 - suc n
+
+-- and back
+unfoldable pub unbias : ℕ → ℤ
+unbias p = if ltb p 2147483648 then negsuc (2147483647 - p) else pos (p - 2147483648)
+
+unfoldable pub ranged : ℤ → Whole
+ranged z = if inRange z then IsWhole (bias z) else Out
+
+unfoldable pub wholeOf : Option ℤ → Whole
+wholeOf none = BadWhole
+wholeOf (some z) = ranged z
+
+-- how many minus signs stand in front: at most one counts
+unfoldable pub minusAt : Bytes → ℕ
+minusAt [] = 0
+minusAt (b ∷ s) = if eqb (byte "-") b then 1 else 0
+
+-- the Integer by its minus signs and its digits' number; there is no -0
+unfoldable pub signed : ℕ → ℕ → Option ℤ
+signed zero n = some (pos n)
+signed (suc m) zero = none
+signed (suc m) (suc n) = some (negsuc n)
+
+-- the Integer in front of a text: what crates/sheet's `integer` reads
+unfoldable pub leadingInteger : Bytes → Option ℤ
+leadingInteger s = onSome (leading (drop (minusAt s) s)) (signed (minusAt s))
+
+-- the Integer from `at` on ends at r
+pub record IntegerEnd (s : Bytes) (at r : ℕ) : Type 0 where
+  pub digits : DigitsEnd s (at + minusAt (drop at s)) r

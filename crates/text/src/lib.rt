@@ -1,0 +1,6 @@
+// The lowest layer of the sheet reader: parts of a text, decimal numbers, words, and writing bytes and numbers. What each
+// answers is a definition of crates/sheet, or one of specs/ with a law in proofs/ that leads to it.
+pub mod numbers;
+pub mod parts;
+pub mod spelling;
+pub mod words;

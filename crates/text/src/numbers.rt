@@ -1,0 +1,167 @@
+// Decimal numbers and Integers: of any length, without a leading zero and without `-0`. A number's value is cut at a bound
+// on the way, so that it fits a word; no limit of document 01 lies above the bound.
+ghost use mathlib.Core.Path.{_≡_};
+ghost use Prim.Native.Nat.{_+_, _-_, _≤_, min};
+ghost use lib.ListN.{length, take, drop};
+ghost use Rattle.sheet.specs.Text.{plain as plainOf, valueOfDigits};
+ghost use Rattle.sheet.specs.Lines.{aNumber, anInteger};
+ghost use Rattle.text.specs.Numbers.{numOf, leading, DigitsEnd, wholeOf, minusAt, signed, leadingInteger, IntegerEnd};
+use crate::words::byte_kind;
+
+// A number as far as a million; one above it reads as a million.
+pub enum Num {
+    Bad,
+    Is(u64),
+}
+
+// An Integer of the range, with 2147483648 added to it, or one out of the range.
+pub enum Whole {
+    Bad,
+    Out,
+    Is(u64),
+}
+
+// The position after the digits that begin at `at`.
+pub fn digits_end(s: &[u8], at: usize) -> usize
+    requires { ⌜ at ≤ length (now s) ⌝ }
+    ensures { λ r. ⌜ DigitsEnd (now (s .entry)) at r ⌝ }
+{
+    let mut i = at;
+    while i < s.len() {
+        if byte_kind(s[i]) != 7 {
+            return i;
+        }
+        i += 1;
+    }
+    i
+}
+
+// Are the bytes from a up to e digits of a number without a leading zero, given that they are digits.
+fn plain(s: &[u8], a: usize, e: usize) -> bool
+    requires { ⌜ (a ≤ e) × (e ≤ length (now s)) ⌝ }
+    ensures { λ r. ⌜ r ≡ plainOf (take (e - a) (drop a (now (s .entry)))) ⌝ }
+{
+    if a == e {
+        return false;
+    }
+    if a + 1 == e {
+        return true;
+    }
+    if s[a] == 48 {
+        return false;
+    }
+    true
+}
+
+// What a digit adds to a number.
+fn digit(b: u8) -> u64
+    ensures { λ r. ⌜ r ≡ b - 48 ⌝ }
+{
+    if b < 48 { 0 } else { (b - 48) as u64 }
+}
+
+fn at_most(n: u64, bound: u64) -> u64
+    ensures { λ r. ⌜ r ≡ min n bound ⌝ }
+{
+    if n < bound { n } else { bound }
+}
+
+// The number that the digits from a up to e stand for, cut at a bound above every Integer of the range.
+fn magnitude(s: &[u8], a: usize, e: usize) -> u64
+    requires { ⌜ (a ≤ e) × (e ≤ length (now s)) ⌝ }
+    ensures { λ r. ⌜ r ≡ min (valueOfDigits 0 (take (e - a) (drop a (now (s .entry))))) 10000000000 ⌝ }
+{
+    let mut n: u64 = 0;
+    let mut i = a;
+    while i < e {
+        n = at_most(n * 10 + digit(s[i]), 10000000000);
+        i += 1;
+    }
+    n
+}
+
+// The number that begins at `at`, whose digits end at `end`.
+pub fn number_at(s: &[u8], at: usize, end: usize) -> Num
+    requires { ⌜ DigitsEnd (now s) at end ⌝ }
+    ensures { λ r. ⌜ r ≡ numOf (leading (drop at (now (s .entry)))) ⌝ }
+{
+    if plain(s, at, end) {
+        return Num::Is(at_most(magnitude(s, at, end), 1000000));
+    }
+    Num::Bad
+}
+
+// The number that a field is.
+pub fn number(f: &[u8]) -> Num
+    ensures { λ r. ⌜ r ≡ numOf (aNumber (now (f .entry))) ⌝ }
+{
+    let end = digits_end(f, 0);
+    if end == f.len() {
+        return number_at(f, 0, end);
+    }
+    Num::Bad
+}
+
+// 1 where a minus stands at `at`, else 0.
+fn minus_at(s: &[u8], at: usize) -> usize
+    ensures { λ r. ⌜ r ≡ minusAt (drop at (now (s .entry))) ⌝ }
+{
+    if at < s.len() {
+        if s[at] == b'-' {
+            return 1;
+        }
+    }
+    0
+}
+
+// The Integer by its minus signs and what its digits stand for.
+fn by_sign(minuses: usize, n: u64) -> Whole
+    ensures { λ r. ⌜ r ≡ wholeOf (signed minuses n) ⌝ }
+{
+    if minuses == 0 {
+        if n < 2147483648 {
+            return Whole::Is(2147483648 + n);
+        }
+        return Whole::Out;
+    }
+    if n == 0 {
+        return Whole::Bad;
+    }
+    if n <= 2147483648 {
+        return Whole::Is(2147483648 - n);
+    }
+    Whole::Out
+}
+
+// The position after the Integer that begins at `at`, or after what could have been one.
+pub fn integer_end(s: &[u8], at: usize) -> usize
+    requires { ⌜ at ≤ length (now s) ⌝ }
+    ensures { λ r. ⌜ IntegerEnd (now (s .entry)) at r ⌝ }
+{
+    let from = at + minus_at(s, at);
+    digits_end(s, from)
+}
+
+// The Integer that begins at `at`, which ends at `end`.
+pub fn integer_at(s: &[u8], at: usize, end: usize) -> Whole
+    requires { ⌜ IntegerEnd (now s) at end ⌝ }
+    ensures { λ r. ⌜ r ≡ wholeOf (leadingInteger (drop at (now (s .entry)))) ⌝ }
+{
+    let minuses = minus_at(s, at);
+    let from = at + minuses;
+    if plain(s, from, end) {
+        return by_sign(minuses, magnitude(s, from, end));
+    }
+    Whole::Bad
+}
+
+// The Integer that a field is.
+pub fn integer(f: &[u8]) -> Whole
+    ensures { λ r. ⌜ r ≡ wholeOf (anInteger (now (f .entry))) ⌝ }
+{
+    let end = integer_end(f, 0);
+    if end == f.len() {
+        return integer_at(f, 0, end);
+    }
+    Whole::Bad
+}
