@@ -17,7 +17,8 @@ use Rattle.laws.proofs.Parts.{at-next}
 use Rattle.ocl.specs.Evaluation.{inRange}
 use Rattle.sheet.specs.Text.{Bytes, bytes, after, behind, _or_, _then_, given, isDigit, digits, afterDigits, plain, valueOfDigits, number, minus, integer}
 use Rattle.sheet.specs.Lines.{anInteger}
-use Rattle.text.specs.Numbers.{leading, DigitsEnd, IntegerEnd, bias, unbias, ranged, wholeOf, minusAt, signed, leadingInteger}
+use Rattle.laws.specs.Integers.{bias, unbias}
+use Rattle.text.specs.Numbers.{leading, DigitsEnd, IntegerEnd, ranged, wholeOf, minusAt, signed, leadingInteger}
 use Rattle.text.specs.declared.numbers.Whole.the-variants.{Bad, Out, Is}
 use Rattle.text.proofs.NumberLaws.{number-leading, digits-after, leading-some, leading-none, whole-read, whole-left}
 

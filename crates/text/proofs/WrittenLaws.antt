@@ -12,7 +12,7 @@ use lib.ListN.{length, getD, take, drop, set, length-append, length-take, length
 use lib.Seq.{append-snoc, set-split, take-at, drop-append-add, drop-drop, take-length, paste-zero, paste-suc, paste}
 use Rattle.laws.specs.Choice.{if_then_else_}
 use Rattle.sheet.specs.Text.{Bytes, spellDigits, spellNumber, spellInteger}
-use Rattle.text.specs.Numbers.{unbias}
+use Rattle.laws.specs.Integers.{unbias}
 use Rattle.text.specs.Written.{Puts, LastOf}
 use Rattle.text.specs.declared.spelling.Tail.{Tail}
 

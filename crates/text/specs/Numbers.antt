@@ -8,6 +8,7 @@ use lib.IntN.{ℤ, pos, negsuc}
 use lib.ListN.{length, drop}
 use lib.Dec.{eqb, ltb}
 use Rattle.laws.specs.Choice.{if_then_else_, onSome}
+use Rattle.laws.specs.Integers.{bias}
 use Rattle.ocl.specs.Evaluation.{inRange}
 use Rattle.sheet.specs.Text.{Bytes, byte, digits, plain, valueOfDigits}
 use Rattle.text.specs.declared.numbers.Num.{Num}
@@ -32,15 +33,6 @@ pub record DigitsEnd (s : Bytes) (at r : ℕ) : Type 0 where
   pub within : r ≤ length s
 
 -- ---- Integers
-
--- an Integer as a natural number: an Integer of the range as one below 4294967296
-unfoldable pub bias : ℤ → ℕ
-bias (pos n) = 2147483648 + n
-bias (negsuc n) = 2147483648 - suc n
-
--- and back
-unfoldable pub unbias : ℕ → ℤ
-unbias p = if ltb p 2147483648 then negsuc (2147483647 - p) else pos (p - 2147483648)
 
 unfoldable pub ranged : ℤ → Whole
 ranged z = if inRange z then IsWhole (bias z) else Out

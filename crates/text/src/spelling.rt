@@ -3,7 +3,7 @@ ghost use mathlib.Core.List.{[], _∷_};
 ghost use Prim.Native.Nat.{_+_, _<_, _≤_};
 ghost use lib.ListN.{length};
 ghost use Rattle.sheet.specs.Text.{spellNumber, spellInteger};
-ghost use Rattle.text.specs.Numbers.{unbias};
+ghost use Rattle.laws.specs.Integers.{unbias};
 ghost use Rattle.text.specs.Written.{Puts, LastOf};
 
 // A number without its last digit, and that digit as a byte.
