@@ -1,0 +1,1 @@
+// Values as cells in lent words.
