@@ -3,7 +3,7 @@ use mathlib.Core.Path.{_≡_, refl, sym, ap, _∙_}
 use mathlib.Core.Logic.{_↔_}
 use mathlib.Core.Bool.{Bool, true, false}
 use mathlib.Core.List.{List, [], _∷_, _++_, append-assoc, append-nil}
-use Prim.Native.Nat.{ℕ, zero, suc, _+_, _*_, _-_, _%_, _<_, _≤_, compare, Ordering, Ordering·lt, Ordering·eq, Ordering·gt}
+use Prim.Native.Nat.{ℕ, zero, suc, _+_, _*_, _-_, _/_, _%_, _<_, _≤_, compare, Ordering, Ordering·lt, Ordering·eq, Ordering·gt}
 use native.Mathlib.Omega.{arith}
 use native.Mathlib.Nat.{add-zero}
 use lib.ListN.{length, length-append}
@@ -175,7 +175,7 @@ told-by v ih f w g y z e =
     let d : head v ∷ (encs (members v) ++ y) ≡ head w ∷ (encs (members w) ++ z) = rw (enc-parts v, enc-parts w) at e in
     let a : head v ≡ head w = cc in
     let b : encs (members v) ++ y ≡ encs (members w) ++ z = cc in
-    let s : sort v ≡ sort w = sym (sort-back f) ∙ ap (λ (n : ℕ). Prim.Native.Nat._/_ n 4294967296) a ∙ sort-back g in
+    let s : sort v ≡ sort w = sym (sort-back f) ∙ ap (λ (n : ℕ). n / 4294967296) a ∙ sort-back g in
     let n : payload v ≡ payload w = sym (payload-back f) ∙ ap (λ (n : ℕ). n % 4294967296) a ∙ payload-back g in
     let r = ih (members-fit f) (members w) (members-fit g) (same-count f g a) y z b in
     let m = r .0 in let mv = make-law f in let mw = make-law g in

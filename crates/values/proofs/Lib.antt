@@ -1,2 +1,5 @@
 pub mod Heads
 pub mod Encoding
+mod Scanning
+mod Comparing
+mod Sliding

@@ -1,0 +1,11 @@
+use Rattle.values.proofs.Scanning.{sort-of}
+use Rattle.values.proofs.cells.sort_of.Statement.{statement}
+use Rattle.values.proofs.cells.sort_of.Tie as tie
+use Rattle.values.proofs.cells.sort_of.Reads as reads
+use Rattle.values.proofs.cells.sort_of.Lts as lts
+
+returns : tie.Need-returns
+returns c = sort-of _
+
+pub sort-of-spec : {M : Type 1} → statement M
+sort-of-spec = tie.close (tie.spec returns)

@@ -1,0 +1,28 @@
+-- What the contracts of the arithmetic say: each number is an Integer with its bias.
+use mathlib.Core.Path.{_≡_}
+use mathlib.Core.Bool.{Bool}
+use mathlib.Core.Option.{Option, none, some}
+use Prim.Native.Nat.{ℕ, _+_, _-_}
+use lib.IntN.{ℤ}
+use lib.Dec.{T}
+use Rattle.ocl.specs.Values.{Value, orderInt}
+use Rattle.ocl.specs.Forms.{Arith}
+use Rattle.ocl.specs.Evaluation.{inRange, isLess, arithmetic}
+use Rattle.values.specs.Cells.{bias, payload}
+use Rattle.values.specs.declared.Num.{Num}
+use Rattle.values.specs.declared.Num.the-variants as num
+
+-- the code's answer for a result that may be undefined
+unfoldable pub numOf : Option Value → Num
+numOf none = num.Undef
+numOf (some v) = num.Is (payload v)
+
+pub record Calculates (op : Arith) (a b : ℕ) (r : Num) : Type 0 where
+  pub is : (x y : ℤ) → T (inRange x) → T (inRange y) → a ≡ bias x → b ≡ bias y → r ≡ numOf (arithmetic op x y)
+
+pub record Lesser (a b : ℕ) (r : Bool) : Type 0 where
+  pub is : (x y : ℤ) → T (inRange x) → T (inRange y) → a ≡ bias x → b ≡ bias y → r ≡ isLess (orderInt x y)
+
+-- how far an Integer is from 0
+unfoldable pub distance : ℕ → ℕ
+distance a = (a - 2147483648) + (2147483648 - a)
