@@ -1,5 +1,8 @@
 pub mod Heads
 pub mod Encoding
+pub mod Forming
+pub mod Members
 mod Scanning
 mod Comparing
+mod Searching
 mod Sliding

@@ -1,3 +1,4 @@
+use Rattle.values.proofs.Comparing.{same-at}
 use borrow.Author.Needs.{needs}
 use Rattle.values.proofs.order.equal.Statement.{statement}
 use Rattle.values.proofs.order.equal.Tie as tie
@@ -5,13 +6,11 @@ use Rattle.values.proofs.order.equal.Reads as reads
 use Rattle.values.proofs.order.equal.Lts as lts
 use Rattle.values.proofs.order.compare.Reads as compare-reads
 
--- src/order.rt:39:5
 compare-requires : tie.Need-compare-requires
 compare-requires c κs = search needs
 
--- src/order.rt:35:1
 returns : tie.Need-returns
-returns c = ?
+returns c = same-at (c .compare .ensures)
 
 pub equal-spec : {M : Type 1} → statement M
 equal-spec = tie.close (tie.spec compare-requires returns)

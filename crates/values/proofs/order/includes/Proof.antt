@@ -1,3 +1,6 @@
+use Rattle.values.proofs.Searching.{Searching, search-start, search-found, search-again, search-end}
+use Prim.Native.Nat.{_-_}
+use native.Mathlib.Omega.{arith}
 use Rattle.values.proofs.order.includes.Statement.{statement}
 use Rattle.values.proofs.order.includes.Tie as tie
 use Rattle.values.proofs.order.includes.Reads as reads
@@ -6,42 +9,34 @@ use Rattle.values.proofs.cells.skip.Reads as skip-reads
 use Rattle.values.proofs.order.equal.Reads as equal-reads
 
 abbrev Inv-loop : tie.InvT-loop
-Inv-loop stack from end le q₀ q = ?
+Inv-loop stack from end le q₀ q = Searching stack from end le q
 
 abbrev μ-loop : tie.MeasureT-loop
-μ-loop stack from end le q₀ q = ?
+μ-loop stack from end le q₀ q = end - q
 
--- src/order.rt:48:5
 loop-holds : tie.Need-loop-holds Inv-loop μ-loop
-loop-holds c = ?
+loop-holds c = search-start (omega arith) (omega arith)
 
--- src/order.rt:49:13
 skip-requires : tie.Need-skip-requires Inv-loop μ-loop
-skip-requires c κs = ?
+skip-requires c κs = omega arith
 
--- src/order.rt:50:37
 sub-equal : tie.Need-sub-equal Inv-loop μ-loop
-sub-equal c = ?
+sub-equal c = omega (arith, c .skip .ensures .up (c .before .loop-test .taken))
 
--- src/order.rt:50:12
 equal-requires : tie.Need-equal-requires Inv-loop μ-loop
-equal-requires c κs = ?
+equal-requires c κs = let u = c .skip .ensures .up (c .before .loop-test .taken) in omega arith
 
--- src/order.rt:51:13
 returns : tie.Need-returns Inv-loop μ-loop
-returns c = ?
+returns c = search-found (c .before .before .before .before .loop .inv) (c .before .before .before .loop-test .taken) (c .before .before .skip .ensures) (c .before .equal .ensures) (c .if1 .taken)
 
--- src/order.rt:48:5
 loop-less : tie.Need-loop-less Inv-loop μ-loop
-loop-less c = ?
+loop-less c = omega (arith, c .before .before .skip .ensures .up (c .before .before .before .loop-test .taken))
 
--- src/order.rt:48:5
 loop-again : tie.Need-loop-again Inv-loop μ-loop
-loop-again c = ?
+loop-again c = search-again (c .before .before .before .before .loop .inv) (c .before .before .before .loop-test .taken) (c .before .before .skip .ensures) (c .before .equal .ensures) (c .if1 .left)
 
--- src/order.rt:43:1
 returns-2 : tie.Need-returns-2 Inv-loop μ-loop
-returns-2 c = ?
+returns-2 c = search-end (c .before .loop .inv) (omega arith)
 
 pub includes-spec : {M : Type 1} → statement M
 includes-spec =
