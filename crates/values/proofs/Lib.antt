@@ -6,3 +6,5 @@ mod Scanning
 mod Comparing
 mod Searching
 mod Sliding
+mod Finding
+mod Putting
