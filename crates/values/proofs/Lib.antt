@@ -10,3 +10,5 @@ mod Sliding
 mod Finding
 mod Putting
 pub mod Adding
+mod Gathering
+mod Moving
