@@ -12,3 +12,4 @@ mod Putting
 pub mod Adding
 mod Gathering
 mod Moving
+mod Arithmetic

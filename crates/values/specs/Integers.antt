@@ -1,10 +1,11 @@
 -- What the contracts of the arithmetic say: each number is an Integer with its bias.
 use mathlib.Core.Path.{_≡_}
-use mathlib.Core.Bool.{Bool}
+use mathlib.Core.Bool.{Bool, true, false}
 use mathlib.Core.Option.{Option, none, some}
 use Prim.Native.Nat.{ℕ, _+_, _-_}
-use lib.IntN.{ℤ}
-use lib.Dec.{T}
+use lib.IntN.{ℤ, pos, negℤ}
+use lib.Dec.{T, ltb, leb}
+use Rattle.laws.specs.Choice.{if_then_else_}
 use Rattle.ocl.specs.Values.{Value, orderInt}
 use Rattle.ocl.specs.Forms.{Arith}
 use Rattle.ocl.specs.Evaluation.{inRange, isLess, arithmetic}
@@ -26,3 +27,12 @@ pub record Lesser (a b : ℕ) (r : Bool) : Type 0 where
 -- how far an Integer is from 0
 unfoldable pub distance : ℕ → ℕ
 distance a = (a - 2147483648) + (2147483648 - a)
+
+-- are both on the same side of 0
+unfoldable pub alike : ℕ → ℕ → Bool
+alike a b = if ltb a 2147483648 then ltb b 2147483648 else leb 2147483648 b
+
+-- d above 0 or below it
+unfoldable pub side : Bool → ℕ → ℤ
+side true d = pos d
+side false d = negℤ (pos d)
