@@ -140,6 +140,14 @@ rest-small b m n w h k = let v : 0 < n = rw w (distance-some b k) in let z = mod
 pub product-small : (a b m n : ℕ) → m ≡ distance a → n ≡ distance b → a < 4294967296 → b < 4294967296 → m * n ≤ 2147483648 * 2147483648
 product-small a b m n u w h k = let x : m ≤ 2147483648 = rw u (distance-small a h) in let y : n ≤ 2147483648 = rw w (distance-small b k) in mul-le-mul x y
 
+pub alike-low : (a b : ℕ) → a < 2147483648 → ltb b 2147483648 ≡ alike a b
+unfolding alike
+alike-low a b h = rw (lt-ltb a 2147483648 h)
+
+pub alike-high : (a b : ℕ) → 2147483648 ≤ a → leb 2147483648 b ≡ alike a b
+unfolding alike
+alike-high a b h = rw (le-ltb a 2147483648 h)
+
 -- an Integer by its sign
 data Sign (a : ℕ) : ℤ → Type 0 where
   minus-sign : {n : ℕ} → a < 2147483648 → distance a ≡ suc n → Sign a (negsuc n)
@@ -193,12 +201,12 @@ out-of-range true d h = is-high (pos d) d 0 (omega arith) (omega arith)
 out-of-range false d h = is-low (negℤ (pos d)) 0 d (neg-diff (pos d) d 0 (omega arith)) (omega arith)
 
 module _ (a b : ℕ) {m n : ℕ} (u : m ≡ distance a) (w : n ≡ distance b) where
-  pub times-is : {r : Num} → r ≡ numOf (ranged (side (alike a b) (m * n))) → Calculates times a b r
+  pub times-is : {up : Bool} {r : Num} → up ≡ alike a b → r ≡ numOf (ranged (side up (m * n))) → Calculates times a b r
   unfolding arithmetic
-  times-is z = record { is = λ x y g h e f. z ∙ ap (λ (i : ℤ). numOf (ranged i)) (rw (u, w) (sym (product-side (sign x g e) (sign y h f)))) }
+  times-is v z = record { is = λ x y g h e f. z ∙ ap (λ (i : ℤ). numOf (ranged i)) (rw (v, u, w) (sym (product-side (sign x g e) (sign y h f)))) }
 
   pub times-over : 2147483648 < m * n → Calculates times a b num.Undef
-  times-over l = times-is (out-of-range (alike a b) (m * n) l)
+  times-over l = times-is refl (out-of-range (alike a b) (m * n) l)
 
 -- ---- a zero divisor
 
@@ -223,10 +231,10 @@ unfolding arithmetic numOf
 mod-by-zero z = record { is = λ x y g h e f. sym (ap numOf (none-by _ (sign y h f) z)) }
 
 module _ (a b : ℕ) {m n : ℕ} (u : m ≡ distance a) (w : n ≡ distance b) (some : b ≡ 2147483648 → ⊥) where
-  pub div-is : {r : Num} → r ≡ numOf (ranged (side (alike a b) (m / n))) → Calculates div a b r
+  pub div-is : {up : Bool} {r : Num} → up ≡ alike a b → r ≡ numOf (ranged (side up (m / n))) → Calculates div a b r
   unfolding arithmetic
-  div-is z = record { is = λ x y g h e f.
-      z ∙ ap (λ (i : ℤ). numOf (ranged i)) (rw (u, w) (sym (quotient-side (sign x g e) (sign y h f)))) ∙ sym (ap numOf (some-by _ (sign y h f) some)) }
+  div-is v z = record { is = λ x y g h e f.
+      z ∙ ap (λ (i : ℤ). numOf (ranged i)) (rw (v, u, w) (sym (quotient-side (sign x g e) (sign y h f)))) ∙ sym (ap numOf (some-by _ (sign y h f) some)) }
 
   pub mod-is : {r : Num} → r ≡ numOf (ranged (side (leb 2147483648 a) (m % n))) → Calculates modulo a b r
   unfolding arithmetic
