@@ -10,12 +10,13 @@ use lib.IntN.{ℤ, pos, negsuc, negℤ, subℕ, natAbs, _+ℤ_, _-ℤ_, _*ℤ_}
 use lib.Dec.{T, ltb, leb}
 use borrow.Author.Tests.{lt-ltb, le-ltb, lt-leb, le-leb, ltb-true, ltb-false}
 use Rattle.laws.specs.Choice.{if_then_else_}
+use Rattle.laws.proofs.Tests.{by-if, All?, all-none, all-some}
 use Rattle.laws.proofs.Orders.{compare-lt, compare-eq, compare-gt, Three, less, same, over, three}
 use Rattle.ocl.specs.Values.{Value, int, orderInt}
 use Rattle.ocl.specs.Forms.{Arith, plus, minus, times, div, modulo}
 use Rattle.ocl.specs.Evaluation.{inRange, ranged, isLess, unlessZero, quotient, remainder, arithmetic}
 use Rattle.values.specs.Cells.{bias, payload}
-use Rattle.values.specs.Integers.{numOf, Calculates, Lesser, distance, alike, side}
+use Rattle.values.specs.Integers.{numOf, Calculates, Lesser, distance, alike, side, arithOf}
 use Rattle.values.specs.declared.Num.{Num}
 use Rattle.values.specs.declared.Num.the-variants as num
 use Rattle.values.proofs.Heads.{range-pos, range-neg, bias-order}
@@ -240,3 +241,55 @@ module _ (a b : ℕ) {m n : ℕ} (u : m ≡ distance a) (w : n ≡ distance b) (
   unfolding arithmetic
   mod-is z = record { is = λ x y g h e f.
       z ∙ ap (λ (i : ℤ). numOf (ranged i)) (rw (u, w) (sym (remainder-side (sign x g e) (sign y h f)))) ∙ sym (ap numOf (some-by _ (sign y h f) some)) }
+
+-- ---- by number
+
+pub arith-0 : {op : ℕ} → op ≡ 0 → arithOf op ≡ plus
+unfolding arithOf
+arith-0 e = rw e
+
+pub arith-1 : {op : ℕ} → op ≡ 1 → arithOf op ≡ minus
+unfolding arithOf
+arith-1 e = rw e
+
+pub arith-2 : {op : ℕ} → op ≡ 2 → arithOf op ≡ times
+unfolding arithOf
+arith-2 e = rw e
+
+pub arith-3 : {op : ℕ} → op ≡ 3 → arithOf op ≡ div
+unfolding arithOf
+arith-3 e = rw e
+
+pub arith-4 : (op : ℕ) → 4 ≤ op → arithOf op ≡ modulo
+unfolding arithOf
+arith-4 zero h = absurd (omega arith)
+arith-4 (suc zero) h = absurd (omega arith)
+arith-4 (suc (suc zero)) h = absurd (omega arith)
+arith-4 (suc (suc (suc zero))) h = absurd (omega arith)
+arith-4 (suc (suc (suc (suc n)))) h = refl
+
+pub by-number : {o p : Arith} {a b : ℕ} {r : Num} → p ≡ o → Calculates o a b r → Calculates p a b r
+by-number e c = rw e c
+
+-- ---- the result is an Integer in range
+
+pub data Ranged : Value → Type 0 where
+  in-range : {z : ℤ} → T (inRange z) → Ranged (int z)
+
+ranged-by : (z : ℤ) → All? Ranged (ranged z)
+unfolding ranged
+ranged-by z = by-if (All? Ranged) (inRange z) (some (int z)) none (λ t. all-some (in-range t)) (λ t. all-none)
+
+unless-by : (y : ℤ) {o : Option Value} → All? Ranged o → All? Ranged (unlessZero y o)
+unfolding unlessZero
+unless-by (pos zero) a = all-none
+unless-by (pos (suc n)) a = a
+unless-by (negsuc n) a = a
+
+pub arithmetic-ranged : (o : Arith) (x y : ℤ) → All? Ranged (arithmetic o x y)
+unfolding arithmetic
+arithmetic-ranged plus x y = ranged-by (x +ℤ y)
+arithmetic-ranged minus x y = ranged-by (x -ℤ y)
+arithmetic-ranged times x y = ranged-by (x *ℤ y)
+arithmetic-ranged div x y = unless-by y (ranged-by (quotient x y))
+arithmetic-ranged modulo x y = unless-by y (ranged-by (remainder x y))

@@ -78,6 +78,34 @@ enc-parts (int z) = refl
 enc-parts (obj o) = refl
 enc-parts (coll k vs) = refl
 
+-- ---- first cells in numbers, and back
+
+pub head-int : (z : ℤ) → head (int z) ≡ 4294967296 + bias z
+unfolding head sort payload
+head-int z = omega arith
+
+pub head-obj : (o : ℕ) → head (obj o) ≡ 8589934592 + o
+unfolding head sort payload
+head-obj o = omega arith
+
+pub head-coll : (k : Kind) (vs : Values) → head (coll k vs) ≡ 4294967296 * (3 + kindCode k) + count vs
+unfolding head payload
+head-coll k vs = rw (sort-kind k vs)
+
+-- what a value is, by its sort s and payload p
+pub data Shape (s p : ℕ) : Value → Type 0 where
+  shape-bool : {b : Bool} → s ≡ 0 → p ≡ bit b → Shape s p (bool b)
+  shape-int : {z : ℤ} → s ≡ 1 → p ≡ bias z → T (inRange z) → Shape s p (int z)
+  shape-obj : {o : ℕ} → s ≡ 2 → p ≡ o → o < 4294967296 → Shape s p (obj o)
+  shape-coll : {k : Kind} {vs : Values} → s ≡ 3 + kindCode k → p ≡ count vs → AllFit vs → Shape s p (coll k vs)
+
+pub shape : {v : Value} {s p : ℕ} → Fits v → s ≡ sort v → p ≡ payload v → Shape s p v
+unfolding sort payload
+shape fits-bool e f = shape-bool e f
+shape (fits-int h) e f = shape-int e f h
+shape (fits-obj h) e f = shape-obj e f h
+shape (fits-coll {k = k} {vs = vs} h g) e f = shape-coll (e ∙ sort-kind k vs) f g
+
 -- ---- how many members
 
 low-kids : (c : ℕ) → c < 12884901888 → kids c ≡ 0

@@ -7,14 +7,15 @@ use native.Mathlib.Omega.{arith}
 use native.Mathlib.Numerals.{add-one}
 use lib.ListN.{length, getD, take, drop, set}
 use lib.Seq.{slice, slice-cons, length-slice, take-suc-set}
-use borrow.Author.Tests.{lt-ltb, le-ltb}
+use lib.Dec.{eqb}
+use borrow.Author.Tests.{lt-ltb, le-ltb, eq-eqb, ne-eqb}
 use Rattle.ocl.specs.Types.{Kind, kindCode}
 use Rattle.ocl.specs.Values.{Value, bool, int, obj, coll, Values, nil, cons, count, sort}
 use Rattle.values.specs.Cells.{bit, bias, payload, head, enc, kids, past, Fits}
-use Rattle.values.specs.Contracts.{SortOf, PayloadOf, Means, means-bool, means-int, means-obj, Narrow, CellOf, Pushes, EmptyOf, Skips}
+use Rattle.values.specs.Contracts.{SortOf, PayloadOf, SimpleOf, Means, means-bool, means-int, means-obj, Narrow, CellOf, Pushes, EmptyOf, Skips}
 use Rattle.values.specs.declared.Simple.{Simple}
 use Rattle.values.specs.declared.Simple.the-variants as simple
-use Rattle.values.proofs.Heads.{sort-back, payload-back, sort-kind, enc-parts}
+use Rattle.values.proofs.Heads.{sort-back, payload-back, sort-kind, Shape, shape-bool, shape-int, shape-obj, shape-coll, shape}
 use Rattle.values.proofs.Encoding.{past-zero}
 
 -- ---- single cells
@@ -60,7 +61,43 @@ narrow-int h e = rw e at h
 pub narrow-obj : {s : Simple} {n : ℕ} → Narrow s → s ≡ simple.Object n → n < 4294967296
 narrow-obj h e = rw e at h
 
-means-alone : {s : Simple} {v : Value} → Means s v → enc v ≡ head v ∷ []
+bool-back : {b : Bool} {p : ℕ} → p ≡ bit b → eqb p 1 ≡ b
+unfolding bit
+bool-back {b = true} e = eq-eqb _ 1 e
+bool-back {b = false} {p = p} e = ne-eqb p 1 (λ f. omega arith)
+
+module _ {c t p : ℕ} (S : SortOf c t) (Q : PayloadOf c p) where
+  shape-of : (v : Value) → Fits v → c ≡ head v → Shape t p v
+  shape-of v f e = shape f (S .is v f e) (Q .is v f e)
+
+  pub simple-bool : t ≡ 0 → SimpleOf c (simple.Bool (eqb p 1))
+  simple-bool z = record { narrow = tt; is = λ v f l e. by (shape-of v f e) }
+    where
+      by : {v : Value} → Shape t p v → Means (simple.Bool (eqb p 1)) v
+      by (shape-bool h i) = rw (bool-back i) means-bool
+      by (shape-int h i j) = absurd (omega arith)
+      by (shape-obj h i j) = absurd (omega arith)
+      by (shape-coll h i j) = absurd (omega arith)
+
+  pub simple-int : t ≡ 1 → SimpleOf c (simple.Integer p)
+  simple-int z = record { narrow = Q .small; is = λ v f l e. by (shape-of v f e) }
+    where
+      by : {v : Value} → Shape t p v → Means (simple.Integer p) v
+      by (shape-bool h i) = absurd (omega arith)
+      by (shape-int h i j) = means-int i
+      by (shape-obj h i j) = absurd (omega arith)
+      by (shape-coll h i j) = absurd (omega arith)
+
+  pub simple-obj : (t ≡ 0 → ⊥) → (t ≡ 1 → ⊥) → SimpleOf c (simple.Object p)
+  simple-obj y z = record { narrow = Q .small; is = λ v f l e. by (shape-of v f e) (let q = S .is v f e in omega arith) }
+    where
+      by : {v : Value} → Shape t p v → t < 3 → Means (simple.Object p) v
+      by (shape-bool h i) l = absurd (y h)
+      by (shape-int h i j) l = absurd (z h)
+      by (shape-obj h i j) l = rw i means-obj
+      by (shape-coll h i j) l = absurd (omega arith)
+
+pub means-alone : {s : Simple} {v : Value} → Means s v → enc v ≡ head v ∷ []
 unfolding enc
 means-alone means-bool = refl
 means-alone (means-int e) = refl

@@ -10,7 +10,7 @@ use lib.Dec.{leb}
 use lib.IntN.{ℤ}
 use Rattle.laws.specs.Choice.{if_then_else_}
 use Rattle.ocl.specs.Types.{Kind, kindCode}
-use Rattle.ocl.specs.Values.{Value, bool, int, obj, coll, Values, nil, cons, count, size, sort, same, has, insert, add, addAll}
+use Rattle.ocl.specs.Values.{Value, bool, int, obj, coll, Values, nil, cons, count, size, sort, same, has, insert, append, add, addAll}
 use Rattle.values.specs.Cells.{bias, payload, head, enc, encs, Fits, AllFit, past}
 use Rattle.values.specs.declared.Simple.{Simple}
 use Rattle.values.specs.declared.Simple.the-variants as simple
@@ -42,6 +42,12 @@ Narrow (simple.Bool b) = Unit {0}
 Narrow (simple.Integer n) = n < 4294967296
 Narrow (simple.Object n) = n < 4294967296
 
+-- the simple value with this cell
+pub record SimpleOf (cell : ℕ) (r : Simple) : Type 0 where
+  pub narrow : Narrow r
+  pub is : (v : Value) → Fits v → sort v < 3 → cell ≡ head v → Means r v
+
+-- and its cell
 pub record CellOf (s : Simple) (r : ℕ) : Type 0 where
   pub is : (v : Value) → Means s v → r ≡ head v
 
@@ -123,6 +129,12 @@ pub record Adds (sp mid le : ℕ) (before after : List ℕ) (r : Formed) : Type 
   pub is : (k : Kind) (vs : Values) (v : Value) → Fits (coll k vs) → Fits v
       → slice sp mid before ≡ enc (coll k vs) → slice mid (mid + le) before ≡ enc v
       → Forms (coll k (add k v vs)) sp (take sp before) after r
+
+-- the simple value is put at the end of the collection from sp to mid, whatever its kind
+pub record Appends (s : Simple) (sp mid : ℕ) (before after : List ℕ) (r : Formed) : Type 0 where
+  pub small : Small r
+  pub is : (k : Kind) (vs : Values) (v : Value) → Fits (coll k vs) → Fits v → Means s v → slice sp mid before ≡ enc (coll k vs)
+      → Forms (coll k (append v vs)) sp (take sp before) after r
 
 -- the members from `from` to end are added to the collection of len cells at top
 pub record Gathers (from end top len : ℕ) (before after : List ℕ) (r : Formed) : Type 0 where

@@ -2,12 +2,12 @@
 use mathlib.Core.Path.{_≡_}
 use mathlib.Core.Bool.{Bool, true, false}
 use mathlib.Core.Option.{Option, none, some}
-use Prim.Native.Nat.{ℕ, _+_, _-_}
+use Prim.Native.Nat.{ℕ, zero, suc, _+_, _-_}
 use lib.IntN.{ℤ, pos, negℤ}
 use lib.Dec.{T, ltb, leb}
 use Rattle.laws.specs.Choice.{if_then_else_}
 use Rattle.ocl.specs.Values.{Value, orderInt}
-use Rattle.ocl.specs.Forms.{Arith}
+use Rattle.ocl.specs.Forms.{Arith, plus, minus, times, div, modulo}
 use Rattle.ocl.specs.Evaluation.{inRange, isLess, arithmetic}
 use Rattle.values.specs.Cells.{bias, payload}
 use Rattle.values.specs.declared.Num.{Num}
@@ -23,6 +23,14 @@ pub record Calculates (op : Arith) (a b : ℕ) (r : Num) : Type 0 where
 
 pub record Lesser (a b : ℕ) (r : Bool) : Type 0 where
   pub is : (x y : ℤ) → T (inRange x) → T (inRange y) → a ≡ bias x → b ≡ bias y → r ≡ isLess (orderInt x y)
+
+-- the operation with the number
+unfoldable pub arithOf : ℕ → Arith
+arithOf zero = plus
+arithOf (suc zero) = minus
+arithOf (suc (suc zero)) = times
+arithOf (suc (suc (suc zero))) = div
+arithOf (suc (suc (suc (suc n)))) = modulo
 
 -- how far an Integer is from 0
 unfoldable pub distance : ℕ → ℕ

@@ -6,7 +6,7 @@ ghost use mathlib.Core.Path.{_≡_};
 ghost use Prim.Native.Nat.{_≤_, _<_};
 ghost use Rattle.ocl.specs.Forms.{Arith};
 ghost use Rattle.ocl.specs.Evaluation.{ranged};
-ghost use Rattle.values.specs.Integers.{Calculates, Lesser, numOf, side, distance as distanceOf, alike as alikeOf};
+ghost use Rattle.values.specs.Integers.{Calculates, Lesser, arithOf, numOf, side, distance as distanceOf, alike as alikeOf};
 
 // What 0 is held as.
 const ZERO: u64 = 2_147_483_648;
@@ -98,4 +98,18 @@ pub fn modulo(a: u64, b: u64) -> Num
         return Num::Undef;
     }
     toward(ZERO <= a, distance(a) % distance(b))
+}
+
+// The operation with the number op: 0 plus, 1 minus, 2 times, 3 div, 4 mod.
+pub fn calculate(op: u64, a: u64, b: u64) -> Num
+    requires { ⌜ (a < 4294967296) × (b < 4294967296) ⌝ }
+    ensures { λ r. ⌜ Calculates (arithOf op) a b r ⌝ }
+{
+    match op {
+        0 => plus(a, b),
+        1 => minus(a, b),
+        2 => times(a, b),
+        3 => div(a, b),
+        _ => modulo(a, b),
+    }
 }

@@ -8,7 +8,7 @@ ghost use mathlib.Core.Logic.{_⊎_};
 ghost use Prim.Native.Nat.{_+_, _*_, _≤_, _<_};
 ghost use lib.ListN.{length, take, drop};
 ghost use Rattle.values.specs.Cells.{kids};
-ghost use Rattle.values.specs.Contracts.{SortOf, PayloadOf, CellOf, Narrow, Pushes, EmptyOf, Skips, Copies, Brings};
+ghost use Rattle.values.specs.Contracts.{SortOf, PayloadOf, SimpleOf, CellOf, Narrow, Pushes, EmptyOf, Skips, Copies, Brings};
 
 // A cell is this many times its sort, and a payload below it.
 const SORT: u64 = 4_294_967_296;
@@ -35,6 +35,21 @@ pub fn payload_of(cell: u64) -> u64
     ensures { λ r. ⌜ PayloadOf cell r ⌝ }
 {
     cell % SORT
+}
+
+// The simple value with this cell; what a collection's cell gives says nothing.
+pub fn simple_of(cell: u64) -> Simple
+    ensures { λ r. ⌜ SimpleOf cell r ⌝ }
+{
+    let payload = payload_of(cell);
+    let sort = sort_of(cell);
+    if sort == 0 {
+        Simple::Bool { b: payload == 1 }
+    } else if sort == 1 {
+        Simple::Integer { biased: payload }
+    } else {
+        Simple::Object { number: payload }
+    }
 }
 
 // The cell of a simple value.
