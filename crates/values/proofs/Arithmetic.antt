@@ -76,6 +76,7 @@ less-is a b = record { is = λ x y g h e f. by (three a b) ∙ ap isLess (bias-i
   where
     bias-is : (x y : ℤ) → T (inRange x) → T (inRange y) → a ≡ bias x → b ≡ bias y → compare a b ≡ orderInt x y
     bias-is x y g h e f = rw (e, f) (bias-order x y g h)
+
     by : Three a b → ltb a b ≡ isLess (compare a b)
     by (less l) = lt-ltb a b l ∙ sym (ap isLess (compare-lt a b l))
     by (same l) = le-ltb a b (omega arith) ∙ sym (ap isLess (compare-eq a b l))
@@ -234,13 +235,17 @@ mod-by-zero z = record { is = λ x y g h e f. sym (ap numOf (none-by _ (sign y h
 module _ (a b : ℕ) {m n : ℕ} (u : m ≡ distance a) (w : n ≡ distance b) (some : b ≡ 2147483648 → ⊥) where
   pub div-is : {up : Bool} {r : Num} → up ≡ alike a b → r ≡ numOf (ranged (side up (m / n))) → Calculates div a b r
   unfolding arithmetic
-  div-is v z = record { is = λ x y g h e f.
-      z ∙ ap (λ (i : ℤ). numOf (ranged i)) (rw (v, u, w) (sym (quotient-side (sign x g e) (sign y h f)))) ∙ sym (ap numOf (some-by _ (sign y h f) some)) }
+  div-is v z = record {
+    is = λ x y g h e f.
+        z ∙ ap (λ (i : ℤ). numOf (ranged i)) (rw (v, u, w) (sym (quotient-side (sign x g e) (sign y h f)))) ∙ sym (ap numOf (some-by _ (sign y h f) some));
+  }
 
   pub mod-is : {r : Num} → r ≡ numOf (ranged (side (leb 2147483648 a) (m % n))) → Calculates modulo a b r
   unfolding arithmetic
-  mod-is z = record { is = λ x y g h e f.
-      z ∙ ap (λ (i : ℤ). numOf (ranged i)) (rw (u, w) (sym (remainder-side (sign x g e) (sign y h f)))) ∙ sym (ap numOf (some-by _ (sign y h f) some)) }
+  mod-is z = record {
+    is = λ x y g h e f.
+        z ∙ ap (λ (i : ℤ). numOf (ranged i)) (rw (u, w) (sym (remainder-side (sign x g e) (sign y h f)))) ∙ sym (ap numOf (some-by _ (sign y h f) some));
+  }
 
 -- ---- by number
 

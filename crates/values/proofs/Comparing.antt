@@ -64,9 +64,13 @@ module _ {S : List ℕ} {p n q m i : ℕ} (x : Comparing S p n q m i) where
 
     pub compare-again : getD S (q + i) 0 ≤ getD S (p + i) 0 → getD S (p + i) 0 ≤ getD S (q + i) 0 → Comparing S p n q m (i + 1)
     unfolding thenOrder
-    compare-again h j = record { left = x .left; right = x .right; below = omega arith; below' = omega arith;
-        same = both ∙ rw (compare-eq (getD S (p + i) 0) (getD S (q + i) 0) (omega arith)) }
-
+    compare-again h j = record {
+      left = x .left;
+      right = x .right;
+      below = omega arith;
+      below' = omega arith;
+      same = both ∙ rw (compare-eq (getD S (p + i) 0) (getD S (q + i) 0) (omega arith));
+    }
 
 -- ---- the same value
 

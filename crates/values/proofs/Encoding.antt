@@ -22,6 +22,7 @@ use Rattle.values.proofs.Heads.{range-pos, range-neg, payload-small, me
 
 mutual
   unfolding enc size
+
   pub size-law : (v : Value) → length (enc v) ≡ size v
   size-law (bool b) = refl
   size-law (int z) = refl
@@ -73,6 +74,7 @@ ordered-cons v vs p q (fit-cons f fs) (cons w ws) (fit-cons g gs) e y z =
 
 mutual
   unfolding members
+
   ordered : (v : Value) → Ordered v
   ordered (bool b) = ordered-by (bool b) ordered-nil
   ordered (int z) = ordered-by (int z) ordered-nil
@@ -115,6 +117,7 @@ passed-cons v vs p q (fit-cons f fs) n y =
 
 mutual
   unfolding members
+
   passed : (v : Value) → Passed v
   passed (bool b) = passed-by (bool b) passed-nil
   passed (int z) = passed-by (int z) passed-nil
@@ -197,6 +200,7 @@ told-cons v vs p q (fit-cons f fs) (cons w ws) (fit-cons g gs) e y z d =
 
 mutual
   unfolding members
+
   told : (v : Value) → Told v
   told (bool b) = told-by (bool b) told-nil
   told (int z) = told-by (int z) told-nil

@@ -19,10 +19,11 @@ use Rattle.values.proofs.Encoding.{size-law, past-law}
 
 pub forms-done : {v : Value} {sp n : ℕ} (B : List ℕ) {D : List ℕ} → Fits v → size v ≡ n → n ≤ 128 → sp ≤ length B → take (sp + n) D ≡ take sp B ++ enc v → Forms v sp (take sp B) D (formed.Done n)
 forms-done {v} {sp} {n} B {D} f e s h l = record {
-    below = trim sp n D (take sp B) (enc v) (length-take-le sp B h) l;
-    is = rw (e, le-leb n 128 s);
-    lies = λ _. rw e l;
-    fits = λ _. f }
+  below = trim sp n D (take sp B) (enc v) (length-take-le sp B h) l;
+  is = rw (e, le-leb n 128 s);
+  lies = λ _. rw e l;
+  fits = λ _. f;
+}
 
 pub forms-over : {v : Value} {sp : ℕ} {low D : List ℕ} → 128 < size v → take sp D ≡ low → Forms v sp low D formed.Over
 forms-over {v} h l = record { below = l; is = rw (lt-leb (size v) 128 h); lies = λ s. absurd (omega arith); fits = λ s. absurd (omega arith) }
@@ -63,10 +64,13 @@ module _ {L S : List ℕ} {a e sp : ℕ} (h : a < e) (room : e ≤ length L) whe
   brings-over l = record { small = tt; is = λ v f d. forms-over (let z = part-size L a e v room d in omega arith) refl }
 
   pub brings-done : {D : List ℕ} → e - a ≤ 128 → sp ≤ length S → take (sp + (e - a)) D ≡ take sp S ++ take (e - a) (drop a L) → Brings L a e sp S D (formed.Done (e - a))
-  brings-done l k t = record { small = (omega arith, l); is = λ v f d.
-      let z : a + (e - a) ≡ e = omega arith in
-      forms-done S f (part-size L a e v room d) l k
-      (t ∙ ap (λ (l : List ℕ). take sp S ++ l) (sym (cut-part a (e - a) L (omega arith)) ∙ ap (λ (n : ℕ). slice a n L) z ∙ d)) }
+  brings-done l k t = record {
+    small = (omega arith, l);
+    is = λ v f d.
+        let z : a + (e - a) ≡ e = omega arith in
+        forms-done S f (part-size L a e v room d) l k
+        (t ∙ ap (λ (l : List ℕ). take sp S ++ l) (sym (cut-part a (e - a) L (omega arith)) ∙ ap (λ (n : ℕ). slice a n L) z ∙ d));
+  }
 
 -- ---- a copy of the value at p
 
@@ -80,6 +84,9 @@ module _ {S : List ℕ} {p sp r : ℕ} (h : p < sp) (room : sp ≤ length S) (k 
   copies-over l = record { small = tt; is = λ v f m e. forms-over (let z = copy-size f m e in omega arith) refl }
 
   pub copies-done : {D : List ℕ} → r - p ≤ 128 → take (sp + (r - p)) D ≡ take sp S ++ take (r - p) (drop p S) → Copies p sp S D (formed.Done (r - p))
-  copies-done l t = record { small = (let u = k .up h in omega arith, l); is = λ v f m e.
-      let z = copy-size f m e in
-      forms-done S f z l room (t ∙ ap (λ (l : List ℕ). take sp S ++ l) (sym (cut-part p (r - p) S (omega arith)) ∙ ap (λ (n : ℕ). slice p (p + n) S) (sym z) ∙ e)) }
+  copies-done l t = record {
+    small = (let u = k .up h in omega arith, l);
+    is = λ v f m e.
+        let z = copy-size f m e in
+        forms-done S f z l room (t ∙ ap (λ (l : List ℕ). take sp S ++ l) (sym (cut-part p (r - p) S (omega arith)) ∙ ap (λ (n : ℕ). slice p (p + n) S) (sym z) ∙ e));
+  }

@@ -36,9 +36,15 @@ next-member {S} {q} {end} {r} {rest} room h k l = by rest (l .fits) (l .lies)
     by (cons w ws) (fit-cons f fs) e =
         let a = after-value (encs ws) f e k in
         let b : q + (r - q) ≡ q + length (enc w) = omega arith in
-        record { w = w; ws = ws; are = refl; fits = f; at = a;
+        record {
+          w = w;
+          ws = ws;
+          are = refl;
+          fits = f;
+          at = a;
           cells = rw b (split-left S q end (enc w) (encs ws) room (omega arith) e);
-          left = record { fits = fs; lies = rw a (split-right S q end (enc w) (encs ws) room (omega arith) e) } }
+          left = record { fits = fs; lies = rw a (split-right S q end (enc w) (encs ws) room (omega arith) e) };
+        }
 
 -- at the end nothing is left
 pub none-left : {S : List ℕ} {q end : ℕ} {rest : Values} → Left S q end rest → q ≡ end → rest ≡ nil

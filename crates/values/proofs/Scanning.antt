@@ -104,8 +104,10 @@ means-alone (means-int e) = refl
 means-alone means-obj = refl
 
 pub pushed : {s : Simple} {S : List ℕ} {sp r : ℕ} → CellOf s r → sp < length S → Pushes s sp S (set S sp r)
-pushed {s} {S} {sp} {r} C h = record { lies = λ v m.
-    rw (add-one sp) (take-suc-set S sp r h) ∙ ap (λ (l : List ℕ). take sp S ++ l) (ap (λ (n : ℕ). n ∷ []) (C .is v m) ∙ sym (means-alone m)) }
+pushed {s} {S} {sp} {r} C h = record {
+  lies = λ v m.
+      rw (add-one sp) (take-suc-set S sp r h) ∙ ap (λ (l : List ℕ). take sp S ++ l) (ap (λ (n : ℕ). n ∷ []) (C .is v m) ∙ sym (means-alone m));
+}
 
 pub empty-of : (kind : ℕ) → EmptyOf kind (12884901888 + kind * 4294967296)
 unfolding head payload count
@@ -144,7 +146,7 @@ pub record Skipping (S : List ℕ) (p limit q n : ℕ) : Type 0 where
 pub skip-again : {S : List ℕ} {limit p q n m c : ℕ} → Skipping S p limit q n → c ≡ kids (getD S q 0) → q < limit → 0 < n → m ≡ n - 1 + c → Skipping S p limit (q + 1) m
 skip-again {S} {limit} {p} {q} {n} {m} {c} i e h l z =
     let a : past (slice q limit S) n ≡ suc (past (slice (q + 1) limit S) m) =
-      rw (slice-cons q limit S 0 h (i .room), add-one q, z, e) (past-cons (getD S q 0) (slice (suc q) limit S) n l) in
+    rw (slice-cons q limit S 0 h (i .room), add-one q, z, e) (past-cons (getD S q 0) (slice (suc q) limit S) n l) in
     record { room = i .room; from = i .from; below = omega arith; same = let s = i .same in omega arith }
 
 pub skips : {S : List ℕ} {limit p q n : ℕ} → Skipping S p limit q n → n ≡ 0 → Skips p limit S q
@@ -161,4 +163,3 @@ skips-over {S} {limit} {p} {q} {n} i z =
     let s = i .same in
     let b = i .below in
     record { is = omega arith; within = omega arith; up = λ l. l }
-

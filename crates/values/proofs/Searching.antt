@@ -42,19 +42,27 @@ module _ {S : List ℕ} {from end le q r : ℕ} (F : Searching S from end le q) 
       record { w = N .w; ws = N .ws; fits = N .fits; cells = N .cells; left = N .left; same = G .same ∙ ap (has v) (N .are) }
 
   pub search-found : {b : Bool} → SameAt S end le q (r - q) b → b ≡ true → HasAt S from end le true
-  search-found c z = record { is = λ v vs g gs e f.
-      let t = looked v vs g gs e f in
-      let y : sameValue v (t .w) ≡ true = sym (c .is v (t .w) g (t .fits) f (t .cells)) ∙ z in
-      sym (t .same ∙ rw y) }
+  search-found c z = record {
+    is = λ v vs g gs e f.
+        let t = looked v vs g gs e f in
+        let y : sameValue v (t .w) ≡ true = sym (c .is v (t .w) g (t .fits) f (t .cells)) ∙ z in
+        sym (t .same ∙ rw y);
+  }
 
   pub search-again : {b : Bool} → SameAt S end le q (r - q) b → b ≡ false → Searching S from end le r
-  search-again c z = record { room = F .room; below = k .within; going = λ v vs g gs e f.
-      let t = looked v vs g gs e f in
-      let y : sameValue v (t .w) ≡ false = sym (c .is v (t .w) g (t .fits) f (t .cells)) ∙ z in
-      record { rest = t .ws; left = t .left; same = t .same ∙ rw y } }
+  search-again c z = record {
+    room = F .room;
+    below = k .within;
+    going = λ v vs g gs e f.
+        let t = looked v vs g gs e f in
+        let y : sameValue v (t .w) ≡ false = sym (c .is v (t .w) g (t .fits) f (t .cells)) ∙ z in
+        record { rest = t .ws; left = t .left; same = t .same ∙ rw y };
+  }
 
 pub search-end : {S : List ℕ} {from end le q : ℕ} → Searching S from end le q → end ≤ q → HasAt S from end le false
 unfolding has
-search-end F h = record { is = λ v vs g gs e f.
-    let G = F .going v vs g gs e f in
-    sym (G .same ∙ rw (none-left (G .left) (let k = F .below in omega arith))) }
+search-end F h = record {
+  is = λ v vs g gs e f.
+      let G = F .going v vs g gs e f in
+      sym (G .same ∙ rw (none-left (G .left) (let k = F .below in omega arith)));
+}

@@ -41,13 +41,13 @@ slide-read S from to len i h k c l =
     let n : i ≤ length t = rw (part-length S from len h) (omega arith) in
     let r : getD t i 0 ≡ getD S (from + i) 0 = part-read S from len i l in
     ⊎-elim
-      (λ a. let e : (to + i) + (from - to) ≡ from + i = omega arith in
-        sym (ap (λ (m : ℕ). getD (paste S to t i) m 0) e) ∙ sym (getD-drop (to + i) (paste S to t i) (from - to) 0) ∙ ap (λ (q : List ℕ). getD q (from - to) 0) (drop-paste S to t i (omega arith) n)
-        ∙ getD-drop (to + i) S (from - to) 0 ∙ ap (λ (m : ℕ). getD S m 0) e ∙ sym r)
-      (λ a. sym (getD-take to (paste S to t i) (from + i) 0 (omega arith))
-        ∙ ap (λ (q : List ℕ). getD q (from + i) 0) (ap (take to) (append-assoc (take to S) (take i t) (drop (to + i) S)) ∙ take-at (take to S) (take i t ++ drop (to + i) S) to (length-take-le to S (omega arith)))
-        ∙ getD-take to S (from + i) 0 (omega arith) ∙ sym r)
-      c
+    (λ a. let e : (to + i) + (from - to) ≡ from + i = omega arith in
+    sym (ap (λ (m : ℕ). getD (paste S to t i) m 0) e) ∙ sym (getD-drop (to + i) (paste S to t i) (from - to) 0) ∙ ap (λ (q : List ℕ). getD q (from - to) 0) (drop-paste S to t i (omega arith) n)
+    ∙ getD-drop (to + i) S (from - to) 0 ∙ ap (λ (m : ℕ). getD S m 0) e ∙ sym r)
+    (λ a. sym (getD-take to (paste S to t i) (from + i) 0 (omega arith))
+    ∙ ap (λ (q : List ℕ). getD q (from + i) 0) (ap (take to) (append-assoc (take to S) (take i t) (drop (to + i) S)) ∙ take-at (take to S) (take i t ++ drop (to + i) S) to (length-take-le to S (omega arith)))
+    ∙ getD-take to S (from + i) 0 (omega arith) ∙ sym r)
+    c
 
 pub slide-again : (S T : List ℕ) (from to len i : ℕ) → from + len ≤ length S → to + len ≤ length S → (to ≤ from) ⊎ (from + len ≤ to) → i < len → T ≡ paste S to (take len (drop from S)) i
     → set T (to + i) (getD T (from + i) 0) ≡ paste S to (take len (drop from S)) (i + 1)

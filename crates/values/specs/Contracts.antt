@@ -120,7 +120,7 @@ pub record Puts (sp at mid le : ℕ) (before after : List ℕ) (r : Formed) : Ty
   pub done : mid - sp + le ≤ 128 → getD before sp 0 < 25769803776 → r ≡ formed.Done (mid - sp + le)
   pub lies : mid - sp + le ≤ 128 → getD before sp 0 < 25769803776
       → take (sp + (mid - sp + le)) after
-        ≡ take sp before ++ ((getD before sp 0 + 1) ∷ (slice (sp + 1) at before ++ (slice mid (mid + le) before ++ slice at mid before)))
+      ≡ take sp before ++ ((getD before sp 0 + 1) ∷ (slice (sp + 1) at before ++ (slice mid (mid + le) before ++ slice at mid before)))
 
 -- the value from mid on is added to the collection from sp to mid
 pub record Adds (sp mid le : ℕ) (before after : List ℕ) (r : Formed) : Type 0 where

@@ -1,7 +1,6 @@
 // Integers, each counted from -2147483648, so that all numbers here are unsigned. A result outside -2147483648 to
 // 2147483647 is undefined, as is one with a zero divisor.
 use crate::Num;
-
 ghost use mathlib.Core.Path.{_≡_};
 ghost use Prim.Native.Nat.{_≤_, _<_};
 ghost use Rattle.ocl.specs.Forms.{Arith};
@@ -27,7 +26,11 @@ pub fn plus(a: u64, b: u64) -> Num
     if s < ZERO {
         return Num::Undef;
     }
-    if s - ZERO < END { Num::Is { n: s - ZERO } } else { Num::Undef }
+    if s - ZERO < END {
+        Num::Is { n: s - ZERO }
+    } else {
+        Num::Undef
+    }
 }
 
 pub fn minus(a: u64, b: u64) -> Num
@@ -38,7 +41,11 @@ pub fn minus(a: u64, b: u64) -> Num
     if s < b {
         return Num::Undef;
     }
-    if s - b < END { Num::Is { n: s - b } } else { Num::Undef }
+    if s - b < END {
+        Num::Is { n: s - b }
+    } else {
+        Num::Undef
+    }
 }
 
 // How far an Integer is from 0.
@@ -61,7 +68,11 @@ fn toward(up: bool, d: u64) -> Num
     ensures { λ r. ⌜ r ≡ numOf (ranged (side up d)) ⌝ }
 {
     if up {
-        if d < ZERO { Num::Is { n: ZERO + d } } else { Num::Undef }
+        if d < ZERO {
+            Num::Is { n: ZERO + d }
+        } else {
+            Num::Undef
+        }
     } else {
         Num::Is { n: ZERO - d }
     }

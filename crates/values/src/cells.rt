@@ -1,7 +1,6 @@
 // Single cells, and runs of cells.
 use crate::Formed;
 use crate::Simple;
-
 ghost use mathlib.Core.Path.{_≡_};
 ghost use mathlib.Core.List.{_++_};
 ghost use mathlib.Core.Logic.{_⊎_};
@@ -58,13 +57,7 @@ pub fn cell_of(s: Simple) -> u64
     ensures { λ r. ⌜ CellOf s r ⌝ }
 {
     match s {
-        Simple::Bool { b } => {
-            if b {
-                1
-            } else {
-                0
-            }
-        }
+        Simple::Bool { b } => { if b { 1 } else { 0 } }
         Simple::Integer { biased } => SORT + biased,
         Simple::Object { number } => 2 * SORT + number,
     }
@@ -90,7 +83,11 @@ pub fn empty_of(kind: u64) -> u64
 pub fn member_count(cell: u64) -> usize
     ensures { λ r. ⌜ (r ≡ kids cell) × (r < 4294967296) ⌝ }
 {
-    if cell < COLLECTIONS { 0 } else { wide(cell % SORT) }
+    if cell < COLLECTIONS {
+        0
+    } else {
+        wide(cell % SORT)
+    }
 }
 
 // The place after the value at p: never past the limit, whatever the cells are.

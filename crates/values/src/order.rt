@@ -1,6 +1,5 @@
 // Two values where they lie: their order, whether they are the same, whether one is a member of the other.
 use crate::cells::skip;
-
 ghost use mathlib.Core.Path.{_≡_};
 ghost use Prim.Native.Nat.{_+_, _≤_};
 ghost use lib.ListN.{length};

@@ -1,8 +1,7 @@
+-- `values::arith::alike` meets its contract. Assumes nothing.
 use Rattle.values.proofs.Arithmetic.{alike-low, alike-high}
 use Rattle.values.proofs.arith.alike.Statement.{statement}
 use Rattle.values.proofs.arith.alike.Tie as tie
-use Rattle.values.proofs.arith.alike.Reads as reads
-use Rattle.values.proofs.arith.alike.Lts as lts
 
 returns : tie.Need-returns
 returns c = alike-low _ _ (c .if1 .taken)

@@ -1,15 +1,9 @@
-use Rattle.values.proofs.Arithmetic.{arith-0, arith-1, arith-2, arith-3, arith-4, by-number}
+-- `values::arith::calculate` meets its contract. Assumes nothing.
 use native.Mathlib.Omega.{arith}
 use borrow.Author.Needs.{needs}
+use Rattle.values.proofs.Arithmetic.{arith-0, arith-1, arith-2, arith-3, arith-4, by-number}
 use Rattle.values.proofs.arith.calculate.Statement.{statement}
 use Rattle.values.proofs.arith.calculate.Tie as tie
-use Rattle.values.proofs.arith.calculate.Reads as reads
-use Rattle.values.proofs.arith.calculate.Lts as lts
-use Rattle.values.proofs.arith.div.Reads as div-reads
-use Rattle.values.proofs.arith.minus.Reads as minus-reads
-use Rattle.values.proofs.arith.modulo.Reads as modulo-reads
-use Rattle.values.proofs.arith.plus.Reads as plus-reads
-use Rattle.values.proofs.arith.times.Reads as times-reads
 
 plus-requires : tie.Need-plus-requires
 plus-requires c κs = search needs

@@ -1,9 +1,8 @@
-use Rattle.values.proofs.Arithmetic.{distance-low, distance-high}
+-- `values::arith::distance` meets its contract. Assumes nothing.
 use borrow.Author.Needs.{needs}
+use Rattle.values.proofs.Arithmetic.{distance-low, distance-high}
 use Rattle.values.proofs.arith.distance.Statement.{statement}
 use Rattle.values.proofs.arith.distance.Tie as tie
-use Rattle.values.proofs.arith.distance.Reads as reads
-use Rattle.values.proofs.arith.distance.Lts as lts
 
 sub-result : tie.Need-sub-result
 sub-result c = search needs

@@ -1,13 +1,9 @@
-use Rattle.values.proofs.Arithmetic.{distance-some, quotient-small, div-by-zero, div-is}
+-- `values::arith::div` meets its contract. Assumes nothing.
 use native.Mathlib.Omega.{arith}
 use borrow.Author.Needs.{needs}
+use Rattle.values.proofs.Arithmetic.{distance-some, quotient-small, div-by-zero, div-is}
 use Rattle.values.proofs.arith.div.Statement.{statement}
 use Rattle.values.proofs.arith.div.Tie as tie
-use Rattle.values.proofs.arith.div.Reads as reads
-use Rattle.values.proofs.arith.div.Lts as lts
-use Rattle.values.proofs.arith.alike.Reads as alike-reads
-use Rattle.values.proofs.arith.distance.Reads as distance-reads
-use Rattle.values.proofs.arith.toward.Reads as toward-reads
 
 returns : tie.Need-returns
 returns c = div-by-zero (c .if1 .taken)

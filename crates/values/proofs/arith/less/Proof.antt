@@ -1,8 +1,7 @@
+-- `values::arith::less` meets its contract. Assumes nothing.
 use Rattle.values.proofs.Arithmetic.{less-is}
 use Rattle.values.proofs.arith.less.Statement.{statement}
 use Rattle.values.proofs.arith.less.Tie as tie
-use Rattle.values.proofs.arith.less.Reads as reads
-use Rattle.values.proofs.arith.less.Lts as lts
 
 returns : tie.Need-returns
 returns c = less-is _ _

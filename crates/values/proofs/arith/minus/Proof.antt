@@ -1,9 +1,8 @@
-use Rattle.values.proofs.Arithmetic.{minus-low, minus-is, minus-high}
+-- `values::arith::minus` meets its contract. Assumes nothing.
 use borrow.Author.Needs.{needs}
+use Rattle.values.proofs.Arithmetic.{minus-low, minus-is, minus-high}
 use Rattle.values.proofs.arith.minus.Statement.{statement}
 use Rattle.values.proofs.arith.minus.Tie as tie
-use Rattle.values.proofs.arith.minus.Reads as reads
-use Rattle.values.proofs.arith.minus.Lts as lts
 
 add-s : tie.Need-add-s
 add-s c = search needs

@@ -1,12 +1,9 @@
-use Rattle.values.proofs.Arithmetic.{distance-some, rest-small, mod-by-zero, mod-is}
+-- `values::arith::modulo` meets its contract. Assumes nothing.
 use native.Mathlib.Omega.{arith}
 use borrow.Author.Needs.{needs}
+use Rattle.values.proofs.Arithmetic.{distance-some, rest-small, mod-by-zero, mod-is}
 use Rattle.values.proofs.arith.modulo.Statement.{statement}
 use Rattle.values.proofs.arith.modulo.Tie as tie
-use Rattle.values.proofs.arith.modulo.Reads as reads
-use Rattle.values.proofs.arith.modulo.Lts as lts
-use Rattle.values.proofs.arith.distance.Reads as distance-reads
-use Rattle.values.proofs.arith.toward.Reads as toward-reads
 
 returns : tie.Need-returns
 returns c = mod-by-zero (c .if1 .taken)

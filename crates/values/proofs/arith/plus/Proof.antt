@@ -1,9 +1,8 @@
-use Rattle.values.proofs.Arithmetic.{plus-low, plus-is, plus-high}
+-- `values::arith::plus` meets its contract. Assumes nothing.
 use borrow.Author.Needs.{needs}
+use Rattle.values.proofs.Arithmetic.{plus-low, plus-is, plus-high}
 use Rattle.values.proofs.arith.plus.Statement.{statement}
 use Rattle.values.proofs.arith.plus.Tie as tie
-use Rattle.values.proofs.arith.plus.Reads as reads
-use Rattle.values.proofs.arith.plus.Lts as lts
 
 add-s : tie.Need-add-s
 add-s c = search needs

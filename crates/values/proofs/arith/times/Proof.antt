@@ -1,13 +1,9 @@
-use Rattle.values.proofs.Arithmetic.{product-small, times-is, times-over}
+-- `values::arith::times` meets its contract. Assumes nothing.
 use native.Mathlib.Omega.{arith}
 use borrow.Author.Needs.{needs}
+use Rattle.values.proofs.Arithmetic.{product-small, times-is, times-over}
 use Rattle.values.proofs.arith.times.Statement.{statement}
 use Rattle.values.proofs.arith.times.Tie as tie
-use Rattle.values.proofs.arith.times.Reads as reads
-use Rattle.values.proofs.arith.times.Lts as lts
-use Rattle.values.proofs.arith.alike.Reads as alike-reads
-use Rattle.values.proofs.arith.distance.Reads as distance-reads
-use Rattle.values.proofs.arith.toward.Reads as toward-reads
 
 distance-requires : tie.Need-distance-requires
 distance-requires c κs = search needs

@@ -1,10 +1,9 @@
-use Rattle.values.proofs.Arithmetic.{above-zero, above-range, below-zero}
+-- `values::arith::toward` meets its contract. Assumes nothing.
 use native.Mathlib.Omega.{arith}
 use borrow.Author.Needs.{needs}
+use Rattle.values.proofs.Arithmetic.{above-zero, above-range, below-zero}
 use Rattle.values.proofs.arith.toward.Statement.{statement}
 use Rattle.values.proofs.arith.toward.Tie as tie
-use Rattle.values.proofs.arith.toward.Reads as reads
-use Rattle.values.proofs.arith.toward.Lts as lts
 
 add-t7 : tie.Need-add-t7
 add-t7 c = search needs

@@ -1,10 +1,9 @@
-use Rattle.values.proofs.Scanning.{cell-bool, cell-int, cell-obj, bit-true, bit-false, narrow-int, narrow-obj}
+-- `values::cells::cell_of` meets its contract. Assumes nothing.
 use native.Mathlib.Omega.{arith}
 use borrow.Author.Needs.{needs}
+use Rattle.values.proofs.Scanning.{cell-bool, cell-int, cell-obj, bit-true, bit-false, narrow-int, narrow-obj}
 use Rattle.values.proofs.cells.cell_of.Statement.{statement}
 use Rattle.values.proofs.cells.cell_of.Tie as tie
-use Rattle.values.proofs.cells.cell_of.Reads as reads
-use Rattle.values.proofs.cells.cell_of.Lts as lts
 
 enum-known-s : tie.Need-enum-known-s
 enum-known-s c = search needs

@@ -1,14 +1,13 @@
-use Rattle.values.proofs.cells.copy_in.Statement.{statement}
-use Rattle.values.proofs.Sliding.{copy-again, copy-done}
+-- `values::cells::copy_in` meets its contract. Assumes nothing.
+use Prim.Native.Nat.{_-_, _≤_, zero-le}
+use lib.ListN.{length, take, drop, set, length-set, length-take, length-drop}
+use lib.Seq.{paste, paste-zero, paste-suc, take-paste, take-length, length-take-le}
+use mathlib.Core.Path.{_≡_, refl, sym, ap, _∙_}
 use native.Mathlib.Numerals.{add-one}
 use native.Mathlib.Omega.{arith}
-use lib.Seq.{paste, paste-zero, paste-suc, take-paste, take-length, length-take-le}
-use lib.ListN.{length, take, drop, set, length-set, length-take, length-drop}
-use mathlib.Core.Path.{_≡_, refl, sym, ap, _∙_}
-use Prim.Native.Nat.{_-_, _≤_, zero-le}
+use Rattle.values.proofs.Sliding.{copy-again, copy-done}
+use Rattle.values.proofs.cells.copy_in.Statement.{statement}
 use Rattle.values.proofs.cells.copy_in.Tie as tie
-use Rattle.values.proofs.cells.copy_in.Reads as reads
-use Rattle.values.proofs.cells.copy_in.Lts as lts
 
 abbrev Inv-loop : tie.InvT-loop
 Inv-loop stack₀ to cells from len i₀ stack i = (stack ≡ paste stack₀ to (take len (drop from cells)) i) × (i ≤ len) × (length stack ≡ length stack₀)

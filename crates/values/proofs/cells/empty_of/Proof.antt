@@ -1,9 +1,8 @@
-use Rattle.values.proofs.Scanning.{empty-of}
+-- `values::cells::empty_of` meets its contract. Assumes nothing.
 use borrow.Author.Needs.{needs}
+use Rattle.values.proofs.Scanning.{empty-of}
 use Rattle.values.proofs.cells.empty_of.Statement.{statement}
 use Rattle.values.proofs.cells.empty_of.Tie as tie
-use Rattle.values.proofs.cells.empty_of.Reads as reads
-use Rattle.values.proofs.cells.empty_of.Lts as lts
 
 mul-result : tie.Need-mul-result
 mul-result c = search needs

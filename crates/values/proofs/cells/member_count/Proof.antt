@@ -1,10 +1,8 @@
-use Rattle.values.proofs.Scanning.{kids-low, kids-high}
+-- `values::cells::member_count` meets its contract. Assumes nothing.
 use borrow.Author.Needs.{needs}
+use Rattle.values.proofs.Scanning.{kids-low, kids-high}
 use Rattle.values.proofs.cells.member_count.Statement.{statement}
 use Rattle.values.proofs.cells.member_count.Tie as tie
-use Rattle.values.proofs.cells.member_count.Reads as reads
-use Rattle.values.proofs.cells.member_count.Lts as lts
-use Rattle.values.proofs.cells.wide.Reads as wide-reads
 
 wide-requires : tie.Need-wide-requires
 wide-requires c κs = search needs

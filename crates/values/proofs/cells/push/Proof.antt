@@ -1,11 +1,9 @@
-use Rattle.values.proofs.Scanning.{pushed}
+-- `values::cells::push` meets its contract. Assumes nothing.
 use native.Mathlib.Omega.{arith}
 use borrow.Author.Needs.{needs}
+use Rattle.values.proofs.Scanning.{pushed}
 use Rattle.values.proofs.cells.push.Statement.{statement}
 use Rattle.values.proofs.cells.push.Tie as tie
-use Rattle.values.proofs.cells.push.Reads as reads
-use Rattle.values.proofs.cells.push.Lts as lts
-use Rattle.values.proofs.cells.cell_of.Reads as cell-of-reads
 
 cell-of-requires : tie.Need-cell-of-requires
 cell-of-requires c κs = search needs

@@ -1,11 +1,9 @@
-use Rattle.values.proofs.Forming.{brings-over, brings-done}
+-- `values::cells::push_cells` meets its contract. Assumes nothing.
 use native.Mathlib.Omega.{arith}
 use borrow.Author.Needs.{needs}
+use Rattle.values.proofs.Forming.{brings-over, brings-done}
 use Rattle.values.proofs.cells.push_cells.Statement.{statement}
 use Rattle.values.proofs.cells.push_cells.Tie as tie
-use Rattle.values.proofs.cells.push_cells.Reads as reads
-use Rattle.values.proofs.cells.push_cells.Lts as lts
-use Rattle.values.proofs.cells.copy_in.Reads as copy-in-reads
 
 sub-len : tie.Need-sub-len
 sub-len c = search needs

@@ -1,13 +1,10 @@
-use Rattle.values.proofs.Forming.{copies-over, copies-done}
+-- `values::cells::push_copy` meets its contract. Assumes nothing.
 use mathlib.Core.Logic.{inl, inr}
 use native.Mathlib.Omega.{arith}
 use borrow.Author.Needs.{needs}
+use Rattle.values.proofs.Forming.{copies-over, copies-done}
 use Rattle.values.proofs.cells.push_copy.Statement.{statement}
 use Rattle.values.proofs.cells.push_copy.Tie as tie
-use Rattle.values.proofs.cells.push_copy.Reads as reads
-use Rattle.values.proofs.cells.push_copy.Lts as lts
-use Rattle.values.proofs.cells.skip.Reads as skip-reads
-use Rattle.values.proofs.cells.slide.Reads as slide-reads
 
 skip-requires : tie.Need-skip-requires
 skip-requires c κs = search needs

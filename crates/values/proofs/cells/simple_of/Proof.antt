@@ -1,11 +1,8 @@
-use Rattle.values.proofs.Scanning.{simple-bool, simple-int, simple-obj}
+-- `values::cells::simple_of` meets its contract. Assumes nothing.
 use borrow.Author.Needs.{needs}
+use Rattle.values.proofs.Scanning.{simple-bool, simple-int, simple-obj}
 use Rattle.values.proofs.cells.simple_of.Statement.{statement}
 use Rattle.values.proofs.cells.simple_of.Tie as tie
-use Rattle.values.proofs.cells.simple_of.Reads as reads
-use Rattle.values.proofs.cells.simple_of.Lts as lts
-use Rattle.values.proofs.cells.payload_of.Reads as payload-of-reads
-use Rattle.values.proofs.cells.sort_of.Reads as sort-of-reads
 
 payload-of-requires : tie.Need-payload-of-requires
 payload-of-requires c κs = search needs

@@ -1,12 +1,10 @@
+-- `values::cells::skip` meets its contract. Assumes nothing.
 use Prim.Native.Nat.{_+_, _-_, _≤_}
 use mathlib.Core.Path.{_≡_, refl}
-use Rattle.values.proofs.Scanning.{Skipping, skip-again, skips, skips-over}
 use native.Mathlib.Omega.{arith}
+use Rattle.values.proofs.Scanning.{Skipping, skip-again, skips, skips-over}
 use Rattle.values.proofs.cells.skip.Statement.{statement}
 use Rattle.values.proofs.cells.skip.Tie as tie
-use Rattle.values.proofs.cells.skip.Reads as reads
-use Rattle.values.proofs.cells.skip.Lts as lts
-use Rattle.values.proofs.cells.member_count.Reads as member-count-reads
 
 abbrev Inv-loop : tie.InvT-loop
 Inv-loop stack p limit q₀ n₀ q n = Skipping stack p limit q n

@@ -1,8 +1,7 @@
+-- `values::cells::sort_of` meets its contract. Assumes nothing.
 use Rattle.values.proofs.Scanning.{sort-of}
 use Rattle.values.proofs.cells.sort_of.Statement.{statement}
 use Rattle.values.proofs.cells.sort_of.Tie as tie
-use Rattle.values.proofs.cells.sort_of.Reads as reads
-use Rattle.values.proofs.cells.sort_of.Lts as lts
 
 returns : tie.Need-returns
 returns c = sort-of _

@@ -1,12 +1,11 @@
+-- `values::order::compare` meets its contract. Assumes nothing.
 use Prim.Native.Nat.{_+_, _-_, _≤_}
 use mathlib.Core.Path.{_≡_, refl}
 use native.Mathlib.Nat.{add-zero}
-use Rattle.values.proofs.Comparing.{Comparing, compare-ended, compare-less, compare-over, compare-again, compare-shorter, compare-alike}
 use native.Mathlib.Omega.{arith}
+use Rattle.values.proofs.Comparing.{Comparing, compare-ended, compare-less, compare-over, compare-again, compare-shorter, compare-alike}
 use Rattle.values.proofs.order.compare.Statement.{statement}
 use Rattle.values.proofs.order.compare.Tie as tie
-use Rattle.values.proofs.order.compare.Reads as reads
-use Rattle.values.proofs.order.compare.Lts as lts
 
 abbrev Inv-loop : tie.InvT-loop
 Inv-loop stack p n q m i₀ i = Comparing stack p n q m i

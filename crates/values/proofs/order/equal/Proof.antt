@@ -1,10 +1,8 @@
-use Rattle.values.proofs.Comparing.{same-at}
+-- `values::order::equal` meets its contract. Assumes nothing.
 use borrow.Author.Needs.{needs}
+use Rattle.values.proofs.Comparing.{same-at}
 use Rattle.values.proofs.order.equal.Statement.{statement}
 use Rattle.values.proofs.order.equal.Tie as tie
-use Rattle.values.proofs.order.equal.Reads as reads
-use Rattle.values.proofs.order.equal.Lts as lts
-use Rattle.values.proofs.order.compare.Reads as compare-reads
 
 compare-requires : tie.Need-compare-requires
 compare-requires c κs = search needs

@@ -1,12 +1,9 @@
-use Rattle.values.proofs.Searching.{Searching, search-start, search-found, search-again, search-end}
+-- `values::order::includes` meets its contract. Assumes nothing.
 use Prim.Native.Nat.{_-_}
 use native.Mathlib.Omega.{arith}
+use Rattle.values.proofs.Searching.{Searching, search-start, search-found, search-again, search-end}
 use Rattle.values.proofs.order.includes.Statement.{statement}
 use Rattle.values.proofs.order.includes.Tie as tie
-use Rattle.values.proofs.order.includes.Reads as reads
-use Rattle.values.proofs.order.includes.Lts as lts
-use Rattle.values.proofs.cells.skip.Reads as skip-reads
-use Rattle.values.proofs.order.equal.Reads as equal-reads
 
 abbrev Inv-loop : tie.InvT-loop
 Inv-loop stack from end le q₀ q = Searching stack from end le q
