@@ -1,3 +1,4 @@
 pub mod Tests
 pub mod Orders
 pub mod Parts
+pub mod Integers

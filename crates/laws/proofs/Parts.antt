@@ -1,10 +1,10 @@
 -- Parts of a list, cut and joined. Assumes nothing.
 use mathlib.Core.Path.{_≡_, refl, sym, ap, _∙_}
-use mathlib.Core.List.{List, [], _∷_, _++_}
-use Prim.Native.Nat.{ℕ, zero, suc, _+_, _-_, _<_, _≤_}
+use mathlib.Core.List.{List, _++_}
+use Prim.Native.Nat.{ℕ, _+_, _≤_}
 use native.Mathlib.Omega.{arith}
 use lib.ListN.{length, take, drop, length-append, take-append-drop}
-use lib.Seq.{slice, length-slice, take-add, take-take, take-at, drop-at, drop-drop, length-take-le}
+use lib.Seq.{slice, length-slice, drop-append-le, take-add, take-take, take-at, drop-at, drop-drop, length-take-le}
 
 pub cut-part : (q a : ℕ) (L : List ℕ) → q ≤ length L → drop q (take (q + a) L) ≡ take a (drop q L)
 cut-part q a L h = ap (drop q) (take-add q a L) ∙ drop-at (take q L) (take a (drop q L)) q (length-take-le q L h)
@@ -32,7 +32,7 @@ whole S p q h = sym (take-append-drop p (take q S)) ∙ ap (λ (l : List ℕ). l
 pub slice-join : (S : List ℕ) (p q r : ℕ) → p ≤ q → q ≤ r → q ≤ length S → slice p r S ≡ slice p q S ++ slice q r S
 slice-join S p q r h k room =
     ap (drop p) (whole S q r k)
-    ∙ lib.Seq.drop-append-le p (take q S) (slice q r S) (let n = length-take-le q S room in omega arith)
+    ∙ drop-append-le p (take q S) (slice q r S) (let n = length-take-le q S room in omega arith)
 
 -- a part below the top, of two lists that are the same up to there
 pub under-top : (S T : List ℕ) (top p q : ℕ) → q ≤ top → take top S ≡ take top T → slice p q S ≡ slice p q T
@@ -41,3 +41,11 @@ under-top S T top p q h e = ap (drop p) (sym (take-take q top S h) ∙ ap (take 
 -- what a list begins with, from what more of it is
 pub trim : (sp k : ℕ) (A low Q : List ℕ) → length low ≡ sp → take (sp + k) A ≡ low ++ Q → take sp A ≡ low
 trim sp k A low Q n e = sym (take-take sp (sp + k) A (omega arith)) ∙ ap (take sp) e ∙ take-at low Q sp n
+
+-- two lists, one above the other, from what a list begins with
+module _ (S low : List ℕ) (sp mid : ℕ) (xs ys : List ℕ) (n : length low ≡ sp) (m : length (low ++ xs) ≡ mid) (e : take (mid + length ys) S ≡ (low ++ xs) ++ ys) where
+  pub upper-part : slice mid (mid + length ys) S ≡ ys
+  upper-part = ap (drop mid) e ∙ drop-at (low ++ xs) ys mid m
+
+  pub lower-part : slice sp mid S ≡ xs
+  lower-part = ap (drop sp) (sym (take-take mid (mid + length ys) S (omega arith)) ∙ ap (take mid) e ∙ take-at (low ++ xs) ys mid m) ∙ drop-at low xs sp n

@@ -1,16 +1,15 @@
 -- Integers held with their bias: what the proofs of the arithmetic cite. Assumes nothing.
 use mathlib.Core.Path.{_≡_, refl, sym, ap, _∙_}
-use mathlib.Core.Logic.{_⊎_, inl, inr, ⊎-elim}
-use mathlib.Core.Bool.{Bool, true, false, cond}
+use mathlib.Core.Bool.{Bool, true, false}
 use mathlib.Core.Option.{Option, none, some}
-use Prim.Native.Nat.{ℕ, zero, suc, _+_, _-_, _*_, _/_, _%_, _<_, _≤_, compare, Ordering, Ordering·lt, Ordering·eq, Ordering·gt}
+use Prim.Native.Nat.{ℕ, zero, suc, _+_, _-_, _*_, _/_, _%_, _<_, _≤_, compare}
 use native.Mathlib.Omega.{arith}
 use native.Mathlib.Nat.{div-le-self, mod-lt, mul-le-mul}
-use lib.IntN.{ℤ, pos, negsuc, negℤ, subℕ, natAbs, _+ℤ_, _-ℤ_, _*ℤ_}
+use lib.IntN.{ℤ, pos, negsuc, negℤ, natAbs, _+ℤ_, _-ℤ_, _*ℤ_}
 use lib.Dec.{T, ltb, leb}
-use borrow.Author.Tests.{lt-ltb, le-ltb, lt-leb, le-leb, ltb-true, ltb-false}
-use Rattle.laws.specs.Choice.{if_then_else_}
+use borrow.Author.Tests.{lt-ltb, le-ltb, lt-leb, le-leb}
 use Rattle.laws.proofs.Tests.{by-if, All?, all-none, all-some}
+use Rattle.laws.proofs.Integers.{Diff, add-diff, neg-diff}
 use Rattle.laws.proofs.Orders.{compare-lt, compare-eq, compare-gt, Three, less, same, over, three}
 use Rattle.ocl.specs.Values.{Value, int, orderInt}
 use Rattle.ocl.specs.Forms.{Arith, plus, minus, times, div, modulo}
@@ -19,39 +18,14 @@ use Rattle.values.specs.Cells.{bias, payload}
 use Rattle.values.specs.Integers.{numOf, Calculates, Lesser, distance, alike, side, arithOf}
 use Rattle.values.specs.declared.Num.{Num}
 use Rattle.values.specs.declared.Num.the-variants as num
-use Rattle.values.proofs.Heads.{range-pos, range-neg, bias-order}
+use Rattle.values.proofs.Heads.{range-neg, bias-order}
 
--- ---- z is p - q
-
-abbrev Diff : ℤ → ℕ → ℕ → Type 0
-Diff (pos n) p q = p ≡ q + n
-Diff (negsuc n) p q = q ≡ p + suc n
-
-shift : (z : ℤ) (p q p' q' : ℕ) → Diff z p q → p + q' ≡ p' + q → Diff z p' q'
-shift (pos n) p q p' q' d e = omega arith
-shift (negsuc n) p q p' q' d e = omega arith
+-- ---- in range, too low, too high
 
 bias-diff : (x : ℤ) → T (inRange x) → Diff x (bias x) 2147483648
 unfolding bias
 bias-diff (pos n) h = omega arith
 bias-diff (negsuc n) h = let l = range-neg n h in omega arith
-
-sub-by : (m n : ℕ) (b : Bool) → ltb m n ≡ b → Diff (cond b (negsuc (n - suc m)) (pos (m - n))) m n
-sub-by m n true e = let h = ltb-true m n e in omega arith
-sub-by m n false e = let h = ltb-false m n e in omega arith
-
-add-diff : (x y : ℤ) (a b c d : ℕ) → Diff x a b → Diff y c d → Diff (x +ℤ y) (a + c) (b + d)
-add-diff (pos m) (pos n) a b c d p q = omega arith
-add-diff (pos m) (negsuc n) a b c d p q = shift (subℕ m (suc n)) m (suc n) (a + c) (b + d) (sub-by m (suc n) (ltb m (suc n)) refl) (omega arith)
-add-diff (negsuc m) (pos n) a b c d p q = shift (subℕ n (suc m)) n (suc m) (a + c) (b + d) (sub-by n (suc m) (ltb n (suc m)) refl) (omega arith)
-add-diff (negsuc m) (negsuc n) a b c d p q = omega arith
-
-neg-diff : (x : ℤ) (a b : ℕ) → Diff x a b → Diff (negℤ x) b a
-neg-diff (pos zero) a b d = omega arith
-neg-diff (pos (suc n)) a b d = omega arith
-neg-diff (negsuc n) a b d = omega arith
-
--- ---- in range, too low, too high
 
 is-ranged : (z : ℤ) (p q r : ℕ) → Diff z p q → q ≤ p + 2147483648 → p < q + 2147483648 → r + q ≡ p + 2147483648 → num.Is r ≡ numOf (ranged z)
 unfolding numOf payload ranged inRange bias

@@ -1,9 +1,8 @@
 -- A value's cells: as many as its size, prefix-free, and ordered as the values are. Assumes nothing.
 use mathlib.Core.Path.{_≡_, refl, sym, ap, _∙_}
-use mathlib.Core.Logic.{_↔_}
-use mathlib.Core.Bool.{Bool, true, false}
+use mathlib.Core.Bool.{true, false}
 use mathlib.Core.List.{List, [], _∷_, _++_, append-assoc, append-nil}
-use Prim.Native.Nat.{ℕ, zero, suc, _+_, _*_, _-_, _/_, _%_, _<_, _≤_, compare, Ordering, Ordering·lt, Ordering·eq, Ordering·gt}
+use Prim.Native.Nat.{ℕ, zero, suc, _+_, _-_, _/_, _%_, _<_, compare}
 use native.Mathlib.Omega.{arith}
 use native.Mathlib.Nat.{add-zero}
 use lib.ListN.{length, length-append}
@@ -11,12 +10,12 @@ use lib.IntN.{ℤ, pos, negsuc}
 use lib.Dec.{T, ltb}
 use borrow.Author.Tests.{lt-ltb, le-ltb}
 use Rattle.laws.specs.Choice.{if_then_else_}
-use Rattle.laws.proofs.Orders.{compare-lt, compare-eq, compare-gt, Three, less, same, over, three, compare-same}
-use Rattle.ocl.specs.Types.{Kind, set, sequence, bag}
+use Rattle.laws.proofs.Orders.{same, compare-same}
+use Rattle.ocl.specs.Types.{set, sequence, bag}
 use Rattle.ocl.specs.Values.{Value, bool, int, obj, coll, Values, nil, cons, count, size, sizes, thenOrder, sort, members, headOrder, order, orders}
 use Rattle.ocl.specs.Evaluation.{inRange}
-use Rattle.values.specs.Cells.{bit, bias, payload, head, enc, encs, Fits, fits-bool, fits-int, fits-obj, fits-coll, AllFit, fit-nil, fit-cons, kids, past, lex}
-use Rattle.values.proofs.Heads.{range-pos, range-neg, payload-small, members-fit, enc-parts, kids-head, then-eq, then-assoc, then-like, head-order, sort-back, payload-back}
+use Rattle.values.specs.Cells.{bit, bias, payload, head, enc, encs, Fits, fits-bool, fits-int, fits-obj, fits-coll, AllFit, fit-cons, kids, past, lex}
+use Rattle.values.proofs.Heads.{range-neg, members-fit, enc-parts, kids-head, then-eq, then-assoc, then-like, head-order, sort-back, payload-back}
 
 -- ---- as many cells as the size says
 

@@ -1,13 +1,13 @@
 -- A loop over members where they lie: what is left at each turn, and the first of it. Assumes nothing.
 use mathlib.Core.Path.{_≡_, refl, sym, ap, _∙_}
-use mathlib.Core.List.{List, [], _∷_, _++_}
-use Prim.Native.Nat.{ℕ, zero, suc, _+_, _-_, _<_, _≤_}
+use mathlib.Core.List.{List}
+use Prim.Native.Nat.{ℕ, _+_, _-_, _<_, _≤_}
 use native.Mathlib.Omega.{arith}
 use lib.ListN.{length, length-append}
 use lib.Seq.{slice, length-slice, slice-empty}
 use Rattle.laws.proofs.Parts.{split-left, split-right}
 use Rattle.ocl.specs.Values.{Value, Values, nil, cons}
-use Rattle.values.specs.Cells.{enc, encs, Fits, AllFit, fit-nil, fit-cons}
+use Rattle.values.specs.Cells.{enc, encs, Fits, AllFit, fit-cons}
 use Rattle.values.specs.Contracts.{Skips}
 use Rattle.values.proofs.Encoding.{some-cells}
 use Rattle.values.proofs.Forming.{after-value}

@@ -5,13 +5,12 @@ use mathlib.Core.List.{List, [], _∷_, _++_}
 use Prim.Native.Nat.{ℕ, zero, suc, _+_, _*_, _-_, _/_, _%_, _<_, _≤_}
 use native.Mathlib.Omega.{arith}
 use native.Mathlib.Numerals.{add-one}
-use lib.ListN.{length, getD, take, drop, set}
+use lib.ListN.{length, getD, take, set}
 use lib.Seq.{slice, slice-cons, length-slice, take-suc-set}
 use lib.Dec.{eqb}
 use borrow.Author.Tests.{lt-ltb, le-ltb, eq-eqb, ne-eqb}
-use Rattle.ocl.specs.Types.{Kind, kindCode}
-use Rattle.ocl.specs.Values.{Value, bool, int, obj, coll, Values, nil, cons, count, sort}
-use Rattle.values.specs.Cells.{bit, bias, payload, head, enc, kids, past, Fits}
+use Rattle.ocl.specs.Values.{Value, nil, count, sort}
+use Rattle.values.specs.Cells.{bit, payload, head, enc, kids, past, Fits}
 use Rattle.values.specs.Contracts.{SortOf, PayloadOf, SimpleOf, Means, means-bool, means-int, means-obj, Narrow, CellOf, Pushes, EmptyOf, Skips}
 use Rattle.values.specs.declared.Simple.{Simple}
 use Rattle.values.specs.declared.Simple.the-variants as simple

@@ -1,12 +1,12 @@
 -- Cells copied one by one, within the stack and from other words. Assumes nothing.
-use mathlib.Core.Path.{_≡_, refl, sym, ap, _∙_}
+use mathlib.Core.Path.{_≡_, sym, ap, _∙_}
 use mathlib.Core.Logic.{_⊎_, ⊎-elim}
-use mathlib.Core.List.{List, [], _∷_, _++_, append-assoc}
-use Prim.Native.Nat.{ℕ, zero, suc, _+_, _-_, _<_, _≤_}
+use mathlib.Core.List.{List, _++_, append-assoc}
+use Prim.Native.Nat.{ℕ, _+_, _-_, _<_, _≤_}
 use native.Mathlib.Omega.{arith}
 use native.Mathlib.Numerals.{add-one}
 use lib.ListN.{length, getD, take, drop, set, length-drop}
-use lib.Seq.{slice, take-paste, take-all, take-at, length-take-le, getD-take, getD-drop, paste, paste-suc, drop-paste}
+use lib.Seq.{take-paste, take-all, take-at, length-take-le, getD-take, getD-drop, paste, paste-suc, drop-paste}
 
 -- ---- the part that is copied, and the list after i of its cells
 

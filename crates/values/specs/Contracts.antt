@@ -2,15 +2,15 @@
 -- value that lies there, and what is formed lies at sp, above cells that are as before.
 use mathlib.Core.Path.{_≡_}
 use mathlib.Core.Bool.{Bool, true, false}
-use mathlib.Core.List.{List, [], _∷_, _++_}
-use Prim.Native.Nat.{ℕ, zero, suc, _+_, _*_, _-_, _<_, _≤_}
-use lib.ListN.{length, getD, take, drop}
+use mathlib.Core.List.{List, _∷_, _++_}
+use Prim.Native.Nat.{ℕ, suc, _+_, _-_, _<_, _≤_}
+use lib.ListN.{length, getD, take}
 use lib.Seq.{slice}
 use lib.Dec.{leb}
 use lib.IntN.{ℤ}
 use Rattle.laws.specs.Choice.{if_then_else_}
 use Rattle.ocl.specs.Types.{Kind, kindCode}
-use Rattle.ocl.specs.Values.{Value, bool, int, obj, coll, Values, nil, cons, count, size, sort, same, has, insert, append, add, addAll}
+use Rattle.ocl.specs.Values.{Value, bool, int, obj, coll, Values, nil, count, size, sort, same, has, insert, append, add, addAll}
 use Rattle.values.specs.Cells.{bias, payload, head, enc, encs, Fits, AllFit, past}
 use Rattle.values.specs.declared.Simple.{Simple}
 use Rattle.values.specs.declared.Simple.the-variants as simple

@@ -1,9 +1,8 @@
 -- `values::cells::copy_in` meets its contract. Assumes nothing.
 use Prim.Native.Nat.{_-_, _≤_, zero-le}
-use lib.ListN.{length, take, drop, set, length-set, length-take, length-drop}
-use lib.Seq.{paste, paste-zero, paste-suc, take-paste, take-length, length-take-le}
-use mathlib.Core.Path.{_≡_, refl, sym, ap, _∙_}
-use native.Mathlib.Numerals.{add-one}
+use lib.ListN.{length, take, drop, length-set}
+use lib.Seq.{paste, paste-zero}
+use mathlib.Core.Path.{_≡_, refl}
 use native.Mathlib.Omega.{arith}
 use Rattle.values.proofs.Sliding.{copy-again, copy-done}
 use Rattle.values.proofs.cells.copy_in.Statement.{statement}

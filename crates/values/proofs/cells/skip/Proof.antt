@@ -1,6 +1,6 @@
 -- `values::cells::skip` meets its contract. Assumes nothing.
-use Prim.Native.Nat.{_+_, _-_, _≤_}
-use mathlib.Core.Path.{_≡_, refl}
+use Prim.Native.Nat.{_-_}
+use mathlib.Core.Path.{refl}
 use native.Mathlib.Omega.{arith}
 use Rattle.values.proofs.Scanning.{Skipping, skip-again, skips, skips-over}
 use Rattle.values.proofs.cells.skip.Statement.{statement}

@@ -1,6 +1,5 @@
 -- `values::order::compare` meets its contract. Assumes nothing.
-use Prim.Native.Nat.{_+_, _-_, _≤_}
-use mathlib.Core.Path.{_≡_, refl}
+use Prim.Native.Nat.{_-_}
 use native.Mathlib.Nat.{add-zero}
 use native.Mathlib.Omega.{arith}
 use Rattle.values.proofs.Comparing.{Comparing, compare-ended, compare-less, compare-over, compare-again, compare-shorter, compare-alike}
