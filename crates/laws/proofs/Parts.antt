@@ -34,9 +34,13 @@ slice-join S p q r h k room =
     ap (drop p) (whole S q r k)
     ∙ drop-append-le p (take q S) (slice q r S) (let n = length-take-le q S room in omega arith)
 
--- a part below the top, of two lists that are the same up to there
+-- two lists that are the same up to the top are the same up to any place below it
+pub take-lower : (S T : List ℕ) (top q : ℕ) → q ≤ top → take top S ≡ take top T → take q S ≡ take q T
+take-lower S T top q h e = sym (take-take q top S h) ∙ ap (take q) e ∙ take-take q top T h
+
+-- and so are their parts below it
 pub under-top : (S T : List ℕ) (top p q : ℕ) → q ≤ top → take top S ≡ take top T → slice p q S ≡ slice p q T
-under-top S T top p q h e = ap (drop p) (sym (take-take q top S h) ∙ ap (take q) e ∙ take-take q top T h)
+under-top S T top p q h e = ap (drop p) (take-lower S T top q h e)
 
 -- what a list begins with, from what more of it is
 pub trim : (sp k : ℕ) (A low Q : List ℕ) → length low ≡ sp → take (sp + k) A ≡ low ++ Q → take sp A ≡ low

@@ -61,11 +61,12 @@ after-value {q = q} {v = v} y f e k = k .is ∙ ap (λ (l : List ℕ). q + past 
 
 module _ {L S : List ℕ} {a e sp : ℕ} (h : a < e) (room : e ≤ length L) where
   pub brings-over : 128 < e - a → Brings L a e sp S S formed.Over
-  brings-over l = record { small = tt; is = λ v f d. forms-over (let z = part-size L a e v room d in omega arith) refl }
+  brings-over l = record { small = tt; low = refl; is = λ v f d. forms-over (let z = part-size L a e v room d in omega arith) refl }
 
   pub brings-done : {D : List ℕ} → e - a ≤ 128 → sp ≤ length S → take (sp + (e - a)) D ≡ take sp S ++ take (e - a) (drop a L) → Brings L a e sp S D (formed.Done (e - a))
-  brings-done l k t = record {
+  brings-done {D} l k t = record {
     small = (omega arith, l);
+    low = trim sp (e - a) D (take sp S) (take (e - a) (drop a L)) (length-take-le sp S k) t;
     is = λ v f d.
         let z : a + (e - a) ≡ e = omega arith in
         forms-done S f (part-size L a e v room d) l k
@@ -81,11 +82,12 @@ module _ {S : List ℕ} {p sp r : ℕ} (h : p < sp) (room : sp ≤ length S) (k 
       let z = after-value (slice (p + size v) sp S) f j k in let n = size-law v in omega arith
 
   pub copies-over : 128 < r - p → Copies p sp S S formed.Over
-  copies-over l = record { small = tt; is = λ v f m e. forms-over (let z = copy-size f m e in omega arith) refl }
+  copies-over l = record { small = tt; low = refl; is = λ v f m e. forms-over (let z = copy-size f m e in omega arith) refl }
 
   pub copies-done : {D : List ℕ} → r - p ≤ 128 → take (sp + (r - p)) D ≡ take sp S ++ take (r - p) (drop p S) → Copies p sp S D (formed.Done (r - p))
-  copies-done l t = record {
+  copies-done {D} l t = record {
     small = (let u = k .up h in omega arith, l);
+    low = trim sp (r - p) D (take sp S) (take (r - p) (drop p S)) (length-take-le sp S room) t;
     is = λ v f m e.
         let z = copy-size f m e in
         forms-done S f z l room (t ∙ ap (λ (l : List ℕ). take sp S ++ l) (sym (cut-part p (r - p) S (omega arith)) ∙ ap (λ (n : ℕ). slice p (p + n) S) (sym z) ∙ e));

@@ -3,8 +3,8 @@ pub mod Encoding
 pub mod Forming
 pub mod Members
 pub mod Growing
-mod Scanning
-mod Comparing
+pub mod Scanning
+pub mod Comparing
 mod Searching
 mod Sliding
 mod Finding
@@ -12,4 +12,5 @@ mod Putting
 pub mod Adding
 mod Gathering
 mod Moving
-mod Arithmetic
+pub mod Arithmetic
+mod Worked

@@ -6,7 +6,7 @@ use Prim.Native.Nat.{ℕ, zero, suc, _+_, _*_, _-_, _/_, _%_, _<_, _≤_}
 use native.Mathlib.Omega.{arith}
 use native.Mathlib.Numerals.{add-one}
 use lib.ListN.{length, getD, take, set}
-use lib.Seq.{slice, slice-cons, length-slice, take-suc-set}
+use lib.Seq.{slice, slice-cons, length-slice, take-suc-set, take-set-le}
 use lib.Dec.{eqb}
 use borrow.Author.Tests.{lt-ltb, le-ltb, eq-eqb, ne-eqb}
 use Rattle.ocl.specs.Values.{Value, nil, count, sort}
@@ -104,6 +104,7 @@ means-alone means-obj = refl
 
 pub pushed : {s : Simple} {S : List ℕ} {sp r : ℕ} → CellOf s r → sp < length S → Pushes s sp S (set S sp r)
 pushed {s} {S} {sp} {r} C h = record {
+  low = take-set-le sp S sp r (omega arith);
   lies = λ v m.
       rw (add-one sp) (take-suc-set S sp r h) ∙ ap (λ (l : List ℕ). take sp S ++ l) (ap (λ (n : ℕ). n ∷ []) (C .is v m) ∙ sym (means-alone m));
 }

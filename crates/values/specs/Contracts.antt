@@ -53,6 +53,7 @@ pub record CellOf (s : Simple) (r : ℕ) : Type 0 where
 
 -- the simple value at sp
 pub record Pushes (s : Simple) (sp : ℕ) (before after : List ℕ) : Type 0 where
+  pub low : take sp after ≡ take sp before
   pub lies : (v : Value) → Means s v → take (sp + 1) after ≡ take sp before ++ enc v
 
 -- the first cell of an empty collection
@@ -133,6 +134,7 @@ pub record Adds (sp mid le : ℕ) (before after : List ℕ) (r : Formed) : Type 
 -- the simple value is put at the end of the collection from sp to mid, whatever its kind
 pub record Appends (s : Simple) (sp mid : ℕ) (before after : List ℕ) (r : Formed) : Type 0 where
   pub small : Small r
+  pub low : take sp after ≡ take sp before
   pub is : (k : Kind) (vs : Values) (v : Value) → Fits (coll k vs) → Fits v → Means s v → slice sp mid before ≡ enc (coll k vs)
       → Forms (coll k (append v vs)) sp (take sp before) after r
 
@@ -153,18 +155,21 @@ pub record Moves (sp from : ℕ) (f : Formed) (before after : List ℕ) (r : For
 -- the members from `from` to end, as a collection of the kind
 pub record Collects (kind sp from end : ℕ) (before after : List ℕ) (r : Formed) : Type 0 where
   pub small : Small r
+  pub low : take sp after ≡ take sp before
   pub is : (k : Kind) (vs : Values) → kind ≡ kindCode k → AllFit vs → slice from end before ≡ encs vs
       → Forms (coll k (addAll k vs nil)) sp (take sp before) after r
 
 -- the collection from sp to mid, as one of the kind
 pub record Converts (kind sp mid : ℕ) (before after : List ℕ) (r : Formed) : Type 0 where
   pub small : Small r
+  pub low : take sp after ≡ take sp before
   pub is : (j k : Kind) (vs : Values) → kind ≡ kindCode k → Fits (coll j vs) → slice sp mid before ≡ enc (coll j vs)
       → Forms (coll k (addAll k vs nil)) sp (take sp before) after r
 
 -- the collections of one kind from sp to mid and from mid to end
 pub record Unites (sp mid end : ℕ) (before after : List ℕ) (r : Formed) : Type 0 where
   pub small : Small r
+  pub low : take sp after ≡ take sp before
   pub is : (k : Kind) (us vs : Values) → Fits (coll k us) → Fits (coll k vs)
       → slice sp mid before ≡ enc (coll k us) → slice mid end before ≡ enc (coll k vs)
       → Forms (coll k (addAll k vs us)) sp (take sp before) after r
@@ -172,9 +177,11 @@ pub record Unites (sp mid end : ℕ) (before after : List ℕ) (r : Formed) : Ty
 -- the value at p, below sp, once more at sp
 pub record Copies (p sp : ℕ) (before after : List ℕ) (r : Formed) : Type 0 where
   pub small : Small r
+  pub low : take sp after ≡ take sp before
   pub is : (v : Value) → Fits v → p + size v ≤ sp → slice p (p + size v) before ≡ enc v → Forms v sp (take sp before) after r
 
 -- the value from a to e of other cells, at sp
 pub record Brings (cells : List ℕ) (a e sp : ℕ) (before after : List ℕ) (r : Formed) : Type 0 where
   pub small : Small r
+  pub low : take sp after ≡ take sp before
   pub is : (v : Value) → Fits v → slice a e cells ≡ enc v → Forms v sp (take sp before) after r
