@@ -4,3 +4,5 @@ pub mod Lists
 pub mod Orders
 pub mod Parts
 pub mod Bounds
+pub mod Integers
+pub mod Slices

@@ -8,7 +8,7 @@ use lib.IntN.{ℤ, pos, negsuc}
 use lib.ListN.{length, drop}
 use lib.Dec.{eqb, ltb}
 use Rattle.laws.specs.Choice.{if_then_else_, onSome}
-use Rattle.laws.specs.Integers.{bias}
+unfoldable pub use Rattle.laws.specs.Integers.{bias, unbias}
 use Rattle.ocl.specs.Evaluation.{inRange}
 use Rattle.sheet.specs.Text.{Bytes, byte, digits, plain, valueOfDigits}
 use Rattle.text.specs.declared.numbers.Num.{Num}

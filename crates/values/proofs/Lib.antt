@@ -1,0 +1,16 @@
+pub mod Heads
+pub mod Encoding
+pub mod Forming
+pub mod Members
+pub mod Growing
+pub mod Scanning
+pub mod Comparing
+mod Searching
+mod Sliding
+mod Finding
+mod Putting
+pub mod Adding
+mod Gathering
+mod Moving
+pub mod Arithmetic
+mod Worked

@@ -1,0 +1,77 @@
+-- Values as cells: one 64-bit word for each value, 2^32 times its sort and a payload, and after a collection's cell those of
+-- its members. So there are as many cells as the value's size says, and the order of values is the order of their cells
+-- (proofs/Heads.antt and proofs/Encoding.antt have the laws through which everything else knows `enc`).
+use mathlib.Core.Bool.{Bool, true, false}
+use mathlib.Core.List.{List, [], _∷_, _++_}
+use Prim.Native.Nat.{ℕ, zero, suc, _+_, _*_, _-_, _%_, _<_, compare, Ordering, Ordering·lt, Ordering·eq, Ordering·gt}
+use lib.IntN.{ℤ, pos, negsuc}
+use lib.Dec.{T, ltb}
+use Rattle.laws.specs.Choice.{if_then_else_}
+unfoldable pub use Rattle.laws.specs.Integers.{bias}
+use Rattle.ocl.specs.Types.{Kind}
+use Rattle.ocl.specs.Values.{Value, bool, int, obj, coll, Values, nil, cons, count, sort, thenOrder}
+use Rattle.ocl.specs.Evaluation.{inRange}
+
+-- false before true
+unfoldable pub bit : Bool → ℕ
+bit false = 0
+bit true = 1
+
+-- the truth value, the Integer, the object's number, or how many members there are
+unfoldable pub payload : Value → ℕ
+payload (bool b) = bit b
+payload (int z) = bias z
+payload (obj o) = o
+payload (coll k vs) = count vs
+
+-- a value's first cell
+unfoldable pub head : Value → ℕ
+head v = 4294967296 * sort v + payload v
+
+unfoldable mutual
+  pub enc : Value → List ℕ
+  enc (bool b) = head (bool b) ∷ []
+  enc (int z) = head (int z) ∷ []
+  enc (obj o) = head (obj o) ∷ []
+  enc (coll k vs) = head (coll k vs) ∷ encs vs
+
+  pub encs : Values → List ℕ
+  encs nil = []
+  encs (cons v vs) = enc v ++ encs vs
+
+-- the values that cells can hold: Integers in range, object numbers and counts of members below 2^32
+mutual
+  pub data Fits : Value → Type 0 where
+    fits-bool : {b : Bool} → Fits (bool b)
+    fits-int : {z : ℤ} → T (inRange z) → Fits (int z)
+    fits-obj : {o : ℕ} → o < 4294967296 → Fits (obj o)
+    fits-coll : {k : Kind} {vs : Values} → count vs < 4294967296 → AllFit vs → Fits (coll k vs)
+
+  pub data AllFit : Values → Type 0 where
+    fit-nil : AllFit nil
+    fit-cons : {v : Value} {vs : Values} → Fits v → AllFit vs → AllFit (cons v vs)
+
+-- ---- what the code does with cells, said of lists of numbers
+
+-- the first cells that differ decide, and a list comes before a longer one that begins with it
+unfoldable pub lex : List ℕ → List ℕ → Ordering
+lex [] [] = Ordering·eq
+lex [] (b ∷ ys) = Ordering·lt
+lex (a ∷ xs) [] = Ordering·gt
+lex (a ∷ xs) (b ∷ ys) = thenOrder (compare a b) (lex xs ys)
+
+-- 0 for less, 1 for the same, 2 for greater
+unfoldable pub code : Ordering → ℕ
+code Ordering·lt = 0
+code Ordering·eq = 1
+code Ordering·gt = 2
+
+-- how many members the value with this first cell has; the cells of collections come last
+unfoldable pub kids : ℕ → ℕ
+kids c = if ltb c 12884901888 then 0 else c % 4294967296
+
+-- how many cells the next n values take
+unfoldable pub past : List ℕ → ℕ → ℕ
+past [] n = 0
+past (c ∷ cs) zero = 0
+past (c ∷ cs) (suc n) = suc (past cs (n + kids c))

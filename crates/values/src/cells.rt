@@ -1,0 +1,159 @@
+// Single cells, and runs of cells.
+use crate::Formed;
+use crate::Simple;
+ghost use mathlib.Core.Path.{_≡_};
+ghost use mathlib.Core.List.{_++_};
+ghost use mathlib.Core.Logic.{_⊎_};
+ghost use Prim.Native.Nat.{_+_, _*_, _≤_, _<_};
+ghost use lib.ListN.{length, take, drop};
+ghost use Rattle.values.specs.Cells.{kids};
+ghost use Rattle.values.specs.Contracts.{SortOf, PayloadOf, SimpleOf, CellOf, Narrow, Pushes, EmptyOf, Skips, Copies, Brings};
+
+// A cell is this many times its sort, and a payload below it.
+const SORT: u64 = 4_294_967_296;
+// Cells of collections start here.
+const COLLECTIONS: u64 = 12_884_901_888;
+// The most cells that a value may have.
+const LARGEST: usize = 128;
+
+fn wide(x: u64) -> usize
+    ensures { λ r. ⌜ r ≡ x ⌝ }
+{
+    x as usize
+}
+
+// The sort of the value with this first cell: 0 truth value, 1 Integer, 2 object, 3 Set, 4 Sequence, 5 Bag.
+pub fn sort_of(cell: u64) -> u64
+    ensures { λ r. ⌜ SortOf cell r ⌝ }
+{
+    cell / SORT
+}
+
+// The truth value, Integer, object number or member count in a value's first cell.
+pub fn payload_of(cell: u64) -> u64
+    ensures { λ r. ⌜ PayloadOf cell r ⌝ }
+{
+    cell % SORT
+}
+
+// The simple value with this cell; what a collection's cell gives says nothing.
+pub fn simple_of(cell: u64) -> Simple
+    ensures { λ r. ⌜ SimpleOf cell r ⌝ }
+{
+    let payload = payload_of(cell);
+    let sort = sort_of(cell);
+    if sort == 0 {
+        Simple::Bool { b: payload == 1 }
+    } else if sort == 1 {
+        Simple::Integer { biased: payload }
+    } else {
+        Simple::Object { number: payload }
+    }
+}
+
+// The cell of a simple value.
+pub fn cell_of(s: Simple) -> u64
+    requires { ⌜ Narrow s ⌝ }
+    ensures { λ r. ⌜ CellOf s r ⌝ }
+{
+    match s {
+        Simple::Bool { b } => { if b { 1 } else { 0 } }
+        Simple::Integer { biased } => SORT + biased,
+        Simple::Object { number } => 2 * SORT + number,
+    }
+}
+
+// Puts a simple value at sp.
+pub fn push(stack: &mut [u64], sp: usize, s: Simple)
+    requires { ⌜ Narrow s × (sp < length (now stack)) ⌝ }
+    ensures { λ _. ⌜ Pushes s sp (now (stack .entry)) (now (stack .exit)) ⌝ }
+{
+    stack[sp] = cell_of(s);
+}
+
+// The first cell of an empty Set (0), Sequence (1) or Bag (2).
+pub fn empty_of(kind: u64) -> u64
+    requires { ⌜ kind < 3 ⌝ }
+    ensures { λ r. ⌜ EmptyOf kind r ⌝ }
+{
+    COLLECTIONS + kind * SORT
+}
+
+// How many members the value with this first cell has.
+pub fn member_count(cell: u64) -> usize
+    ensures { λ r. ⌜ (r ≡ kids cell) × (r < 4294967296) ⌝ }
+{
+    if cell < COLLECTIONS {
+        0
+    } else {
+        wide(cell % SORT)
+    }
+}
+
+// The place after the value at p: never past the limit, whatever the cells are.
+pub fn skip(stack: &[u64], p: usize, limit: usize) -> usize
+    requires { ⌜ (p ≤ limit) × (limit ≤ length (now stack)) ⌝ }
+    ensures { λ r. ⌜ Skips p limit (now (stack .entry)) r ⌝ }
+{
+    let mut q = p;
+    let mut n: usize = 1;
+    while 0 < n {
+        if limit - q < n {
+            return limit;
+        }
+        n = n - 1 + member_count(stack[q]);
+        q += 1;
+    }
+    q
+}
+
+// Copies the len cells at `from` to `to`, first to last: so `to` is below `from`, or the two parts do not meet.
+pub fn slide(stack: &mut [u64], from: usize, to: usize, len: usize)
+    requires { ⌜ (from + len ≤ length (now stack)) × (to + len ≤ length (now stack)) ⌝ }
+    requires { ⌜ (to ≤ from) ⊎ (from + len ≤ to) ⌝ }
+    ensures { λ _. ⌜ take (to + len) (now (stack .exit)) ≡ take to (now (stack .entry)) ++ take len (drop from (now (stack .entry))) ⌝ }
+{
+    let mut i = 0;
+    while i < len {
+        stack[to + i] = stack[from + i];
+        i += 1;
+    }
+}
+
+// Copies the value at p to sp.
+pub fn push_copy(stack: &mut [u64], p: usize, sp: usize) -> Formed
+    requires { ⌜ (p < sp) × (sp + 128 ≤ length (now stack)) ⌝ }
+    ensures { λ r. ⌜ Copies p sp (now (stack .entry)) (now (stack .exit)) r ⌝ }
+{
+    let len = skip(stack, p, sp) - p;
+    if LARGEST < len {
+        return Formed::Over;
+    }
+    slide(stack, p, sp, len);
+    Formed::Done { len }
+}
+
+// Copies the len cells at `from` of other words to `to`.
+fn copy_in(stack: &mut [u64], to: usize, cells: &[u64], from: usize, len: usize)
+    requires { ⌜ (from + len ≤ length (now cells)) × (to + len ≤ length (now stack)) ⌝ }
+    ensures { λ _. ⌜ take (to + len) (now (stack .exit)) ≡ take to (now (stack .entry)) ++ take len (drop from (now (cells .entry))) ⌝ }
+{
+    let mut i = 0;
+    while i < len {
+        stack[to + i] = cells[from + i];
+        i += 1;
+    }
+}
+
+// Copies the value that lies from a to e in other words to sp.
+pub fn push_cells(stack: &mut [u64], sp: usize, cells: &[u64], a: usize, e: usize) -> Formed
+    requires { ⌜ (a < e) × (e ≤ length (now cells)) × (sp + 128 ≤ length (now stack)) ⌝ }
+    ensures { λ r. ⌜ Brings (now (cells .entry)) a e sp (now (stack .entry)) (now (stack .exit)) r ⌝ }
+{
+    let len = e - a;
+    if LARGEST < len {
+        return Formed::Over;
+    }
+    copy_in(stack, sp, cells, a, len);
+    Formed::Done { len }
+}

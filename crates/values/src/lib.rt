@@ -1,0 +1,33 @@
+// Values as cells in lent words (specs/Cells.antt): a value is one word, and a collection's members follow its word. The
+// functions read values where they lie and form new ones on a stack of words, each above everything that is still wanted.
+//
+// Contracts (specs/Contracts.antt) say: whatever values lie at these places, the answer is what document 01 gives for them.
+pub mod arith;
+pub mod cells;
+pub mod collect;
+pub mod order;
+
+// A value that is no collection. An Integer is counted from -2147483648.
+pub enum Simple {
+    Bool { b: bool },
+    Integer { biased: u64 },
+    Object { number: u64 },
+}
+
+// Where a member goes: at a member that is the same, or where none is.
+pub enum Spot {
+    Same { at: usize },
+    New { at: usize },
+}
+
+// A value of len cells was formed, or its size would be over 128.
+pub enum Formed {
+    Done { len: usize },
+    Over,
+}
+
+// The result of an operation on Integers, counted from -2147483648.
+pub enum Num {
+    Is { n: u64 },
+    Undef,
+}
