@@ -1,5 +1,5 @@
 -- Laws of tests and options that the other files share. Assumes nothing.
-use mathlib.Core.Path.{_≡_, refl}
+use mathlib.Core.Path.{_≡_, refl, sym}
 use mathlib.Core.Bool.{Bool, true, false, not, _&&_, _||_}
 use mathlib.Core.Option.{Option, none, some}
 use lib.Dec.{T}
@@ -28,6 +28,20 @@ or-r false b p = p
 pub or-e {ℓ} : {C : Type ℓ} (a b : Bool) → T (a || b) → (T a → C) → (T b → C) → C
 or-e true b p f g = f tt
 or-e false b p f g = g p
+
+-- ---- tests that hold, that fail, and that agree
+
+pub yes : (x : Bool) → T x → x ≡ true
+yes true h = refl
+yes false h = absurd h
+
+pub no : (x : Bool) → (T x → ⊥) → x ≡ false
+no true h = absurd (h tt)
+no false h = refl
+
+pub same : (x y : Bool) → (T x → T y) → (T y → T x) → x ≡ y
+same true y f g = sym (yes y (f tt))
+same false y f g = sym (no y g)
 
 -- a choice by a test, proved by cases that know the test
 pub by-if {κ} : {A : Type 0} (P : A → Type κ) (b : Bool) (x y : A) → (T b → P x) → (T (not b) → P y) → P (if b then x else y)

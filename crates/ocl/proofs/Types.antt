@@ -76,7 +76,7 @@ climbs→climb parent zero a b h = climb-eq (sameSimple→eq a b h)
 climbs→climb parent (suc f) a b h =
     or-e (sameSimple a b) (climbs parent f (up parent a) b) h (λ p. climb-eq (sameSimple→eq a b p)) (λ p. step (climbs→climb parent f (up parent a) b p))
 
-height-zero : (a : Simple) → height a ≤ 0 → a ≡ any
+pub height-zero : (a : Simple) → height a ≤ 0 → a ≡ any
 unfolding height
 height-zero any h = refl
 height-zero boolean h = absurd (omega arith)
@@ -93,14 +93,14 @@ module _ (parent : Parents) (small : Small parent) where
   height-parent n none e = omega arith
   height-parent n (some p) e = small n p e
 
-  height-up : (a : Simple) (f : ℕ) → height a ≤ suc f → height (up parent a) ≤ f
+  pub height-up : (a : Simple) (f : ℕ) → height a ≤ suc f → height (up parent a) ≤ f
   unfolding height up
   height-up any f h = omega arith
   height-up boolean f h = omega arith
   height-up integer f h = omega arith
   height-up (class n) f h = let r = height-parent n (parent n) refl in omega arith
 
-  climb→climbs : (f : ℕ) (a b : Simple) → height a ≤ f → Climb parent a b → T (climbs parent f a b)
+  pub climb→climbs : (f : ℕ) (a b : Simple) → height a ≤ f → Climb parent a b → T (climbs parent f a b)
   unfolding climbs
   climb→climbs zero a b h g =
       let e = height-zero a h in
@@ -112,7 +112,7 @@ module _ (parent : Parents) (small : Small parent) where
   top-f zero a h = climb-eq (height-zero a h)
   top-f (suc f) a h = step (top-f f (up parent a) (height-up a f h))
 
-  top : (a : Simple) → Climb parent a any
+  pub top : (a : Simple) → Climb parent a any
   top a = top-f (height a) a (omega arith)
 
   pub simpleSubtype→climb : (a b : Simple) → T (simpleSubtype parent a b) → Climb parent a b
@@ -153,7 +153,7 @@ module _ (parent : Parents) (small : Small parent) where
 
 -- ---- the laws of types
 
-letter-refl : (k : Letter) → T (letterSubtype k k)
+pub letter-refl : (k : Letter) → T (letterSubtype k k)
 unfolding letterSubtype
 letter-refl collection = tt
 letter-refl (exactly k) = sameKind-refl k

@@ -1,0 +1,3 @@
+pub mod Parents
+pub mod Bases
+pub mod Levels

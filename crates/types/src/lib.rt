@@ -1,0 +1,29 @@
+// Types by value: a base and three collection codes. Subtyping, the common type, a type as one word, reading and spelling,
+// and the attribute row that a class reads. Document 01, Values and types.
+
+pub mod classes; // the table of parents: below, and the nearest common class
+pub mod order; // subtype and common type
+
+// A type with no letter around it.
+pub enum Base {
+    Void,
+    Bool,
+    Int,
+    Any,
+    Class(u64),
+}
+
+// A base with at most three letters around it, the outermost first. A code is 0 for none, 1 for C, 2 for S, 3 for Q, 4 for
+// B; what stands after a code 0 says nothing.
+pub struct FlatType {
+    pub base: Base,
+    pub outer: u64,
+    pub middle: u64,
+    pub inner: u64,
+}
+
+// The common type of two types, if they have one.
+pub enum Joined {
+    Is(FlatType),
+    Nothing,
+}
