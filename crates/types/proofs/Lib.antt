@@ -1,3 +1,4 @@
 pub mod Parents
 pub mod Bases
 pub mod Levels
+pub mod Members

@@ -3,6 +3,7 @@
 
 pub mod classes; // the table of parents: below, and the nearest common class
 pub mod order; // subtype and common type
+pub mod parts; // depth, letters, members and classes of a type, and types made of them
 
 // A type with no letter around it.
 pub enum Base {
@@ -25,5 +26,11 @@ pub struct FlatType {
 // The common type of two types, if they have one.
 pub enum Joined {
     Is(FlatType),
+    Nothing,
+}
+
+// The class that a type is, if it is one.
+pub enum ClassNumber {
+    Is(u64),
     Nothing,
 }

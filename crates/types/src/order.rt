@@ -143,7 +143,7 @@ pub fn subtype(parents: &[u64], a: FlatType, b: FlatType) -> bool
 }
 
 // What stands under the outermost code.
-fn under_outer(t: FlatType) -> FlatType
+pub fn under_outer(t: FlatType) -> FlatType
     ensures { λ r. ⌜ r ≡ under t ⌝ }
 {
     let b = t.base;
@@ -156,7 +156,7 @@ fn under_outer(t: FlatType) -> FlatType
 }
 
 // A type with no letter.
-fn no_letter(b: Base) -> FlatType
+pub fn no_letter(b: Base) -> FlatType
     ensures { λ r. ⌜ r ≡ bare b ⌝ }
 {
     FlatType {

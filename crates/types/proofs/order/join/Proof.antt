@@ -1,5 +1,5 @@
-use Rattle.types.specs.Flat.{parentsIn}
 -- `join` meets its contract.
+use Rattle.types.specs.Flat.{parentsIn}
 use Rattle.types.proofs.Levels.{join-law}
 use borrow.Author.Needs.{needs}
 use Rattle.types.proofs.order.join.Statement.{statement}
