@@ -2,3 +2,4 @@ pub mod Parents
 pub mod Bases
 pub mod Levels
 pub mod Members
+pub mod Words

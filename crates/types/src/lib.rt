@@ -4,6 +4,7 @@
 pub mod classes; // the table of parents: below, and the nearest common class
 pub mod order; // subtype and common type
 pub mod parts; // depth, letters, members and classes of a type, and types made of them
+pub mod word; // a type as one word
 
 // A type with no letter around it.
 pub enum Base {
