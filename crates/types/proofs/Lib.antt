@@ -3,3 +3,4 @@ pub mod Bases
 pub mod Levels
 pub mod Members
 pub mod Words
+pub mod RowLaws

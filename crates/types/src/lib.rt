@@ -5,6 +5,7 @@ pub mod classes; // the table of parents: below, and the nearest common class
 pub mod order; // subtype and common type
 pub mod parts; // depth, letters, members and classes of a type, and types made of them
 pub mod word; // a type as one word
+pub mod rows; // the attribute row that a class reads
 
 // A type with no letter around it.
 pub enum Base {
@@ -33,5 +34,11 @@ pub enum Joined {
 // The class that a type is, if it is one.
 pub enum ClassNumber {
     Is(u64),
+    Nothing,
+}
+
+// A row's number, if there is one.
+pub enum Found {
+    At(u64),
     Nothing,
 }
