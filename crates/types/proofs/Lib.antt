@@ -4,3 +4,7 @@ pub mod Levels
 pub mod Members
 pub mod Words
 pub mod RowLaws
+pub mod Digits
+pub mod Closing
+pub mod Spelled
+pub mod TypeFields

@@ -2,3 +2,4 @@ pub mod Flat
 pub mod Parts
 pub mod Word
 pub mod Rows
+pub mod Reading

@@ -6,6 +6,7 @@ pub mod order; // subtype and common type
 pub mod parts; // depth, letters, members and classes of a type, and types made of them
 pub mod word; // a type as one word
 pub mod rows; // the attribute row that a class reads
+pub mod reading; // a field that spells a type
 
 // A type with no letter around it.
 pub enum Base {
@@ -41,4 +42,11 @@ pub enum ClassNumber {
 pub enum Found {
     At(u64),
     Nothing,
+}
+
+// A field that should spell a type: badly spelled, over document 01's limits, or a type.
+pub enum GotType {
+    Bad,
+    Big,
+    Is(FlatType),
 }
