@@ -153,7 +153,7 @@ module _ (parent : Parents) (small : Small parent) where
 
 -- ---- the laws of types
 
-pub letter-refl : (k : Letter) → T (letterSubtype k k)
+letter-refl : (k : Letter) → T (letterSubtype k k)
 unfolding letterSubtype
 letter-refl collection = tt
 letter-refl (exactly k) = sameKind-refl k

@@ -1,14 +1,13 @@
 -- Laws of bases: the subtype test and the common type, by the tags of two bases. Assumes nothing.
-use mathlib.Core.Path.{_≡_, refl, sym, ap, _∙_}
-use mathlib.Core.Bool.{Bool, true, false, _&&_, _||_}
-use mathlib.Core.Option.{Option, none, some}
+use mathlib.Core.Path.{_≡_, refl, sym, ap}
+use mathlib.Core.Bool.{Bool, true, false}
+use mathlib.Core.Option.{some}
 use mathlib.Core.List.{List}
-use Prim.Native.Nat.{ℕ, zero, suc}
+use Prim.Native.Nat.{ℕ}
 use native.Mathlib.Omega.{arith}
-use lib.Dec.{T, eqb}
-use Rattle.laws.specs.Choice.{if_then_else_}
+use lib.Dec.{eqb}
 use Rattle.laws.proofs.Tests.{yes, no}
-use Rattle.ocl.specs.Types.{Simple, any, boolean, integer, class, Ty, void, simple, Parents, up, height, simpleCode, sameSimple, climbs, simpleSubtype, subtype, firstAbove, simpleJoin, join}
+use Rattle.ocl.specs.Types.{Simple, any, boolean, integer, class, void, simple, Parents, up, height, simpleCode, sameSimple, climbs, simpleSubtype, subtype, firstAbove, simpleJoin, join}
 use Rattle.ocl.proofs.Types.{top, climb→simpleSubtype, class-not-boolean, class-not-integer, boolean-not-class, integer-not-class}
 use Rattle.types.specs.declared.Base.{Base}
 use Rattle.types.specs.declared.Base.the-variants as b

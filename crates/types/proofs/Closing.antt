@@ -3,11 +3,11 @@ use Prim.Native.Nat.{ℕ, zero, suc, _+_, _-_, _<_, _≤_}
 use mathlib.Core.Path.{_≡_, refl, sym, ap, _∙_}
 use mathlib.Core.Bool.{Bool, true, false, _&&_}
 use mathlib.Core.Option.{Option, none, some}
-use mathlib.Core.List.{List, [], _∷_, _++_}
+use mathlib.Core.List.{[], _∷_, _++_}
 use native.Mathlib.Omega.{arith}
 use borrow.Author.Tests.{eq-eqb, ne-eqb, eqb-true}
 use lib.Dec.{eqb}
-use lib.ListN.{length, getD, take, drop, drop-of-length-le, length-append, length-drop, take-append-drop}
+use lib.ListN.{length, getD, take, drop, drop-of-length-le, length-append, take-append-drop}
 use Rattle.laws.specs.Choice.{if_then_else_, onSome, mapSome}
 use Rattle.laws.proofs.Parts.{at-next, part-all}
 use Rattle.sheet.specs.Text.{Bytes, isDigit, digits, afterDigits, plain, valueOfDigits, number, atEnd, whole, after}

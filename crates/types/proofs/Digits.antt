@@ -1,17 +1,15 @@
 -- Laws of decimal numbers, digit by digit. Assumes nothing.
-use Prim.Native.Nat.{ℕ, zero, suc, _+_, _*_, _-_, _<_, _≤_, min}
+use Prim.Native.Nat.{ℕ, _+_, _*_, _-_, _<_, _≤_, min}
 use mathlib.Core.Path.{_≡_, refl, sym, ap, _∙_}
-use mathlib.Core.Bool.{Bool, true, false, not, _&&_}
+use mathlib.Core.Bool.{Bool, true, false}
 use mathlib.Core.Option.{Option, none, some}
-use mathlib.Core.List.{List, [], _∷_}
+use mathlib.Core.List.{[], _∷_}
 use native.Mathlib.Omega.{arith}
-use borrow.Author.Tests.{eq-eqb, ne-eqb, lt-leb, le-leb}
-use lib.Dec.{leb, eqb}
+use borrow.Author.Tests.{ne-eqb, lt-leb, le-leb}
 use lib.ListN.{length, getD, drop, drop-of-length-le}
 use Rattle.laws.specs.Choice.{if_then_else_, onSome}
 use Rattle.laws.proofs.Parts.{at-next}
 use Rattle.sheet.specs.Text.{Bytes, isDigit, digits, afterDigits, plain, valueOfDigits, number, atEnd, whole}
-use Rattle.types.specs.declared.reading.Num.{Num}
 use Rattle.types.specs.declared.reading.Num.the-variants as n
 use Rattle.types.specs.Reading.{numOf, digitsFrom}
 

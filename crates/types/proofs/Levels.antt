@@ -1,15 +1,14 @@
 -- Laws of a type's codes: the subtype test and the common type, one code after the other. Assumes nothing.
 use mathlib.Core.Path.{_≡_, refl, sym, ap, _∙_}
 use mathlib.Core.Bool.{Bool, true, false, _&&_}
-use mathlib.Core.Option.{Option, none, some}
+use mathlib.Core.Option.{none, some}
 use Prim.Native.Nat.{ℕ, zero, suc, _≤_, _<_}
 use native.Mathlib.Omega.{arith}
 use lib.Dec.{eqb}
 use borrow.Author.Tests.{ne-eqb}
-use Rattle.laws.specs.Choice.{if_then_else_}
 use Rattle.laws.proofs.Tests.{yes}
-use Rattle.ocl.specs.Types.{Kind, Letter, collection, exactly, Ty, void, simple, around, Parents, kindCode, sameKind, letterSubtype, letterJoin, subtype, join, aroundSome}
-use Rattle.ocl.proofs.Types.{sameKind-refl, letter-refl}
+use Rattle.ocl.specs.Types.{Letter, collection, exactly, Ty, around, Parents, kindCode, sameKind, letterSubtype, letterJoin, subtype, join, aroundSome}
+use Rattle.ocl.proofs.Types.{sameKind-refl}
 use Rattle.types.specs.declared.Base.{Base}
 use Rattle.types.specs.declared.Base.the-variants as b
 use Rattle.types.specs.declared.FlatType.{FlatType}

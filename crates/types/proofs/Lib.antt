@@ -8,3 +8,4 @@ pub mod Digits
 pub mod Closing
 pub mod Spelled
 pub mod TypeFields
+pub mod WrittenLaws

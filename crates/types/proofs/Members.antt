@@ -1,17 +1,17 @@
 -- Laws of a type's parts. Assumes nothing.
 use mathlib.Core.Path.{_≡_, refl, sym, ap, _∙_}
-use mathlib.Core.Bool.{Bool, true, false}
-use mathlib.Core.Option.{Option, none, some}
+use mathlib.Core.Bool.{Bool, false}
+use mathlib.Core.Option.{none}
 use Prim.Native.Nat.{ℕ, zero, suc, _≤_, _<_}
 use native.Mathlib.Omega.{arith}
 use lib.Dec.{eqb}
-use Rattle.ocl.specs.Types.{Simple, any, boolean, integer, class, Kind, set, sequence, bag, Letter, collection, exactly, Ty, void, simple, around, depth}
+use Rattle.ocl.specs.Types.{set, sequence, bag, Letter, collection, exactly, Ty, void, simple, around, depth}
 use Rattle.ocl.specs.Typing.{onCollection}
 use Rattle.types.specs.declared.Base.{Base}
 use Rattle.types.specs.declared.Base.the-variants as b
 use Rattle.types.specs.declared.FlatType.{FlatType}
 use Rattle.types.specs.Flat.{baseType, baseTag, letterOf, layer, tyOf, under, bare}
-use Rattle.types.specs.Parts.{codeOf, outerCode, memberType, simpleClass, classOf, isAny}
+use Rattle.types.specs.Parts.{codeOf, outerCode, memberType, classOf, isAny}
 use Rattle.types.proofs.Levels.{layer-on}
 
 -- ---- what the codes say
@@ -30,7 +30,7 @@ bare-type b t e = rw e
 
 -- ---- depth
 
-base-depth : (a : Base) → depth (baseType a) ≡ 0
+pub base-depth : (a : Base) → depth (baseType a) ≡ 0
 unfolding depth
 base-depth b.Void = refl
 base-depth b.Bool = refl
@@ -53,6 +53,16 @@ depth-two t h k e = depth-on t h ∙ ap suc (depth-one (under t) k e)
 
 pub depth-three : (t : FlatType) → (t .outer ≡ 0 → ⊥) → (t .middle ≡ 0 → ⊥) → (t .inner ≡ 0 → ⊥) → depth (tyOf t) ≡ 3
 depth-three t h k m = depth-on t h ∙ ap suc (depth-two (under t) k m refl)
+
+depth-by : (o m i : ℕ) (x : Ty) → depth x ≡ 0 → depth (layer o x (layer m x (layer i x x))) ≤ 3
+unfolding layer depth
+depth-by zero m i x e = omega arith
+depth-by (suc o) zero i x e = omega arith
+depth-by (suc o) (suc m) zero x e = omega arith
+depth-by (suc o) (suc m) (suc i) x e = omega arith
+
+pub depth-le : (t : FlatType) → depth (tyOf t) ≤ 3
+depth-le t = depth-by (t .outer) (t .middle) (t .inner) (baseType (t .base)) (base-depth (t .base))
 
 -- ---- letters
 

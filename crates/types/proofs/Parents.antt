@@ -1,16 +1,16 @@
 -- Laws of the class table: parents, climbing, the nearest common class. Assumes nothing.
 use mathlib.Core.Path.{_≡_, refl, sym, ap, _∙_}
-use mathlib.Core.Bool.{Bool, true, false, _&&_, _||_}
+use mathlib.Core.Bool.{Bool, true, false}
 use mathlib.Core.Option.{Option, none, some}
 use mathlib.Core.List.{List}
 use Prim.Native.Nat.{ℕ, zero, suc, _-_, _≤_, _<_}
 use native.Mathlib.Omega.{arith}
 use lib.ListN.{getD, length, List·getD-eq-default}
-use lib.Dec.{T, leb}
+use lib.Dec.{leb}
 use borrow.Author.Tests.{ne-eqb, lt-leb, le-leb, leb-true}
 use Rattle.laws.specs.Choice.{if_then_else_}
-use Rattle.laws.proofs.Tests.{yes, no, same}
-use Rattle.ocl.specs.Types.{Simple, any, boolean, integer, class, Parents, parentOr, up, height, simpleCode, sameSimple, climbs, simpleSubtype, firstAbove, simpleJoin}
+use Rattle.laws.proofs.Tests.{yes, same}
+use Rattle.ocl.specs.Types.{Simple, any, class, Parents, parentOr, up, height, simpleCode, sameSimple, climbs, simpleSubtype, firstAbove, simpleJoin}
 use Rattle.ocl.proofs.Types.{Small, here, height-zero, height-up, climbs→climb, climb→climbs, simpleSubtype→climb, climb→simpleSubtype}
 use Rattle.types.specs.Flat.{parentWord, parentOf, parentsIn}
 

@@ -1,6 +1,6 @@
 -- Laws of the row tables. Assumes nothing.
 use mathlib.Core.Path.{_≡_, refl, sym, ap, _∙_, fun-ext}
-use mathlib.Core.Bool.{Bool, true, false, _&&_}
+use mathlib.Core.Bool.{_&&_}
 use mathlib.Core.Option.{Option, none, some}
 use mathlib.Core.List.{List}
 use Prim.Native.Nat.{ℕ, zero, suc, _-_, _≤_, _<_}
@@ -10,7 +10,7 @@ use lib.Dec.{eqb}
 use borrow.Author.Tests.{eq-eqb, ne-eqb}
 use Rattle.laws.specs.Choice.{if_then_else_, orElse, onSome}
 use Rattle.ocl.specs.Types.{Simple, class, Parents, simpleSubtype}
-use Rattle.ocl.specs.Model.{Row, Model, classBelow, isA, declared, nearest, rowRead}
+use Rattle.ocl.specs.Model.{Model, classBelow, isA, declared, nearest, rowRead}
 use Rattle.types.specs.declared.Found.{Found}
 use Rattle.types.specs.declared.Found.the-variants as f
 use Rattle.types.specs.Flat.{parentWord, parentsIn}

@@ -1,21 +1,20 @@
 -- What `readType` of crates/sheet reads is letters with their brackets, a base, closing brackets. Assumes nothing.
-use Prim.Native.Nat.{ℕ, zero, suc, _+_, _-_, _<_, _≤_}
-use Prim.Native.String.{String}
+use Prim.Native.Nat.{ℕ, zero, suc, _-_, _≤_}
 use mathlib.Core.Path.{_≡_, refl, sym, ap, _∙_}
 use mathlib.Core.Bool.{Bool, true, false, _&&_}
 use mathlib.Core.Option.{Option, none, some}
-use mathlib.Core.List.{List, [], _∷_}
+use mathlib.Core.List.{[], _∷_}
 use native.Mathlib.Omega.{arith}
 use native.Mathlib.Decide.{ℕ-discrete}
-use borrow.Author.Tests.{eq-eqb, ne-eqb, eqb-true, eqb-false}
-use lib.Dec.{eqb, leb}
+use borrow.Author.Tests.{ne-eqb, eqb-true, eqb-false}
+use lib.Dec.{eqb}
 use lib.ListN.{length}
 use Rattle.laws.specs.Choice.{if_then_else_, orElse, onSome, mapSome}
-use Rattle.ocl.specs.Types.{Kind, set, sequence, bag, Letter, collection, exactly, Ty, void, around, Any, Boolean, Integer, Class}
-use Rattle.sheet.specs.Text.{Bytes, byte, bytes, Parser, nothing, after, literal, behind, _or_, _then_, given, atEnd, whole, isDigit, digits, plain, number}
+use Rattle.ocl.specs.Types.{set, sequence, bag, Letter, collection, exactly, Ty, void, around, Any, Boolean, Integer, Class}
+use Rattle.sheet.specs.Text.{Bytes, bytes, Parser, nothing, after, literal, behind, _or_, _then_, given, atEnd, whole, isDigit, digits, plain, number}
 use Rattle.sheet.specs.Spelling.{collectionType, typeWithin, readType}
 use Rattle.types.specs.Flat.{letterOf}
-use Rattle.types.specs.Reading.{closes, closed, spells, base, baseBefore, hashBefore, numberBefore, byteCode, codeLetter, lettered, typeBefore}
+use Rattle.types.specs.Reading.{closes, closed, spells, base, baseBefore, hashBefore, numberBefore, byteCode, lettered, typeBefore}
 use Rattle.types.proofs.Closing.{literal-closed}
 
 -- ---- options and choices

@@ -3,17 +3,17 @@ use Prim.Native.Nat.{ℕ, zero, suc, _+_, _-_, _<_, _≤_, min}
 use mathlib.Core.Path.{_≡_, refl, sym, ap, _∙_}
 use mathlib.Core.Bool.{Bool, true, false, _&&_}
 use mathlib.Core.Option.{Option, none, some}
-use mathlib.Core.List.{List, [], _∷_}
+use mathlib.Core.List.{[], _∷_}
 use native.Mathlib.Nat.{add-zero}
 use native.Mathlib.Omega.{arith}
 use native.Mathlib.Decide.{decLt}
-use borrow.Author.Tests.{eq-eqb, ne-eqb, lt-ltb, le-ltb, le-leb, lt-leb, eqb-true, eqb-false}
+use borrow.Author.Tests.{eq-eqb, ne-eqb, lt-ltb, le-ltb, le-leb, lt-leb}
 use lib.Dec.{eqb, leb, ltb}
 use lib.ListN.{length, getD, take, drop, length-drop, List·getD-eq-default}
 use lib.Seq.{getD-drop, drop-drop}
 use Rattle.laws.specs.Choice.{if_then_else_, onSome, mapSome}
 use Rattle.laws.proofs.Parts.{part-all}
-use Rattle.ocl.specs.Types.{Letter, Ty, void, simple, around, Any, Boolean, Integer, Class, depth}
+use Rattle.ocl.specs.Types.{Letter, Ty, void, around, Any, Boolean, Integer, Class, depth}
 use Rattle.sheet.specs.Text.{Bytes, bytes, whole, number}
 use Rattle.sheet.specs.Refusals.{typeWithin, classBelow, simpleClassBelow}
 use Rattle.sheet.specs.Spelling.{readType}

@@ -1,12 +1,12 @@
 -- Laws of a type as one word. Assumes nothing.
-use mathlib.Core.Path.{_≡_, refl, sym, ap, _∙_}
-use Prim.Native.Nat.{ℕ, zero, suc, _+_, _*_, _-_, _/_, _%_, _^_, _≤_, _<_}
+use mathlib.Core.Path.{_≡_, refl, ap}
+use Prim.Native.Nat.{ℕ, zero, suc, _+_, _*_, _-_, _/_, _%_, _≤_, _<_}
 use native.Mathlib.Omega.{arith}
 use Rattle.ocl.specs.Types.{Ty}
 use Rattle.types.specs.declared.Base.{Base}
 use Rattle.types.specs.declared.Base.the-variants as b
 use Rattle.types.specs.declared.FlatType.{FlatType}
-use Rattle.types.specs.Flat.{baseType, baseTag, baseClass, letterOf, layer, tyOf}
+use Rattle.types.specs.Flat.{baseTag, baseClass, letterOf, layer, tyOf}
 use Rattle.types.specs.Word.{baseIn, flatIn, typeIn, ThreeBits}
 
 pub bits-low : (k : ℕ) → k < 8 → ThreeBits k k

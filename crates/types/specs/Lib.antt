@@ -3,3 +3,4 @@ pub mod Parts
 pub mod Word
 pub mod Rows
 pub mod Reading
+pub mod Written

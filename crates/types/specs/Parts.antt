@@ -2,7 +2,7 @@
 use mathlib.Core.Bool.{Bool, true, false}
 use mathlib.Core.Option.{Option, none, some}
 use Prim.Native.Nat.{ℕ}
-use Rattle.ocl.specs.Types.{Simple, any, boolean, integer, class, Kind, set, sequence, bag, Letter, collection, exactly, Ty, void, simple, around}
+use Rattle.ocl.specs.Types.{Simple, any, boolean, integer, class, set, sequence, bag, Letter, collection, exactly, Ty, void, simple, around}
 use Rattle.types.specs.declared.ClassNumber.{ClassNumber}
 use Rattle.types.specs.declared.ClassNumber.the-variants as n
 

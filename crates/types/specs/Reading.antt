@@ -1,16 +1,15 @@
 -- A spelled type, as the code takes it apart: letters with their brackets, a base, closing brackets. proofs/Spelled.antt: this
 -- is what crates/sheet's `readType` reads. Any nesting may be spelled; document 01's limits make a type too big.
 use Prim.Native.Nat.{ℕ, zero, suc, _+_, _*_, _-_, _≤_, min}
-use Prim.Native.String.{String}
 use mathlib.Core.Path.{_≡_}
 use mathlib.Core.Bool.{Bool, true, false, _&&_}
 use mathlib.Core.Option.{Option, none, some}
-use mathlib.Core.List.{List, [], _∷_}
+use mathlib.Core.List.{[], _∷_}
 use lib.ListN.{length}
 use lib.Dec.{eqb, ltb}
 use Rattle.laws.specs.Choice.{if_then_else_, onSome, mapSome}
 use Rattle.ocl.specs.Types.{Letter, Ty, void, around, Any, Boolean, Integer, Class, depth}
-use Rattle.sheet.specs.Text.{Bytes, byte, bytes, Parser, literal, behind, _or_, given, number, isDigit}
+use Rattle.sheet.specs.Text.{Bytes, byte, Parser, literal, behind, _or_, given, number, isDigit}
 use Rattle.sheet.specs.Refusals.{typeWithin}
 use Rattle.types.specs.declared.GotType.{GotType}
 use Rattle.types.specs.declared.GotType.the-variants as g

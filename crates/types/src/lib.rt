@@ -7,6 +7,7 @@ pub mod parts; // depth, letters, members and classes of a type, and types made 
 pub mod word; // a type as one word
 pub mod rows; // the attribute row that a class reads
 pub mod reading; // a field that spells a type
+pub mod spelling; // a type, written
 
 // A type with no letter around it.
 pub enum Base {

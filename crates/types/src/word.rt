@@ -1,7 +1,7 @@
 // A type as one word, to stand in a table.
 ghost use mathlib.Core.Path.{_≡_};
 ghost use Prim.Native.Nat.{_+_, _^_, _<_};
-ghost use Rattle.types.specs.Flat.{baseTag, baseClass, tyOf};
+ghost use Rattle.types.specs.Flat.{baseClass, tyOf};
 ghost use Rattle.types.specs.Word.{baseIn, typeIn, ThreeBits};
 use super::Base;
 use super::FlatType;
