@@ -121,7 +121,7 @@ fn level(tag: u64, k: u64, l: u64, ends: bool, more: bool) -> bool
         return tag == 0;
     }
     if l == 0 {
-        return false;
+        return false; // a collection is below no base, not even Any
     }
     if letter_below(k, l) {
         return more;
