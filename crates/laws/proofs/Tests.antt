@@ -1,5 +1,5 @@
 -- Laws of tests and options that the other files share. Assumes nothing.
-use mathlib.Core.Path.{_≡_, refl}
+use mathlib.Core.Path.{_≡_, refl, sym}
 use mathlib.Core.Bool.{Bool, true, false, not, _&&_, _||_}
 use mathlib.Core.Option.{Option, none, some}
 use lib.Dec.{T}
@@ -41,6 +41,15 @@ test-true false t = absurd t
 pub test-false : (b : Bool) → T (not b) → b ≡ false
 test-false true t = absurd t
 test-false false t = refl
+
+pub test-fails : (b : Bool) → (T b → ⊥) → b ≡ false
+test-fails true h = absurd (h tt)
+test-fails false h = refl
+
+-- two tests that say the same
+pub test-same : (a b : Bool) → (T a → T b) → (T b → T a) → a ≡ b
+test-same true b f g = sym (test-true b (f tt))
+test-same false b f g = sym (test-fails b g)
 
 -- by cases that know the test
 pub by-test {ℓ} : {C : Type ℓ} (b : Bool) → (T b → C) → (T (not b) → C) → C

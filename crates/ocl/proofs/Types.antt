@@ -76,7 +76,7 @@ climbs→climb parent zero a b h = climb-eq (sameSimple→eq a b h)
 climbs→climb parent (suc f) a b h =
     or-e (sameSimple a b) (climbs parent f (up parent a) b) h (λ p. climb-eq (sameSimple→eq a b p)) (λ p. step (climbs→climb parent f (up parent a) b p))
 
-height-zero : (a : Simple) → height a ≤ 0 → a ≡ any
+pub height-zero : (a : Simple) → height a ≤ 0 → a ≡ any
 unfolding height
 height-zero any h = refl
 height-zero boolean h = absurd (omega arith)
@@ -89,14 +89,14 @@ module _ (parent : Parents) (small : Small parent) where
   height-parent n none e = omega arith
   height-parent n (some p) e = small n p e
 
-  height-up : (a : Simple) (f : ℕ) → height a ≤ suc f → height (up parent a) ≤ f
+  pub height-up : (a : Simple) (f : ℕ) → height a ≤ suc f → height (up parent a) ≤ f
   unfolding height up
   height-up any f h = omega arith
   height-up boolean f h = omega arith
   height-up integer f h = omega arith
   height-up (class n) f h = let r = height-parent n (parent n) refl in omega arith
 
-  climb→climbs : (f : ℕ) (a b : Simple) → height a ≤ f → Climb parent a b → T (climbs parent f a b)
+  pub climb→climbs : (f : ℕ) (a b : Simple) → height a ≤ f → Climb parent a b → T (climbs parent f a b)
   unfolding climbs
   climb→climbs zero a b h g =
       let e = height-zero a h in

@@ -1,0 +1,11 @@
+pub mod Parents
+pub mod Bases
+pub mod Levels
+pub mod Members
+pub mod Words
+pub mod RowLaws
+pub mod Digits
+pub mod Closing
+pub mod Spelled
+pub mod TypeFields
+pub mod WrittenLaws

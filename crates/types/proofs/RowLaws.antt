@@ -1,0 +1,99 @@
+-- Laws of the row tables. Assumes nothing.
+use mathlib.Core.Path.{_≡_, refl, sym, ap, _∙_, fun-ext}
+use mathlib.Core.Bool.{_&&_}
+use mathlib.Core.Option.{Option, none, some}
+use mathlib.Core.List.{List}
+use Prim.Native.Nat.{ℕ, zero, suc, _-_, _≤_, _<_}
+use native.Mathlib.Omega.{arith}
+use lib.ListN.{getD}
+use lib.Dec.{eqb}
+use borrow.Author.Tests.{eq-eqb, ne-eqb}
+use Rattle.laws.specs.Choice.{if_then_else_, orElse, onSome}
+use Rattle.ocl.specs.Types.{Simple, class, Parents, simpleSubtype}
+use Rattle.ocl.specs.Model.{Model, classBelow, isA, declared, nearest, rowRead}
+use Rattle.types.specs.declared.Found.{Found}
+use Rattle.types.specs.declared.Found.the-variants as f
+use Rattle.types.specs.Flat.{parentWord, parentsIn}
+use Rattle.types.specs.Rows.{declaredIn, nearestIn, rowReadIn, found}
+use Rattle.types.proofs.Parents.{parent-le, parent-none, parent-some}
+
+-- ---- one turn of the search for the row that a class declares, where i rows are left
+
+module _ (owners names : List ℕ) (c name : ℕ) where
+  declared-pred : (i : ℕ) → 0 < i → declaredIn owners names c name i ≡ (if eqb (getD owners (i - 1) 0) c && eqb (getD names (i - 1) 0) name then some (i - 1) else declaredIn owners names c name (i - 1))
+  unfolding declaredIn
+  declared-pred zero h = absurd (omega arith)
+  declared-pred (suc i) h = let e : suc i - 1 ≡ i = omega arith in rw e
+
+  pub declared-none : (i : ℕ) → i ≤ 0 → none ≡ declaredIn owners names c name i
+  unfolding declaredIn
+  declared-none zero h = refl
+  declared-none (suc i) h = absurd (omega arith)
+
+  pub declared-here : (i : ℕ) → 0 < i → getD owners (i - 1) 0 ≡ c → getD names (i - 1) 0 ≡ name → some (i - 1) ≡ declaredIn owners names c name i
+  declared-here i h p q = sym (declared-pred i h ∙ rw (eq-eqb _ _ p, eq-eqb _ _ q))
+
+  pub declared-name : (i : ℕ) → 0 < i → getD owners (i - 1) 0 ≡ c → (getD names (i - 1) 0 ≡ name → ⊥) → declaredIn owners names c name (i - 1) ≡ declaredIn owners names c name i
+  declared-name i h p q = sym (declared-pred i h ∙ rw (eq-eqb _ _ p, ne-eqb _ _ q))
+
+  pub declared-owner : (i : ℕ) → 0 < i → (getD owners (i - 1) 0 ≡ c → ⊥) → declaredIn owners names c name (i - 1) ≡ declaredIn owners names c name i
+  declared-owner i h p = sym (declared-pred i h ∙ rw (ne-eqb _ _ p))
+
+-- ---- one turn of the climb
+
+module _ (ps owners names : List ℕ) (rows name : ℕ) where
+  -- more classes than lead to the top change nothing
+  nearest-more : (n m c : ℕ) → c < n → c < m → nearestIn (parentsIn ps) owners names rows name n c ≡ nearestIn (parentsIn ps) owners names rows name m c
+  unfolding nearestIn onSome
+  nearest-more zero m c h k = absurd (omega arith)
+  nearest-more (suc n) zero c h k = absurd (omega arith)
+  nearest-more (suc n) (suc m) c h k = ap (orElse (declaredIn owners names c name rows)) (go (nearest-more n m) (parentWord ps c) refl)
+    where
+      go : ((d : ℕ) → d < n → d < m → nearestIn (parentsIn ps) owners names rows name n d ≡ nearestIn (parentsIn ps) owners names rows name m d) → (q : ℕ) → parentWord ps c ≡ q → onSome (parentsIn ps c) (nearestIn (parentsIn ps) owners names rows name n) ≡ onSome (parentsIn ps c) (nearestIn (parentsIn ps) owners names rows name m)
+      go ih zero e = rw (parent-none ps c e)
+      go ih (suc q) e = rw (parent-some ps c (suc q) (sym e) (λ z. omega arith)) (ih (suc q - 1) (omega (arith, parent-le ps c)) (omega (arith, parent-le ps c)))
+
+  module _ (c : ℕ) (r : Found) (at : found r ≡ declaredIn owners names c name rows) where
+    pub read-here : (i : ℕ) → r ≡ f.At i → found r ≡ rowReadIn ps owners names rows c name
+    unfolding rowReadIn nearestIn found orElse
+    read-here i e = rw (sym at, e)
+
+    pub read-none : r ≡ f.Nothing → 0 ≡ parentWord ps c → none ≡ rowReadIn ps owners names rows c name
+    unfolding rowReadIn nearestIn found orElse onSome
+    read-none e z = rw (sym at, e, parent-none ps c (sym z))
+
+    pub read-up : (q : ℕ) → r ≡ f.Nothing → q ≡ parentWord ps c → (q ≡ 0 → ⊥) → rowReadIn ps owners names rows (q - 1) name ≡ rowReadIn ps owners names rows c name
+    unfolding rowReadIn nearestIn found orElse onSome
+    read-up q e w z = sym (rw (sym at, e, parent-some ps c q w z) (nearest-more c (suc (q - 1)) (q - 1) (omega (arith, parent-le ps c)) (omega arith)))
+
+-- ---- a model whose parents and rows are these tables finds the same rows
+
+pub record ReadsTables (s : Model) (ps owners names : List ℕ) (rows : ℕ) : Type 0 where
+  pub parents : s .parent ≡ parentsIn ps
+  pub count : s .rowCount ≡ rows
+  pub owner : (i : ℕ) → i < rows → s .row i .owner ≡ getD owners i 0
+  pub name : (i : ℕ) → i < rows → s .row i .name ≡ getD names i 0
+
+module _ (s : Model) (ps owners names : List ℕ) (rows : ℕ) (to : ReadsTables s ps owners names rows) where
+  declared-law : (c name n : ℕ) → n ≤ rows → declared s c name n ≡ declaredIn owners names c name n
+  unfolding declared declaredIn
+  declared-law c name zero h = refl
+  declared-law c name (suc n) h = rw (to .owner n h, to .name n h, declared-law c name n (omega arith))
+
+  nearest-law : (name n c : ℕ) → nearest s name n c ≡ nearestIn (parentsIn ps) owners names rows name n c
+  unfolding nearest nearestIn
+  nearest-law name zero c = refl
+  nearest-law name (suc n) c =
+      let d = ap (declared s c name) (to .count) ∙ declared-law c name rows (omega arith) in
+      let u = ap (λ (p : Parents). onSome (p c) (nearest s name n)) (to .parents) ∙ ap (onSome (parentsIn ps c)) (fun-ext (λ e. nearest-law name n e)) in
+      ap (λ (o : Option ℕ). orElse o (onSome (s .parent c) (nearest s name n))) d ∙ ap (orElse (declaredIn owners names c name rows)) u
+
+  pub row-read-law : (c name : ℕ) → rowRead s c name ≡ rowReadIn ps owners names rows c name
+  unfolding rowRead rowReadIn
+  row-read-law c name = nearest-law name (suc c) c
+
+-- ---- an object of class c, in such a model, is what c is below
+
+pub is-a-law : (s : Model) (ps : List ℕ) (o c : ℕ) (b : Simple) → s .parent ≡ parentsIn ps → s .classOf o ≡ some c → isA s o b ≡ simpleSubtype (parentsIn ps) (class c) b
+unfolding isA classBelow
+is-a-law s ps o c b e q = ap (λ (x : Option ℕ). classBelow (s .parent) x b) q ∙ ap (λ (p : Parents). simpleSubtype p (class c) b) e

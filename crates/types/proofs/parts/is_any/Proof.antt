@@ -1,0 +1,17 @@
+-- `is_any` meets its contract.
+use Rattle.types.proofs.Members.{any-on, any-ends}
+use borrow.Author.Needs.{needs}
+use Rattle.types.proofs.parts.is_any.Statement.{statement}
+use Rattle.types.proofs.parts.is_any.Tie as tie
+
+returns : tie.Need-returns
+returns c = any-on (c .before .before .args .t) (c .if1 .taken)
+
+tag-requires : tie.Need-tag-requires
+tag-requires c κs = search needs
+
+returns-2 : tie.Need-returns-2
+returns-2 c = any-ends (c .before .before .before .args .t) _ (c .before .if1 .left) (c .tag .ensures)
+
+pub is-any-spec : {M : Type 1} → statement M
+is-any-spec = tie.close (tie.spec returns tag-requires returns-2)

@@ -1,0 +1,118 @@
+-- `base_before` meets its contract: the words in turn, then a class.
+use mathlib.Core.Path.{refl, sym, ap, _∙_}
+use Rattle.sheet.specs.Text.{bytes}
+use Rattle.sheet.specs.Refusals.{typeWithin, classBelow, simpleClassBelow}
+use Rattle.ocl.specs.Types.{void, Boolean, Integer, Any, depth}
+use Rattle.types.specs.Reading.{held}
+use Rattle.types.proofs.TypeFields.{is-field, bad-field, void-base, bool-base, int-base, any-base, empty-base, no-base, class-base}
+use borrow.Author.Needs.{needs}
+use Rattle.types.proofs.reading.base_before.Statement.{statement}
+use Rattle.types.proofs.reading.base_before.Tie as tie
+
+slice-aggregate-spells : tie.Need-slice-aggregate-spells
+slice-aggregate-spells c = search needs
+
+spells-requires : tie.Need-spells-requires
+spells-requires c κs = search needs
+
+plain-requires : tie.Need-plain-requires
+plain-requires c κs = search needs
+
+returns : tie.Need-returns
+unfolding typeWithin depth classBelow bytes
+returns c = is-field void _ (void-base _ _ (sym (c .before .before .spells .ensures) ∙ c .before .if1 .taken)) (c .plain .ensures) refl
+
+slice-aggregate-spells-2 : tie.Need-slice-aggregate-spells-2
+slice-aggregate-spells-2 c = search needs
+
+spells-requires-2 : tie.Need-spells-requires-2
+spells-requires-2 c κs = search needs
+
+plain-requires-2 : tie.Need-plain-requires-2
+plain-requires-2 c κs = search needs
+
+returns-2 : tie.Need-returns-2
+unfolding typeWithin depth classBelow simpleClassBelow bytes
+returns-2 c = is-field Boolean _ (bool-base _ _ (sym (c .before .before .before .before .before .spells .ensures) ∙ c .before .before .before .before .if1 .left) (sym (c .before .before .spells2 .ensures) ∙ c .before .if2 .taken)) (c .plain2 .ensures) refl
+
+slice-aggregate-spells-3 : tie.Need-slice-aggregate-spells-3
+slice-aggregate-spells-3 c = search needs
+
+spells-requires-3 : tie.Need-spells-requires-3
+spells-requires-3 c κs = search needs
+
+plain-requires-3 : tie.Need-plain-requires-3
+plain-requires-3 c κs = search needs
+
+returns-3 : tie.Need-returns-3
+unfolding typeWithin depth classBelow simpleClassBelow bytes
+returns-3 c = is-field Integer _ (int-base _ _ (sym (c .before .before .before .before .before .before .before .before .spells .ensures) ∙ c .before .before .before .before .before .before .before .if1 .left) (sym (c .before .before .before .before .before .spells2 .ensures) ∙ c .before .before .before .before .if2 .left) (sym (c .before .before .spells3 .ensures) ∙ c .before .if3 .taken)) (c .plain3 .ensures) refl
+
+slice-aggregate-spells-4 : tie.Need-slice-aggregate-spells-4
+slice-aggregate-spells-4 c = search needs
+
+spells-requires-4 : tie.Need-spells-requires-4
+spells-requires-4 c κs = search needs
+
+plain-requires-4 : tie.Need-plain-requires-4
+plain-requires-4 c κs = search needs
+
+returns-4 : tie.Need-returns-4
+unfolding typeWithin depth classBelow simpleClassBelow bytes
+returns-4 c = is-field Any _ (any-base _ _ (sym (c .before .before .before .before .before .before .before .before .before .before .before .spells .ensures) ∙ c .before .before .before .before .before .before .before .before .before .before .if1 .left) (sym (c .before .before .before .before .before .before .before .before .spells2 .ensures) ∙ c .before .before .before .before .before .before .before .if2 .left) (sym (c .before .before .before .before .before .spells3 .ensures) ∙ c .before .before .before .before .if3 .left) (sym (c .before .before .spells4 .ensures) ∙ c .before .if4 .taken)) (c .plain4 .ensures) refl
+
+returns-5 : tie.Need-returns-5
+unfolding bytes
+returns-5 c = bad-field (empty-base _ _ (sym (c .before .before .before .before .before .before .before .before .before .before .before .spells .ensures) ∙ c .before .before .before .before .before .before .before .before .before .before .if1 .left) (sym (c .before .before .before .before .before .before .before .before .spells2 .ensures) ∙ c .before .before .before .before .before .before .before .if2 .left) (sym (c .before .before .before .before .before .spells3 .ensures) ∙ c .before .before .before .before .if3 .left) (sym (c .before .before .spells4 .ensures) ∙ c .before .if4 .left) (c .if5 .taken))
+
+shared-slice-read-if6 : tie.Need-shared-slice-read-if6
+shared-slice-read-if6 c = search needs
+
+returns-6 : tie.Need-returns-6
+unfolding bytes
+returns-6 c = bad-field (no-base _ _ (sym (c .before .before .before .before .before .before .before .before .before .before .before .before .before .spells .ensures) ∙ c .before .before .before .before .before .before .before .before .before .before .before .before .if1 .left) (sym (c .before .before .before .before .before .before .before .before .before .before .spells2 .ensures) ∙ c .before .before .before .before .before .before .before .before .before .if2 .left) (sym (c .before .before .before .before .before .before .before .spells3 .ensures) ∙ c .before .before .before .before .before .before .if3 .left) (sym (c .before .before .before .before .spells4 .ensures) ∙ c .before .before .before .if4 .left) (c .before .before .if5 .left) (c .if6 .taken))
+
+sub-class-before : tie.Need-sub-class-before
+sub-class-before c = search needs
+
+part-class-before-start : tie.Need-part-class-before-start
+part-class-before-start c = search needs
+
+part-class-before-end : tie.Need-part-class-before-end
+part-class-before-end c = search needs
+
+class-before-requires : tie.Need-class-before-requires
+class-before-requires c κs = search needs
+
+returns-7 : tie.Need-returns-7
+unfolding bytes
+returns-7 c = c .class-before .ensures ∙ ap held (sym (class-base _ _ (sym (c .before .before .before .before .before .before .before .before .before .before .before .before .before .before .before .spells .ensures) ∙ c .before .before .before .before .before .before .before .before .before .before .before .before .before .before .if1 .left) (sym (c .before .before .before .before .before .before .before .before .before .before .before .before .spells2 .ensures) ∙ c .before .before .before .before .before .before .before .before .before .before .before .if2 .left) (sym (c .before .before .before .before .before .before .before .before .before .spells3 .ensures) ∙ c .before .before .before .before .before .before .before .before .if3 .left) (sym (c .before .before .before .before .before .before .spells4 .ensures) ∙ c .before .before .before .before .before .if4 .left) (c .before .before .before .before .if5 .left) (c .before .before .if6 .left)))
+
+pub base-before-spec : {M : Type 1} → statement M
+base-before-spec =
+    tie.close
+    (tie.spec
+    slice-aggregate-spells
+    spells-requires
+    plain-requires
+    returns
+    slice-aggregate-spells-2
+    spells-requires-2
+    plain-requires-2
+    returns-2
+    slice-aggregate-spells-3
+    spells-requires-3
+    plain-requires-3
+    returns-3
+    slice-aggregate-spells-4
+    spells-requires-4
+    plain-requires-4
+    returns-4
+    returns-5
+    shared-slice-read-if6
+    returns-6
+    sub-class-before
+    part-class-before-start
+    part-class-before-end
+    class-before-requires
+    returns-7)

@@ -1,0 +1,30 @@
+-- `class_of` meets its contract.
+use mathlib.Core.Path.{sym, ap}
+use Rattle.types.specs.Reading.{typeField, classField}
+use Rattle.types.proofs.TypeFields.{small-class, big-class}
+use borrow.Author.Needs.{needs}
+use Rattle.types.proofs.reading.class_of.Statement.{statement}
+use Rattle.types.proofs.reading.class_of.Tie as tie
+
+enum-told : tie.Need-enum-told
+enum-told c = search needs
+
+enum-known-n : tie.Need-enum-known-n
+enum-known-n c = search needs
+
+plain-requires : tie.Need-plain-requires
+plain-requires c κs = search needs
+
+returns : tie.Need-returns
+unfolding typeField classField
+returns c = ap classField (sym (c .enum-told .given .1))
+
+returns-2 : tie.Need-returns-2
+returns-2 c = small-class _ _ _ (c .before .before .before .n .given .1) (c .before .if1 .taken) (c .plain .ensures)
+
+returns-3 : tie.Need-returns-3
+returns-3 c = big-class _ _ (c .before .before .n .given .1) (c .if1 .left)
+
+pub class-of-spec : {M : Type 1} → statement M
+class-of-spec =
+    tie.close (tie.spec enum-told enum-known-n plain-requires returns returns-2 returns-3)

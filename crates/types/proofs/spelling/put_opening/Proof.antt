@@ -1,0 +1,31 @@
+-- `put_opening` meets its contract.
+use native.Mathlib.Omega.{arith}
+use Prim.Native.Nat.{ℕ}
+use mathlib.Core.List.{[], _∷_}
+use mathlib.Core.Path.{ap}
+use Rattle.types.specs.Written.{opening}
+use Rattle.types.proofs.WrittenLaws.{puts-then, puts-as}
+use borrow.Author.Needs.{needs}
+use Rattle.types.proofs.spelling.put_opening.Statement.{statement}
+use Rattle.types.proofs.spelling.put_opening.Tie as tie
+
+letter-byte-requires : tie.Need-letter-byte-requires
+letter-byte-requires c κs = search needs
+
+put-byte-requires : tie.Need-put-byte-requires
+put-byte-requires c κs = search needs
+
+put-byte-requires-2 : tie.Need-put-byte-requires-2
+put-byte-requires-2 c κs = search needs
+
+same-length : tie.Need-same-length
+same-length c = search needs
+
+returns : tie.Need-returns
+unfolding opening
+returns c = puts-as (puts-then (c .before .before .before .before .before .before .put-byte .ensures) (c .before .before .put-byte2 .ensures) (omega (arith, c .before .before .before .before .before .before .before .before .before .before .pre))) (ap (λ (l : ℕ). l ∷ 40 ∷ []) (c .before .before .before .before .before .before .before .letter-byte .ensures))
+
+pub put-opening-spec : {M : Type 1} → statement M
+put-opening-spec =
+    tie.close
+    (tie.spec letter-byte-requires put-byte-requires put-byte-requires-2 same-length returns)

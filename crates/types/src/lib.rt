@@ -1,0 +1,53 @@
+// Types by value: a base and three collection codes. Subtyping, the common type, a type as one word, reading and spelling,
+// and the attribute row that a class reads. Document 01, Values and types.
+
+pub mod classes; // the table of parents: below, and the nearest common class
+pub mod order; // subtype and common type
+pub mod parts; // depth, letters, members and classes of a type, and types made of them
+pub mod word; // a type as one word
+pub mod rows; // the attribute row that a class reads
+pub mod reading; // a field that spells a type
+pub mod spelling; // a type, written
+
+// A type with no letter around it.
+pub enum Base {
+    Void,
+    Bool,
+    Int,
+    Any,
+    Class(u64),
+}
+
+// A base with at most three letters around it, the outermost first. A code is 0 for none, 1 for C, 2 for S, 3 for Q, 4 for
+// B; what stands after a code 0 says nothing.
+pub struct FlatType {
+    pub base: Base,
+    pub outer: u64,
+    pub middle: u64,
+    pub inner: u64,
+}
+
+// The common type of two types, if they have one.
+pub enum Joined {
+    Is(FlatType),
+    Nothing,
+}
+
+// The class that a type is, if it is one.
+pub enum ClassNumber {
+    Is(u64),
+    Nothing,
+}
+
+// A row's number, if there is one.
+pub enum Found {
+    At(u64),
+    Nothing,
+}
+
+// A field that should spell a type: badly spelled, over document 01's limits, or a type.
+pub enum GotType {
+    Bad,
+    Big,
+    Is(FlatType),
+}

@@ -1,0 +1,57 @@
+// A type as one word, to stand in a table.
+ghost use mathlib.Core.Path.{_≡_};
+ghost use Prim.Native.Nat.{_+_, _^_, _<_};
+ghost use Rattle.types.specs.Flat.{baseClass, tyOf};
+ghost use Rattle.types.specs.Word.{baseIn, typeIn, ThreeBits};
+use super::Base;
+use super::FlatType;
+use super::order::class_in;
+use super::order::tag;
+
+// A code that fits three bits: one over them counts as C.
+fn three_bits(k: u64) -> u64
+    ensures { λ r. ⌜ ThreeBits k r ⌝ }
+{
+    if k < 8 {
+        return k;
+    }
+    1
+}
+
+// The type as a word.
+pub fn pack(t: FlatType) -> u64
+    requires { ⌜ baseClass (t .base) + 4 < 2 ^ 55 ⌝ }
+    ensures { λ r. ⌜ typeIn r ≡ tyOf t ⌝ }
+{
+    let b = t.base;
+    let n = tag(b) + class_in(b);
+    let o = three_bits(t.outer);
+    let m = three_bits(t.middle);
+    let i = three_bits(t.inner);
+    o + 8 * m + 64 * i + 512 * n
+}
+
+fn base_in(n: u64) -> Base
+    ensures { λ r. ⌜ r ≡ baseIn n ⌝ }
+{
+    match n {
+        0 => Base::Void,
+        1 => Base::Bool,
+        2 => Base::Int,
+        3 => Base::Any,
+        _ => Base::Class(n - 4),
+    }
+}
+
+// The type that a word stands for.
+pub fn unpack(w: u64) -> FlatType
+    ensures { λ r. ⌜ tyOf r ≡ typeIn w ⌝ }
+{
+    let b = base_in(w / 512);
+    FlatType {
+        base: b,
+        outer: w % 8,
+        middle: w / 8 % 8,
+        inner: w / 64 % 8,
+    }
+}
