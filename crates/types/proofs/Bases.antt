@@ -135,8 +135,8 @@ module _ (ps : List ℕ) where
   class-other : (c : ℕ) (x : Base) → (baseTag x ≡ 0 → ⊥) → (baseTag x ≡ 4 → ⊥) → some (simple any) ≡ join P (simple (class c)) (baseType x)
   unfolding join
   class-other c b.Void h k = absurd (h refl)
-  class-other c b.Bool h k = ap (λ z. some (simple z)) (sym (class-join ps boolean (λ d. no _ (boolean-not-class P d)) c))
-  class-other c b.Int h k = ap (λ z. some (simple z)) (sym (class-join ps integer (λ d. no _ (integer-not-class P d)) c))
+  class-other c b.Bool h k = ap (λ z. some (simple z)) (sym (class-join ps boolean (λ d. test-fails _ (boolean-not-class P d)) c))
+  class-other c b.Int h k = ap (λ z. some (simple z)) (sym (class-join ps integer (λ d. test-fails _ (integer-not-class P d)) c))
   class-other c b.Any h k = ap (λ z. some (simple z)) (sym (class-join ps any (any-not-class P) c))
   class-other c (b.Class d) h k = absurd (k refl)
 

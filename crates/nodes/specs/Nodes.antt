@@ -1,0 +1,167 @@
+-- The node table: 8 words to a node, counted through all rules. Word 0 is the form's code, one range of codes to one form of
+-- crates/ocl; then operands, by their numbers through all rules, and what else the form holds; word 7 is the line.
+use mathlib.Core.Bool.{Bool, true, false}
+use mathlib.Core.List.{List, [], _∷_}
+use Prim.Native.Nat.{ℕ, zero, suc, _+_, _-_, _*_, _%_}
+use lib.ListN.{length, getD}
+use lib.Dec.{eqb, ltb}
+use Rattle.laws.specs.Choice.{if_then_else_}
+use Rattle.laws.specs.Integers.{bias, unbias}
+use Rattle.ocl.specs.Types.{Kind, set, sequence, bag}
+use Rattle.ocl.specs.Forms.{Arith, plus, minus, times, div, modulo, Connective, and, or, Quantifier, forAll, exists, Leaf, truth, undef, number, self, var, all, Unary, negation, sizeOf, convert, castTo, Binary, equal, less, arith, includes, including, union, Expr, node, Form, leaf, unary, binary, connective, isUndef, conditional, letIn, attribute, quantified, iterate, collect, Operands, noOperand, operand}
+use Rattle.sheet.specs.Lines.{Shape}
+use Rattle.types.specs.Word.{typeIn}
+
+-- word k of node n
+abbrev pub word : List ℕ → ℕ → ℕ → ℕ
+word t n k = getD t (8 * n + k) 0
+
+-- a variable's number, which an accepted sheet has below 16
+abbrev pub variable : ℕ → ℕ
+variable w = w % 16
+
+-- ---- a form by its code k and its words w
+
+-- codes 0 to 6
+unfoldable pub leafOf : ℕ → (ℕ → ℕ) → Leaf
+leafOf k w =
+    if eqb k 0 then truth false
+    else if eqb k 1 then truth true
+    else if eqb k 2 then undef
+    else if eqb k 3 then number (unbias (w 1 % 4294967296))
+    else if eqb k 4 then self
+    else if eqb k 5 then var (variable (w 1))
+    else all (w 1)
+
+-- codes 7 to 12
+unfoldable pub unaryOf : ℕ → (ℕ → ℕ) → Unary
+unaryOf k w =
+    if eqb k 7 then negation
+    else if eqb k 8 then sizeOf
+    else if eqb k 9 then convert set
+    else if eqb k 10 then convert sequence
+    else if eqb k 11 then convert bag
+    else castTo (w 2)
+
+-- codes 15 to 19 of the binary forms
+unfoldable pub arithOf : ℕ → Arith
+arithOf k =
+    if eqb k 15 then plus else if eqb k 16 then minus else if eqb k 17 then times else if eqb k 18 then div else modulo
+
+-- codes 13 to 22
+unfoldable pub binaryOf : ℕ → Binary
+binaryOf k =
+    if eqb k 13 then equal
+    else if eqb k 14 then less
+    else if ltb k 20 then arith (arithOf k)
+    else if eqb k 20 then includes
+    else if eqb k 21 then including
+    else union
+
+-- codes 23 and 24
+unfoldable pub connectiveOf : ℕ → Connective
+connectiveOf k = if eqb k 23 then and else or
+
+-- codes 25 and 26
+unfoldable pub quantifierOf : ℕ → Quantifier
+quantifierOf k = if eqb k 25 then forAll else exists
+
+-- codes 27 to 29
+unfoldable pub kindOf : ℕ → Kind
+kindOf k = if eqb k 27 then set else if eqb k 28 then sequence else bag
+
+-- the first c operands, from word k on
+unfoldable pub operandsIn : (ℕ → Expr) → (ℕ → ℕ) → ℕ → ℕ → Operands
+operandsIn f w zero k = noOperand
+operandsIn f w (suc c) k = operand (f (w k)) (operandsIn f w c (k + 1))
+
+-- over the trees f of the nodes before it; what no accepted sheet has counts as `undef`
+unfoldable pub formOf : (ℕ → Expr) → (ℕ → ℕ) → ℕ → Form
+formOf f w k =
+    if ltb 34 k then leaf undef
+    else if ltb k 7 then leaf (leafOf k w)
+    else if ltb k 13 then unary (unaryOf k w) (f (w 1))
+    else if ltb k 23 then binary (binaryOf k) (f (w 1)) (f (w 2))
+    else if ltb k 25 then connective (connectiveOf k) (f (w 1)) (f (w 2))
+    else if ltb k 27 then quantified (quantifierOf k) (variable (w 3)) (f (w 1)) (f (w 2))
+    else if ltb k 30 then (if ltb 4 (w 5) then leaf undef else collect (kindOf k) (operandsIn f w (w 5) 1))
+    else if eqb k 30 then isUndef (f (w 1))
+    else if eqb k 31 then conditional (f (w 1)) (f (w 2)) (f (w 3))
+    else if eqb k 32 then letIn (variable (w 3)) (f (w 1)) (f (w 2))
+    else if eqb k 33 then attribute (w 2) (f (w 1))
+    else iterate (variable (w 4)) (variable (w 5)) (typeIn (w 6)) (f (w 1)) (f (w 2)) (f (w 3))
+
+-- the trees of the nodes below n; an operand that is not smaller, which no accepted sheet has, counts as `undef`
+unfoldable pub treesBelow : List ℕ → ℕ → ℕ → Expr
+treesBelow t zero a = node a (leaf undef)
+treesBelow t (suc n) a = if eqb a n then node n (formOf (treesBelow t n) (word t n) (word t n 0)) else treesBelow t n a
+
+-- the tree of node n
+unfoldable pub treeAt : List ℕ → ℕ → Expr
+treeAt t n = treesBelow t (suc n) n
+
+-- ---- the words of a node line: its rule's first node is `first`, a type's word is `type`
+
+unfoldable pub leafWords : Leaf → ℕ × ℕ
+leafWords (truth false) = (0, 0)
+leafWords (truth true) = (1, 0)
+leafWords undef = (2, 0)
+leafWords (number z) = (3, bias z)
+leafWords self = (4, 0)
+leafWords (var i) = (5, i)
+leafWords (all c) = (6, c)
+
+-- a code, and a class where the form has one
+unfoldable pub unaryWords : Unary → ℕ × ℕ
+unaryWords negation = (7, 0)
+unaryWords sizeOf = (8, 0)
+unaryWords (convert set) = (9, 0)
+unaryWords (convert sequence) = (10, 0)
+unaryWords (convert bag) = (11, 0)
+unaryWords (castTo c) = (12, c)
+
+unfoldable pub arithCode : Arith → ℕ
+arithCode plus = 15
+arithCode minus = 16
+arithCode times = 17
+arithCode div = 18
+arithCode modulo = 19
+
+unfoldable pub binaryCode : Binary → ℕ
+binaryCode equal = 13
+binaryCode less = 14
+binaryCode (arith o) = arithCode o
+binaryCode includes = 20
+binaryCode including = 21
+binaryCode union = 22
+
+unfoldable pub connectiveCode : Connective → ℕ
+connectiveCode and = 23
+connectiveCode or = 24
+
+unfoldable pub quantifierCode : Quantifier → ℕ
+quantifierCode forAll = 25
+quantifierCode exists = 26
+
+unfoldable pub collectCode : Kind → ℕ
+collectCode set = 27
+collectCode sequence = 28
+collectCode bag = 29
+
+-- operand k, of those that there are
+unfoldable pub operandWord : ℕ → List ℕ → ℕ → ℕ
+operandWord first es k = if ltb k (length es) then first + getD es k 0 else 0
+
+unfoldable pub shapeWords : ℕ → ℕ → ℕ → Shape → List ℕ
+shapeWords first type line (Shape.leaf l) = leafWords l .0 ∷ leafWords l .1 ∷ 0 ∷ 0 ∷ 0 ∷ 0 ∷ 0 ∷ line ∷ []
+shapeWords first type line (Shape.unary op a) = unaryWords op .0 ∷ (first + a) ∷ unaryWords op .1 ∷ 0 ∷ 0 ∷ 0 ∷ 0 ∷ line ∷ []
+shapeWords first type line (Shape.binary op a b) = binaryCode op ∷ (first + a) ∷ (first + b) ∷ 0 ∷ 0 ∷ 0 ∷ 0 ∷ line ∷ []
+shapeWords first type line (Shape.connective c a b) = connectiveCode c ∷ (first + a) ∷ (first + b) ∷ 0 ∷ 0 ∷ 0 ∷ 0 ∷ line ∷ []
+shapeWords first type line (Shape.isUndef a) = 30 ∷ (first + a) ∷ 0 ∷ 0 ∷ 0 ∷ 0 ∷ 0 ∷ line ∷ []
+shapeWords first type line (Shape.conditional c a b) = 31 ∷ (first + c) ∷ (first + a) ∷ (first + b) ∷ 0 ∷ 0 ∷ 0 ∷ line ∷ []
+shapeWords first type line (Shape.letIn i a b) = 32 ∷ (first + a) ∷ (first + b) ∷ i ∷ 0 ∷ 0 ∷ 0 ∷ line ∷ []
+shapeWords first type line (Shape.attribute name a) = 33 ∷ (first + a) ∷ name ∷ 0 ∷ 0 ∷ 0 ∷ 0 ∷ line ∷ []
+shapeWords first type line (Shape.quantified q i a b) = quantifierCode q ∷ (first + a) ∷ (first + b) ∷ i ∷ 0 ∷ 0 ∷ 0 ∷ line ∷ []
+shapeWords first type line (Shape.iterate i j t a e b) = 34 ∷ (first + a) ∷ (first + e) ∷ (first + b) ∷ i ∷ j ∷ type ∷ line ∷ []
+shapeWords first type line (Shape.collect k es) =
+    collectCode k ∷ operandWord first es 0 ∷ operandWord first es 1 ∷ operandWord first es 2 ∷ operandWord first es 3 ∷ length es ∷ 0 ∷ line ∷ []

@@ -1,0 +1,40 @@
+-- A table at an offset of the words: one entry more, entries elsewhere, and what stays. Assumes nothing.
+use mathlib.Core.Path.{_≡_, refl, sym, ap, _∙_}
+use mathlib.Core.List.{List, [], _∷_, _++_}
+use Prim.Native.Nat.{ℕ, zero, suc, _+_, _-_, _≤_, _<_}
+use native.Mathlib.Omega.{arith}
+use native.Mathlib.Numerals.{add-one}
+use lib.ListN.{length, getD, take, drop, set, length-set, length-drop}
+use lib.Seq.{length-take-le, take-suc-set, take-set-le, drop-set-lt, drop-set-add, getD-take, getD-drop}
+use Rattle.tables.specs.Layout.{tab, Kept}
+
+module _ (off n : ℕ) (w : List ℕ) where
+  pub tab-length : off + n ≤ length w → length (tab off n w) ≡ n
+  tab-length h = length-take-le n (drop off w) (let e = length-drop off w in omega arith)
+
+  pub tab-at : (i : ℕ) → i < n → getD (tab off n w) i 0 ≡ getD w (off + i) 0
+  tab-at i h = getD-take n (drop off w) i 0 h ∙ getD-drop off w i 0
+
+  -- the next entry
+  pub tab-more : (x : ℕ) → off + n < length w → tab off (suc n) (set w (off + n) x) ≡ tab off n w ++ (x ∷ [])
+  tab-more x h = ap (take (suc n)) (drop-set-add off w n x) ∙ take-suc-set (drop off w) n x (let e = length-drop off w in omega arith)
+
+  -- an entry before the table, and one after it
+  pub tab-before : (i x : ℕ) → i < off → tab off n (set w i x) ≡ tab off n w
+  tab-before i x h = ap (take n) (drop-set-lt off w i x h)
+
+  pub tab-after : (i x : ℕ) → off + n ≤ i → tab off n (set w i x) ≡ tab off n w
+  tab-after i x h =
+      let e : off + (i - off) ≡ i = omega arith in
+      ap (λ j. tab off n (set w j x)) (sym e) ∙ ap (take n) (drop-set-add off w (i - off) x) ∙ take-set-le n (drop off w) (i - off) x (omega arith)
+
+-- ---- the words from 8,192 on
+
+pub kept-refl : (w : List ℕ) → Kept w w
+kept-refl w = record { size = refl; rest = refl }
+
+pub kept-set : (w : List ℕ) (i x : ℕ) → i < 8192 → Kept w (set w i x)
+kept-set w i x h = record { size = length-set w i x; rest = drop-set-lt 8192 w i x h }
+
+pub kept-then : {u v w : List ℕ} → Kept u v → Kept v w → Kept u w
+kept-then p q = record { size = q .size ∙ p .size; rest = q .rest ∙ p .rest }

@@ -1,0 +1,61 @@
+// The tables that reading leaves in the lent words, for typing and evaluation to read: their layout and what they hold
+// stand in specs/. It depends on `types` and `values` for how a type and a value lie in words.
+
+ghost use mathlib.Core.Path.{_≡_};
+ghost use Prim.Native.Nat.{_≤_};
+ghost use lib.ListN.{length};
+ghost use Rattle.sheet.specs.Calls.{wiped};
+ghost use Rattle.tables.specs.Layout.{noCounts};
+
+// How far the sheet has been read: the last block begun (0 to 4 for C, A, O, V, R), how much of each there is, and, where a
+// rule is open (1, else 0), its context class and its first node.
+pub struct Counts {
+    pub block: u64,
+    pub classes: u64,
+    pub rows: u64,
+    pub objects: u64,
+    pub slots: u64,
+    pub cells: u64,
+    pub nodes: u64,
+    pub rules: u64,
+    pub open: u64,
+    pub context: u64,
+    pub first: u64,
+}
+
+// After a line: the counts with it, or a refusal's number.
+pub enum Step {
+    Next(Counts),
+    Stop(u64),
+}
+
+// Nothing read yet.
+pub fn nothing() -> Counts
+    ensures { λ r. ⌜ r ≡ noCounts ⌝ }
+{
+    Counts {
+        block: 0,
+        classes: 0,
+        rows: 0,
+        objects: 0,
+        slots: 0,
+        cells: 0,
+        nodes: 0,
+        rules: 0,
+        open: 0,
+        context: 0,
+        first: 0,
+    }
+}
+
+// The first 8,192 words are set to 0, and no other.
+pub fn wipe(w: &mut [u64])
+    requires { ⌜ 8192 ≤ length (now w) ⌝ }
+    ensures { λ _. ⌜ now (w .exit) ≡ wiped (now (w .entry)) ⌝ }
+{
+    let mut i: usize = 0;
+    while i < 8192 {
+        w[i] = 0;
+        i += 1;
+    }
+}
