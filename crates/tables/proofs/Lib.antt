@@ -1,2 +1,5 @@
 pub mod Tables
 pub mod Zeros
+pub mod Entries
+pub mod LineFields
+pub mod Steps

@@ -9,3 +9,4 @@ pub mod Closing
 pub mod Spelled
 pub mod TypeFields
 pub mod WrittenLaws
+pub mod RowBounds

@@ -1,0 +1,9 @@
+pub mod TakenLaws
+pub mod ObjectLaws
+pub mod PairLaws
+pub mod RuleLaws
+pub mod ParentLaws
+pub mod ClassLaws
+pub mod KnownLaws
+pub mod RowFields
+pub mod RowLaws

@@ -1,0 +1,44 @@
+-- `object_line` meets its contract: the fields' refusal, or what the line's numbers lead to.
+use borrow.Author.Needs.{needs}
+use mathlib.Core.Path.{sym, _∙_}
+use lib.ListN.{drop}
+use Rattle.sheet.specs.Text.{fieldsOf}
+use Rattle.sheet.specs.Lines.{objectLine}
+use Rattle.declarations.specs.Fields.{twoNumbers}
+use Rattle.declarations.proofs.PairLaws.{object-fields, pair-within, pair-stopped, pair-taken}
+use Rattle.declarations.proofs.ObjectLaws.{object-limits}
+use Rattle.declarations.proofs.objects.object_line.Statement.{statement}
+use Rattle.declarations.proofs.objects.object_line.Tie as tie
+
+read-pair-requires : tie.Need-read-pair-requires
+read-pair-requires c κs = search needs
+
+enum-known-n : tie.Need-enum-known-n
+enum-known-n c = search needs
+
+enum-known-n-2 : tie.Need-enum-known-n-2
+enum-known-n-2 c = search needs
+
+put-object-requires : tie.Need-put-object-requires
+put-object-requires c κs = let p = pair-within 96 (twoNumbers (drop 1 (fieldsOf (c .before .before .before .before .before .before .before .args .line .now)))) (sym (c .before .before .n2 .given .1) ∙ c .before .before .before .before .read-pair .ensures) in (c .before .before .before .before .before .before .before .pre .1, c .before .before .before .before .before .before .before .pre .2, p .low, p .class)
+
+returns : tie.Need-returns
+returns c = λ w1 k. pair-stopped (c .before .before .before .before .before .before .args .st) k (c .before .before .before .before .before .before .args .w0 .now) w1 (c .before .before .before .before .before .before .args .line .now) (twoNumbers (drop 1 (fieldsOf (c .before .before .before .before .before .before .args .line .now)))) objectLine 96 (object-fields _ (c .before .before .before .before .before .before .pre .0 .is-letter)) object-limits (sym (c .before .n .given .1) ∙ c .before .before .before .read-pair .ensures)
+
+same-length : tie.Need-same-length
+same-length c = search needs
+
+returns-2 : tie.Need-returns-2
+returns-2 c = λ w1 k. pair-taken (c .before .before .before .before .before .before .before .before .before .before .args .st) k (c .before .before .before .before .before .before .before .before .before .before .args .w0 .now) w1 (c .before .before .before .before .before .before .before .before .before .before .args .line .now) (twoNumbers (drop 1 (fieldsOf (c .before .before .before .before .before .before .before .before .before .before .args .line .now)))) objectLine 96 (object-fields _ (c .before .before .before .before .before .before .before .before .before .before .pre .0 .is-letter)) object-limits (pair-within 96 (twoNumbers (drop 1 (fieldsOf (c .before .before .before .before .before .before .before .before .before .before .args .line .now)))) (sym (c .before .before .before .before .before .n2 .given .1) ∙ c .before .before .before .before .before .before .before .read-pair .ensures) .are) (c .before .before .put-object .ensures w1 k)
+
+pub object-line-spec : {M : Type 1} → statement M
+object-line-spec =
+    tie.close
+    (tie.spec
+    read-pair-requires
+    enum-known-n
+    enum-known-n-2
+    put-object-requires
+    returns
+    same-length
+    returns-2)

@@ -1,0 +1,20 @@
+-- `class_known` meets its contract: one law for each answer.
+use borrow.Author.Needs.{needs}
+use Rattle.declarations.proofs.KnownLaws.{known-without, known-class}
+use Rattle.declarations.proofs.rows.class_known.Statement.{statement}
+use Rattle.declarations.proofs.rows.class_known.Tie as tie
+
+tag-requires : tie.Need-tag-requires
+tag-requires c κs = search needs
+
+returns : tie.Need-returns
+returns c = known-without (c .before .before .args .classes) (c .before .before .args .t) (c .before .tag .ensures) (c .if1 .taken)
+
+class-in-requires : tie.Need-class-in-requires
+class-in-requires c κs = search needs
+
+returns-2 : tie.Need-returns-2
+returns-2 c = known-class (c .before .before .before .args .classes) (c .before .before .before .args .t) (c .before .before .tag .ensures) (c .before .if1 .left) (c .class-in .ensures)
+
+pub class-known-spec : {M : Type 1} → statement M
+class-known-spec = tie.close (tie.spec tag-requires returns class-in-requires returns-2)

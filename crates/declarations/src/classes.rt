@@ -1,0 +1,73 @@
+// `C n p`: class n, whose parent p is `-` or a smaller class.
+ghost use mathlib.Core.Path.{_≡_};
+ghost use mathlib.Core.List.{List};
+ghost use Prim.Native.Nat.{ℕ, _≤_, _<_};
+ghost use lib.ListN.{length};
+ghost use Rattle.sheet.specs.Lines.{classLine, aParent};
+ghost use Rattle.types.specs.Flat.{parentOf};
+ghost use Rattle.tables.specs.Layout.{Fine, Took};
+ghost use Rattle.declarations.specs.Fields.{parentNum};
+ghost use Rattle.declarations.specs.Taken.{Lettered, TookLine};
+use tables::Counts;
+use tables::Step;
+use text::numbers::Num;
+use text::numbers::number;
+use text::parts::Fields;
+use text::parts::field;
+use text::words::letter;
+
+pub fn class_line(line: &[u8], f: Fields, w0: &mut [u64], st: Counts) -> Step
+    requires { ⌜ Lettered "C" (now line) f × (8192 ≤ length (now w0)) × Fine st ⌝ }
+    ensures { λ r. ⌜ ((w1 : List ℕ) (k : ℕ) → Took st k (now (line .entry)) r (now (w0 .entry)) w1 (now (w0 .exit)) w1) ⌝ }
+{
+    if f.count != 3 {
+        return Step::Stop(3);
+    }
+    let Num::Is(n) = number(field(line, f, 1)) else {
+        return Step::Stop(3);
+    };
+    let Num::Is(p) = parent(field(line, f, 2)) else {
+        return Step::Stop(3);
+    };
+    if 64 <= n {
+        return Step::Stop(4);
+    }
+    if 64 < p {
+        return Step::Stop(4);
+    }
+    put_class(w0, st, n, p)
+}
+
+// One more than the parent, 0 for `-`.
+fn parent(f: &[u8]) -> Num
+    ensures { λ r. ⌜ r ≡ parentNum (aParent (now (f .entry))) ⌝ }
+{
+    if letter(f) == b'-' {
+        return Num::Is(0);
+    }
+    match number(f) {
+        Num::Bad => Num::Bad,
+        Num::Is(p) => Num::Is(p + 1),
+    }
+}
+
+// The class, whose number and parent are within their limits; p is one more than the parent, 0 for none.
+fn put_class(w0: &mut [u64], st: Counts, n: u64, p: u64) -> Step
+    requires { ⌜ (8192 ≤ length (now w0)) × Fine st × (n < 64) × (p ≤ 64) ⌝ }
+    ensures { λ r. ⌜ ((w1 : List ℕ) (k : ℕ) → TookLine st k (classLine n (parentOf p)) r (now (w0 .entry)) w1 (now (w0 .exit)) w1) ⌝ }
+{
+    if 0 < st.block {
+        return Step::Stop(5);
+    }
+    if n != st.classes {
+        return Step::Stop(5);
+    }
+    if n < p {
+        return Step::Stop(6);
+    }
+    let i = n as usize;
+    w0[i] = p;
+    let mut next = st;
+    next.classes = n + 1;
+    Step::Next(next)
+}

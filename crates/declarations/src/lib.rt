@@ -1,0 +1,7 @@
+// The lines that declare classes, attribute rows, objects and rules: each is read, held to document 01's limits and orders,
+// and put into its table. Document 01, The sheet.
+pub mod classes;
+pub mod objects;
+pub mod pairs;
+pub mod rows;
+pub mod rules;

@@ -1,0 +1,122 @@
+// `A n c name T`: attribute row n of class c, with its name and its type.
+ghost use mathlib.Core.Path.{_≡_};
+ghost use mathlib.Core.Bool.{true, _&&_};
+ghost use mathlib.Core.List.{List};
+ghost use Prim.Native.Nat.{ℕ, _+_, _≤_, _<_};
+ghost use lib.Dec.{ltb};
+ghost use lib.ListN.{length};
+ghost use Rattle.sheet.specs.Lines.{rowLine};
+ghost use Rattle.sheet.specs.Refusals.{isClass, classBelow, typeWithin};
+ghost use Rattle.types.specs.Flat.{tyOf};
+ghost use Rattle.tables.specs.Layout.{tab, Fine, Took};
+ghost use Rattle.declarations.specs.Fields.{namedIn};
+ghost use Rattle.declarations.specs.Taken.{Lettered, TookLine};
+use tables::Counts;
+use tables::Step;
+use text::numbers::Num;
+use text::numbers::number;
+use text::parts::Fields;
+use text::parts::field;
+use types::FlatType;
+use types::GotType;
+use types::order::class_in;
+use types::order::tag;
+use types::reading::read_type;
+use types::word::pack;
+
+pub fn row_line(line: &[u8], f: Fields, w0: &mut [u64], st: Counts) -> Step
+    requires { ⌜ Lettered "A" (now line) f × (8192 ≤ length (now w0)) × Fine st ⌝ }
+    ensures { λ r. ⌜ ((w1 : List ℕ) (k : ℕ) → Took st k (now (line .entry)) r (now (w0 .entry)) w1 (now (w0 .exit)) w1) ⌝ }
+{
+    if f.count != 5 {
+        return Step::Stop(3);
+    }
+    let Num::Is(n) = number(field(line, f, 1)) else {
+        return Step::Stop(3);
+    };
+    let Num::Is(c) = number(field(line, f, 2)) else {
+        return Step::Stop(3);
+    };
+    let Num::Is(name) = number(field(line, f, 3)) else {
+        return Step::Stop(3);
+    };
+    match read_type(field(line, f, 4)) {
+        GotType::Bad => Step::Stop(3),
+        GotType::Big => Step::Stop(4),
+        GotType::Is(t) => if numbers_within(n, c, name) {
+            put_row(w0, st, n, c, name, t)
+        } else {
+            Step::Stop(4)
+        },
+    }
+}
+
+fn numbers_within(n: u64, c: u64, name: u64) -> bool
+    ensures { λ r. ⌜ r ≡ (ltb n 64 && isClass c && ltb name 256) ⌝ }
+{
+    if 64 <= n {
+        return false;
+    }
+    if 64 <= c {
+        return false;
+    }
+    name < 256
+}
+
+// The row, whose numbers and type are within their limits.
+fn put_row(w0: &mut [u64], st: Counts, n: u64, c: u64, name: u64, t: FlatType) -> Step
+    requires { ⌜ (8192 ≤ length (now w0)) × Fine st × ((ltb n 64 && isClass c && ltb name 256) ≡ true) × (typeWithin (tyOf t) ≡ true) ⌝ }
+    ensures { λ r. ⌜ ((w1 : List ℕ) (k : ℕ) → TookLine st k (rowLine n c name (tyOf t)) r (now (w0 .entry)) w1 (now (w0 .exit)) w1) ⌝ }
+{
+    if 1 < st.block {
+        return Step::Stop(5);
+    }
+    if n != st.rows {
+        return Step::Stop(5);
+    }
+    let i = n as usize;
+    if declares(w0, i, c, name) {
+        return Step::Stop(5);
+    }
+    if st.classes <= c {
+        return Step::Stop(6);
+    }
+    if !class_known(t, st.classes) {
+        return Step::Stop(6);
+    }
+    w0[64 + i] = c;
+    w0[128 + i] = name;
+    w0[192 + i] = pack(t);
+    let mut next = st;
+    next.block = 1;
+    next.rows = n + 1;
+    Step::Next(next)
+}
+
+// Whether class c declares the name in one of the rows so far.
+fn declares(w0: &[u64], rows: usize, c: u64, name: u64) -> bool
+    requires { ⌜ (8192 ≤ length (now w0)) × (rows ≤ 64) ⌝ }
+    ensures { λ r. ⌜ r ≡ namedIn (tab 64 rows (now (w0 .entry))) (tab 128 rows (now (w0 .entry))) c name ⌝ }
+{
+    let mut i: usize = 0;
+    while i < rows {
+        if w0[64 + i] == c {
+            if w0[128 + i] == name {
+                return true;
+            }
+        }
+        i += 1;
+    }
+    false
+}
+
+// Whether the class inside a type, if there is one, is among the classes.
+pub fn class_known(t: FlatType, classes: u64) -> bool
+    ensures { λ r. ⌜ r ≡ classBelow classes (tyOf t) ⌝ }
+{
+    let b = t.base;
+    if tag(b) != 4 {
+        return true;
+    }
+    class_in(b) < classes
+}

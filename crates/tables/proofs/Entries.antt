@@ -1,0 +1,128 @@
+-- A word of w0 that no table of the sheet has yet: writing it changes nothing of what the words hold, so that a table's next
+-- entry is written first and counted afterwards. Assumes nothing.
+use mathlib.Core.Path.{_≡_, ap, _∙_}
+use mathlib.Core.Option.{Option}
+use mathlib.Core.List.{List, [], _∷_, _++_, map, map-append}
+use Prim.Native.Nat.{ℕ, suc, _+_, _≤_, _<_}
+use native.Mathlib.Omega.{arith}
+use native.Mathlib.Decide.{decLt}
+use borrow.Author.Needs.{needs}
+use lib.ListN.{length, getD, drop, set, length-append, length-drop}
+use lib.Seq.{take-suc, getD-drop}
+use Rattle.types.specs.Word.{typeIn}
+use Rattle.nodes.specs.Nodes.{treeAt}
+use Rattle.sheet.specs.Sheet.{Current, Sheet}
+use Rattle.sheet.specs.Refusals.{totalSize}
+use Rattle.tables.specs.declared.Counts.{Counts}
+use Rattle.tables.specs.Layout.{tab, HoldsTables, HoldsRules, HoldsOpen, closed, opened, Counted, Holds, Fine}
+use Rattle.tables.proofs.Tables.{tab-before, tab-after}
+
+-- ---- a word outside the tables
+
+-- word i is not among the n words from an offset on
+abbrev pub Away : ℕ → ℕ → ℕ → Type 0
+Away i off n = off ≤ i → off + n ≤ i
+
+-- it is in no table of the sheet
+pub record Spare (i : ℕ) (s : Sheet) : Type 0 where
+  pub parents : Away i 0 (length (s .parents))
+  pub owners : Away i 64 (length (s .rows))
+  pub names : Away i 128 (length (s .rows))
+  pub types : Away i 192 (length (s .rows))
+  pub objects : Away i 256 (length (s .objects))
+  pub keys : Away i 352 (length (s .slots))
+  pub starts : Away i 1376 (length (s .slots))
+  pub cells : Away i 2400 (totalSize (s .slots))
+  pub contexts : Away i 4448 (length (s .rules))
+  pub roots : Away i 4512 (length (s .rules))
+
+pub tab-away : (off n : ℕ) (w : List ℕ) (i x : ℕ) → Away i off n → tab off n (set w i x) ≡ tab off n w
+tab-away off n w i x away = go (decLt i off)
+  where
+    go : Dec (i < off) → tab off n (set w i x) ≡ tab off n w
+    go (yes l) = tab-before off n w i x l
+    go (no l) = tab-after off n w i x (away (omega arith))
+
+module _ {w0 : List ℕ} {s : Sheet} {i : ℕ} (x : ℕ) (away : Spare i s) where
+  pub tables-kept : HoldsTables w0 s → HoldsTables (set w0 i x) s
+  tables-kept h = record {
+    parents = tab-away _ _ w0 i x (away .parents) ∙ h .parents;
+    owners = tab-away _ _ w0 i x (away .owners) ∙ h .owners;
+    names = tab-away _ _ w0 i x (away .names) ∙ h .names;
+    types = ap (map typeIn) (tab-away _ _ w0 i x (away .types)) ∙ h .types;
+    objects = tab-away _ _ w0 i x (away .objects) ∙ h .objects;
+    keys = tab-away _ _ w0 i x (away .keys) ∙ h .keys;
+    starts = tab-away _ _ w0 i x (away .starts) ∙ h .starts;
+    cells = tab-away _ _ w0 i x (away .cells) ∙ h .cells;
+    fits = h .fits;
+    contexts = tab-away _ _ w0 i x (away .contexts) ∙ h .contexts;
+  }
+
+  pub rules-kept : {w1 : List ℕ} → HoldsRules w0 w1 s → HoldsRules (set w0 i x) w1 s
+  rules-kept {w1} h = record {
+    bodies = ap (map (treeAt w1)) (tab-away _ _ w0 i x (away .roots)) ∙ h .bodies;
+    roots = rw (tab-away 4512 (length (s .rules)) w0 i x (away .roots)) (h .roots);
+    lines = h .lines;
+  }
+
+  pub holds-kept : {st : Counts} {w1 : List ℕ} → Holds st w0 w1 s → Holds st (set w0 i x) w1 s
+  holds-kept h = record { counted = h .counted; tables = tables-kept (h .tables); rules = rules-kept (h .rules); current = h .current }
+
+-- ---- the next places
+
+-- the sheet's counts are within document 01's limits
+module _ {st : Counts} {s : Sheet} (fine : Fine st) (same : Counted st s) where
+  pub spare-parent : st .classes < 64 → Spare (st .classes) s
+  spare-parent h = search needs
+
+  pub spare-owner : st .rows < 64 → Spare (64 + st .rows) s
+  spare-owner h = search needs
+
+  pub spare-name : st .rows < 64 → Spare (128 + st .rows) s
+  spare-name h = search needs
+
+  pub spare-type : st .rows < 64 → Spare (192 + st .rows) s
+  spare-type h = search needs
+
+  pub spare-object : st .objects < 96 → Spare (256 + st .objects) s
+  spare-object h = search needs
+
+-- ---- one entry more
+
+pub tab-next : (off n : ℕ) (w : List ℕ) → off + n < length w → tab off (suc n) w ≡ tab off n w ++ (getD w (off + n) 0 ∷ [])
+tab-next off n w h =
+    take-suc (drop off w) n 0 (simp length-drop (omega arith)) ∙ ap (λ (y : ℕ). tab off n w ++ (y ∷ [])) (getD-drop off w n 0)
+
+pub length-more : {A : Type 0} (xs : List A) (x : A) → length (xs ++ (x ∷ [])) ≡ suc (length xs)
+length-more xs x = length-append xs (x ∷ []) ∙ omega arith
+
+-- a table of what f says of each element
+pub tab-more-of : {A : Type 0} (f : A → ℕ) (off : ℕ) (w : List ℕ) (xs : List A) (x : A) → off + length xs < length w
+    → tab off (length xs) w ≡ map f xs → getD w (off + length xs) 0 ≡ f x → tab off (length (xs ++ (x ∷ []))) w ≡ map f (xs ++ (x ∷ []))
+tab-more-of f off w xs x h is at =
+    ap (λ (n : ℕ). tab off n w) (length-more xs x) ∙ tab-next off (length xs) w h ∙ rw (is, at, map-append f xs (x ∷ []))
+
+-- a table whose words stand for what f says of each element
+pub tab-more-by : {A B : Type 0} (read : ℕ → B) (f : A → B) (off : ℕ) (w : List ℕ) (xs : List A) (x : A) → off + length xs < length w
+    → map read (tab off (length xs) w) ≡ map f xs → read (getD w (off + length xs) 0) ≡ f x
+    → map read (tab off (length (xs ++ (x ∷ []))) w) ≡ map f (xs ++ (x ∷ []))
+tab-more-by read f off w xs x h is at =
+    ap (λ (n : ℕ). map read (tab off n w)) (length-more xs x)
+    ∙ ap (map read) (tab-next off (length xs) w h)
+    ∙ map-append read (tab off (length xs) w) (getD w (off + length xs) 0 ∷ [])
+    ∙ rw (is, at, map-append f xs (x ∷ []))
+
+-- ---- the open rule under other counts
+
+pub open-kept : {st su : Counts} {w1 : List ℕ} {n : ℕ} {c : Option Current} → su .open ≡ st .open → su .context ≡ st .context → su .first ≡ st .first
+    → HoldsOpen st w1 n c → HoldsOpen su w1 n c
+open-kept p q r (closed e) = closed (p ∙ e)
+open-kept p q r (opened h) = opened (record {
+  is-open = p ∙ h .is-open;
+  context = q ∙ h .context;
+  first = r ∙ h .first;
+  count = h .count;
+  trees = h .trees;
+  depths = h .depths;
+  used = h .used;
+})

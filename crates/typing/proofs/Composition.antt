@@ -1,0 +1,63 @@
+-- Answers and marks, composed as the definition composes typings. Assumes nothing.
+use mathlib.Core.Path.{_≡_, refl, sym, ap, _∙_}
+use mathlib.Core.List.{List, [], _∷_, _++_}
+use Prim.Native.Nat.{ℕ}
+use native.Mathlib.Omega.{arith}
+use lib.ListN.{set}
+use Rattle.ocl.specs.Types.{Ty}
+use Rattle.ocl.specs.Environment.{Env}
+use Rattle.ocl.specs.Typing.{Answer, Marks, Typed, Typing, pure, thenFor, andThen}
+use Rattle.types.specs.declared.FlatType.{FlatType}
+use Rattle.types.specs.Flat.{tyOf}
+use Rattle.typing.specs.declared.Reply.{Reply}
+use Rattle.typing.specs.declared.Reply.the-variants as reply
+use Rattle.typing.specs.declared.PairReply.the-variants as two
+use Rattle.typing.specs.Replies.{meaning, writeMarks, Tells, TellsTwo}
+
+pub write-append : (l : List ℕ) (a c : Marks) → writeMarks l (a ++ c) ≡ writeMarks (writeMarks l a) c
+unfolding writeMarks
+write-append l [] c = refl
+write-append l (x ∷ a) c = write-append (set l (x .0) (x .1)) a c
+
+-- a refusal ends what follows it
+pub early : {x : Typed} {B A : List ℕ} {r : Reply} {c p : ℕ} (k : Ty → Typed) → Tells x B A r → r ≡ reply.No c p → Tells (andThen x k) B A r
+unfolding andThen thenFor
+early k d q = let e = ap meaning (sym q) ∙ d .is in rw (← e) (record { is = ap meaning q; wrote = d .wrote })
+
+-- a type goes on to what follows it
+pub after : {x : Typed} {B A C : List ℕ} {r s : Reply} {t : FlatType} (k : Ty → Typed) → Tells x B A r → r ≡ reply.Is t → Tells (k (tyOf t)) A C s → Tells (andThen x k) B C s
+unfolding andThen thenFor
+after {x} {B} {t = t} k d q y =
+    let e = ap meaning (sym q) ∙ d .is in
+    rw (← e) (record { is = y .is; wrote = y .wrote ∙ ap (λ (l : List ℕ). writeMarks l (k (tyOf t) .marks)) (d .wrote) ∙ sym (write-append B (x .marks) (k (tyOf t) .marks)) })
+
+-- an answer that makes no mark
+pub done : {a : Answer} {B : List ℕ} {r : Reply} → meaning r ≡ a → Tells (pure a) B B r
+unfolding writeMarks
+done h = record { is = h; wrote = refl }
+
+pub as-form : {f g : Typing} {Γ : Env Ty} {B A : List ℕ} {r : Reply} → f ≡ g → Tells (g Γ) B A r → Tells (f Γ) B A r
+as-form p d = rw p d
+
+-- ---- two operands
+
+pub two-first : {f g : Typed} {B A : List ℕ} {r : Reply} {c p : ℕ} → Tells f B A r → r ≡ reply.No c p → TellsTwo f g B A (two.Refused r)
+two-first {f} {g} {B} {A} {r} d q = record {
+  ends = λ {x} e k. let h : r ≡ x = cc in rw (← h) (early (λ (t : Ty). andThen g (k t)) d q);
+  goes = λ e k y. let z : _≡_ {A = ℕ} 0 1 = cc in absurd (omega arith);
+}
+
+pub two-second : {f g : Typed} {B A C : List ℕ} {r s : Reply} {t : FlatType} {c p : ℕ} → Tells f B A r → r ≡ reply.Is t → Tells g A C s → s ≡ reply.No c p → TellsTwo f g B C (two.Refused s)
+two-second {f} {g} {s = s} {t = t} d q y w = record {
+  ends = λ {x} e k. let h : s ≡ x = cc in rw (← h) (after (λ (t : Ty). andThen g (k t)) d q (early (k (tyOf t)) y w));
+  goes = λ e k y. let z : _≡_ {A = ℕ} 0 1 = cc in absurd (omega arith);
+}
+
+pub two-done : {f g : Typed} {B A C : List ℕ} {r s : Reply} {t u : FlatType} → Tells f B A r → r ≡ reply.Is t → Tells g A C s → s ≡ reply.Is u → TellsTwo f g B C (two.Are t u)
+two-done {f} {g} {t = t} {u = u} d q y w = record {
+  ends = λ e k. let z : _≡_ {A = ℕ} 0 1 = cc in absurd (omega arith);
+  goes = λ {t = v} {u = z} e k {last} {x} h.
+      let p : t ≡ v = cc in
+      let o : u ≡ z = cc in
+      after (λ (t : Ty). andThen g (k t)) d q (after (k (tyOf t)) y w (rw (← p, ← o) at h));
+}

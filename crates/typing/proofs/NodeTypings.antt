@@ -1,0 +1,182 @@
+-- What the recursion's contracts come to: each node by the range of its code, each operand, and what follows the operands of the
+-- forms that bind, collect or iterate. Assumes nothing.
+use mathlib.Core.Path.{_≡_, refl, sym, ap, _∙_}
+use mathlib.Core.Bool.{Bool, true, false}
+use mathlib.Core.List.{List}
+use Prim.Native.Nat.{ℕ, zero, suc, _+_, _-_, _<_, _≤_}
+use native.Mathlib.Omega.{arith}
+use lib.Dec.{ltb}
+use borrow.Author.Tests.{lt-ltb, le-ltb, ltb-true, ltb-false}
+use Rattle.laws.specs.Choice.{if_then_else_}
+use Rattle.ocl.specs.Types.{exactly, Letter, Ty, void, Parents, subtype}
+use Rattle.ocl.specs.Environment.{Env, extend}
+use Rattle.ocl.specs.Forms.{undef}
+use Rattle.ocl.specs.Model.{Model}
+use Rattle.ocl.specs.Typing.{typed, refused, Typed, pure, andThen, wrap, onCollection, leafType, leafTyping, iterateTyping, noOperandTyping, collectTyping, operandsTyping}
+use Rattle.ocl.specs.Typing.{operandTyping as memberTyping}
+use Rattle.types.specs.declared.FlatType.{FlatType}
+use Rattle.types.specs.Flat.{parentsIn, letterOf, tyOf}
+use Rattle.types.specs.Parts.{outerCode, memberType}
+use Rattle.types.specs.Word.{typeIn}
+use Rattle.types.proofs.Members.{no-collection, is-collection}
+use Rattle.nodes.specs.Nodes.{word, variable, leafOf, kindOf, operandsIn}
+use Rattle.nodes.proofs.Typing.{operandTyping, leaf-typing, unary-typing, binary-typing, connective-typing, quantified-typing, collect-typing, isUndef-typing, conditional-typing, let-typing, attribute-typing, iterate-typing, over-typing, none-typing, operand-typing, late-typing}
+use Rattle.typing.specs.declared.Reply.{Reply}
+use Rattle.typing.specs.declared.Reply.the-variants as reply
+use Rattle.typing.specs.Replies.{meaning, Tells}
+use Rattle.typing.specs.Tables.{nodeAt, operandAt, membersAt, unaryAt, binaryAt, connectiveAt, isUndefAt, conditionalAt, letAt, attributeAt, quantifiedAt, iterateAt, bodyAt, collectAt}
+use Rattle.typing.proofs.Composition.{early, after, done}
+
+-- ---- a node by its code
+
+module _ (m : Model) (t : List ℕ) (n k : ℕ) (e : k ≡ word t n 0) where
+  pub leaf-node : k < 7 → nodeAt t n m ≡ leafTyping n (leafOf k (word t n))
+  leaf-node h = leaf-typing m t n k e h
+
+  pub unary-node : 7 ≤ k → k < 13 → nodeAt t n m ≡ unaryAt t n k m
+  unfolding operandAt operandTyping
+  unary-node l h = unary-typing m t n k e l h
+
+  pub binary-node : 13 ≤ k → k < 23 → nodeAt t n m ≡ binaryAt t n k m
+  unfolding operandAt operandTyping
+  binary-node l h = binary-typing m t n k e l h
+
+  pub connective-node : 23 ≤ k → k < 25 → nodeAt t n m ≡ connectiveAt t n m
+  unfolding operandAt operandTyping
+  connective-node l h = connective-typing m t n k e l h
+
+  pub quantified-node : 25 ≤ k → k < 27 → nodeAt t n m ≡ quantifiedAt t n m
+  unfolding operandAt operandTyping
+  quantified-node l h = quantified-typing m t n k e l h
+
+  by-count : (b : Bool) → ltb 4 (word t n 5) ≡ b → 27 ≤ k → k < 30 → nodeAt t n m ≡ collectAt t n k m
+  unfolding collectAt membersAt
+  by-count true c l h = rw c (over-typing m t n k e l h (ltb-true 4 (word t n 5) c))
+  by-count false c l h = rw c (collect-typing m t n k e l h (ltb-false 4 (word t n 5) c))
+
+  pub collect-node : 27 ≤ k → k < 30 → nodeAt t n m ≡ collectAt t n k m
+  collect-node l h = by-count (ltb 4 (word t n 5)) refl l h
+
+  pub isUndef-node : k ≡ 30 → nodeAt t n m ≡ isUndefAt t n m
+  unfolding operandAt operandTyping
+  isUndef-node h = isUndef-typing m t n k e h
+
+  pub conditional-node : k ≡ 31 → nodeAt t n m ≡ conditionalAt t n m
+  unfolding operandAt operandTyping
+  conditional-node h = conditional-typing m t n k e h
+
+  pub let-node : k ≡ 32 → nodeAt t n m ≡ letAt t n m
+  unfolding operandAt operandTyping
+  let-node h = let-typing m t n k e h
+
+  pub attribute-node : k ≡ 33 → nodeAt t n m ≡ attributeAt t n m
+  unfolding operandAt operandTyping
+  attribute-node h = attribute-typing m t n k e h
+
+  pub iterate-node : k ≡ 34 → nodeAt t n m ≡ iterateAt t n m
+  unfolding operandAt operandTyping
+  iterate-node h = iterate-typing m t n k e h
+
+  pub none-node : 30 ≤ k → (k ≡ 30 → ⊥) → (k ≡ 31 → ⊥) → (k ≡ 32 → ⊥) → (k ≡ 33 → ⊥) → (k ≡ 34 → ⊥) → nodeAt t n m ≡ leafTyping n undef
+  none-node l a b c d f = none-typing m t n k e (omega arith)
+
+-- ---- operands
+
+module _ (m : Model) (t : List ℕ) (n k a : ℕ) (e : a ≡ word t n k) where
+  pub operand-node : a < n → operandAt t n k m ≡ nodeAt t a m
+  unfolding operandAt operandTyping
+  operand-node h = operand-typing m t n k a e h
+
+  pub late-node : n ≤ a → operandAt t n k m ≡ leafTyping a undef
+  unfolding operandAt operandTyping
+  late-node h = late-typing m t n k a e h
+
+-- what no accepted sheet has counts as `undef`, of type Void
+pub undef-done : {B : List ℕ} {r : FlatType} (n : ℕ) (Γ : Env Ty) → tyOf r ≡ void → Tells (leafTyping n undef Γ) B B (reply.Is r)
+unfolding leafTyping leafType
+undef-done n Γ h = done (ap typed h)
+
+-- ---- a body, in the environment that the code made for it
+
+pub in-env : {B A : List ℕ} {r : Reply} (t : List ℕ) (n k : ℕ) (m : Model) (Γ Δ : Env Ty) {i j : ℕ} {x y : Ty} → Δ ≡ extend Γ i x → i ≡ j → x ≡ y
+    → Tells (operandAt t n k m Δ) B A r → Tells (operandAt t n k m (extend Γ j y)) B A r
+in-env t n k m Γ Δ h p q d = rw (h, p, q) at d
+
+-- ---- a source that is a collection, or is none
+
+module _ {B : List ℕ} (k : Letter → Ty → Typed) (t : Ty) {c : ℕ} (h : c ≡ outerCode t) where
+  pub no-source : (n : ℕ) → c ≡ 0 → Tells (onCollection t (pure (refused 11 n)) k) B B (reply.No 11 n)
+  no-source n z = rw (no-collection (pure (refused 11 n)) k t (sym h ∙ z)) (done refl)
+
+  pub on-source : {A : List ℕ} {r : Reply} (other : Typed) → (c ≡ 0 → ⊥) → Tells (k (letterOf (outerCode t)) (memberType t)) B A r → Tells (onCollection t other k) B A r
+  on-source other z d = rw (is-collection other k t (λ q. z (h ∙ q))) d
+
+if-yes : {B A : List ℕ} {r : Reply} {x : Typed} (y : Typed) (b : Bool) → true ≡ b → Tells x B A r → Tells (if b then x else y) B A r
+if-yes y b h d = rw (← h) d
+
+-- ---- `iter`, once source and start are typed: their checks, then the body
+
+unfoldable pub iterRest : Model → List ℕ → ℕ → Env Ty → Ty → Ty → Typed
+iterRest m t n Γ c e = onCollection c (pure (refused 11 n)) (λ l x.
+    if subtype (m .parent) e (typeIn (word t n 6)) then bodyAt t n (typeIn (word t n 6)) m (extend Γ (variable (word t n 4)) x) else pure (refused 11 n))
+
+pub iter-rest : {B A : List ℕ} {r : Reply} (m : Model) (t : List ℕ) (n : ℕ) (Γ : Env Ty)
+    → Tells (andThen (operandAt t n 1 m Γ) (λ c. andThen (operandAt t n 2 m Γ) (iterRest m t n Γ c))) B A r → Tells (iterateAt t n m Γ) B A r
+unfolding iterateTyping iterRest bodyAt
+iter-rest m t n Γ d = d
+
+module _ (m : Model) (ps : List ℕ) (q : m .parent ≡ parentsIn ps) (t : List ℕ) (n : ℕ) (Γ : Env Ty) (s e : Ty) {c : ℕ} (h : c ≡ outerCode s) where
+  pub iter-source : {B : List ℕ} → c ≡ 0 → Tells (iterRest m t n Γ s e) B B (reply.No 11 n)
+  unfolding iterRest
+  iter-source z = no-source _ s h n z
+
+  pub iter-start : {B : List ℕ} {w : Ty} → (c ≡ 0 → ⊥) → w ≡ typeIn (word t n 6) → false ≡ subtype (parentsIn ps) e w → Tells (iterRest m t n Γ s e) B B (reply.No 11 n)
+  unfolding iterRest
+  iter-start z v p = on-source _ s h _ z (rw (q, ← v, ← p) (done refl))
+
+  pub iter-body : {B A : List ℕ} {r : Reply} {Δ : Env Ty} {w x : Ty} {i : ℕ} → (c ≡ 0 → ⊥) → w ≡ typeIn (word t n 6) → true ≡ subtype (parentsIn ps) e w → x ≡ memberType s → i ≡ variable (word t n 4)
+      → Δ ≡ extend Γ i x → Tells (bodyAt t n w m Δ) B A r → Tells (iterRest m t n Γ s e) B A r
+  unfolding iterRest
+  iter-body z v p y o g d =
+      on-source _ s h _ z (if-yes _ (subtype (m .parent) e (typeIn (word t n 6))) (p ∙ ap (subtype (parentsIn ps) e) v ∙ ap (λ (f : Parents). subtype f e (typeIn (word t n 6))) (sym q)) (rw (← v, ← y, ← o, ← g) d))
+
+-- ---- `coll`
+
+kind-by : (i : ℕ) → i < 3 → letterOf (2 + i) ≡ exactly (kindOf (27 + i))
+unfolding letterOf kindOf
+kind-by zero h = refl
+kind-by (suc zero) h = refl
+kind-by (suc (suc zero)) h = refl
+kind-by (suc (suc (suc i))) h = absurd (omega arith)
+
+-- codes 27 to 29 are the letters of codes 2 to 4
+kind-letter : (k : ℕ) → 27 ≤ k → k < 30 → letterOf (k - 25) ≡ exactly (kindOf k)
+kind-letter k l h =
+    let x : k - 25 ≡ 2 + (k - 27) = omega arith in
+    let y : 27 + (k - 27) ≡ k = omega arith in
+    ap letterOf x ∙ kind-by (k - 27) (omega arith) ∙ ap (λ (z : ℕ). exactly (kindOf z)) y
+
+module _ (m : Model) (t : List ℕ) (n k : ℕ) (Γ : Env Ty) {c : ℕ} (e : c ≡ word t n 5) where
+  pub collect-over : {B : List ℕ} {r : FlatType} → 4 < c → tyOf r ≡ void → Tells (collectAt t n k m Γ) B B (reply.Is r)
+  unfolding collectAt
+  collect-over h v = rw (← e, lt-ltb 4 c h) (undef-done n Γ v)
+
+  module _ {B A : List ℕ} {r : Reply} (h : c ≤ 4) (d : Tells (membersAt t n c 1 m Γ) B A r) where
+    pub collect-first : {a p : ℕ} → r ≡ reply.No a p → Tells (collectAt t n k m Γ) B A r
+    unfolding collectAt collectTyping
+    collect-first q = rw (← e, le-ltb 4 c h) (early _ d q)
+
+    pub collect-done : {u : FlatType} {x : Reply} → 27 ≤ k → k < 30 → r ≡ reply.Is u → meaning x ≡ wrap n (letterOf (k - 25)) (tyOf u) → Tells (collectAt t n k m Γ) B A x
+    unfolding collectAt collectTyping
+    collect-done {u} l g q v = rw (← e, le-ltb 4 c h) (after _ d q (done (v ∙ ap (λ (z : Letter). wrap n z (tyOf u)) (kind-letter k l g))))
+
+pub members-none : {B : List ℕ} {r : FlatType} (m : Model) (t : List ℕ) (n c k : ℕ) (Γ : Env Ty) → c ≡ 0 → tyOf r ≡ void → Tells (membersAt t n c k m Γ) B B (reply.Is r)
+unfolding membersAt operandsIn operandsTyping noOperandTyping
+members-none m t n c k Γ e h = rw e (done (ap typed h))
+
+members-by : (m : Model) (t : List ℕ) (n c k d : ℕ) → c ≡ suc d → membersAt t n c k m ≡ memberTyping m n (operandAt t n k m) (membersAt t n d (k + 1) m)
+unfolding membersAt operandsIn operandsTyping operandAt
+members-by m t n c k d e = rw e
+
+pub members-law : (m : Model) (t : List ℕ) (n c k : ℕ) → (c ≡ 0 → ⊥) → membersAt t n c k m ≡ memberTyping m n (operandAt t n k m) (membersAt t n (c - 1) (k + 1) m)
+members-law m t n c k h = members-by m t n c k (c - 1) (omega arith)

@@ -1,0 +1,52 @@
+-- What the code's answers, environments and marks stand for. Document 01, The forms and their typing.
+use mathlib.Core.Path.{_≡_}
+use mathlib.Core.Bool.{false}
+use mathlib.Core.Option.{Option, none, some}
+use mathlib.Core.List.{List, [], _∷_}
+use Prim.Native.Nat.{ℕ}
+use lib.ListN.{getD, set}
+use Rattle.laws.specs.Choice.{if_then_else_}
+use Rattle.ocl.specs.Types.{Ty}
+use Rattle.ocl.specs.Environment.{Env}
+use Rattle.ocl.specs.Typing.{Answer, typed, refused, Marks, Typed, andThen}
+use Rattle.types.specs.declared.Base.the-variants as b
+use Rattle.types.specs.Flat.{tyOf, bare}
+use Rattle.typing.specs.declared.Slot.{Slot}
+use Rattle.typing.specs.declared.Reply.{Reply}
+use Rattle.typing.specs.declared.Reply.the-variants as reply
+use Rattle.typing.specs.declared.PairReply.{PairReply}
+use Rattle.typing.specs.declared.PairReply.the-variants as two
+
+-- a type, or a refusal's number and node
+abbrev pub meaning : Reply → Answer
+meaning (reply.Is t) = typed (tyOf t)
+meaning (reply.No c p) = refused c p
+
+-- ---- the environment: an array of slots gives each variable its type
+
+abbrev pub freeSlot : Slot
+freeSlot = record { bound = false; «type_of» = bare b.Void }
+
+unfoldable pub slotType : Slot → Option Ty
+slotType s = if s .bound then some (tyOf (s .«type_of»)) else none
+
+unfoldable pub envOf : List Slot → Env Ty
+envOf env j = slotType (getD env j freeSlot)
+
+-- ---- the marks: word p of a table is the row that node p is marked with
+
+-- in the order made
+unfoldable pub writeMarks : List ℕ → Marks → List ℕ
+writeMarks l [] = l
+writeMarks l (x ∷ m) = writeMarks (set l (x .0) (x .1)) m
+
+-- the answer is the definition's, and so are the marks that were written
+pub record Tells (x : Typed) (before after : List ℕ) (r : Reply) : Type 0 where
+  pub is : meaning r ≡ x .answer
+  pub wrote : after ≡ writeMarks before (x .marks)
+
+-- f and then g: two types, with which whatever follows them goes on; or the first refusal, which ends it
+pub record TellsTwo (f g : Typed) (before after : List ℕ) (r : PairReply) : Type 0 where
+  pub ends : {x : Reply} → r ≡ two.Refused x → (k : Ty → Ty → Typed) → Tells (andThen f (λ t. andThen g (k t))) before after x
+  pub goes : {t u : _} → r ≡ two.Are t u → (k : Ty → Ty → Typed) {last : List ℕ} {x : Reply}
+      → Tells (k (tyOf t) (tyOf u)) after last x → Tells (andThen f (λ t. andThen g (k t))) before last x

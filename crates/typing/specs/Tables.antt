@@ -1,0 +1,90 @@
+-- What the contracts of the recursion say: for every model that the lent words hold, the answer and the marks are those of the
+-- definition in crates/ocl.
+use mathlib.Core.Path.{_≡_}
+use mathlib.Core.List.{List}
+use Prim.Native.Nat.{ℕ, _<_, _≤_}
+use lib.ListN.{take, drop}
+use lib.Dec.{ltb}
+use Rattle.laws.specs.Choice.{if_then_else_}
+use Rattle.ocl.specs.Types.{Ty}
+use Rattle.ocl.specs.Environment.{extend}
+use Rattle.ocl.specs.Forms.{undef}
+use Rattle.ocl.specs.Model.{Model}
+use Rattle.ocl.specs.Typing.{typed, Typing, pure, andThen, below, typing, leafTyping, unaryTyping, binaryTyping, connectiveTyping, isUndefTyping, conditionalTyping, letTyping, attributeTyping, quantifiedTyping, iterateTyping, collectTyping, operandsTyping}
+use Rattle.types.specs.Word.{typeIn}
+use Rattle.nodes.specs.Nodes.{word, variable, unaryOf, binaryOf, kindOf, operandsIn, treesBelow, treeAt}
+use Rattle.nodes.specs.Classes.{HoldsClasses}
+use Rattle.typing.specs.declared.Slot.{Slot}
+use Rattle.typing.specs.declared.Reply.{Reply}
+use Rattle.typing.specs.declared.PairReply.{PairReply}
+use Rattle.typing.specs.Replies.{envOf, Tells, TellsTwo}
+
+-- the model has these parents, and the rows of the tables: owners from word 64, names from 128, types from 192
+pub record Reads (parents tables : List ℕ) (rows : ℕ) (m : Model) : Type 0 where
+  pub classes : HoldsClasses parents (take 64 (drop 64 tables)) (take 64 (drop 128 tables)) (take 64 (drop 192 tables)) m
+  pub count : m .rowCount ≡ rows
+
+-- node n and so many rows are within what is lent
+pub record Room (n rows tables nodes marks : ℕ) : Type 0 where
+  pub in-nodes : n < 768
+  pub in-rows : rows ≤ 64
+  pub in-tables : 256 ≤ tables
+  pub all-nodes : 6144 ≤ nodes
+  pub all-marks : 768 ≤ marks
+
+abbrev pub Types : List ℕ → List ℕ → ℕ → (Model → Typing) → List Slot → List ℕ → List ℕ → Reply → Type 0
+Types parents tables rows f env before after r = (m : Model) → Reads parents tables rows m → Tells (f m (envOf env)) before after r
+
+abbrev pub TypesTwo : List ℕ → List ℕ → ℕ → (Model → Typing) → (Model → Typing) → List Slot → List ℕ → List ℕ → PairReply → Type 0
+TypesTwo parents tables rows f g env before after r =
+    (m : Model) → Reads parents tables rows m → TellsTwo (f m (envOf env)) (g m (envOf env)) before after r
+
+-- ---- the typing of node n of the table t, by what its form is
+
+abbrev pub nodeAt : List ℕ → ℕ → Model → Typing
+nodeAt t n m = typing m (treeAt t n)
+
+-- operand k of node n
+unfoldable pub operandAt : List ℕ → ℕ → ℕ → Model → Typing
+operandAt t n k m = typing m (treesBelow t n (word t n k))
+
+-- c operands from word k on
+unfoldable pub membersAt : List ℕ → ℕ → ℕ → ℕ → Model → Typing
+membersAt t n c k m = operandsTyping m n (operandsIn (treesBelow t n) (word t n) c k)
+
+abbrev pub unaryAt : List ℕ → ℕ → ℕ → Model → Typing
+unaryAt t n form m = unaryTyping m n (unaryOf form (word t n)) (operandAt t n 1 m)
+
+abbrev pub binaryAt : List ℕ → ℕ → ℕ → Model → Typing
+binaryAt t n form m = binaryTyping m n (binaryOf form) (operandAt t n 1 m) (operandAt t n 2 m)
+
+abbrev pub connectiveAt : List ℕ → ℕ → Model → Typing
+connectiveAt t n m = connectiveTyping m n (operandAt t n 1 m) (operandAt t n 2 m)
+
+abbrev pub isUndefAt : List ℕ → ℕ → Model → Typing
+isUndefAt t n m = isUndefTyping (operandAt t n 1 m)
+
+abbrev pub conditionalAt : List ℕ → ℕ → Model → Typing
+conditionalAt t n m = conditionalTyping m n (operandAt t n 1 m) (operandAt t n 2 m) (operandAt t n 3 m)
+
+abbrev pub letAt : List ℕ → ℕ → Model → Typing
+letAt t n m = letTyping (variable (word t n 3)) (operandAt t n 1 m) (operandAt t n 2 m)
+
+abbrev pub attributeAt : List ℕ → ℕ → Model → Typing
+attributeAt t n m = attributeTyping m n (word t n 2) (operandAt t n 1 m)
+
+abbrev pub quantifiedAt : List ℕ → ℕ → Model → Typing
+quantifiedAt t n m = quantifiedTyping m n (variable (word t n 3)) (operandAt t n 1 m) (operandAt t n 2 m)
+
+abbrev pub iterateAt : List ℕ → ℕ → Model → Typing
+iterateAt t n m =
+    iterateTyping m n (variable (word t n 4)) (variable (word t n 5)) (typeIn (word t n 6)) (operandAt t n 1 m) (operandAt t n 2 m) (operandAt t n 3 m)
+
+-- what follows in `iter` once its source and start are checked: the body, below t, in an environment that has the member
+unfoldable pub bodyAt : List ℕ → ℕ → Ty → Model → Typing
+bodyAt t n w m Γ = andThen (operandAt t n 3 m (extend Γ (variable (word t n 5)) w)) (λ b. pure (below m n b w (typed w)))
+
+-- over four operands, which no accepted sheet has, count as `undef`
+unfoldable pub collectAt : List ℕ → ℕ → ℕ → Model → Typing
+collectAt t n form m =
+    if ltb 4 (word t n 5) then leafTyping n undef else collectTyping n (kindOf form) (membersAt t n (word t n 5) 1 m)

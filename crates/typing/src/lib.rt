@@ -1,0 +1,33 @@
+// The typing of rules: a recursion over the nodes of a rule's tree that answers a type or a refusal and marks each `attr` node
+// with the row it reads. Document 01, The forms and their typing.
+
+pub mod forms; // the type of each form with no operand or strict operands, given their types
+pub mod others; // the same for `if` and `attr`
+pub mod walk; // the recursion over operand nodes
+pub mod rules; // a rule, and all rules in order
+
+use types::FlatType;
+
+// What a variable stands for: its type, where it is bound.
+pub struct Slot {
+    pub bound: bool,
+    pub type_of: FlatType,
+}
+
+// A type; or a refusal's number and the number of its node.
+pub enum Reply {
+    Is(FlatType),
+    No(u64, u64),
+}
+
+// The types of two operands; or the first refusal among them.
+pub enum PairReply {
+    Are(FlatType, FlatType),
+    Refused(Reply),
+}
+
+// What typing all rules comes to: each has a type; or the first refusal's number and the number of its node.
+pub enum AllTyped {
+    Yes,
+    No(u64, u64),
+}

@@ -1,0 +1,109 @@
+// A rule's typing on a cleared table of marks, and all rules in order.
+ghost use mathlib.Core.Path.{_≡_};
+ghost use Prim.Native.Nat.{ℕ, _<_, _≤_};
+ghost use lib.ListN.{length, getD, replicate};
+ghost use Rattle.ocl.specs.Model.{Model};
+ghost use Rattle.ocl.specs.Typing.{typeRule};
+ghost use Rattle.nodes.specs.Nodes.{treeAt};
+ghost use Rattle.typing.specs.Replies.{Tells};
+ghost use Rattle.typing.specs.Tables.{Reads, Room};
+ghost use Rattle.typing.specs.Rules.{Lent, TypesRule, TypesAll};
+use super::AllTyped;
+use super::Reply;
+use super::Slot;
+use super::walk::node;
+use types::Base;
+use types::classes::wide;
+use types::parts::plain;
+
+// Every word 0: no node is marked.
+fn clear(marks: &mut [u64])
+    ensures { λ _. ⌜ now (marks .exit) ≡ replicate (length (now (marks .entry))) 0 ⌝ }
+{
+    let mut i = 0;
+    while i < marks.len() {
+        marks[i] = 0;
+        i += 1;
+    }
+}
+
+// The tree at root, with nothing bound but `self`, of the context class.
+fn root_type(
+    nodes: &[u64],
+    parents: &[u64],
+    tables: &[u64],
+    rows: usize,
+    root: usize,
+    context: u64,
+    marks: &mut [u64],
+) -> Reply
+    requires { ⌜ Room root rows (length (now tables)) (length (now nodes)) (length (now marks)) ⌝ }
+    ensures { λ r. ⌜ ((m : Model) → Reads (now (parents .entry)) (now (tables .entry)) rows m → Tells (typeRule m context (treeAt (now (nodes .entry)) root)) (replicate (length (now (marks .entry))) 0) (now (marks .exit)) r) ⌝ }
+{
+    clear(marks);
+    let free = Slot {
+        bound: false,
+        type_of: plain(Base::Void),
+    };
+    let mut env = [free; 16];
+    env[0] = Slot {
+        bound: true,
+        type_of: plain(Base::Class(context)),
+    };
+    node(nodes, parents, tables, rows, root, env, marks)
+}
+
+// The rule whose tree is at root, for objects of the context class. `tables` holds parents from word 0, owners from 64, names
+// from 128 and types from 192, of which the first `classes` and `rows` count.
+pub fn type_rule(
+    tables: &[u64],
+    classes: usize,
+    rows: usize,
+    nodes: &[u64],
+    marks: &mut [u64],
+    context: u64,
+    root: usize,
+) -> Reply
+    requires { ⌜ root < 768 ⌝ }
+    requires { ⌜ Lent classes rows (length (now tables)) (length (now nodes)) (length (now marks)) ⌝ }
+    ensures { λ r. ⌜ TypesRule (now (tables .entry)) classes rows (now (nodes .entry)) context root (now (marks .entry)) (now (marks .exit)) r ⌝ }
+{
+    let parents = &tables[..classes];
+    let table = &mut marks[..768];
+    root_type(nodes, parents, tables, rows, root, context, table)
+}
+
+// All rules in order: the first refusal, or none.
+pub fn type_all(
+    tables: &[u64],
+    classes: usize,
+    rows: usize,
+    nodes: &[u64],
+    marks: &mut [u64],
+    contexts: &[u64],
+    roots: &[u64],
+    rules: usize,
+) -> AllTyped
+    requires { ⌜ (rules ≤ length (now contexts)) × (rules ≤ length (now roots)) ⌝ }
+    requires { ⌜ ((i : ℕ) → i < rules → getD (now roots) i 0 < 768) ⌝ }
+    requires { ⌜ Lent classes rows (length (now tables)) (length (now nodes)) (length (now marks)) ⌝ }
+    ensures { λ r. ⌜ TypesAll (now (tables .entry)) classes rows (now (nodes .entry)) (now (contexts .entry)) (now (roots .entry)) rules (now (marks .entry)) (now (marks .exit)) r ⌝ }
+{
+    let mut i = 0;
+    while i < rules {
+        let r = type_rule(
+            tables,
+            classes,
+            rows,
+            nodes,
+            marks,
+            contexts[i],
+            wide(roots[i]),
+        );
+        if let Reply::No(number, n) = r {
+            return AllTyped::No(number, n);
+        }
+        i += 1;
+    }
+    AllTyped::Yes
+}
