@@ -34,7 +34,8 @@ use Rattle.sheet.specs.Soundness.{Lent, sheetFrom, sheetIn, ruleReach, r
 use Rattle.sheet.specs.Laws.{ReadRefusal, long-sheet, at-line, TypeRefusals}
 use Rattle.sheet.proofs.Spelling.{type-back}
 use Rattle.sheet.proofs.Listed.{read-refusals}
-use Rattle.sheet.proofs.Acceptance.{Good, RuleOk, accepted-good, good-model}
+use Rattle.sheet.proofs.Good.{Good, RuleOk}
+use Rattle.sheet.proofs.Acceptance.{accepted-good, good-model}
 
 -- ---- an outcome and what evaluate answers for it
 
