@@ -6,3 +6,4 @@ pub mod Parts
 pub mod Bounds
 pub mod Integers
 pub mod Slices
+pub mod Elements

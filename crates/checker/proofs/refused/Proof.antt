@@ -1,0 +1,13 @@
+use borrow.Author.Needs.{needs}
+use mathlib.Core.Path.{refl}
+use Rattle.sheet.specs.Calls.{refusalAt}
+use Rattle.checker.proofs.refused.Statement.{statement}
+use Rattle.checker.proofs.refused.Tie as tie
+
+-- src/lib.rt:181:1
+returns : tie.Need-returns
+unfolding refusalAt
+returns c = refl
+
+pub refused-spec : {M : Type 1} → statement M
+refused-spec = tie.close (tie.spec returns)

@@ -1,0 +1,174 @@
+-- A node whose words are those of a node line has the line's form over its operands' trees. Assumes nothing.
+use mathlib.Core.Path.{_≡_, refl, sym, ap, _∙_}
+use mathlib.Core.Bool.{Bool, true, false, _&&_}
+use mathlib.Core.List.{List, [], _∷_}
+use Prim.Native.Nat.{ℕ, zero, suc, _+_, _-_, _*_, _%_, _<_, _≤_}
+use native.Mathlib.Omega.{arith}
+use lib.IntN.{ℤ, pos, negsuc}
+use lib.ListN.{length, getD}
+use lib.Dec.{eqb, ltb, leb}
+use borrow.Author.Tests.{ltb-true, lt-ltb, le-ltb, leb-true}
+use Rattle.laws.specs.Choice.{if_then_else_}
+use Rattle.laws.specs.Integers.{bias, unbias}
+use Rattle.laws.specs.Lists.{Each, each-nil, each-cons}
+use Rattle.ocl.specs.Types.{Kind, set, sequence, bag, Ty}
+use Rattle.ocl.specs.Evaluation.{inRange}
+use Rattle.ocl.specs.Forms.{Arith, plus, minus, times, div, modulo, Connective, and, or, Quantifier, forAll, exists, Leaf, truth, undef, number, self, var, all, Unary, negation, sizeOf, convert, castTo, Binary, equal, less, arith as calculation, includes, including, union, Expr, node, Form}
+use Rattle.sheet.specs.Lines.{Shape, leaf, unary, binary, connective, isUndef, conditional, letIn, attribute, quantified, iterate, collect}
+use Rattle.sheet.specs.Sheet.{operandsOf, growAll, grow}
+use Rattle.sheet.specs.Refusals.{isVariable, typeWithin, leafWithin, unaryWithin, formWithin}
+use Rattle.types.specs.Word.{typeIn}
+use Rattle.nodes.specs.Nodes.{word, variable, leafOf, unaryOf, arithOf, binaryOf, connectiveOf, quantifierOf, kindOf, operandsIn, formOf, treesBelow, treeAt, leafWords, unaryWords, arithCode, binaryCode, connectiveCode, quantifierCode, collectCode, operandWord, shapeWords}
+use Rattle.nodes.proofs.Nodes.{tree-law, below-law, collect-range}
+
+-- a word for the type that `iter` has
+pub record TypeSaid (type : ℕ) (x : Shape) : Type 0 where
+  pub said : (i j : ℕ) (t : Ty) (a e b : ℕ) → x ≡ iterate i j t a e b → typeIn type ≡ t
+
+-- ---- numbers that the words hold
+
+integer-back : (z : ℤ) → inRange z ≡ true → unbias (bias z % 4294967296) ≡ z
+unfolding bias unbias inRange
+integer-back (pos n) h =
+    let l : n < 2147483648 = ltb-true n 2147483648 h in
+    let q : (2147483648 + n) % 4294967296 ≡ 2147483648 + n = omega arith in
+    rw (q, le-ltb (2147483648 + n) 2147483648 (omega arith)) (ap pos (omega arith))
+integer-back (negsuc n) h =
+    let l : n < 2147483648 = ltb-true n 2147483648 h in
+    let q : (2147483648 - suc n) % 4294967296 ≡ 2147483648 - suc n = omega arith in
+    rw (q, lt-ltb (2147483648 - suc n) 2147483648 (omega arith)) (ap negsuc (omega arith))
+
+and-first : (a b : Bool) → (a && b) ≡ true → a ≡ true
+and-first true b h = refl
+and-first false b h = h
+
+and-second : (a b : Bool) → (a && b) ≡ true → b ≡ true
+and-second true b h = h
+and-second false b h = absurd (let z : _≡_ {A = Bool} false true = h in let q : _≡_ {A = ℕ} 0 1 = cc in omega arith)
+
+variable-back : (i : ℕ) → isVariable i ≡ true → variable i ≡ i
+unfolding isVariable
+variable-back i h = omega (arith, leb-true i 15 (and-second (leb 1 i) (leb i 15) h))
+
+-- ---- codes of collections
+
+collect-low : (k : Kind) → 27 ≤ collectCode k
+unfolding collectCode
+collect-low set = omega arith
+collect-low sequence = omega arith
+collect-low bag = omega arith
+
+collect-high : (k : Kind) → collectCode k < 30
+unfolding collectCode
+collect-high set = omega arith
+collect-high sequence = omega arith
+collect-high bag = omega arith
+
+collect-back : (k : Kind) → kindOf (collectCode k) ≡ k
+unfolding collectCode kindOf
+collect-back set = refl
+collect-back sequence = refl
+collect-back bag = refl
+
+-- ---- a form
+
+module _ (f g : ℕ → Expr) (w : ℕ → ℕ) (first n type line : ℕ) (near : (a : ℕ) → a < n → f (first + a) ≡ g a) where
+  Words : Shape → Type 0
+  Words x = (j : ℕ) → j < 8 → w j ≡ getD (shapeWords first type line x) j 0
+
+  leaf-grow : (l : Leaf) → leafWithin l ≡ true → Words (leaf l) → formOf f w (w 0) ≡ Form.leaf l
+  unfolding Words shapeWords leafWords leafWithin formOf leafOf
+  leaf-grow (truth false) h ws = rw (ws 0 (omega arith))
+  leaf-grow (truth true) h ws = rw (ws 0 (omega arith))
+  leaf-grow undef h ws = rw (ws 0 (omega arith))
+  leaf-grow (number z) h ws = rw (ws 0 (omega arith), ws 1 (omega arith), integer-back z h)
+  leaf-grow self h ws = rw (ws 0 (omega arith))
+  leaf-grow (var i) h ws = rw (ws 0 (omega arith), ws 1 (omega arith), variable-back i h)
+  leaf-grow (all c) h ws = rw (ws 0 (omega arith), ws 1 (omega arith))
+
+  unary-grow : (op : Unary) (a : ℕ) → a < n → Words (unary op a) → formOf f w (w 0) ≡ Form.unary op (g a)
+  unfolding Words shapeWords unaryWords formOf unaryOf
+  unary-grow negation a l ws = rw (ws 0 (omega arith), ws 1 (omega arith), near a l)
+  unary-grow sizeOf a l ws = rw (ws 0 (omega arith), ws 1 (omega arith), near a l)
+  unary-grow (convert set) a l ws = rw (ws 0 (omega arith), ws 1 (omega arith), near a l)
+  unary-grow (convert sequence) a l ws = rw (ws 0 (omega arith), ws 1 (omega arith), near a l)
+  unary-grow (convert bag) a l ws = rw (ws 0 (omega arith), ws 1 (omega arith), near a l)
+  unary-grow (castTo c) a l ws = rw (ws 0 (omega arith), ws 1 (omega arith), ws 2 (omega arith), near a l)
+
+  binary-grow : (op : Binary) (a b : ℕ) → a < n → b < n → Words (binary op a b) → formOf f w (w 0) ≡ Form.binary op (g a) (g b)
+  unfolding Words shapeWords binaryCode arithCode formOf binaryOf arithOf
+  binary-grow equal a b l m ws = rw (ws 0 (omega arith), ws 1 (omega arith), ws 2 (omega arith), near a l, near b m)
+  binary-grow less a b l m ws = rw (ws 0 (omega arith), ws 1 (omega arith), ws 2 (omega arith), near a l, near b m)
+  binary-grow (calculation plus) a b l m ws = rw (ws 0 (omega arith), ws 1 (omega arith), ws 2 (omega arith), near a l, near b m)
+  binary-grow (calculation minus) a b l m ws = rw (ws 0 (omega arith), ws 1 (omega arith), ws 2 (omega arith), near a l, near b m)
+  binary-grow (calculation times) a b l m ws = rw (ws 0 (omega arith), ws 1 (omega arith), ws 2 (omega arith), near a l, near b m)
+  binary-grow (calculation div) a b l m ws = rw (ws 0 (omega arith), ws 1 (omega arith), ws 2 (omega arith), near a l, near b m)
+  binary-grow (calculation modulo) a b l m ws = rw (ws 0 (omega arith), ws 1 (omega arith), ws 2 (omega arith), near a l, near b m)
+  binary-grow includes a b l m ws = rw (ws 0 (omega arith), ws 1 (omega arith), ws 2 (omega arith), near a l, near b m)
+  binary-grow including a b l m ws = rw (ws 0 (omega arith), ws 1 (omega arith), ws 2 (omega arith), near a l, near b m)
+  binary-grow union a b l m ws = rw (ws 0 (omega arith), ws 1 (omega arith), ws 2 (omega arith), near a l, near b m)
+
+  members-grow : (k : Kind) (es : List ℕ) → Each (λ a. a < n) es → length es ≤ 4 → Words (collect k es) → operandsIn f w (length es) 1 ≡ growAll g es
+  unfolding Words shapeWords operandWord operandsIn growAll
+  members-grow k [] each-nil h ws = refl
+  members-grow k (a ∷ []) (each-cons l each-nil) h ws = rw (ws 1 (omega arith), near a l)
+  members-grow k (a ∷ b ∷ []) (each-cons l (each-cons m each-nil)) h ws = rw (ws 1 (omega arith), ws 2 (omega arith), near a l, near b m)
+  members-grow k (a ∷ b ∷ c ∷ []) (each-cons l (each-cons m (each-cons o each-nil))) h ws =
+      rw (ws 1 (omega arith), ws 2 (omega arith), ws 3 (omega arith), near a l, near b m, near c o)
+  members-grow k (a ∷ b ∷ c ∷ d ∷ []) (each-cons l (each-cons m (each-cons o (each-cons p each-nil)))) h ws =
+      rw (ws 1 (omega arith), ws 2 (omega arith), ws 3 (omega arith), ws 4 (omega arith), near a l, near b m, near c o, near d p)
+  members-grow k (a ∷ b ∷ c ∷ d ∷ e ∷ es) l h ws = absurd (omega arith)
+
+  collect-grow : (k : Kind) (es : List ℕ) → Each (λ a. a < n) es → length es ≤ 4 → Words (collect k es) → formOf f w (w 0) ≡ Form.collect k (growAll g es)
+  unfolding Words shapeWords
+  collect-grow k es l h ws =
+      ap (formOf f w) (ws 0 (omega arith))
+      ∙ collect-range f w (collectCode k) (collect-low k) (collect-high k) (let e = ws 5 (omega arith) in omega arith)
+      ∙ rw (collect-back k, ws 5 (omega arith), members-grow k es l h ws)
+
+  connective-grow : (c : Connective) (a b : ℕ) → a < n → b < n → Words (connective c a b) → formOf f w (w 0) ≡ Form.connective c (g a) (g b)
+  unfolding Words shapeWords connectiveCode formOf connectiveOf
+  connective-grow and a b l m ws = rw (ws 0 (omega arith), ws 1 (omega arith), ws 2 (omega arith), near a l, near b m)
+  connective-grow or a b l m ws = rw (ws 0 (omega arith), ws 1 (omega arith), ws 2 (omega arith), near a l, near b m)
+
+  quantified-grow : (q : Quantifier) (i a b : ℕ) → isVariable i ≡ true → a < n → b < n → Words (quantified q i a b) → formOf f w (w 0) ≡ Form.quantified q i (g a) (g b)
+  unfolding Words shapeWords quantifierCode formOf quantifierOf
+  quantified-grow forAll i a b h l m ws = rw (ws 0 (omega arith), ws 1 (omega arith), ws 2 (omega arith), ws 3 (omega arith), variable-back i h, near a l, near b m)
+  quantified-grow exists i a b h l m ws = rw (ws 0 (omega arith), ws 1 (omega arith), ws 2 (omega arith), ws 3 (omega arith), variable-back i h, near a l, near b m)
+
+  iterate-grow : (i j : ℕ) (t : Ty) (a e b : ℕ) → (isVariable i && isVariable j && typeWithin t) ≡ true → typeIn type ≡ t → a < n → e < n → b < n
+      → Words (iterate i j t a e b) → formOf f w (w 0) ≡ Form.iterate i j t (g a) (g e) (g b)
+  unfolding Words shapeWords formOf
+  iterate-grow i j t a e b h s l m o ws =
+      let both = and-first (isVariable i && isVariable j) (typeWithin t) h in
+      let member = and-first (isVariable i) (isVariable j) both in
+      let accumulator = and-second (isVariable i) (isVariable j) both in
+      rw (ws 0 (omega arith), ws 1 (omega arith), ws 2 (omega arith), ws 3 (omega arith), ws 4 (omega arith), ws 5 (omega arith), ws 6 (omega arith), variable-back i member, variable-back j accumulator, s, near a l, near e m, near b o)
+
+  pub form-grow : (x : Shape) → formWithin x ≡ true → TypeSaid type x → Each (λ a. a < n) (operandsOf x) → length (operandsOf x) ≤ 4
+      → ((j : ℕ) → j < 8 → w j ≡ getD (shapeWords first type line x) j 0) → formOf f w (w 0) ≡ grow g x
+  unfolding grow operandsOf formWithin Words shapeWords formOf
+  form-grow (leaf l) h s o c ws = leaf-grow l h ws
+  form-grow (unary op a) h s (each-cons l each-nil) c ws = unary-grow op a l ws
+  form-grow (binary op a b) h s (each-cons l (each-cons m each-nil)) c ws = binary-grow op a b l m ws
+  form-grow (connective op a b) h s (each-cons l (each-cons m each-nil)) c ws = connective-grow op a b l m ws
+  form-grow (isUndef a) h s (each-cons l each-nil) c ws = rw (ws 0 (omega arith), ws 1 (omega arith), near a l)
+  form-grow (conditional d a b) h s (each-cons l (each-cons m (each-cons o each-nil))) c ws =
+      rw (ws 0 (omega arith), ws 1 (omega arith), ws 2 (omega arith), ws 3 (omega arith), near d l, near a m, near b o)
+  form-grow (letIn i a b) h s (each-cons l (each-cons m each-nil)) c ws =
+      rw (ws 0 (omega arith), ws 1 (omega arith), ws 2 (omega arith), ws 3 (omega arith), variable-back i h, near a l, near b m)
+  form-grow (attribute name a) h s (each-cons l each-nil) c ws = rw (ws 0 (omega arith), ws 1 (omega arith), ws 2 (omega arith), near a l)
+  form-grow (quantified q i a b) h s (each-cons l (each-cons m each-nil)) c ws = quantified-grow q i a b h l m ws
+  form-grow (iterate i j t a e b) h s (each-cons l (each-cons m (each-cons o each-nil))) c ws =
+      iterate-grow i j t a e b h (s .said i j t a e b refl) l m o ws
+  form-grow (collect k es) h s o c ws = collect-grow k es o c ws
+
+-- ---- a node
+
+pub shape-tree : (t : List ℕ) (first n type line : ℕ) (x : Shape) → formWithin x ≡ true → TypeSaid type x
+    → Each (λ a. a < n) (operandsOf x) → length (operandsOf x) ≤ 4
+    → ((j : ℕ) → j < 8 → word t (first + n) j ≡ getD (shapeWords first type line x) j 0)
+    → treeAt t (first + n) ≡ node (first + n) (grow (λ a. treeAt t (first + a)) x)
+shape-tree t first n type line x h s o c ws =
+    tree-law t (first + n)
+    ∙ ap (node (first + n)) (form-grow (treesBelow t (first + n)) (λ a. treeAt t (first + a)) (word t (first + n)) first n type line (λ a l. below-law t (first + n) (first + a) (omega arith)) x h s o c ws)

@@ -1,0 +1,3 @@
+pub mod Tame
+pub mod Laws
+pub mod Loop

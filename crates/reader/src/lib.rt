@@ -1,0 +1,126 @@
+// Reads a sheet line by line into the tables of the lent words. Document 01, The sheet.
+ghost use mathlib.Core.Path.{_≡_};
+ghost use mathlib.Core.Logic.{_≢_};
+ghost use mathlib.Core.List.{List, []};
+ghost use Prim.Native.Nat.{ℕ, _+_, _≤_, _<_};
+ghost use lib.ListN.{length, getD};
+ghost use Rattle.sheet.specs.Text.{fieldsOf};
+ghost use Rattle.text.specs.Parts.{Cut};
+ghost use Rattle.text.specs.Words.{byteKind, letterOf};
+ghost use Rattle.tables.specs.Layout.{Fine};
+ghost use Rattle.reader.specs.Contracts.{Held, placedAt, TookLine, TookWhole, TookLast, ReadsTo};
+use declarations::classes::class_line;
+use declarations::objects::object_line;
+use declarations::rows::row_line;
+use declarations::rules::rule_line;
+use slots::line::value_line;
+use tables::Counts;
+use tables::Step;
+use text::parts::Fields;
+use text::parts::cut;
+use text::parts::field;
+use text::parts::find;
+use text::words::byte_kind;
+use text::words::letter;
+use trees::ending::end_rule;
+use trees::node::node_line;
+
+// After a line: the counts with it, or a refusal's number and line.
+pub enum LineRead {
+    Next(Counts),
+    Refused(u64, u64),
+}
+
+// After a text: the counts of its sheet, or a refusal's number and line.
+pub enum SheetRead {
+    Sheet(Counts),
+    Refused(u64, u64),
+}
+
+// A line that is no node line, by the kind of its letter.
+fn other_line(kind: u64, line: &[u8], f: Fields, w0: &mut [u64], st: Counts) -> Step
+    requires { ⌜ Cut (now line) f × (kind ≡ byteKind (letterOf (getD (fieldsOf (now line)) 0 []))) × (kind ≢ 6) × (8192 ≤ length (now w0)) × Fine st ⌝ }
+    ensures { λ r. ⌜ ((w1 : List ℕ) (k : ℕ) → TookLine st k (now (line .entry)) r (now (w0 .entry)) w1 (now (w0 .exit)) w1) ⌝ }
+{
+    match kind {
+        1 => class_line(line, f, w0, st),
+        2 => row_line(line, f, w0, st),
+        3 => object_line(line, f, w0, st),
+        4 => value_line(line, f, w0, st),
+        5 => rule_line(line, f, st),
+        _ => Step::Stop(3),
+    }
+}
+
+// A step with its line, where it refuses.
+fn placed(s: Step, k: u64) -> LineRead
+    ensures { λ r. ⌜ r ≡ placedAt s k ⌝ }
+{
+    match s {
+        Step::Next(st) => LineRead::Next(st),
+        Step::Stop(n) => LineRead::Refused(n, k),
+    }
+}
+
+// One line, after k others. An open rule ends before a line that is no node line.
+fn line_read(line: &[u8], w0: &mut [u64], w1: &mut [u64], st: Counts, k: u64) -> LineRead
+    requires { ⌜ (8192 ≤ length (now w0)) × (8192 ≤ length (now w1)) × Held st (now w0) (now w1) × (k < 100000) ⌝ }
+    ensures { λ r. ⌜ TookWhole st k (now (line .entry)) r (now (w0 .entry)) (now (w1 .entry)) (now (w0 .exit)) (now (w1 .exit)) ⌝ }
+{
+    let f = cut(line);
+    let kind = byte_kind(letter(field(line, f, 0)));
+    if kind == 6 {
+        return placed(node_line(line, f, w1, st, k + 1), k + 1);
+    }
+    match end_rule(w0, w1, st) {
+        Step::Stop(n) => LineRead::Refused(n, k),
+        Step::Next(next) => placed(other_line(kind, line, f, w0, next), k + 1),
+    }
+}
+
+// The text's last part, after k lines: it must be empty, and an open rule ends with the text.
+fn last_read(part: &[u8], w0: &mut [u64], w1: &[u64], st: Counts, k: u64) -> SheetRead
+    requires { ⌜ (8192 ≤ length (now w0)) × (8192 ≤ length (now w1)) × Held st (now w0) (now w1) × (k < 100000) ⌝ }
+    ensures { λ r. ⌜ TookLast st k (now (part .entry)) r (now (w0 .entry)) (now (w1 .entry)) (now (w0 .exit)) (now (w1 .entry)) ⌝ }
+{
+    let f = cut(part);
+    let kind = byte_kind(letter(field(part, f, 0)));
+    if kind == 6 {
+        return SheetRead::Refused(3, k + 1);
+    }
+    match end_rule(w0, w1, st) {
+        Step::Stop(n) => SheetRead::Refused(n, k),
+        Step::Next(next) => {
+            if part.len() == 0 {
+                SheetRead::Sheet(next)
+            } else {
+                SheetRead::Refused(3, k + 1)
+            }
+        }
+    }
+}
+
+// A text of at most 49,152 bytes.
+pub fn read(text: &[u8], w0: &mut [u64], w1: &mut [u64]) -> SheetRead
+    requires { ⌜ (8192 ≤ length (now w0)) × (8192 ≤ length (now w1)) × (length (now text) ≤ 49152) ⌝ }
+    ensures { λ r. ⌜ ReadsTo (now (text .entry)) r (now (w0 .entry)) (now (w1 .entry)) (now (w0 .exit)) (now (w1 .exit)) ⌝ }
+{
+    let mut rest = text;
+    let mut st = tables::nothing();
+    let mut k: u64 = 0;
+    let mut e = find(rest, 10);
+    while e < rest.len() {
+        match line_read(&rest[..e], w0, w1, st, k) {
+            LineRead::Refused(n, p) => {
+                return SheetRead::Refused(n, p);
+            }
+            LineRead::Next(next) => {
+                st = next;
+            }
+        }
+        rest = &rest[e + 1..];
+        k += 1;
+        e = find(rest, 10);
+    }
+    last_read(rest, w0, w1, st, k)
+}

@@ -1,0 +1,12 @@
+pub mod PartLaws
+pub mod MachineLaws
+pub mod LimitLaws
+pub mod CellLaws
+pub mod TurnLaws
+pub mod OrderLaws
+pub mod ObjectLaws
+pub mod SuitLaws
+pub mod SlotLaws
+pub mod PutLaws
+pub mod LineLaws
+pub mod RowLaws

@@ -1,0 +1,398 @@
+-- Which values belong to a type: climbing in the table of parents, simple values, letters, members. Assumes nothing.
+use mathlib.Core.Path.{_≡_, refl, sym, ap, _∙_}
+use mathlib.Core.Bool.{Bool, true, false, _&&_, _||_}
+use mathlib.Core.Option.{Option, none, some}
+use mathlib.Core.List.{List, [], _∷_, map}
+use Prim.Native.Nat.{ℕ, zero, suc, _+_, _-_, _<_, _≤_}
+use native.Mathlib.Omega.{arith}
+use lib.ListN.{length, getD, getElem?}
+use lib.Seq.{slice, slice-cons}
+use lib.Dec.{eqb, eqb→eq}
+use borrow.Author.Tests.{eq-eqb, ne-eqb, eqb-true}
+use Rattle.laws.specs.Choice.{if_then_else_}
+use Rattle.laws.proofs.Tests.{test-same}
+use Rattle.laws.proofs.Slices.{split-right}
+use Rattle.laws.proofs.Elements.{elem-some, elem-none}
+use Rattle.ocl.specs.Types.{Simple, any, boolean, integer, class, Kind, set, sequence, bag, kindCode, sameKind, Letter, collection, exactly, Ty, simple, around, Parents, parentOr, up, height, simpleCode, sameSimple, climbs, simpleSubtype, letterSubtype}
+use Rattle.ocl.specs.Values.{Value, bool, int, obj, coll, Values, sort, members}
+use Rattle.ocl.specs.Model.{Model, classBelow, isA, every, belongs}
+use Rattle.types.specs.declared.Base.{Base}
+use Rattle.types.specs.declared.Base.the-variants as base
+use Rattle.types.specs.declared.FlatType.{FlatType}
+use Rattle.types.specs.Flat.{baseType, baseTag, baseClass, letterOf, tyOf, under}
+use Rattle.types.proofs.Members.{ends, goes-on}
+use Rattle.values.specs.Cells.{payload, head, enc, encs, Fits}
+use Rattle.values.specs.Contracts.{SortOf, PayloadOf, Skips}
+use Rattle.values.proofs.Heads.{enc-parts, members-fit, sort-kind}
+use Rattle.values.proofs.Members.{Left, next-member, none-left}
+use Rattle.tables.specs.Layout.{parentCode}
+use Rattle.slots.specs.Suits.{simpleBy, parentsOf, Seen, ClimbsIs, ObjectSuits, BaseSuits, lettered, LetterSuits, BelongsAt}
+
+-- ---- one simple type and another
+
+eqb-suc : (a b : ℕ) → eqb (suc a) (suc b) ≡ eqb a b
+eqb-suc a b = test-same _ _ (λ t. let e = eqb→eq (suc a) (suc b) t in rw (eq-eqb a b (omega arith)) tt) (λ t. let e = eqb→eq a b t in rw (eq-eqb (suc a) (suc b) (omega arith)) tt)
+
+class-not : (x c : ℕ) → c < 3 → eqb (suc (suc (suc x))) c ≡ false
+class-not x c h = ne-eqb (suc (suc (suc x))) c (λ e. omega arith)
+
+module _ {tag : ℕ} (d x : ℕ) where
+  pub class-other : (tag ≡ 1 → ⊥) → (tag ≡ 2 → ⊥) → (tag ≡ 3 → ⊥) → eqb x d ≡ sameSimple (class x) (simpleBy tag d)
+  unfolding simpleBy sameSimple simpleCode
+  class-other p q r = sym (rw (ne-eqb tag 1 p, ne-eqb tag 2 q, ne-eqb tag 3 r) (eqb-suc (suc (suc x)) (suc (suc d)) ∙ eqb-suc (suc x) (suc d) ∙ eqb-suc x d))
+
+  pub class-one : tag ≡ 1 → false ≡ sameSimple (class x) (simpleBy tag d)
+  unfolding simpleBy sameSimple simpleCode
+  class-one e = sym (rw e (class-not x 1 (omega arith)))
+
+  pub class-two : tag ≡ 2 → false ≡ sameSimple (class x) (simpleBy tag d)
+  unfolding simpleBy sameSimple simpleCode
+  class-two e = sym (rw e (class-not x 2 (omega arith)))
+
+  pub class-three : tag ≡ 3 → false ≡ sameSimple (class x) (simpleBy tag d)
+  unfolding simpleBy sameSimple simpleCode
+  class-three e = sym (rw e (class-not x 0 (omega arith)))
+
+any-same : (tag d : ℕ) → sameSimple any (simpleBy tag d) ≡ eqb tag 3
+unfolding simpleBy sameSimple simpleCode
+any-same tag d = go (eqb tag 1) (eqb tag 2) (eqb tag 3) refl refl refl
+  where
+    go : (a b c : Bool) → eqb tag 1 ≡ a → eqb tag 2 ≡ b → eqb tag 3 ≡ c → eqb 0 (simpleCode (if a then boolean else if b then integer else if c then any else class d)) ≡ eqb tag 3
+    go true b c p q r = sym (ap (λ (n : ℕ). eqb n 3) (eqb-true tag 1 p))
+    go false true c p q r = sym (ap (λ (n : ℕ). eqb n 3) (eqb-true tag 2 q))
+    go false false true p q r = sym r
+    go false false false p q r = ne-eqb 0 (suc (suc (suc d))) (λ e. omega arith) ∙ sym r
+
+-- ---- a climb
+
+climbs-any : (parent : Parents) (n : ℕ) (b : Simple) → climbs parent n any b ≡ sameSimple any b
+unfolding climbs up
+climbs-any parent zero b = refl
+climbs-any parent (suc n) b = go (sameSimple any b) (climbs-any parent n b)
+  where
+    go : (a : Bool) {c : Bool} → c ≡ a → a || c ≡ a
+    go true e = refl
+    go false e = e
+
+pub record Climbing (parents : List ℕ) (c tag d x left : ℕ) : Type 0 where
+  pub is : (ps : List (Option ℕ)) → parents ≡ map parentCode ps → climbs (parentsOf ps) (suc left) (class x) (simpleBy tag d) ≡ simpleSubtype (parentsOf ps) (class c) (simpleBy tag d)
+
+pub climb-start : (parents : List ℕ) (c tag d : ℕ) → Climbing parents c tag d c c
+unfolding simpleSubtype height
+climb-start parents c tag d = record { is = λ ps e. refl }
+
+word-at : (ps : List (Option ℕ)) (x : ℕ) → getD (map parentCode ps) x 0 ≡ parentCode (getD ps x none)
+unfolding parentCode
+word-at [] x = refl
+word-at (p ∷ ps) zero = refl
+word-at (p ∷ ps) (suc x) = word-at ps x
+
+code-none : (o : Option ℕ) → parentCode o ≡ 0 → parentOr o ≡ any
+unfolding parentCode parentOr
+code-none none e = refl
+code-none (some p) e = absurd (omega arith)
+
+code-some : (o : Option ℕ) (q : ℕ) → parentCode o ≡ q → (q ≡ 0 → ⊥) → parentOr o ≡ class (q - 1)
+unfolding parentCode parentOr
+code-some none q e n = absurd (n (sym e))
+code-some (some p) q e n = ap class (omega arith)
+
+module _ {parents : List ℕ} {c tag d x left : ℕ} (C : Climbing parents c tag d x left) {b : Bool} (s : b ≡ sameSimple (class x) (simpleBy tag d)) where
+  pub climb-here : b ≡ true → ClimbsIs parents c tag d true
+  unfolding climbs
+  climb-here z = record { is = λ ps e. rw (← s, z) at (C .is ps e) }
+
+  module _ {q : ℕ} (z : b ≡ false) (w : q ≡ getD parents x 0) where
+    step : (ps : List (Option ℕ)) → parents ≡ map parentCode ps → climbs (parentsOf ps) left (parentOr (getD ps x none)) (simpleBy tag d) ≡ simpleSubtype (parentsOf ps) (class c) (simpleBy tag d)
+    unfolding climbs up
+    step ps e = rw (← s, z) at (C .is ps e)
+
+    code : (ps : List (Option ℕ)) → parents ≡ map parentCode ps → parentCode (getD ps x none) ≡ q
+    code ps e = sym (w ∙ ap (λ (l : List ℕ). getD l x 0) e ∙ word-at ps x)
+
+    pub climb-top : q ≡ 0 → ClimbsIs parents c tag d (eqb tag 3)
+    climb-top h = record { is = λ ps e. sym (sym (step ps e) ∙ ap (λ (a : Simple). climbs (parentsOf ps) left a (simpleBy tag d)) (code-none _ (code ps e ∙ h)) ∙ climbs-any (parentsOf ps) left (simpleBy tag d) ∙ any-same tag d) }
+
+    up-to : (ps : List (Option ℕ)) → parents ≡ map parentCode ps → (q ≡ 0 → ⊥) → climbs (parentsOf ps) left (class (q - 1)) (simpleBy tag d) ≡ simpleSubtype (parentsOf ps) (class c) (simpleBy tag d)
+    up-to ps e h = ap (λ (a : Simple). climbs (parentsOf ps) left a (simpleBy tag d)) (sym (code-some _ q (code ps e) h)) ∙ step ps e
+
+    pub climb-last : {r : Bool} → (q ≡ 0 → ⊥) → left ≡ 0 → r ≡ sameSimple (class (q - 1)) (simpleBy tag d) → ClimbsIs parents c tag d r
+    unfolding climbs
+    climb-last h l t = record { is = λ ps e. t ∙ (rw l at (up-to ps e h)) }
+
+    pub climb-again : (q ≡ 0 → ⊥) → (left ≡ 0 → ⊥) → Climbing parents c tag d (q - 1) (left - 1)
+    climb-again h l = record { is = λ ps e. let y : suc (left - 1) ≡ left = omega arith in ap (λ (n : ℕ). climbs (parentsOf ps) n (class (q - 1)) (simpleBy tag d)) y ∙ up-to ps e h }
+
+-- ---- an object
+
+module _ {parents objects : List ℕ} {o at : ℕ} (tag d : ℕ) (e : at ≡ o) where
+  pub object-there : {r : Bool} → at < length objects → ClimbsIs parents (getD objects at 0) tag d r → ObjectSuits parents objects o tag d r
+  unfolding isA classBelow
+  object-there h c = record {
+    is = λ m sn.
+        c .is (sn .list) (sn .words)
+        ∙ sym (ap (λ (f : ℕ → Option ℕ). classBelow (m .parent) (f o) (simpleBy tag d)) (sn .classOf)
+        ∙ ap (λ (q : Option ℕ). classBelow (m .parent) q (simpleBy tag d)) (ap (getElem? objects) (sym e) ∙ elem-some objects at 0 h)
+        ∙ ap (λ (p : Parents). simpleSubtype p (class (getD objects at 0)) (simpleBy tag d)) (sn .parent));
+  }
+
+  pub object-gone : length objects ≤ at → ObjectSuits parents objects o tag d false
+  unfolding isA classBelow
+  object-gone h = record {
+    is = λ m sn.
+        sym (ap (λ (f : ℕ → Option ℕ). classBelow (m .parent) (f o) (simpleBy tag d)) (sn .classOf)
+        ∙ ap (λ (q : Option ℕ). classBelow (m .parent) q (simpleBy tag d)) (ap (getElem? objects) (sym e) ∙ elem-none objects at h));
+  }
+
+-- ---- a simple value, by the sort of its cell
+
+simple-of : (b : Base) → (baseTag b ≡ 0 → ⊥) → baseType b ≡ simple (simpleBy (baseTag b) (baseClass b))
+unfolding simpleBy
+simple-of base.Void h = absurd (h refl)
+simple-of base.Bool h = refl
+simple-of base.Int h = refl
+simple-of base.Any h = refl
+simple-of (base.Class c) h = refl
+
+some-base : (b : Base) {y : ℕ} → y ≡ baseTag b → (y ≡ 0 → ⊥) → baseType b ≡ simple (simpleBy y (baseClass b))
+some-base b ye n = simple-of b (λ z. n (ye ∙ z)) ∙ ap (λ (k : ℕ). simple (simpleBy k (baseClass b))) (sym ye)
+
+low-class : (P : Parents) (c : ℕ) → (simpleSubtype P boolean (class c) ≡ false) × (simpleSubtype P integer (class c) ≡ false)
+unfolding simpleSubtype climbs height up sameSimple simpleCode
+low-class P c =
+    let zero' = ne-eqb 0 (suc (suc (suc c))) (λ e. omega arith) in
+    (rw (ne-eqb 1 (suc (suc (suc c))) (λ e. omega arith), zero'), rw (ne-eqb 2 (suc (suc (suc c))) (λ e. omega arith), zero'))
+
+low-other : (b : Base) → (baseTag b ≡ 0 → ⊥) → (baseTag b ≡ 3 → ⊥) → (m : Model) (v : Value) → sort v < 2 → eqb (baseTag b) (sort v + 1) ≡ belongs m (baseType b) v
+unfolding belongs sort simpleSubtype climbs height up sameSimple simpleCode
+low-other base.Void n a m v h = absurd (n refl)
+low-other base.Any n a m v h = absurd (a refl)
+low-other base.Bool n a m (bool x) h = refl
+low-other base.Bool n a m (int x) h = refl
+low-other base.Bool n a m (obj x) h = absurd (omega arith)
+low-other base.Bool n a m (coll k vs) h = absurd (let q = sort-kind k vs in omega arith)
+low-other base.Int n a m (bool x) h = refl
+low-other base.Int n a m (int x) h = refl
+low-other base.Int n a m (obj x) h = absurd (omega arith)
+low-other base.Int n a m (coll k vs) h = absurd (let q = sort-kind k vs in omega arith)
+low-other (base.Class c) n a m (bool x) h = sym (low-class (m .parent) c .0)
+low-other (base.Class c) n a m (int x) h = sym (low-class (m .parent) c .1)
+low-other (base.Class c) n a m (obj x) h = absurd (omega arith)
+low-other (base.Class c) n a m (coll k vs) h = absurd (let q = sort-kind k vs in omega arith)
+
+low-any : (m : Model) (v : Value) → sort v < 2 → true ≡ belongs m (simple any) v
+unfolding belongs sort simpleSubtype climbs height up sameSimple simpleCode
+low-any m (bool x) h = refl
+low-any m (int x) h = refl
+low-any m (obj x) h = absurd (omega arith)
+low-any m (coll k vs) h = absurd (let q = sort-kind k vs in omega arith)
+
+is-any : (b : Base) → baseTag b ≡ 3 → baseType b ≡ simple any
+is-any base.Void e = absurd (omega arith)
+is-any base.Bool e = absurd (omega arith)
+is-any base.Int e = absurd (omega arith)
+is-any base.Any e = refl
+is-any (base.Class c) e = absurd (omega arith)
+
+module _ {parents objects : List ℕ} (b : Base) {cell y : ℕ} (ye : y ≡ baseTag b) where
+  pub base-void : y ≡ 0 → BaseSuits parents objects b cell false
+  unfolding belongs
+  base-void z = record { is = λ m v sn f ce. go b (sym ye ∙ z) m v }
+    where
+      go : (b : Base) → baseTag b ≡ 0 → (m : Model) (v : Value) → false ≡ belongs m (baseType b) v
+      go base.Void e m v = refl
+      go base.Bool e m v = absurd (omega arith)
+      go base.Int e m v = absurd (omega arith)
+      go base.Any e m v = absurd (omega arith)
+      go (base.Class c) e m v = absurd (omega arith)
+
+  module _ {t : ℕ} (n : y ≡ 0 → ⊥) (so : SortOf cell t) where
+    pub base-object : {o d : ℕ} {r : Bool} → t ≡ 2 → PayloadOf cell o → d ≡ baseClass b → ObjectSuits parents objects o y d r → BaseSuits parents objects b cell r
+    unfolding belongs sort payload
+    base-object {o} {d} {r} z po de ob = record { is = λ m v sn f ce. go m sn v (sym (so .is v f ce) ∙ z) (po .is v f ce) ∙ ap (λ (u : Ty). belongs m u v) (sym (some-base b ye n)) }
+      where
+        go : (m : Model) → Seen parents objects m → (v : Value) → sort v ≡ 2 → o ≡ payload v → r ≡ belongs m (simple (simpleBy y (baseClass b))) v
+        go m sn (bool x) e p = absurd (omega arith)
+        go m sn (int x) e p = absurd (omega arith)
+        go m sn (obj x) e p = ob .is m sn ∙ rw (p, de)
+        go m sn (coll k vs) e p = absurd (let q = sort-kind k vs in omega arith)
+
+    pub base-high : 2 < t → BaseSuits parents objects b cell false
+    unfolding belongs sort
+    base-high z = record { is = λ m v sn f ce. go m v (let q = so .is v f ce in omega arith) ∙ ap (λ (u : Ty). belongs m u v) (sym (some-base b ye n)) }
+      where
+        go : (m : Model) (v : Value) → 2 < sort v → false ≡ belongs m (simple (simpleBy y (baseClass b))) v
+        go m (bool x) e = absurd (omega arith)
+        go m (int x) e = absurd (omega arith)
+        go m (obj x) e = absurd (omega arith)
+        go m (coll k vs) e = refl
+
+    pub base-any : t < 2 → y ≡ 3 → BaseSuits parents objects b cell true
+    base-any h z = record { is = λ m v sn f ce. low-any m v (let q = so .is v f ce in omega arith) ∙ ap (λ (u : Ty). belongs m u v) (sym (is-any b (sym ye ∙ z))) }
+
+    pub base-low : t < 2 → (y ≡ 3 → ⊥) → BaseSuits parents objects b cell (eqb y (t + 1))
+    base-low h z = record {
+      is = λ m v sn f ce.
+          let q = so .is v f ce in
+          ap (λ (i : ℕ). eqb i (t + 1)) ye ∙ ap (λ (i : ℕ). eqb (baseTag b) (i + 1)) q ∙ low-other b (λ x. n (ye ∙ x)) (λ x. z (ye ∙ x)) m v (omega arith);
+    }
+
+pub low-sort : {t : ℕ} → (t ≡ 2 → ⊥) → t ≤ 2 → t < 2
+low-sort n h = omega arith
+
+-- ---- a letter
+
+kind-letter : (n : ℕ) (k : Kind) (vs : Values) → 2 ≤ n → n ≤ 4 → eqb (sort (coll k vs)) (n + 1) ≡ letterSubtype (exactly k) (letterOf n)
+unfolding letterOf letterSubtype sameKind kindCode sort
+kind-letter zero k vs a b = absurd (omega arith)
+kind-letter (suc zero) k vs a b = absurd (omega arith)
+kind-letter (suc (suc zero)) set vs a b = refl
+kind-letter (suc (suc zero)) sequence vs a b = refl
+kind-letter (suc (suc zero)) bag vs a b = refl
+kind-letter (suc (suc (suc zero))) set vs a b = refl
+kind-letter (suc (suc (suc zero))) sequence vs a b = refl
+kind-letter (suc (suc (suc zero))) bag vs a b = refl
+kind-letter (suc (suc (suc (suc zero)))) set vs a b = refl
+kind-letter (suc (suc (suc (suc zero)))) sequence vs a b = refl
+kind-letter (suc (suc (suc (suc zero)))) bag vs a b = refl
+kind-letter (suc (suc (suc (suc (suc n))))) k vs a b = absurd (omega arith)
+
+one-letter : (n : ℕ) (v : Value) → 2 ≤ n → n ≤ 4 → 3 ≤ sort v → eqb (sort v) (n + 1) ≡ lettered (letterOf n) v
+unfolding lettered sort
+one-letter n (bool x) a b h = absurd (omega arith)
+one-letter n (int x) a b h = absurd (omega arith)
+one-letter n (obj x) a b h = absurd (omega arith)
+one-letter n (coll k vs) a b h = kind-letter n k vs a b
+
+any-letter : (l : Letter) → l ≡ collection → (v : Value) → 3 ≤ sort v → true ≡ lettered l v
+unfolding lettered sort letterSubtype
+any-letter l z (bool x) e = absurd (omega arith)
+any-letter l z (int x) e = absurd (omega arith)
+any-letter l z (obj x) e = absurd (omega arith)
+any-letter l z (coll k vs) e = rw z
+
+module _ {letter cell t : ℕ} (so : SortOf cell t) where
+  pub letter-none : t < 3 → LetterSuits letter cell false
+  unfolding lettered sort
+  letter-none h = record { is = λ v f ce. go v (let q = so .is v f ce in omega arith) }
+    where
+      go : (v : Value) → sort v < 3 → false ≡ lettered (letterOf letter) v
+      go (bool x) e = refl
+      go (int x) e = refl
+      go (obj x) e = refl
+      go (coll k vs) e = absurd (let q = sort-kind k vs in omega arith)
+
+  pub letter-any : 3 ≤ t → letterOf letter ≡ collection → LetterSuits letter cell true
+  letter-any h z = record { is = λ v f ce. any-letter (letterOf letter) z v (let q = so .is v f ce in omega arith) }
+
+  pub letter-kind : 3 ≤ t → 2 ≤ letter → letter ≤ 4 → LetterSuits letter cell (eqb t (letter + 1))
+  letter-kind h a b = record { is = λ v f ce. let q = so .is v f ce in ap (λ (i : ℕ). eqb i (letter + 1)) q ∙ one-letter letter v a b (omega arith) }
+
+pub low-letter : (n : ℕ) → n < 2 → letterOf n ≡ collection
+unfolding letterOf
+low-letter zero h = refl
+low-letter (suc zero) h = refl
+low-letter (suc (suc n)) h = absurd (omega arith)
+
+pub high-letter : (n : ℕ) → 4 < n → letterOf n ≡ collection
+unfolding letterOf
+high-letter zero h = absurd (omega arith)
+high-letter (suc zero) h = absurd (omega arith)
+high-letter (suc (suc zero)) h = absurd (omega arith)
+high-letter (suc (suc (suc zero))) h = absurd (omega arith)
+high-letter (suc (suc (suc (suc zero)))) h = absurd (omega arith)
+high-letter (suc (suc (suc (suc (suc n))))) h = refl
+
+-- ---- a collection's members: the loop of `belongs`
+
+pub record Some (cells : List ℕ) (m : Model) (u : Ty) (v : Value) (q end : ℕ) (r : Bool) : Type 0 where
+  pub rest : Values
+  pub left : Left cells q end rest
+  pub same : r ≡ every (belongs m u) rest
+
+pub record Belonging (parents objects cells : List ℕ) (p end : ℕ) (u : FlatType) (q : ℕ) : Type 0 where
+  pub room : end ≤ length cells
+  pub below : q ≤ end
+  pub above : p < q
+  pub going : (m : Model) (v : Value) → Seen parents objects m → Fits v → slice p end cells ≡ enc v → Some cells m (tyOf u) v q end (every (belongs m (tyOf u)) (members v))
+
+-- the value's letter suits, so that its members decide
+pub record Around (cells : List ℕ) (p end : ℕ) (t u : FlatType) : Type 0 where
+  pub law : (m : Model) (v : Value) → Fits v → slice p end cells ≡ enc v → belongs m (tyOf t) v ≡ every (belongs m (tyOf u)) (members v)
+
+first-at : (cells : List ℕ) (p end : ℕ) (v : Value) → p < end → end ≤ length cells → slice p end cells ≡ enc v → getD cells p 0 ≡ head v
+first-at cells p end v h room e = ap (λ (l : List ℕ). getD l 0 0) (sym (slice-cons p end cells 0 h room) ∙ e ∙ enc-parts v)
+
+around-law : (cells : List ℕ) (p end : ℕ) (t : FlatType) {b : Bool} → p < end → end ≤ length cells → (t .outer ≡ 0 → ⊥) → LetterSuits (t .outer) (getD cells p 0) b
+    → (m : Model) (v : Value) → Fits v → slice p end cells ≡ enc v → belongs m (tyOf t) v ≡ b && every (belongs m (tyOf (under t))) (members v)
+unfolding belongs lettered members
+around-law cells p end t {b} h room n l m v f e = ap (λ (u : Ty). belongs m u v) (goes-on t n) ∙ parts v (l .is v f (first-at cells p end v h room e))
+  where
+    parts : (v : Value) → b ≡ lettered (letterOf (t .outer)) v → belongs m (around (letterOf (t .outer)) (tyOf (under t))) v ≡ b && every (belongs m (tyOf (under t))) (members v)
+    parts (bool x) d = rw d
+    parts (int x) d = rw d
+    parts (obj x) d = rw d
+    parts (coll k vs) d = rw d
+
+module _ {parents objects cells : List ℕ} {p end : ℕ} {t : FlatType} (h : p < end) (room : end ≤ length cells) where
+  pub belongs-base : {r : Bool} → t .outer ≡ 0 → BaseSuits parents objects (t .base) (getD cells p 0) r → BelongsAt parents objects cells p end t r
+  belongs-base z b = record { is = λ m v sn f e. b .is m v sn f (first-at cells p end v h room e) ∙ ap (λ (u : Ty). belongs m u v) (sym (ends t z)) }
+
+  module _ {b : Bool} (n : t .outer ≡ 0 → ⊥) (l : LetterSuits (t .outer) (getD cells p 0) b) where
+    pub belongs-other : b ≡ false → BelongsAt parents objects cells p end t false
+    belongs-other z = record { is = λ m v sn f e. sym (around-law cells p end t h room n l m v f e ∙ ap (λ (x : Bool). x && every (belongs m (tyOf (under t))) (members v)) z) }
+
+pub belongs-around : {cells : List ℕ} {p end : ℕ} {t u : FlatType} {b : Bool} → p < end → end ≤ length cells → (t .outer ≡ 0 → ⊥) → LetterSuits (t .outer) (getD cells p 0) b → b ≡ true → u ≡ under t → Around cells p end t u
+belongs-around {cells} {p} {end} {t} h room n l z ue = rw ue (record { law = λ m v f e. around-law cells p end t h room n l m v f e ∙ ap (λ (x : Bool). x && every (belongs m (tyOf (under t))) (members v)) z })
+
+pub belongs-start : {parents objects cells : List ℕ} {p end : ℕ} → p < end → end ≤ length cells → (u : FlatType) → Belonging parents objects cells p end u (p + 1)
+belongs-start {cells = cells} {p} {end} h room u = record {
+  room = room;
+  below = omega arith;
+  above = omega arith;
+  going = λ m v sn f e. record {
+    rest = members v;
+    left = record { fits = members-fit f; lies = split-right cells p end (head v ∷ []) (encs (members v)) room (omega arith) (e ∙ enc-parts v) };
+    same = refl;
+  };
+}
+
+module _ {parents objects cells : List ℕ} {p end q : ℕ} {u : FlatType} (F : Belonging parents objects cells p end u q) where
+  pub belongs-end : {t : FlatType} → Around cells p end t u → end ≤ q → BelongsAt parents objects cells p end t true
+  unfolding every
+  belongs-end a h = record {
+    is = λ m v sn f e.
+        let G = F .going m v sn f e in
+        sym (a .law m v f e ∙ G .same ∙ ap (every (belongs m (tyOf u))) (none-left (G .left) (let b = F .below in omega arith)));
+  }
+
+  module _ {r : ℕ} {b : Bool} (h : q < end) (k : Skips q end cells r) (c : BelongsAt parents objects cells q r u b) where
+    record Step (m : Model) (v : Value) : Type 0 where
+      ws : Values
+      left : Left cells r end ws
+      same : every (belongs m (tyOf u)) (members v) ≡ (b && every (belongs m (tyOf u)) ws)
+
+    stepped : (m : Model) (v : Value) → Seen parents objects m → Fits v → slice p end cells ≡ enc v → Step m v
+    unfolding every
+    stepped m v sn f e =
+        let G = F .going m v sn f e in
+        let N = next-member (F .room) h k (G .left) in
+        let z : q + (r - q) ≡ r = let a = N .at in omega arith in
+        let d : slice q r cells ≡ enc (N .w) = ap (λ (i : ℕ). slice q i cells) (sym z) ∙ N .cells in
+        let y : b ≡ belongs m (tyOf u) (N .w) = c .is m (N .w) sn (N .fits) d in
+        record {
+          ws = N .ws;
+          left = N .left;
+          same = G .same ∙ ap (every (belongs m (tyOf u))) (N .are) ∙ ap (λ (x : Bool). x && every (belongs m (tyOf u)) (N .ws)) (sym y);
+        }
+
+    pub belongs-not : {t : FlatType} → Around cells p end t u → b ≡ false → BelongsAt parents objects cells p end t false
+    belongs-not a z = record { is = λ m v sn f e. let S = stepped m v sn f e in sym (a .law m v f e ∙ S .same ∙ ap (λ (x : Bool). x && every (belongs m (tyOf u)) (S .ws)) z) }
+
+    pub belongs-again : b ≡ true → Belonging parents objects cells p end u r
+    belongs-again z = record {
+      room = F .room;
+      below = k .within;
+      above = let a = F .above in let u = k .up h in omega arith;
+      going = λ m v sn f e. let S = stepped m v sn f e in record { rest = S .ws; left = S .left; same = S .same ∙ ap (λ (x : Bool). x && every (belongs m (tyOf u)) (S .ws)) z };
+    }

@@ -1,0 +1,39 @@
+-- `slots::reader::open_cell` meets its contract. Assumes nothing.
+use Rattle.slots.proofs.CellLaws.{opened-cell}
+use mathlib.Core.Path.{refl}
+use borrow.Author.Needs.{needs}
+use Rattle.slots.proofs.reader.open_cell.Statement.{statement}
+use Rattle.slots.proofs.reader.open_cell.Tie as tie
+
+add-cell-requires : tie.Need-add-cell-requires
+add-cell-requires c κs = search needs
+
+add-t8 : tie.Need-add-t8
+add-t8 c = search needs
+
+either-requires : tie.Need-either-requires
+either-requires c κs = search needs
+
+pick-requires : tie.Need-pick-requires
+pick-requires c κs = search needs
+
+pick-requires-2 : tie.Need-pick-requires-2
+pick-requires-2 c κs = search needs
+
+same-length : tie.Need-same-length
+same-length c = search needs
+
+returns : tie.Need-returns
+returns c = opened-cell (c .before .before .before .before .before .before .before .before .before .add-cell .ensures) (c .before .before .before .before .either .ensures) (c .before .before .pick .ensures) (c .pick2 .ensures) refl
+
+pub open-cell-spec : {M : Type 1} → statement M
+open-cell-spec =
+    tie.close
+    (tie.spec
+    add-cell-requires
+    add-t8
+    either-requires
+    pick-requires
+    pick-requires-2
+    same-length
+    returns)

@@ -1,0 +1,59 @@
+-- What begins at a place of a field, as the code tells it: whatever is read there by crates/sheet's `valueWithin`.
+use mathlib.Core.Path.{_≡_}
+use mathlib.Core.Bool.{Bool, true, false}
+use mathlib.Core.Option.{none, some}
+use Prim.Native.Nat.{ℕ, suc, _+_, _*_, _<_, _≤_}
+use lib.IntN.{ℤ}
+use lib.ListN.{length, getD, drop}
+use Rattle.ocl.specs.Types.{Kind}
+use Rattle.ocl.specs.Values.{Value, bool, int, obj, coll, nil}
+use Rattle.sheet.specs.Text.{Bytes, given, number, integer}
+use Rattle.sheet.specs.Spelling.{valueWithin, membersWithin}
+use Rattle.sheet.specs.Refusals.{partWithin}
+use Rattle.values.specs.Cells.{head}
+use Rattle.slots.specs.declared.parts.Part.{Part}
+use Rattle.slots.specs.declared.parts.Part.the-variants as part
+
+-- a value that is no collection
+pub data Alone : Value → Type 0 where
+  alone-bool : {b : Bool} → Alone (bool b)
+  alone-int : {z : ℤ} → Alone (int z)
+  alone-obj : {o : ℕ} → Alone (obj o)
+
+-- the place after a part that begins at `at`
+pub record After (f : Bytes) (at end : ℕ) : Type 0 where
+  pub up : at < end
+  pub within : end ≤ length f
+
+-- v ends at the part's end, within its limits or not
+pub data Told (f : Bytes) (at : ℕ) (v : Value) : Part → Type 0 where
+  told-simple : {c e : ℕ} → After f at e → c ≡ head v → partWithin v ≡ true → Told f at v (part.Simple c e)
+  told-wide : {e : ℕ} → After f at e → partWithin v ≡ false → Told f at v (part.Wide e)
+
+abbrev pub endOf : Part → ℕ
+endOf part.Bad = 0
+endOf (part.Simple c e) = e
+endOf (part.Wide e) = e
+endOf (part.Opens c e) = e
+
+-- the object whose digits begin at `at`
+pub data ObjectIs (f : Bytes) (at : ℕ) (r : Part) : Type 0 where
+  object-bad : r ≡ part.Bad → number (drop at f) ≡ none → ObjectIs f at r
+  object-is : (o : ℕ) → ((from : ℕ) → from < at → Told f from (obj o) r) → number (drop at f) ≡ some (o, drop (endOf r) f) → ObjectIs f at r
+
+-- the Integer that begins at `at`
+pub data IntegerIs (f : Bytes) (at : ℕ) (r : Part) : Type 0 where
+  integer-bad : r ≡ part.Bad → integer (drop at f) ≡ none → IntegerIs f at r
+  integer-is : (z : ℤ) → Told f at (int z) r → integer (drop at f) ≡ some (z, drop (endOf r) f) → IntegerIs f at r
+
+-- a bracket after the letter at `at`
+pub data OpensIs (f : Bytes) (at kind : ℕ) (r : Part) : Type 0 where
+  opens-not : r ≡ part.Bad → (at + 1 < length f → getD f (at + 1) 0 ≡ 40 → ⊥) → OpensIs f at kind r
+  opens : r ≡ part.Opens ((3 + kind) * 4294967296) (at + 2) → at + 1 < length f → getD f (at + 1) 0 ≡ 40 → OpensIs f at kind r
+
+-- what `valueWithin` reads at `at`, however many parts it may have
+pub data PartIs (f : Bytes) (at : ℕ) (r : Part) : Type 0 where
+  part-bad : r ≡ part.Bad → ((n : ℕ) → valueWithin (suc n) (drop at f) ≡ none) → PartIs f at r
+  part-alone : (v : Value) → Alone v → Told f at v r → ((n : ℕ) → valueWithin (suc n) (drop at f) ≡ some (v, drop (endOf r) f)) → PartIs f at r
+  part-opens : (k : Kind) → r ≡ part.Opens (head (coll k nil)) (at + 2) → at + 2 ≤ length f
+      → ((n : ℕ) → valueWithin (suc n) (drop at f) ≡ given (coll k) (membersWithin n) (drop (at + 2) f)) → PartIs f at r

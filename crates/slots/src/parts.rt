@@ -1,0 +1,101 @@
+// What begins at a place of a field: a value that is no collection, or a collection with its bracket.
+ghost use Prim.Native.Nat.{_+_, _<_, _≤_};
+ghost use lib.ListN.{length};
+ghost use Rattle.slots.specs.Parts.{PartIs, ObjectIs, IntegerIs, OpensIs};
+use text::numbers::Num;
+use text::numbers::Whole;
+use text::numbers::digits_end;
+use text::numbers::integer_at;
+use text::numbers::integer_end;
+use text::numbers::number_at;
+
+// A value's cell is this many times its sort, and a payload below it.
+const SORT: u64 = 4_294_967_296;
+// There are at most this many objects.
+const OBJECTS: u64 = 96;
+
+// A part with its cell and the place after it; Wide is a number outside its limits.
+pub enum Part {
+    Bad,
+    Simple { cell: u64, end: usize },
+    Wide { end: usize },
+    Opens { cell: u64, end: usize },
+}
+
+// The object whose digits begin at `at`.
+fn object_at(f: &[u8], at: usize) -> Part
+    requires { ⌜ at ≤ length (now f) ⌝ }
+    ensures { λ r. ⌜ ObjectIs (now (f .entry)) at r ⌝ }
+{
+    let end = digits_end(f, at);
+    let n = number_at(f, at, end);
+    match n {
+        Num::Bad => Part::Bad,
+        Num::Is(o) => {
+            if o < OBJECTS {
+                Part::Simple {
+                    cell: 2 * SORT + o,
+                    end,
+                }
+            } else {
+                Part::Wide { end }
+            }
+        }
+    }
+}
+
+// The Integer that begins at `at`.
+fn whole_at(f: &[u8], at: usize) -> Part
+    requires { ⌜ at ≤ length (now f) ⌝ }
+    ensures { λ r. ⌜ IntegerIs (now (f .entry)) at r ⌝ }
+{
+    let end = integer_end(f, at);
+    let z = integer_at(f, at, end);
+    match z {
+        Whole::Bad => Part::Bad,
+        Whole::Out => Part::Wide { end },
+        Whole::Is(biased) => Part::Simple {
+            cell: SORT + biased,
+            end,
+        },
+    }
+}
+
+// The collection whose letter stands at `at`, if a bracket follows.
+fn opens_at(f: &[u8], at: usize, kind: u64) -> Part
+    requires { ⌜ (at < length (now f)) × (kind < 3) ⌝ }
+    ensures { λ r. ⌜ OpensIs (now (f .entry)) at kind r ⌝ }
+{
+    let next = at + 1;
+    if next < f.len() {
+        if f[next] == b'(' {
+            return Part::Opens {
+                cell: (3 + kind) * SORT,
+                end: next + 1,
+            };
+        }
+    }
+    Part::Bad
+}
+
+// The part that begins at `at`.
+pub fn part_at(f: &[u8], at: usize) -> Part
+    requires { ⌜ at < length (now f) ⌝ }
+    ensures { λ r. ⌜ PartIs (now (f .entry)) at r ⌝ }
+{
+    match f[at] {
+        b't' => Part::Simple {
+            cell: 1,
+            end: at + 1,
+        },
+        b'f' => Part::Simple {
+            cell: 0,
+            end: at + 1,
+        },
+        b'@' => object_at(f, at + 1),
+        b'S' => opens_at(f, at, 0),
+        b'Q' => opens_at(f, at, 1),
+        b'B' => opens_at(f, at, 2),
+        _ => whole_at(f, at),
+    }
+}

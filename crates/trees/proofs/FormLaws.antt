@@ -1,0 +1,273 @@
+-- The form that fields spell, from code to code: what the code's words stand for. Assumes nothing.
+use mathlib.Core.Path.{_≡_, refl, sym, ap, _∙_}
+use mathlib.Core.Bool.{Bool, true, false, not, _&&_, true≢false}
+use mathlib.Core.Option.{Option, none, some}
+use mathlib.Core.List.{List, [], _∷_, map}
+use Prim.Native.Nat.{ℕ, zero, suc, _+_, _-_, _<_, _≤_, min}
+use native.Mathlib.Nat.{zero-add}
+use native.Mathlib.Omega.{arith}
+use native.Mathlib.Decide.{decLt}
+use borrow.Author.Tests.{eq-eqb, ne-eqb, eqb-true, eqb-false, lt-leb, le-leb, ltb-true, lt-ltb, le-ltb, leb-true}
+use lib.Dec.{eqb, ltb, leb}
+use lib.ListN.{length, getD, take, drop}
+use Rattle.laws.specs.Choice.{if_then_else_, onSome, mapSome}
+use Rattle.laws.specs.Lists.{allOf}
+use Rattle.laws.proofs.Bounds.{cut-lt}
+use Rattle.ocl.specs.Types.{set, sequence, bag, Ty}
+use Rattle.ocl.specs.Forms.{plus, minus, times, div, modulo, Connective, and, or, Quantifier, forAll, exists, Leaf, truth, undef, self, var, all, Unary, negation, sizeOf, convert, castTo, Binary, equal, less, arith as calculation, includes, including, union}
+use Rattle.sheet.specs.Text.{Bytes}
+use Rattle.sheet.specs.Lines.{Shape, leaf, unary, binary, connective, isUndef, conditional, letIn, attribute, quantified, iterate, collect, next, done, aNumber, oneOperand, twoOperands, threeNumbers}
+use Rattle.sheet.specs.Sheet.{operandsOf}
+use Rattle.sheet.specs.Refusals.{isNode, isClass, isVariable, leafWithin, unaryWithin, formWithin, twoVariables, leafKnown, unaryKnown, formKnown}
+use Rattle.text.specs.Forms.{shapeBy}
+use Rattle.nodes.specs.Nodes.{leafWords, unaryWords, binaryCode, arithCode, connectiveCode, quantifierCode, shapeWords}
+use Rattle.nodes.proofs.Shapes.{TypeSaid}
+use Rattle.trees.specs.declared.Parsed.{Parsed}
+use Rattle.trees.specs.declared.numbers.Numbers.{Numbers}
+use Rattle.trees.specs.Fields.{cut, four, exact, Read, unread, read, NumbersRead}
+use Rattle.trees.specs.Forms.{operandsAt, Stands, Spelled, misspelled, spelled, FormRead, PlainCode, constant, itself, one, two, undefTest, conditional as conditionalCode, QuantifierCode}
+use Rattle.trees.proofs.ExactLaws.{chain, chain-exact, exact-length}
+
+-- ---- a number below a bound by cases
+
+unfoldable pub AllBelow : (ℕ → Type 0) → ℕ → Type 0
+AllBelow P zero = Unit
+AllBelow P (suc n) = AllBelow P n × P n
+
+pub all-below : (P : ℕ → Type 0) (n : ℕ) → AllBelow P n → (k : ℕ) → k < n → P k
+unfolding AllBelow
+all-below P zero h k l = absurd (omega arith)
+all-below P (suc n) h k l = go (eqb k n) refl (all-below P n (h .0) k)
+  where
+    go : (b : Bool) → eqb k n ≡ b → (k < n → P k) → P k
+    go true e ih = rw (eqb-true k n e) (h .1)
+    go false e ih = ih (let q = eqb-false k n e in omega arith)
+
+-- from a to a + n
+pub from-below : (P : ℕ → Type 0) (a n : ℕ) → AllBelow (λ k. P (a + k)) n → (k : ℕ) → a ≤ k → k < a + n → P k
+from-below P a n h k l m = let e : a + (k - a) ≡ k = omega arith in rw e at (all-below (λ j. P (a + j)) n h (k - a) (omega arith))
+
+-- ---- tests that do not see the cut
+
+not-variable : (i : ℕ) → 16 ≤ i → isVariable i ≡ false
+unfolding isVariable
+not-variable i h = rw (le-leb 1 i (omega arith), lt-leb i 15 (omega arith))
+
+pub cut-variable : (i : ℕ) → isVariable (cut i) ≡ isVariable i
+cut-variable i = go (decLt i 1000000)
+  where
+    go : Dec (i < 1000000) → isVariable (cut i) ≡ isVariable i
+    go (yes l) = ap isVariable (omega arith)
+    go (no l) = not-variable (cut i) (omega arith) ∙ sym (not-variable i (omega arith))
+
+pub variable-small : (i : ℕ) → isVariable i ≡ true → cut i ≡ i
+variable-small i h = go (decLt i 1000000)
+  where
+    go : Dec (i < 1000000) → cut i ≡ i
+    go (yes l) = omega arith
+    go (no l) = absurd (true≢false (sym h ∙ not-variable i (omega arith)))
+
+pub below-small : (i n : ℕ) → n ≤ 1000000 → ltb i n ≡ true → cut i ≡ i
+below-small i n l h = omega (arith, ltb-true i n h)
+
+-- one more class than the one that is named
+pub cut-class : (c n : ℕ) → n ≤ 64 → leb (cut c + 1) n ≡ ltb c n
+cut-class c n h = go (decLt c n)
+  where
+    go : Dec (c < n) → leb (cut c + 1) n ≡ ltb c n
+    go (yes l) = le-leb (cut c + 1) n (omega arith) ∙ sym (lt-ltb c n l)
+    go (no l) = lt-leb (cut c + 1) n (omega arith) ∙ sym (le-ltb c n (omega arith))
+
+pub nodes-small : (l : List ℕ) → allOf isNode l ≡ true → map cut l ≡ l
+unfolding allOf isNode
+nodes-small [] h = refl
+nodes-small (a ∷ l) h = go (ltb a 768) refl (nodes-small l) h
+  where
+    go : (b : Bool) → ltb a 768 ≡ b → (allOf isNode l ≡ true → map cut l ≡ l) → (b && allOf isNode l) ≡ true → cut a ∷ map cut l ≡ a ∷ l
+    go true e ih h = rw (below-small a 768 (omega arith) e, ih h)
+    go false e ih h = absurd (true≢false (sym h))
+
+-- ---- a form that fields of numbers spell
+
+pub no-form : (line : ℕ) → FormRead line none (record { spelled = false; words = 0 ∷ 0 ∷ 0 ∷ 0 ∷ 0 ∷ 0 ∷ 0 ∷ 0 ∷ []; count = 0; within = false; apart = false; classes = 0 })
+no-form line = record { is = misspelled refl; few = omega arith; size = refl }
+
+pub numbers-form : {line : ℕ} {o : Option Shape} {r : Numbers} {p : Parsed} (m : ℕ) (fs : List Bytes) (k : List ℕ → Shape)
+    → NumbersRead (exact m fs) r → o ≡ chain m k fs → p .spelled ≡ r .good → ((l : List ℕ) → length l ≡ m → r .at ≡ four (map cut l) → Stands line (k l) p)
+    → Spelled line o p
+unfolding mapSome
+numbers-form {line} {o} {r} {p} m fs k n e s h = rw (e, chain-exact m k fs) (go (exact m fs) refl (n .is))
+  where
+    go : (q : Option (List ℕ)) → exact m fs ≡ q → Read q r → Spelled line (mapSome k q) p
+    go none e (unread b) = misspelled (s ∙ b)
+    go (some l) e (read b a) = spelled (s ∙ b) (h l (exact-length m fs l e) a)
+
+-- ---- nothing but operands
+
+record Plain (code : ℕ) (l : List ℕ) (x : Shape) : Type 0 where
+  within : formWithin x ≡ true
+  apart : twoVariables x ≡ true
+  known : (n : ℕ) → formKnown n x ≡ true
+  operands : operandsOf x ≡ l
+  words : (line : ℕ) → shapeWords 0 0 line x ≡ code ∷ getD l 0 0 ∷ getD l 1 0 ∷ getD l 2 0 ∷ 0 ∷ 0 ∷ 0 ∷ line ∷ []
+  said : TypeSaid 0 x
+
+record PlainForm (code m : ℕ) : Type 0 where
+  shape : List ℕ → Shape
+  reads : (fs : List Bytes) → shapeBy code fs ≡ chain m shape fs
+  is : (l : List ℕ) → length l ≡ m → Plain code l (shape l)
+
+plain-operands : (l : List ℕ) (d : ℕ) → length l ≤ 3 → take (length l) (getD (map cut l) 0 0 ∷ getD (map cut l) 1 0 ∷ getD (map cut l) 2 0 ∷ 0 ∷ 0 ∷ 0 ∷ d ∷ []) ≡ map cut l
+plain-operands [] d h = refl
+plain-operands (x ∷ []) d h = refl
+plain-operands (x ∷ y ∷ []) d h = refl
+plain-operands (x ∷ y ∷ z ∷ []) d h = refl
+plain-operands (x ∷ y ∷ z ∷ w ∷ l) d h = absurd (omega arith)
+
+plain-stands : {code line m : ℕ} {g : Bool} {at : List ℕ} (l : List ℕ) {x : Shape} → Plain code l x → length l ≡ m → m ≤ 3 → at ≡ four (map cut l)
+    → Stands line x (record { spelled = g; words = code ∷ getD at 0 0 ∷ getD at 1 0 ∷ getD at 2 0 ∷ 0 ∷ 0 ∷ 0 ∷ line ∷ []; count = m; within = true; apart = true; classes = 0 })
+plain-stands {code} {line} {m} l {x} is n few e = record {
+  within = sym (is .within);
+  apart = λ h. sym (is .apart);
+  known = λ h n l. le-leb 0 n (omega arith) ∙ sym (is .known n);
+  counted = sym n ∙ ap length (sym (is .operands));
+  operands = rw (← n, e, is .operands) (plain-operands l line (omega arith));
+  type = 0;
+  said = λ h. is .said;
+  words = λ h k. rw (e, nodes-small l (rw (is .operands) at k)) (sym (is .words line));
+}
+
+unfoldable pub isIterate : Shape → Bool
+isIterate (leaf l) = false
+isIterate (unary op a) = false
+isIterate (binary op a b) = false
+isIterate (connective c a b) = false
+isIterate (isUndef a) = false
+isIterate (conditional c a b) = false
+isIterate (letIn i a b) = false
+isIterate (attribute name a) = false
+isIterate (quantified q i a b) = false
+isIterate (iterate i j t a e b) = true
+isIterate (collect k es) = false
+
+pub no-type : (x : Shape) → isIterate x ≡ false → TypeSaid 0 x
+unfolding isIterate
+no-type x h = record { said = λ i j t a e b q. absurd (true≢false (sym (ap isIterate q) ∙ h)) }
+
+leaf-plain : (code : ℕ) (l : Leaf) → leafWithin l ≡ true → ((n : ℕ) → leafKnown n l ≡ true) → leafWords l ≡ (code, 0) → ((fs : List Bytes) → shapeBy code fs ≡ done (leaf l) fs) → PlainForm code 0
+unfolding chain formWithin twoVariables formKnown operandsOf shapeWords isIterate
+leaf-plain code l w k e r = record { shape = λ es. leaf l; reads = r; is = is }
+  where
+    is : (es : List ℕ) → length es ≡ 0 → Plain code es (leaf l)
+    is [] h = record { within = w; apart = refl; known = k; operands = refl; words = λ line. rw e; said = no-type (leaf l) refl }
+    is (a ∷ es) h = absurd (omega arith)
+
+unary-plain : (code : ℕ) (op : Unary) → unaryWithin op ≡ true → ((n : ℕ) → unaryKnown n op ≡ true) → unaryWords op ≡ (code, 0) → ((fs : List Bytes) → shapeBy code fs ≡ oneOperand (unary op) fs) → PlainForm code 1
+unfolding chain oneOperand formWithin twoVariables formKnown operandsOf shapeWords isIterate
+unary-plain code op w k e r = record { shape = λ es. unary op (getD es 0 0); reads = r; is = is }
+  where
+    is : (es : List ℕ) → length es ≡ 1 → Plain code es (unary op (getD es 0 0))
+    is [] h = absurd (omega arith)
+    is (a ∷ []) h = record { within = w; apart = refl; known = k; operands = refl; words = λ line. simp (e, zero-add); said = no-type (unary op a) refl }
+    is (a ∷ b ∷ es) h = absurd (omega arith)
+
+binary-plain : (code : ℕ) (op : Binary) → binaryCode op ≡ code → ((fs : List Bytes) → shapeBy code fs ≡ twoOperands (binary op) fs) → PlainForm code 2
+unfolding chain twoOperands formWithin twoVariables formKnown operandsOf shapeWords isIterate
+binary-plain code op e r = record { shape = λ es. binary op (getD es 0 0) (getD es 1 0); reads = r; is = is }
+  where
+    is : (es : List ℕ) → length es ≡ 2 → Plain code es (binary op (getD es 0 0) (getD es 1 0))
+    is [] h = absurd (omega arith)
+    is (a ∷ []) h = absurd (omega arith)
+    is (a ∷ b ∷ []) h = record { within = refl; apart = refl; known = λ n. refl; operands = refl; words = λ line. simp (e, zero-add); said = no-type (binary op a b) refl }
+    is (a ∷ b ∷ c ∷ es) h = absurd (omega arith)
+
+connective-plain : (code : ℕ) (op : Connective) → connectiveCode op ≡ code → ((fs : List Bytes) → shapeBy code fs ≡ twoOperands (connective op) fs) → PlainForm code 2
+unfolding chain twoOperands formWithin twoVariables formKnown operandsOf shapeWords isIterate
+connective-plain code op e r = record { shape = λ es. connective op (getD es 0 0) (getD es 1 0); reads = r; is = is }
+  where
+    is : (es : List ℕ) → length es ≡ 2 → Plain code es (connective op (getD es 0 0) (getD es 1 0))
+    is [] h = absurd (omega arith)
+    is (a ∷ []) h = absurd (omega arith)
+    is (a ∷ b ∷ []) h = record { within = refl; apart = refl; known = λ n. refl; operands = refl; words = λ line. simp (e, zero-add); said = no-type (connective op a b) refl }
+    is (a ∷ b ∷ c ∷ es) h = absurd (omega arith)
+
+isUndef-plain : PlainForm 30 1
+unfolding chain oneOperand formWithin twoVariables formKnown operandsOf shapeWords isIterate shapeBy
+isUndef-plain = record { shape = λ es. isUndef (getD es 0 0); reads = λ fs. refl; is = is }
+  where
+    is : (es : List ℕ) → length es ≡ 1 → Plain 30 es (isUndef (getD es 0 0))
+    is [] h = absurd (omega arith)
+    is (a ∷ []) h = record { within = refl; apart = refl; known = λ n. refl; operands = refl; words = λ line. simp zero-add; said = no-type (isUndef a) refl }
+    is (a ∷ b ∷ es) h = absurd (omega arith)
+
+conditional-plain : PlainForm 31 3
+unfolding chain threeNumbers formWithin twoVariables formKnown operandsOf shapeWords isIterate shapeBy
+conditional-plain = record { shape = λ es. conditional (getD es 0 0) (getD es 1 0) (getD es 2 0); reads = λ fs. refl; is = is }
+  where
+    is : (es : List ℕ) → length es ≡ 3 → Plain 31 es (conditional (getD es 0 0) (getD es 1 0) (getD es 2 0))
+    is [] h = absurd (omega arith)
+    is (a ∷ []) h = absurd (omega arith)
+    is (a ∷ b ∷ []) h = absurd (omega arith)
+    is (a ∷ b ∷ c ∷ []) h = record { within = refl; apart = refl; known = λ n. refl; operands = refl; words = λ line. simp zero-add; said = no-type (conditional a b c) refl }
+    is (a ∷ b ∷ c ∷ d ∷ es) h = absurd (omega arith)
+
+plain-code : {code m : ℕ} → PlainCode code m → PlainForm code m
+unfolding shapeBy leafWithin leafKnown leafWords unaryWithin unaryKnown unaryWords binaryCode arithCode connectiveCode AllBelow
+plain-code (constant {k} h) =
+    all-below (λ k. PlainForm k 0) 3
+    (((tt, leaf-plain 0 (truth false) refl (λ n. refl) refl (λ fs. refl)), leaf-plain 1 (truth true) refl (λ n. refl) refl (λ fs. refl)), leaf-plain 2 undef refl (λ n. refl) refl (λ fs. refl))
+    k h
+plain-code itself = leaf-plain 4 self refl (λ n. refl) refl (λ fs. refl)
+plain-code (one {k} l h) =
+    from-below (λ k. PlainForm k 1) 7 5 (
+      (
+        (((tt, unary-plain 7 negation refl (λ n. refl) refl (λ fs. refl)), unary-plain 8 sizeOf refl (λ n. refl) refl (λ fs. refl)), unary-plain 9 (convert set) refl (λ n. refl) refl (λ fs. refl)),
+        unary-plain 10 (convert sequence) refl (λ n. refl) refl (λ fs. refl),
+      ),
+      unary-plain 11 (convert bag) refl (λ n. refl) refl (λ fs. refl),
+    )
+    k l (omega arith)
+plain-code (two {k} l h) =
+    from-below (λ k. PlainForm k 2) 13 12 (
+      (
+        (
+          (
+            (
+              (
+                (
+                  (
+                    ((((tt, binary-plain 13 equal refl (λ fs. refl)), binary-plain 14 less refl (λ fs. refl)), binary-plain 15 (calculation plus) refl (λ fs. refl)), binary-plain 16 (calculation minus) refl (λ fs. refl)),
+                    binary-plain 17 (calculation times) refl (λ fs. refl),
+                  ),
+                  binary-plain 18 (calculation div) refl (λ fs. refl),
+                ),
+                binary-plain 19 (calculation modulo) refl (λ fs. refl),
+              ),
+              binary-plain 20 includes refl (λ fs. refl),
+            ),
+            binary-plain 21 including refl (λ fs. refl),
+          ),
+          binary-plain 22 union refl (λ fs. refl),
+        ),
+        connective-plain 23 and refl (λ fs. refl),
+      ),
+      connective-plain 24 or refl (λ fs. refl),
+    )
+    k l (omega arith)
+plain-code undefTest = isUndef-plain
+plain-code conditionalCode = conditional-plain
+
+pub plain-few : {code m : ℕ} → PlainCode code m → m ≤ 3
+plain-few (constant h) = omega arith
+plain-few itself = omega arith
+plain-few (one l h) = omega arith
+plain-few (two l h) = omega arith
+plain-few undefTest = omega arith
+plain-few conditionalCode = omega arith
+
+pub plain-read : {code m line : ℕ} {r : Numbers} (fs : List Bytes) → PlainCode code m → NumbersRead (exact m fs) r
+    → FormRead line (shapeBy code fs) (record { spelled = r .good; words = code ∷ getD (r .at) 0 0 ∷ getD (r .at) 1 0 ∷ getD (r .at) 2 0 ∷ 0 ∷ 0 ∷ 0 ∷ line ∷ []; count = m; within = true; apart = true; classes = 0 })
+plain-read {code} {m} {line} {r} fs c n =
+    let p = plain-code c in
+    let few = plain-few c in
+    record { is = numbers-form m fs (p .shape) n (p .reads fs) refl (λ l h e. plain-stands l (p .is l h) h few e); few = omega arith; size = refl }

@@ -1,0 +1,256 @@
+-- Laws of `iter`: its type, and its six fields. Assumes nothing.
+use mathlib.Core.Path.{_≡_, refl, sym, ap, _∙_}
+use mathlib.Core.Bool.{Bool, true, false, not, _&&_, true≢false}
+use mathlib.Core.Option.{Option, none, some}
+use mathlib.Core.List.{List, [], _∷_, map}
+use Prim.Native.Nat.{ℕ, zero, suc, _+_, _-_, _^_, _<_, _≤_}
+use native.Mathlib.Nat.{zero-add}
+use native.Mathlib.Omega.{arith}
+use borrow.Author.Tests.{le-leb, lt-leb, lt-ltb, le-ltb, ltb-true}
+use native.Mathlib.Decide.{decLt}
+use lib.Dec.{eqb, ltb, leb}
+use lib.ListN.{length, getD, take, drop}
+use lib.Seq.{drop-drop, getD-drop}
+use Rattle.laws.specs.Choice.{if_then_else_, onSome, mapSome}
+use Rattle.laws.specs.Lists.{allOf}
+use Rattle.ocl.specs.Types.{Simple, any, boolean, integer, class, Ty, void, simple, around, depth}
+use Rattle.sheet.specs.Text.{Bytes, fieldsOf}
+use Rattle.sheet.specs.Spelling.{readType}
+use Rattle.sheet.specs.Lines.{Shape, iterate, next, done, each, aNumber, iterateFields}
+use Rattle.sheet.specs.Sheet.{operandsOf}
+use Rattle.sheet.specs.Refusals.{isNode, isVariable, simpleClassBelow, classBelow, typeWithin, formWithin, twoVariables, formKnown}
+use Rattle.types.specs.Flat.{baseType, baseClass, layer, tyOf}
+use Rattle.types.specs.Word.{typeIn}
+use Rattle.types.specs.Reading.{TypeField, bad, big, is, typeField, held}
+use Rattle.types.specs.declared.Base.{Base}
+use Rattle.types.specs.declared.Base.the-variants as b
+use Rattle.types.specs.declared.FlatType.{FlatType}
+use Rattle.types.specs.declared.GotType.{GotType}
+use Rattle.types.specs.declared.GotType.the-variants as g
+use Rattle.text.specs.Forms.{shapeBy}
+use Rattle.text.specs.Parts.{Cut}
+use Rattle.text.specs.declared.parts.Fields.{Fields}
+use Rattle.nodes.specs.Nodes.{shapeWords}
+use Rattle.nodes.proofs.Shapes.{TypeSaid}
+use Rattle.trees.specs.declared.Parsed.{Parsed}
+use Rattle.trees.specs.declared.numbers.Numbers.{Numbers}
+use Rattle.trees.specs.declared.iterate.TypeRead.{TypeRead}
+use Rattle.trees.specs.Fields.{cut, four, Read, unread, read, NumbersRead}
+use Rattle.trees.specs.Forms.{Stands, Spelled, misspelled, spelled, FormRead}
+use Rattle.trees.specs.Iterate.{classesIn, Typed, TypeSpelled, no-type, a-type}
+use Rattle.trees.proofs.FieldLaws.{rest-exact}
+use Rattle.trees.proofs.FormLaws.{cut-variable, variable-small, nodes-small}
+use Rattle.trees.proofs.HeldLaws.{cut-at}
+
+-- ---- the class in a type
+
+layer-class : (n k : ℕ) (base under : Ty) → classBelow n under ≡ classBelow n base → classBelow n (layer k base under) ≡ classBelow n base
+unfolding layer classBelow
+layer-class n zero base under h = refl
+layer-class n (suc k) base under h = h
+
+type-class : (n : ℕ) (t : FlatType) → classBelow n (tyOf t) ≡ classBelow n (baseType (t .base))
+type-class n t =
+    layer-class n (t .outer) (baseType (t .base)) _
+    (layer-class n (t .middle) (baseType (t .base)) _ (layer-class n (t .inner) (baseType (t .base)) (baseType (t .base)) refl))
+
+base-known : (n : ℕ) (a : Base) → leb (classesIn a) n ≡ classBelow n (baseType a)
+unfolding classesIn classBelow simpleClassBelow
+base-known n b.Void = le-leb 0 n (omega arith)
+base-known n b.Bool = le-leb 0 n (omega arith)
+base-known n b.Int = le-leb 0 n (omega arith)
+base-known n b.Any = le-leb 0 n (omega arith)
+base-known n (b.Class c) = go (decLt c n)
+  where
+    go : Dec (c < n) → leb (c + 1) n ≡ ltb c n
+    go (yes l) = le-leb (c + 1) n (omega arith) ∙ sym (lt-ltb c n l)
+    go (no l) = lt-leb (c + 1) n (omega arith) ∙ sym (le-ltb c n (omega arith))
+
+base-small : (a : Base) → classBelow 64 (baseType a) ≡ true → baseClass a < 64
+unfolding classBelow simpleClassBelow
+base-small b.Void h = omega arith
+base-small b.Bool h = omega arith
+base-small b.Int h = omega arith
+base-small b.Any h = omega arith
+base-small (b.Class c) h = ltb-true c 64 h
+
+-- ---- what a field of a type tells
+
+data Held (t : FlatType) : Option Ty → Type 0 where
+  held-as : typeWithin (tyOf t) ≡ true → Held t (some (tyOf t))
+
+type-held : (t : FlatType) (o : Option Ty) → is (tyOf t) ≡ held o → Held t o
+unfolding held
+type-held t none e = absurd (let z : _≡_ {A = ℕ} 0 1 = cc in omega arith)
+type-held t (some u) e = go (typeWithin u) refl e
+  where
+    go : (w : Bool) → typeWithin u ≡ w → is (tyOf t) ≡ (if w then is u else big) → Held t (some u)
+    go true h e = let q : tyOf t ≡ u = cc in rw (← q) (held-as (rw q h))
+    go false h e = absurd (let z : _≡_ {A = ℕ} 0 1 = cc in omega arith)
+
+and-second : (a b : Bool) → (a && b) ≡ true → b ≡ true
+and-second true b h = h
+and-second false b h = absurd (true≢false (sym h))
+
+module _ {r : GotType} (o : Option Ty) (told : typeField r ≡ held o) where
+  pub type-bad : r ≡ g.Bad → TypeSpelled o (record { spelled = false; within = false; word = 0; classes = 0 })
+  unfolding typeField held
+  type-bad e = go o (rw e at told)
+    where
+      go : (o : Option Ty) → bad ≡ held o → TypeSpelled o (record { spelled = false; within = false; word = 0; classes = 0 })
+      go none q = no-type refl
+      go (some t) q = absurd (by (typeWithin t) q)
+        where
+          by : (w : Bool) → bad ≡ (if w then is t else big) → ⊥
+          by true q = let z : _≡_ {A = ℕ} 0 1 = cc in omega arith
+          by false q = let z : _≡_ {A = ℕ} 0 1 = cc in omega arith
+
+  pub type-big : r ≡ g.Big → TypeSpelled o (record { spelled = true; within = false; word = 0; classes = 0 })
+  unfolding typeField held
+  type-big e = go o (rw e at told)
+    where
+      over : (t : Ty) (w : Bool) → typeWithin t ≡ w → big ≡ (if w then is t else big) → TypeSpelled (some t) (record { spelled = true; within = false; word = 0; classes = 0 })
+      over t true h q = absurd (let z : _≡_ {A = ℕ} 0 1 = cc in omega arith)
+      over t false h q = a-type refl (record { within = sym h; word = λ k. absurd (true≢false (sym k ∙ h)); known = λ k. absurd (true≢false (sym k ∙ h)) })
+
+      go : (o : Option Ty) → big ≡ held o → TypeSpelled o (record { spelled = true; within = false; word = 0; classes = 0 })
+      go none q = absurd (let z : _≡_ {A = ℕ} 0 1 = cc in omega arith)
+      go (some t) q = over t (typeWithin t) refl q
+
+  module _ (t : FlatType) (e : r ≡ g.Is t) where
+    is-held : Held t o
+    unfolding typeField
+    is-held = type-held t o (rw e at told)
+
+    pub type-small : baseClass (t .base) < 64
+    unfolding typeWithin
+    type-small = go is-held
+      where
+        go : {o : Option Ty} → Held t o → baseClass (t .base) < 64
+        go (held-as h) = base-small (t .base) (sym (type-class 64 t) ∙ and-second (leb (depth (tyOf t)) 3) (classBelow 64 (tyOf t)) h)
+
+    pub type-is : {word classes : ℕ} → typeIn word ≡ tyOf t → classes ≡ classesIn (t .base) → TypeSpelled o (record { spelled = true; within = true; word = word; classes = classes })
+    type-is {word} {classes} p q = go is-held
+      where
+        go : {o : Option Ty} → Held t o → TypeSpelled o (record { spelled = true; within = true; word = word; classes = classes })
+        go (held-as h) = a-type {r = record { spelled = true; within = true; word = word; classes = classes }} refl (record { within = sym h; word = λ k. p; known = λ k n. rw (q, base-known n (t .base)) (sym (type-class n t)) })
+
+-- ---- the six fields
+
+nowhere : {A B : Type 0} (o : Option A) (f : A → Option B) → ((x : A) → f x ≡ none) → onSome o f ≡ none
+unfolding onSome
+nowhere none f h = refl
+nowhere (some x) f h = h x
+
+pub iterate-not : (fs : List Bytes) → (length fs ≡ 6 → ⊥) → shapeBy 34 fs ≡ none
+unfolding shapeBy iterateFields next done
+iterate-not [] h = refl
+iterate-not (a ∷ []) h = nowhere _ _ (λ s. refl)
+iterate-not (a ∷ b ∷ []) h = nowhere _ _ (λ s. nowhere _ _ (λ i. refl))
+iterate-not (a ∷ b ∷ c ∷ []) h = nowhere _ _ (λ s. nowhere _ _ (λ i. nowhere _ _ (λ j. refl)))
+iterate-not (a ∷ b ∷ c ∷ d ∷ []) h = nowhere _ _ (λ s. nowhere _ _ (λ i. nowhere _ _ (λ j. nowhere _ _ (λ t. refl))))
+iterate-not (a ∷ b ∷ c ∷ d ∷ e ∷ []) h = nowhere _ _ (λ s. nowhere _ _ (λ i. nowhere _ _ (λ j. nowhere _ _ (λ t. nowhere _ _ (λ e. refl)))))
+iterate-not (a ∷ b ∷ c ∷ d ∷ e ∷ f ∷ []) h = absurd (h refl)
+iterate-not (a ∷ b ∷ c ∷ d ∷ e ∷ f ∷ g ∷ fs) h =
+    nowhere _ _ (λ s. nowhere _ _ (λ i. nowhere _ _ (λ j. nowhere _ _ (λ t. nowhere _ _ (λ e. nowhere _ _ (λ b. refl))))))
+
+-- what the code holds of them: s, i, j in h, the type in y, e and b in t
+abbrev pub parsed : Bool → Bool → Bool → Numbers → Numbers → TypeRead → ℕ → Parsed
+parsed good within apart h t y line = record {
+  spelled = good;
+  words = 34 ∷ getD (h .at) 0 0 ∷ getD (t .at) 0 0 ∷ getD (t .at) 1 0 ∷ getD (h .at) 1 0 ∷ getD (h .at) 2 0 ∷ y .word ∷ line ∷ [];
+  count = 3;
+  within = within;
+  apart = apart;
+  classes = y .classes;
+}
+
+and-first : (a b : Bool) → (a && b) ≡ true → a ≡ true
+and-first true b h = refl
+and-first false b h = h
+
+module _ (h t : Numbers) (y : TypeRead) {good within apart : Bool} (line : ℕ)
+    (w : within ≡ (isVariable (getD (h .at) 1 0) && isVariable (getD (h .at) 2 0) && y .within)) (d : apart ≡ not (eqb (getD (h .at) 1 0) (getD (h .at) 2 0))) where
+  iterate-stands : (s i j e b : ℕ) (u : Ty) → h .at ≡ four (map cut (s ∷ i ∷ j ∷ [])) → t .at ≡ four (map cut (e ∷ b ∷ [])) → Typed u y → Stands line (iterate i j u s e b) (parsed good within apart h t y line)
+  unfolding formWithin twoVariables formKnown operandsOf shapeWords
+  iterate-stands s i j e b u p q of = record {
+    within = w ∙ rw (p, cut-variable i, cut-variable j, of .within);
+    apart = λ k. d ∙ rw (p, variable-small i (member k), variable-small j (accumulator k));
+    known = λ k n l. of .known (typed k) n;
+    counted = refl;
+    operands = rw (p, q);
+    type = y .word;
+    said = λ k. record { said = λ i' j' u' a' e' b' z. of .word (typed k) ∙ (let same : u ≡ u' = cc in same) };
+    words = λ k n.
+        let small = nodes-small (s ∷ e ∷ b ∷ []) n in
+        simp (p, q, ap (λ (x : List ℕ). getD x 0 0) small, ap (λ (x : List ℕ). getD x 1 0) small, ap (λ (x : List ℕ). getD x 2 0) small, variable-small i (member k), variable-small j (accumulator k), zero-add);
+  }
+    where
+      both : (isVariable i && isVariable j && typeWithin u) ≡ true → (isVariable i && isVariable j) ≡ true
+      both k = and-first (isVariable i && isVariable j) (typeWithin u) k
+
+      member : (isVariable i && isVariable j && typeWithin u) ≡ true → isVariable i ≡ true
+      member k = and-first (isVariable i) (isVariable j) (both k)
+
+      accumulator : (isVariable i && isVariable j && typeWithin u) ≡ true → isVariable j ≡ true
+      accumulator k = and-second (isVariable i) (isVariable j) (both k)
+
+      typed : (isVariable i && isVariable j && typeWithin u) ≡ true → typeWithin u ≡ true
+      typed k = and-second (isVariable i && isVariable j) (typeWithin u) k
+
+  module _ (all : good ≡ (h .good && y .spelled && t .good)) where
+    off-head : h .good ≡ false → good ≡ false
+    off-head e = all ∙ rw e
+
+    off-type : h .good ≡ true → y .spelled ≡ false → good ≡ false
+    off-type e f = all ∙ rw (e, f)
+
+    off-tail : h .good ≡ true → y .spelled ≡ true → t .good ≡ false → good ≡ false
+    off-tail e f k = all ∙ rw (e, f, k)
+
+    on-all : h .good ≡ true → y .spelled ≡ true → t .good ≡ true → good ≡ true
+    on-all e f k = all ∙ rw (e, f, k)
+
+    -- by the parts of what is read
+    parts : (s i j : Option ℕ) (u : Option Ty) (e b : Option ℕ)
+        → Read (onSome s (λ s. mapSome (λ l. s ∷ l) (onSome i (λ i. mapSome (λ l. i ∷ l) (onSome j (λ j. mapSome (λ l. j ∷ l) (some []))))))) h
+        → TypeSpelled u y
+        → Read (onSome e (λ e. mapSome (λ l. e ∷ l) (onSome b (λ b. mapSome (λ l. b ∷ l) (some []))))) t
+        → Spelled line (onSome s (λ s. onSome i (λ i. onSome j (λ j. onSome u (λ u. onSome e (λ e. onSome b (λ b. some (iterate i j u s e b)))))))) (parsed good within apart h t y line)
+    unfolding onSome mapSome
+    parts none i j u e b (unread f) ty tl = misspelled (off-head f)
+    parts (some s) none j u e b (unread f) ty tl = misspelled (off-head f)
+    parts (some s) (some i) none u e b (unread f) ty tl = misspelled (off-head f)
+    parts (some s) (some i) (some j) none e b (read f p) (no-type k) tl = misspelled (off-type f k)
+    parts (some s) (some i) (some j) (some u) none b (read f p) (a-type k of) (unread g) = misspelled (off-tail f k g)
+    parts (some s) (some i) (some j) (some u) (some e) none (read f p) (a-type k of) (unread g) = misspelled (off-tail f k g)
+    parts (some s) (some i) (some j) (some u) (some e) (some b) (read f p) (a-type k of) (read g q) =
+        spelled {p = parsed good within apart h t y line} (on-all f k g) (iterate-stands s i j e b u p q of)
+
+    six-read : (fs : List Bytes) → length fs ≡ 6 → NumbersRead (each aNumber (take 3 fs)) h → TypeSpelled (readType (getD fs 3 [])) y → NumbersRead (each aNumber (take 2 (drop 4 fs))) t
+        → FormRead line (shapeBy 34 fs) (parsed good within apart h t y line)
+    unfolding shapeBy iterateFields next done each
+    six-read [] n hd ty tl = absurd (omega arith)
+    six-read (p ∷ []) n hd ty tl = absurd (omega arith)
+    six-read (p ∷ q ∷ []) n hd ty tl = absurd (omega arith)
+    six-read (p ∷ q ∷ r ∷ []) n hd ty tl = absurd (omega arith)
+    six-read (p ∷ q ∷ r ∷ s ∷ []) n hd ty tl = absurd (omega arith)
+    six-read (p ∷ q ∷ r ∷ s ∷ u ∷ []) n hd ty tl = absurd (omega arith)
+    six-read (p ∷ q ∷ r ∷ s ∷ u ∷ v ∷ []) n hd ty tl =
+        record { is = parts (aNumber p) (aNumber q) (aNumber r) (readType s) (aNumber u) (aNumber v) (hd .is) ty (tl .is); few = omega arith; size = refl }
+    six-read (p ∷ q ∷ r ∷ s ∷ u ∷ v ∷ x ∷ fs) n hd ty tl = absurd (omega arith)
+
+    pub iterate-read : {text : Bytes} {f : Fields} → Cut text f → f .count ≡ 9 → NumbersRead (each aNumber (take (6 - 3) (drop 3 (fieldsOf text)))) h → TypeSpelled (readType (getD (fieldsOf text) 6 [])) y
+        → NumbersRead (each aNumber (take (9 - 7) (drop 7 (fieldsOf text)))) t → FormRead line (shapeBy 34 (drop 3 (fieldsOf text))) (parsed good within apart h t y line)
+    iterate-read {text} cut-up n hd ty tl =
+        six-read (drop 3 (fieldsOf text)) (rest-exact cut-up 6 (omega arith) n) hd (rw (getD-drop 3 (fieldsOf text) 3 []) ty) (rw (drop-drop 4 3 (fieldsOf text)) tl)
+
+-- what the calls told, as the law asks for it
+pub both-variables : {v u w : Bool} (c : Bool) (i j : ℕ) → v ≡ isVariable i → u ≡ isVariable j → w ≡ (v && u && c) → w ≡ (isVariable i && isVariable j && c)
+both-variables c i j p q e = e ∙ rw (p, q)
+
+pub type-of-field : {y : TypeRead} {f g : Bytes} → f ≡ g → TypeSpelled (readType f) y → TypeSpelled (readType g) y
+type-of-field e h = rw (← e) h
+
+pub classes-less : (a : Base) (c : ℕ) → baseClass a < 64 → a ≡ b.Class c → c < 64
+classes-less a c h e = rw e at h

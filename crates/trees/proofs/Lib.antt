@@ -1,0 +1,13 @@
+pub mod FieldLaws
+pub mod ExactLaws
+pub mod FormLaws
+pub mod HeldLaws
+pub mod MoreFormLaws
+pub mod IterateLaws
+pub mod OperandLaws
+pub mod MarkLaws
+pub mod ShapeLaws
+pub mod PlaceLaws
+pub mod NodeLaws
+pub mod LineLaws
+pub mod EndLaws

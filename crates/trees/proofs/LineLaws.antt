@@ -1,0 +1,119 @@
+-- A line whose first field is `N`: what its fields spell, and what the code makes of it. Assumes nothing.
+use mathlib.Core.Path.{_≡_, refl, sym, ap, _∙_}
+use mathlib.Core.Bool.{Bool, true, false, not, true≢false}
+use mathlib.Core.Option.{Option, none, some}
+use mathlib.Core.List.{List, [], _∷_}
+use Prim.Native.Nat.{ℕ, zero, suc, _<_, _≤_}
+use native.Mathlib.Omega.{arith}
+use borrow.Author.Tests.{eqb-true, not-true, not-false}
+use lib.Dec.{eqb}
+use lib.ListN.{length, getD, drop}
+use Rattle.laws.specs.Choice.{if_then_else_, onSome, mapSome}
+use Rattle.laws.proofs.Tests.{Any?, any-some}
+use Rattle.sheet.specs.Text.{Bytes, bytes, fieldsOf}
+use Rattle.sheet.specs.Lines.{Shape, Line, nodeLine, is, next, aNumber, aWord, shapeOf, lineOf, firstIsN}
+use Rattle.sheet.specs.Sheet.{Sheet}
+use Rattle.sheet.specs.Reading.{stepSpelled, step}
+use Rattle.text.specs.Forms.{shapeBy}
+use Rattle.text.specs.Numbers.{numOf}
+use Rattle.text.specs.Parts.{Cut}
+use Rattle.text.specs.Words.{byteKind, letterOf, formCode}
+use Rattle.text.specs.declared.numbers.Num.the-variants as num
+use Rattle.text.specs.declared.parts.Fields.{Fields}
+use Rattle.text.proofs.NumberLaws.{num-bad, num-is}
+use Rattle.text.proofs.ShapeLaws.{shape-code}
+use Rattle.text.proofs.WordLaws.{is-class-line, is-row-line, is-object-line, is-value-line, is-rule-line, is-node-line}
+use Rattle.tables.specs.Layout.{Kept, Moved, moved-stop, Took}
+use Rattle.tables.specs.declared.Counts.{Counts}
+use Rattle.tables.specs.declared.Step.{Step}
+use Rattle.tables.specs.declared.Step.the-variants as code
+use Rattle.tables.proofs.Tables.{kept-refl}
+use Rattle.trees.specs.declared.Parsed.{Parsed}
+use Rattle.trees.specs.Fields.{cut}
+use Rattle.trees.specs.Forms.{Stands, Spelled, misspelled, spelled, FormRead}
+use Rattle.trees.specs.Rules.{stop-room, Placed, TookNode}
+use Rattle.trees.proofs.FieldLaws.{field-count}
+
+-- ---- the fields
+
+node-fields : (fs : List Bytes) → firstIsN fs ≡ true → lineOf fs ≡ next aNumber (λ n. next aWord (λ form gs. mapSome (nodeLine n) (shapeOf form gs))) (drop 1 fs)
+unfolding firstIsN lineOf
+node-fields [] h = absurd (true≢false (sym h))
+node-fields (w ∷ fs) h =
+    let k : byteKind (letterOf w) ≡ 6 = eqb-true (byteKind (letterOf w)) 6 (sym (is-node-line w) ∙ h) in
+    rw (is-class-line w, is-row-line w, is-object-line w, is-value-line w, is-rule-line w, h, k)
+
+module _ (fs : List Bytes) (starts : firstIsN fs ≡ true) where
+  few-fields : length fs < 3 → lineOf fs ≡ none
+  unfolding onSome next
+  few-fields h = node-fields fs starts ∙ go fs h
+    where
+      end : (o : Option ℕ) → _≡_ {A = Option Line} (onSome o (λ n. none)) none
+      end none = refl
+      end (some n) = refl
+
+      go : (fs : List Bytes) → length fs < 3 → next aNumber (λ n. next aWord (λ form gs. mapSome (nodeLine n) (shapeOf form gs))) (drop 1 fs) ≡ none
+      go [] l = refl
+      go (w ∷ []) l = refl
+      go (w ∷ a ∷ []) l = end (aNumber a)
+      go (w ∷ a ∷ b ∷ fs) l = absurd (omega arith)
+
+  line-of : 3 ≤ length fs → lineOf fs ≡ onSome (aNumber (getD fs 1 [])) (λ n. mapSome (nodeLine n) (shapeBy (formCode (getD fs 2 [])) (drop 3 fs)))
+  unfolding next onSome aWord
+  line-of h = node-fields fs starts ∙ go fs h
+    where
+      go : (fs : List Bytes) → 3 ≤ length fs
+          → next aNumber (λ n. next aWord (λ form gs. mapSome (nodeLine n) (shapeOf form gs))) (drop 1 fs) ≡ onSome (aNumber (getD fs 1 [])) (λ n. mapSome (nodeLine n) (shapeBy (formCode (getD fs 2 [])) (drop 3 fs)))
+      go [] l = absurd (omega arith)
+      go (w ∷ []) l = absurd (omega arith)
+      go (w ∷ a ∷ []) l = absurd (omega arith)
+      go (w ∷ a ∷ b ∷ fs) l = rw (← shape-code b fs)
+
+-- ---- 3, and a line that spells a node
+
+took-none : {st : Counts} {k : ℕ} {line w : List ℕ} → lineOf (fieldsOf line) ≡ none → TookNode st k line (code.Stop 3) w w
+unfolding step stepSpelled
+took-none {w = w} e = record {
+  took = λ w0. record { is = λ s h. rw e moved-stop; kept0 = kept-refl w0; kept1 = kept-refl w };
+  room = λ r. stop-room;
+}
+
+took-node : {st : Counts} {k n : ℕ} {line w v : List ℕ} {p : Parsed} {r : Step} (i : ℕ) (x : Shape) → lineOf (fieldsOf line) ≡ some (nodeLine i x) → n ≡ cut i → Stands k x p → Placed st n p r w v → TookNode st k line r w v
+unfolding step stepSpelled
+took-node {k = k} i x e q z d = record {
+  took = λ w0. record { is = λ s h. rw e (d .is k w0 s i x q z h); kept0 = kept-refl w0; kept1 = d .kept };
+  room = d .room;
+}
+
+module _ {line : List ℕ} {f : Fields} (is : Cut line f) (starts : firstIsN (fieldsOf line) ≡ true) where
+  pub line-short : {st : Counts} {k : ℕ} {w : List ℕ} → f .count < 3 → TookNode st k line (code.Stop 3) w w
+  line-short h = took-none (few-fields (fieldsOf line) starts (omega (arith, is .counted)))
+
+  module _ (long : 3 ≤ f .count) where
+    spelled-line : lineOf (fieldsOf line) ≡ onSome (aNumber (getD (fieldsOf line) 1 [])) (λ n. mapSome (nodeLine n) (shapeBy (formCode (getD (fieldsOf line) 2 [])) (drop 3 (fieldsOf line))))
+    spelled-line = line-of (fieldsOf line) starts (field-count is long)
+
+    pub line-number : {st : Counts} {k : ℕ} {w : List ℕ} → num.Bad ≡ numOf (aNumber (getD (fieldsOf line) 1 [])) → TookNode st k line (code.Stop 3) w w
+    unfolding onSome
+    line-number h = took-none (spelled-line ∙ rw (num-bad (aNumber (getD (fieldsOf line) 1 [])) h))
+
+    module _ {k c : ℕ} {p : Parsed} (coded : c ≡ formCode (getD (fieldsOf line) 2 [])) (form : FormRead k (shapeBy c (drop 3 (fieldsOf line))) p) where
+      pub line-form : {st : Counts} {w : List ℕ} → not (p .spelled) ≡ true → TookNode st k line (code.Stop 3) w w
+      unfolding onSome mapSome
+      line-form h = took-none (spelled-line ∙ rw (← coded) (go (aNumber (getD (fieldsOf line) 1 [])) (form .is)))
+        where
+          end : (o : Option ℕ) → _≡_ {A = Option Line} (onSome o (λ n. none)) none
+          end none = refl
+          end (some n) = refl
+
+          go : (o : Option ℕ) {q : Option Shape} → Spelled k q p → onSome o (λ n. mapSome (nodeLine n) q) ≡ none
+          go o (misspelled e) = end o
+          go o (spelled e z) = absurd (true≢false (sym e ∙ not-true (p .spelled) h))
+
+      pub line-placed : {st : Counts} {n : ℕ} {r : Step} {w v : List ℕ} → num.Is n ≡ numOf (aNumber (getD (fieldsOf line) 1 [])) → not (p .spelled) ≡ false → Placed st n p r w v → TookNode st k line r w v
+      unfolding onSome mapSome
+      line-placed {st} {n} {r} {w} {v} e h d = go (aNumber (getD (fieldsOf line) 1 [])) refl (num-is (aNumber (getD (fieldsOf line) 1 [])) e) (shapeBy c (drop 3 (fieldsOf line))) refl (form .is)
+        where
+          go : (o : Option ℕ) → aNumber (getD (fieldsOf line) 1 []) ≡ o → Any? (λ i. n ≡ cut i) o → (q : Option Shape) → shapeBy c (drop 3 (fieldsOf line)) ≡ q → Spelled k q p → TookNode st k line r w v
+          go (some i) a (any-some u) none b (misspelled z) = absurd (true≢false (sym (not-false (p .spelled) h) ∙ z))
+          go (some i) a (any-some u) (some x) b (spelled s z) = took-node i x (spelled-line ∙ rw (a, ← coded, b)) u z d

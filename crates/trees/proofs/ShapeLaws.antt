@@ -1,0 +1,111 @@
+-- A form over its operands' trees: equal trees, depth, and a node's words from the words of its line. Assumes nothing.
+use mathlib.Core.Path.{_≡_, refl, sym, ap, _∙_}
+use mathlib.Core.List.{List, [], _∷_}
+use Prim.Native.Nat.{ℕ, zero, suc, _+_, _<_, _≤_, max}
+use native.Mathlib.Nat.{zero-add}
+use native.Mathlib.Omega.{arith}
+use lib.ListN.{length, getD}
+use Rattle.laws.specs.Lists.{Each, each-nil, each-cons}
+use Rattle.ocl.specs.Types.{Kind}
+use Rattle.ocl.specs.Forms.{Leaf, Unary, Binary, Connective, Quantifier, Expr, Form, levels, levelsIn, levelsOf}
+use Rattle.sheet.specs.Lines.{Shape, leaf, unary, binary, connective, isUndef, conditional, letIn, attribute, quantified, iterate, collect}
+use Rattle.sheet.specs.Sheet.{operandsOf, growAll, grow}
+use Rattle.nodes.specs.Nodes.{operandWord, shapeWords}
+use Rattle.trees.specs.Operands.{shifted}
+use Rattle.trees.proofs.FormLaws.{AllBelow, all-below}
+use Rattle.trees.proofs.MarkLaws.{deepestOf}
+
+-- ---- trees that agree on the operands
+
+module _ (f g : ℕ → Expr) where
+  all-same : (es : List ℕ) → Each (λ a. f a ≡ g a) es → growAll f es ≡ growAll g es
+  unfolding growAll
+  all-same [] each-nil = refl
+  all-same (a ∷ es) (each-cons e h) = rw (e, all-same es h)
+
+  pub grow-same : (x : Shape) → Each (λ a. f a ≡ g a) (operandsOf x) → grow f x ≡ grow g x
+  unfolding grow operandsOf
+  grow-same (leaf l) h = refl
+  grow-same (unary op a) (each-cons p h) = rw p
+  grow-same (binary op a b) (each-cons p (each-cons q h)) = rw (p, q)
+  grow-same (connective c a b) (each-cons p (each-cons q h)) = rw (p, q)
+  grow-same (isUndef a) (each-cons p h) = rw p
+  grow-same (conditional c a b) (each-cons p (each-cons q (each-cons r h))) = rw (p, q, r)
+  grow-same (letIn i a b) (each-cons p (each-cons q h)) = rw (p, q)
+  grow-same (attribute name a) (each-cons p h) = rw p
+  grow-same (quantified k i a b) (each-cons p (each-cons q h)) = rw (p, q)
+  grow-same (iterate i j t a e b) (each-cons p (each-cons q (each-cons r h))) = rw (p, q, r)
+  grow-same (collect k es) h = rw (all-same es h)
+
+-- ---- depth
+
+module _ (f : ℕ → Expr) where
+  all-depth : (es : List ℕ) → levelsOf (growAll f es) ≡ deepestOf (λ a. levels (f a)) es
+  unfolding growAll levelsOf deepestOf
+  all-depth [] = refl
+  all-depth (a ∷ es) = rw (all-depth es)
+
+  pub grow-depth : (x : Shape) → levelsIn (grow f x) ≡ deepestOf (λ a. levels (f a)) (operandsOf x)
+  unfolding grow operandsOf levelsIn deepestOf
+  grow-depth (leaf l) = refl
+  grow-depth (unary op a) = omega arith
+  grow-depth (binary op a b) = omega arith
+  grow-depth (connective c a b) = omega arith
+  grow-depth (isUndef a) = omega arith
+  grow-depth (conditional c a b) = omega arith
+  grow-depth (letIn i a b) = omega arith
+  grow-depth (attribute name a) = omega arith
+  grow-depth (quantified q i a b) = omega arith
+  grow-depth (iterate i j t a e b) = omega arith
+  grow-depth (collect k es) = all-depth es
+
+-- ---- a node's words
+
+-- the first eight
+abbrev eight : (ℕ → ℕ) → List ℕ
+eight v = v 0 ∷ v 1 ∷ v 2 ∷ v 3 ∷ v 4 ∷ v 5 ∷ v 6 ∷ v 7 ∷ []
+
+eight-at : (v : ℕ → ℕ) (j : ℕ) → j < 8 → v j ≡ getD (eight v) j 0
+unfolding AllBelow
+eight-at v = all-below (λ j. v j ≡ getD (eight v) j 0) 8 ((((((((tt, refl), refl), refl), refl), refl), refl), refl), refl)
+
+module _ (first type line : ℕ) where
+  collect-eight : (k : Kind) (es : List ℕ) → length es ≤ 4 → eight (shifted (shapeWords 0 type line (collect k es)) (length es) first) ≡ shapeWords first type line (collect k es)
+  unfolding shapeWords shifted operandWord
+  collect-eight k [] h = refl
+  collect-eight k (a ∷ []) h = simp zero-add
+  collect-eight k (a ∷ b ∷ []) h = simp zero-add
+  collect-eight k (a ∷ b ∷ c ∷ []) h = simp zero-add
+  collect-eight k (a ∷ b ∷ c ∷ d ∷ []) h = simp zero-add
+  collect-eight k (a ∷ b ∷ c ∷ d ∷ e ∷ es) h = absurd (omega arith)
+
+  shape-eight : (x : Shape) → length (operandsOf x) ≤ 4 → eight (shifted (shapeWords 0 type line x) (length (operandsOf x)) first) ≡ shapeWords first type line x
+  unfolding shapeWords shifted operandsOf
+  shape-eight (leaf l) h = refl
+  shape-eight (unary op a) h = simp zero-add
+  shape-eight (binary op a b) h = simp zero-add
+  shape-eight (connective c a b) h = simp zero-add
+  shape-eight (isUndef a) h = simp zero-add
+  shape-eight (conditional c a b) h = simp zero-add
+  shape-eight (letIn i a b) h = simp zero-add
+  shape-eight (attribute name a) h = simp zero-add
+  shape-eight (quantified q i a b) h = simp zero-add
+  shape-eight (iterate i j t a e b) h = simp zero-add
+  shape-eight (collect k es) h = collect-eight k es h
+
+  pub shape-shifted : (x : Shape) → length (operandsOf x) ≤ 4 → (j : ℕ) → j < 8 → shifted (shapeWords 0 type line x) (length (operandsOf x)) first j ≡ getD (shapeWords first type line x) j 0
+  shape-shifted x h j l = eight-at (shifted (shapeWords 0 type line x) (length (operandsOf x)) first) j l ∙ ap (λ (ws : List ℕ). getD ws j 0) (shape-eight x h)
+
+  pub shape-line : (x : Shape) → getD (shapeWords first type line x) 7 0 ≡ line
+  unfolding shapeWords
+  shape-line (leaf l) = refl
+  shape-line (unary op a) = refl
+  shape-line (binary op a b) = refl
+  shape-line (connective c a b) = refl
+  shape-line (isUndef a) = refl
+  shape-line (conditional c a b) = refl
+  shape-line (letIn i a b) = refl
+  shape-line (attribute name a) = refl
+  shape-line (quantified q i a b) = refl
+  shape-line (iterate i j t a e b) = refl
+  shape-line (collect k es) = refl

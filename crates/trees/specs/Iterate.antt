@@ -1,0 +1,29 @@
+-- The type in `iter`, as the code holds it.
+use mathlib.Core.Path.{_≡_}
+use mathlib.Core.Bool.{Bool, true, false}
+use mathlib.Core.Option.{Option, none, some}
+use Prim.Native.Nat.{ℕ, _+_}
+use lib.Dec.{leb}
+use Rattle.ocl.specs.Types.{Ty}
+use Rattle.sheet.specs.Refusals.{typeWithin, classBelow}
+use Rattle.types.specs.Word.{typeIn}
+use Rattle.types.specs.declared.Base.{Base}
+use Rattle.types.specs.declared.Base.the-variants as b
+use Rattle.trees.specs.declared.iterate.TypeRead.{TypeRead}
+
+-- how many classes there must be for the one in a type
+unfoldable pub classesIn : Base → ℕ
+classesIn b.Void = 0
+classesIn b.Bool = 0
+classesIn b.Int = 0
+classesIn b.Any = 0
+classesIn (b.Class c) = c + 1
+
+pub record Typed (t : Ty) (r : TypeRead) : Type 0 where
+  pub within : r .within ≡ typeWithin t
+  pub word : typeWithin t ≡ true → typeIn (r .word) ≡ t
+  pub known : typeWithin t ≡ true → (n : ℕ) → leb (r .classes) n ≡ classBelow n t
+
+pub data TypeSpelled : Option Ty → TypeRead → Type 0 where
+  no-type : {r : TypeRead} → r .spelled ≡ false → TypeSpelled none r
+  a-type : {t : Ty} {r : TypeRead} → r .spelled ≡ true → Typed t r → TypeSpelled (some t) r

@@ -1,0 +1,5 @@
+pub mod Fields
+pub mod Forms
+pub mod Iterate
+pub mod Operands
+pub mod Rules

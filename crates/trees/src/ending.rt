@@ -1,0 +1,68 @@
+// A rule's end: a tree of at most twelve levels that all of its nodes belong to is put down by its context and its root.
+ghost use mathlib.Core.Path.{_≡_};
+ghost use Prim.Native.Nat.{_+_, _≤_};
+ghost use lib.ListN.{length};
+ghost use Rattle.tables.specs.Layout.{Fine};
+ghost use Rattle.trees.specs.Rules.{RuleRoom, usedIn, withRule, Ended};
+use tables::Counts;
+use tables::Step;
+
+// Is each of the first `count` nodes from `first` on an operand.
+fn all_used(w1: &[u64], first: usize, count: usize) -> bool
+    requires { ⌜ (8192 ≤ length (now w1)) × (first + count ≤ 768) ⌝ }
+    ensures { λ r. ⌜ r ≡ usedIn (now (w1 .entry)) first count ⌝ }
+{
+    let mut n = count;
+    while 0 < n {
+        n -= 1;
+        if w1[6912 + (first + n)] % 2 != 1 {
+            return false;
+        }
+    }
+    true
+}
+
+fn with_rule(st: Counts) -> Counts
+    requires { ⌜ Fine st ⌝ }
+    ensures { λ r. ⌜ r ≡ withRule st ⌝ }
+{
+    Counts {
+        block: st.block,
+        classes: st.classes,
+        rows: st.rows,
+        objects: st.objects,
+        slots: st.slots,
+        cells: st.cells,
+        nodes: st.nodes,
+        rules: st.rules + 1,
+        open: 0,
+        context: st.context,
+        first: st.first,
+    }
+}
+
+// Where no rule is open, nothing changes.
+pub fn end_rule(w0: &mut [u64], w1: &[u64], st: Counts) -> Step
+    requires { ⌜ (8192 ≤ length (now w0)) × (8192 ≤ length (now w1)) × Fine st × RuleRoom st ⌝ }
+    ensures { λ r. ⌜ Ended st r (now (w0 .entry)) (now (w1 .entry)) (now (w0 .exit)) ⌝ }
+{
+    if st.open != 1 {
+        return Step::Next(st);
+    }
+    let first = st.first as usize;
+    let nodes = st.nodes as usize;
+    if first == nodes {
+        return Step::Stop(8);
+    }
+    let last = nodes - 1;
+    if !all_used(w1, first, last - first) {
+        return Step::Stop(8);
+    }
+    if w1[6912 + last] / 2 > 12 {
+        return Step::Stop(8);
+    }
+    let rule = st.rules as usize;
+    w0[4448 + rule] = st.context;
+    w0[4512 + rule] = last as u64;
+    Step::Next(with_rule(st))
+}

@@ -1,0 +1,22 @@
+// The node lines of a sheet, and the end of a rule: a form's fields are read into eight words, held to their limits and their
+// order, and put into the node table; a rule that ends is put down by its context and its root. Document 01, The sheet.
+
+pub mod numbers; // fields that are numbers
+pub mod forms; // the fields after a form's word
+pub mod iterate; // those of `iter`
+pub mod operands; // operands smaller, used once; depth
+pub mod node; // a node line
+pub mod ending; // a rule's end
+
+// A node line's form. Word 0 is the code; words 1 to `count` are the operands, by their numbers in the rule; then comes what
+// else the form holds, as the node table has it; word 7 is the line. `within` says whether that is inside its limits, `apart`
+// whether two variables differ, and `classes` how many classes there must be for the class that the form names. Numbers are
+// cut as crates/text cuts them. Where the fields spell no form, `spelled` is false and the rest says nothing.
+pub struct Parsed {
+    pub spelled: bool,
+    pub words: [u64; 8],
+    pub count: usize,
+    pub within: bool,
+    pub apart: bool,
+    pub classes: u64,
+}

@@ -1,0 +1,98 @@
+// A node's operands: within their limits, smaller than the node, each used once; and the depth that they give it.
+ghost use mathlib.Core.Path.{_≡_};
+ghost use Prim.Native.Nat.{_+_, _*_, _/_, _≤_, _<_, min, max};
+ghost use mathlib.Core.Bool.{true};
+ghost use lib.ListN.{length};
+ghost use Rattle.laws.specs.Lists.{allOf};
+ghost use Rattle.sheet.specs.Refusals.{isNode};
+ghost use Rattle.trees.specs.Forms.{operandsAt};
+ghost use Rattle.trees.specs.Operands.{shifted, marking, marked, Wrote};
+
+// A broken tree, or the depth of the deepest operand.
+pub enum Marked {
+    Broken,
+    Deepest(u64),
+}
+
+// Are the operands numbers of nodes.
+pub fn operands_within(words: [u64; 8], count: usize) -> bool
+    requires { ⌜ (length words ≡ 8) × (count ≤ 4) ⌝ }
+    ensures { λ r. ⌜ r ≡ allOf isNode (operandsAt words count) ⌝ }
+{
+    let mut i: usize = 0;
+    while i < count {
+        if words[1 + i] >= 768 {
+            return false;
+        }
+        i += 1;
+    }
+    true
+}
+
+fn larger(a: u64, b: u64) -> u64
+    ensures { λ r. ⌜ r ≡ max a b ⌝ }
+{
+    if a < b { b } else { a }
+}
+
+// The greater of a depth and an operand's depth. No tree of 768 nodes is deeper than 1,000.
+fn deeper(d: u64, word: u64) -> u64
+    ensures { λ r. ⌜ r ≡ max d (min (word / 2) 1000) ⌝ }
+{
+    let h = word / 2;
+    if h < 1000 {
+        return larger(d, h);
+    }
+    larger(d, 1000)
+}
+
+// The operands of the rule's node n, each marked as used. Words before the one that breaks the tree stay marked: the sheet is
+// refused then, and nothing reads them.
+pub fn mark(w1: &mut [u64], words: [u64; 8], count: usize, first: u64, n: u64) -> Marked
+    requires { ⌜ (8192 ≤ length (now w1)) × (length words ≡ 8) × (count ≤ 4) × (first + n ≤ 768) ⌝ }
+    ensures { λ r. ⌜ marked r (now (w1 .exit)) ≡ marking first n 0 (operandsAt words count) (now (w1 .entry)) ⌝ }
+{
+    let mut deepest: u64 = 0;
+    let mut i: usize = 0;
+    while i < count {
+        let a = words[1 + i];
+        if a >= n {
+            return Marked::Broken;
+        }
+        let at = (6912 + (first + a)) as usize;
+        let d = w1[at];
+        if d % 2 == 1 {
+            return Marked::Broken;
+        }
+        w1[at] = d + 1;
+        deepest = deeper(deepest, d);
+        i += 1;
+    }
+    Marked::Deepest(deepest)
+}
+
+// A word of a node as the table has it: an operand is counted through all rules.
+fn shift(words: [u64; 8], count: usize, first: u64, k: usize) -> u64
+    requires { ⌜ (k < 8) × (first ≤ 768) × (allOf isNode (operandsAt words count) ≡ true) ⌝ }
+    ensures { λ r. ⌜ r ≡ shifted words count first k ⌝ }
+{
+    if k == 0 {
+        return words[k];
+    }
+    if k <= count {
+        return first + words[k];
+    }
+    words[k]
+}
+
+// The eight words of node m.
+pub fn put_words(w1: &mut [u64], m: usize, words: [u64; 8], count: usize, first: u64)
+    requires { ⌜ (8192 ≤ length (now w1)) × (m < 768) × (first ≤ 768) × (allOf isNode (operandsAt words count) ≡ true) ⌝ }
+    ensures { λ _. ⌜ Wrote (8 * m) 8 (shifted words count first) (now (w1 .entry)) (now (w1 .exit)) ⌝ }
+{
+    let mut k: usize = 0;
+    while k < 8 {
+        w1[8 * m + k] = shift(words, count, first, k);
+        k += 1;
+    }
+}
