@@ -1,0 +1,223 @@
+-- The forms over the outcomes of their operands, one law for each way in which the code answers. Assumes nothing.
+use mathlib.Core.Path.{_≡_, refl, sym, ap, _∙_}
+use mathlib.Core.Bool.{Bool, true, false}
+use mathlib.Core.List.{List, _++_}
+use Prim.Native.Nat.{ℕ, _+_, _-_, _<_, _≤_}
+use native.Mathlib.Omega.{arith}
+use lib.ListN.{length, getD, take, drop, set}
+use lib.Seq.{slice}
+use lib.Dec.{eqb}
+use borrow.Author.Tests.{eq-eqb, ne-eqb}
+use Rattle.laws.specs.Choice.{if_then_else_}
+use Rattle.laws.proofs.Slices.{under-top}
+use Rattle.ocl.specs.Values.{Value, bool, Values}
+use Rattle.ocl.specs.Environment.{Env, extend}
+use Rattle.ocl.specs.Evaluation.{Outcome, value, stuck, bind, onBool, onColl, unaryApply, unaryRun, leftFits, binaryApply, binaryRun, isUndefRun, conditionalRun, letRun, attributeRun, search, quantifiedRun, fold, iterateRun}
+use Rattle.values.specs.Cells.{encs, fits-bool}
+use Rattle.values.specs.Contracts.{means-bool, SortOf}
+use Rattle.values.specs.declared.Simple.the-variants as simple
+use Rattle.values.proofs.Adding.{header}
+use Rattle.nodes.specs.Nodes.{word, variable, unaryOf, binaryOf, quantifierOf}
+use Rattle.tables.specs.declared.Counts.{Counts}
+use Rattle.tables.specs.Stored.{HoldsModel}
+use Rattle.evaluation.specs.declared.Ended.{Ended}
+use Rattle.evaluation.specs.declared.Ended.the-variants as ended
+use Rattle.evaluation.specs.Answers.{Lies, ends-stop, Under, Gives, Truth}
+use Rattle.evaluation.specs.Tables.{Attribute, attributeIn}
+use Rattle.evaluation.specs.Operations.{OfOne, OfTwo, FitsLeft, unaryFor}
+use Rattle.evaluation.specs.Evaluating.{World, Reads, held, Rel, Evals, operandFor, unaryNode, binaryNode, isUndefNode, conditionalNode, letNode, attributeNode, quantifiedNode, iterateNode, Searches, Folds}
+use Rattle.evaluation.proofs.Words.{under-then, under-down, lies-kept, head-at, slid}
+use Rattle.evaluation.proofs.Sorts.{bit-one, no-coll, IsColl, is-coll}
+use Rattle.evaluation.proofs.Composition.{rel-kept, rel-bind, Other, valued, is-undefined, is-stuck, is-stop, falls, bind-value, bounds, early, after, ran-from, ran-value, ran-stuck-at}
+use Rattle.evaluation.proofs.ConnectiveLaws.{bool-at, not-bool-at}
+
+-- ---- one strict operand
+
+unary-same : (t : List ℕ) (n k c : ℕ) → c ≡ word t n 2 → unaryFor k c ≡ unaryOf k (word t n)
+unfolding unaryFor unaryOf
+unary-same t n k c e = rw e
+
+module _ {Ok : World → Type 0} (t : List ℕ) (n k : ℕ) {env B A : List ℕ} {sp s : ℕ} {r : Ended} (x : Evals Ok (operandFor t n 1) env sp s B A r) where
+  pub unary-first : Other r → Evals Ok (unaryNode t n k) env sp s B A r
+  unfolding unaryNode unaryRun
+  unary-first o = early (λ w ρ v n'. unaryApply (w .model) (unaryOf k (word t n)) v n') (λ w ρ. refl) x o
+
+pub unary-done : {st : Counts} {w0 w1 : List ℕ} (t : List ℕ) (n k c : ℕ) {env B A C : List ℕ} {sp s la sa : ℕ} {r r' : Ended} → Evals (Reads st w0 w1) (operandFor t n 1) env sp s B A r → r ≡ ended.Value la sa → c ≡ word t n 2
+    → OfOne (HoldsModel st w0) (λ m. unaryApply m (unaryFor k c)) sp la sa A C r' → Evals (Reads st w0 w1) (unaryNode t n k) env sp s B C r'
+unfolding unaryNode unaryRun
+unary-done t n k c {sa = sa} x q e z = after (λ w ρ v n'. unaryApply (w .model) (unaryOf k (word t n)) v n') (λ w ρ. refl) x q (z .small)
+    (λ w ok ρ rel v l u. rw (← unary-same t n k c e) (ran-from u (z .ran (w .model) (ok .holds) v l)))
+
+-- ---- two strict operands
+
+module _ {Ok : World → Type 0} (t : List ℕ) (n k : ℕ) {env B A : List ℕ} {sp s : ℕ} {r : Ended} (x : Evals Ok (operandFor t n 1) env sp s B A r) where
+  abbrev binaryRest : World → Env Value → Value → ℕ → Outcome
+  binaryRest w ρ v n' = if leftFits (binaryOf k) v then bind (operandFor t n 2 w ρ n') (λ y n'. binaryApply (binaryOf k) v y n') else stuck
+
+  pub binary-first : Other r → Evals Ok (binaryNode t n k) env sp s B A r
+  unfolding binaryNode binaryRun
+  binary-first o = early binaryRest (λ w ρ. refl) x o
+
+  module _ {la sa : ℕ} {b : Bool} (q : r ≡ ended.Value la sa) (z : FitsLeft k (getD A sp 0) b) where
+    fitting : {v : Value} → Lies v sp la A → b ≡ leftFits (binaryOf k) v
+    fitting {v} l = z .is v (l .fits) (head-at l)
+
+    pub binary-stuck : b ≡ false → Evals Ok (binaryNode t n k) env sp s B A ended.Stuck
+    unfolding binaryNode binaryRun
+    binary-stuck e = after binaryRest (λ w ρ. refl) x q tt (λ w ok ρ rel v l u. rw (sym (fitting l) ∙ e) (ran-stuck-at u))
+
+    module _ {C : List ℕ} {r' : Ended} (e : b ≡ true) (y : Evals Ok (operandFor t n 2) env (sp + la) sa A C r') where
+      pub binary-second : Other r' → Evals Ok (binaryNode t n k) env sp s B C r'
+      unfolding binaryNode binaryRun
+      binary-second o = after binaryRest (λ w ρ. refl) x q (y .small)
+          (λ w ok ρ rel v l u. rw (sym (fitting l) ∙ e) (falls (operandFor t n 2 w ρ sa) (λ y n'. binaryApply (binaryOf k) v y n') (omega arith) u (y .ran w ok ρ (rel-kept (omega arith) u rel)) o))
+
+      pub binary-done : {lb sb : ℕ} {D : List ℕ} {r'' : Ended} → r' ≡ ended.Value lb sb → OfTwo (binaryApply (binaryOf k)) sp la lb sb C D r'' → Evals Ok (binaryNode t n k) env sp s B D r''
+      unfolding binaryNode binaryRun
+      binary-done p g = after binaryRest (λ w ρ. refl) x q (g .small)
+          (λ w ok ρ rel v l u.
+          let d = valued (y .ran w ok ρ (rel-kept (omega arith) u rel)) p in
+          rw (sym (fitting l) ∙ e, d .is)
+          (ran-from (under-then (under-down (omega arith) (d .kept)) u) (g .ran v (d .v) (lies-kept (omega arith) (d .kept) l) (d .lies))))
+
+-- ---- `isUndef`
+
+module _ {Ok : World → Type 0} (t : List ℕ) (n : ℕ) {env B A : List ℕ} {sp s : ℕ} {r : Ended} (x : Evals Ok (operandFor t n 1) env sp s B A r) where
+  pub isUndef-ends : r ≡ ended.Stuck → Evals Ok (isUndefNode t n) env sp s B A ended.Stuck
+  unfolding isUndefNode isUndefRun
+  isUndef-ends q = record { small = tt; ran = λ w ok ρ rel. let y = x .ran w ok ρ rel in rw (is-stuck y q) (ran-stuck-at (y .kept)) }
+
+  pub isUndef-stops : {c m : ℕ} → r ≡ ended.Stop c m → Evals Ok (isUndefNode t n) env sp s B A (ended.Stop c m)
+  unfolding isUndefNode isUndefRun
+  isUndef-stops q = record { small = tt; ran = λ w ok ρ rel. let y = x .ran w ok ρ rel in rw (is-stop y q) (record { kept = y .kept; ends = ends-stop }) }
+
+  pub isUndef-no : {la sa : ℕ} {C : List ℕ} {r' : Ended} → r ≡ ended.Value la sa → Gives (simple.Bool false) sp sa A C r' → Evals Ok (isUndefNode t n) env sp s B C r'
+  unfolding isUndefNode isUndefRun
+  isUndef-no q G = record { small = G .small; ran = λ w ok ρ rel. let d = valued (x .ran w ok ρ rel) q in rw (d .is) (ran-from (d .kept) (G .is (bool false) fits-bool means-bool)) }
+
+  pub isUndef-yes : {sa : ℕ} {C : List ℕ} {r' : Ended} → r ≡ ended.Undef sa → Gives (simple.Bool true) sp sa A C r' → Evals Ok (isUndefNode t n) env sp s B C r'
+  unfolding isUndefNode isUndefRun
+  isUndef-yes q G = record { small = G .small; ran = λ w ok ρ rel. let y = x .ran w ok ρ rel in rw (is-undefined y q) (ran-from (y .kept) (G .is (bool true) fits-bool means-bool)) }
+
+  -- ---- `if`
+
+  abbrev branches : World → Env Value → Value → ℕ → Outcome
+  branches w ρ v n' = onBool v (λ b. if b then operandFor t n 2 w ρ n' else operandFor t n 3 w ρ n')
+
+  pub conditional-first : Other r → Evals Ok (conditionalNode t n) env sp s B A r
+  unfolding conditionalNode conditionalRun
+  conditional-first o = early branches (λ w ρ. refl) x o
+
+  module _ {la sa d : ℕ} (q : r ≡ ended.Value la sa) (z : Truth (getD A sp 0) d) where
+    pub conditional-stuck : (d ≡ 1 → ⊥) → (d ≡ 0 → ⊥) → Evals Ok (conditionalNode t n) env sp s B A ended.Stuck
+    unfolding conditionalNode conditionalRun
+    conditional-stuck e f = after branches (λ w ρ. refl) x q tt (λ w ok ρ rel v l u. rw (not-bool-at l z (omega arith) (λ b. if b then operandFor t n 2 w ρ sa else operandFor t n 3 w ρ sa)) (ran-stuck-at u))
+
+    pub conditional-then : {C : List ℕ} {r' : Ended} → d ≡ 1 → Evals Ok (operandFor t n 2) env sp sa A C r' → Evals Ok (conditionalNode t n) env sp s B C r'
+    unfolding conditionalNode conditionalRun
+    conditional-then e y = after branches (λ w ρ. refl) x q (y .small) (λ w ok ρ rel v l u.
+        let b = bool-at l z (omega arith) in
+        let c : b .b ≡ true = sym (bit-one (b .b)) ∙ ap (λ (i : ℕ). eqb i 1) (sym (b .code)) ∙ eq-eqb d 1 e in
+        rw (b .is, c) (ran-from u (y .ran w ok ρ (rel-kept (omega arith) u rel))))
+
+    pub conditional-else : {C : List ℕ} {r' : Ended} → d ≡ 0 → Evals Ok (operandFor t n 3) env sp sa A C r' → Evals Ok (conditionalNode t n) env sp s B C r'
+    unfolding conditionalNode conditionalRun
+    conditional-else e y = after branches (λ w ρ. refl) x q (y .small) (λ w ok ρ rel v l u.
+        let b = bool-at l z (omega arith) in
+        let c : b .b ≡ false = sym (bit-one (b .b)) ∙ ap (λ (i : ℕ). eqb i 1) (sym (b .code)) ∙ ne-eqb d 1 (λ i. omega arith) in
+        rw (b .is, c) (ran-from u (y .ran w ok ρ (rel-kept (omega arith) u rel))))
+
+  -- ---- `let`
+
+  abbrev body : World → Env Value → Value → ℕ → Outcome
+  body w ρ v n' = operandFor t n 2 w (extend ρ (variable (word t n 3)) v) n'
+
+  pub let-first : Other r → Evals Ok (letNode t n) env sp s B A r
+  unfolding letNode letRun
+  let-first o = early body (λ w ρ. refl) x o
+
+  module _ {la sa i : ℕ} {C : List ℕ} {r' : Ended} (q : r ≡ ended.Value la sa) (e : i ≡ variable (word t n 3)) (y : Evals Ok (operandFor t n 2) (set env i (sp + 1)) (sp + la) sa A C r') where
+    inner : {ρ : Env Value} {v : Value} → Rel env B sp ρ → Lies v sp la A → Under sp A B → Rel (set env i (sp + 1)) A (sp + la) (extend ρ (variable (word t n 3)) v)
+    inner {ρ} {v} rel l u = rw e (rel-bind v (omega arith) (held sp refl l (bounds (x .small) q .1) (omega arith)) (rel-kept (omega arith) u rel))
+
+    pub let-second : Other r' → Evals Ok (letNode t n) env sp s B C r'
+    unfolding letNode letRun
+    let-second o = after body (λ w ρ. refl) x q (y .small) (λ w ok ρ rel v l u.
+        rw (bind-value (body w ρ v sa)) at (falls (body w ρ v sa) value (omega arith) u (y .ran w ok (extend ρ (variable (word t n 3)) v) (inner rel l u)) o))
+
+    -- the body's value is moved down over the bound one
+    pub let-done : {lb sb : ℕ} {D : List ℕ} → r' ≡ ended.Value lb sb → sp + la ≤ length C → take (sp + lb) D ≡ take sp C ++ take lb (drop (sp + la) C) → Evals Ok (letNode t n) env sp s B D (ended.Value lb sb)
+    unfolding letNode letRun
+    let-done {lb} p room g = after body (λ w ρ. refl) x q (rw p at (y .small)) (λ w ok ρ rel v l u.
+        let d = valued (y .ran w ok (extend ρ (variable (word t n 3)) v) (inner rel l u)) p in
+        let m = slid {from = sp + la} {to = sp} {len = lb} g (omega arith) room (d .lies) in
+        rw (d .is) (ran-value (m .there) (under-then (m .kept) (under-then (under-down (omega arith) (d .kept)) u)) (bounds (y .small) p .1)))
+
+  -- ---- a source whose members are gone through
+
+  abbrev members : ℕ → World → Env Value → Value → ℕ → Outcome
+  members k w ρ v n' = onColl v (λ c vs. search (quantifierOf k) (λ y. operandFor t n 2 w (extend ρ (variable (word t n 3)) y)) vs n')
+
+  abbrev foldAll : World → Env Value → Values → Value → ℕ → Outcome
+  foldAll w ρ vs a n' = fold (λ y z. operandFor t n 3 w (extend (extend ρ (variable (word t n 4)) y) (variable (word t n 5)) z)) vs a n'
+
+  abbrev accumulate : World → Env Value → Value → ℕ → Outcome
+  accumulate w ρ v n' = onColl v (λ c vs. bind (operandFor t n 2 w ρ n') (λ a n'. foldAll w ρ vs a n'))
+
+  pub quantified-first : (k : ℕ) → Other r → Evals Ok (quantifiedNode t n k) env sp s B A r
+  unfolding quantifiedNode quantifiedRun
+  quantified-first k o = early (members k) (λ w ρ. refl) x o
+
+  pub iterate-first : Other r → Evals Ok (iterateNode t n) env sp s B A r
+  unfolding iterateNode iterateRun
+  iterate-first o = early accumulate (λ w ρ. refl) x o
+
+  module _ {la sa d : ℕ} (q : r ≡ ended.Value la sa) (S : SortOf (getD A sp 0) d) where
+    pub quantified-stuck : (k : ℕ) → d < 3 → Evals Ok (quantifiedNode t n k) env sp s B A ended.Stuck
+    unfolding quantifiedNode quantifiedRun
+    quantified-stuck k h = after (members k) (λ w ρ. refl) x q tt (λ w ok ρ rel v l u.
+        rw (no-coll l S h (λ c vs. search (quantifierOf k) (λ y. operandFor t n 2 w (extend ρ (variable (word t n 3)) y)) vs sa)) (ran-stuck-at u))
+
+    pub iterate-stuck : d < 3 → Evals Ok (iterateNode t n) env sp s B A ended.Stuck
+    unfolding iterateNode iterateRun
+    iterate-stuck h = after accumulate (λ w ρ. refl) x q tt (λ w ok ρ rel v l u.
+        rw (no-coll l S h (λ c vs. bind (operandFor t n 2 w ρ sa) (λ a n'. foldAll w ρ vs a n'))) (ran-stuck-at u))
+
+    module _ (h : 3 ≤ d) (room : sp + la ≤ length A) where
+      cells : {v : Value} (l : Lies v sp la A) → (y : IsColl l S) → slice (sp + 1) (sp + la) A ≡ encs (y .members)
+      cells l y = header A sp (sp + la) (y .kind) (y .members) (let m = bounds (x .small) q in omega arith) room (rw (y .is) at (l .cells)) .cells
+
+      pub quantified-done : (k : ℕ) {C : List ℕ} {r' : Ended} → Searches Ok (quantifierOf k) (variable (word t n 3)) (operandFor t n 2) env sp la sa A C r' → Evals Ok (quantifiedNode t n k) env sp s B C r'
+      unfolding quantifiedNode quantifiedRun
+      quantified-done k g = after (members k) (λ w ρ. refl) x q (g .small) (λ w ok ρ rel v l u.
+          let y = is-coll l S h in
+          rw (y .is) (ran-from u (g .ran w ok ρ (rel-kept (omega arith) u rel) (y .members) (y .fits) (cells l y))))
+
+      module _ {C : List ℕ} {r' : Ended} (y : Evals Ok (operandFor t n 2) env (sp + la) sa A C r') where
+        pub iterate-second : Other r' → Evals Ok (iterateNode t n) env sp s B C r'
+        unfolding iterateNode iterateRun
+        iterate-second o = after accumulate (λ w ρ. refl) x q (y .small) (λ w ok ρ rel v l u.
+            let z = is-coll l S h in
+            rw (z .is) (falls (operandFor t n 2 w ρ sa) (λ a n'. foldAll w ρ (z .members) a n') (omega arith) u (y .ran w ok ρ (rel-kept (omega arith) u rel)) o))
+
+        pub iterate-done : {lb sb : ℕ} {D : List ℕ} {r'' : Ended} → r' ≡ ended.Value lb sb → Folds Ok (variable (word t n 4)) (variable (word t n 5)) (operandFor t n 3) env sp la lb sb C D r'' → Evals Ok (iterateNode t n) env sp s B D r''
+        unfolding iterateNode iterateRun
+        iterate-done p g = after accumulate (λ w ρ. refl) x q (g .small) (λ w ok ρ rel v l u.
+            let z = is-coll l S h in
+            let d = valued (y .ran w ok ρ (rel-kept (omega arith) u rel)) p in
+            let o = under-then (under-down (omega arith) (d .kept)) u in
+            rw (z .is, d .is)
+            (ran-from o (g .ran w ok ρ (rel-kept (omega arith) o rel) (z .members) (z .fits) (under-top C A (sp + la) (sp + 1) (sp + la) (omega arith) (d .kept .same) ∙ cells l z) (d .v) (d .lies))))
+
+-- ---- `attr`
+
+pub attribute-first : {Ok : World → Type 0} (t : List ℕ) (n : ℕ) {env B A : List ℕ} {sp s : ℕ} {r : Ended} → Evals Ok (operandFor t n 1) env sp s B A r → Other r → Evals Ok (attributeNode t n) env sp s B A r
+unfolding attributeNode attributeRun
+attribute-first t n x o = early (λ w ρ v n'. attributeIn (w .model) (w .mark n) v n') (λ w ρ. refl) x o
+
+pub attribute-done : {st : Counts} {w0 : List ℕ} (t : List ℕ) (n : ℕ) {env B A C : List ℕ} {sp s la sa i : ℕ} {r r' : Ended} → Evals (Reads st w0 t) (operandFor t n 1) env sp s B A r → r ≡ ended.Value la sa → n < 768 → i ≡ getD t (6144 + n) 0
+    → Attribute st w0 i sp sa A C r' → Evals (Reads st w0 t) (attributeNode t n) env sp s B C r'
+unfolding attributeNode attributeRun
+attribute-done t n {sa = sa} {i = i} x q h e g = after (λ w ρ v n'. attributeIn (w .model) (w .mark n) v n') (λ w ρ. refl) x q (g .small) (λ w ok ρ rel v l u.
+    let k : w .mark n ≡ i = ok .mark n h ∙ sym e in
+    rw k (ran-from u (g .is (w .model) (ok .holds) (ok .plain) (rw k at (ok .row n h)) v _ l)))

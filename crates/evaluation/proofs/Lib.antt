@@ -1,0 +1,13 @@
+pub mod Words
+pub mod Lookups
+pub mod Sorts
+pub mod OperationLaws
+pub mod BinaryLaws
+pub mod LeafLaws
+pub mod Composition
+pub mod ConnectiveLaws
+pub mod FormLaws
+pub mod LoopLaws
+pub mod CollectLaws
+pub mod NodeLaws
+pub mod Levels

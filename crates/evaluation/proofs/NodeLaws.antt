@@ -1,0 +1,158 @@
+-- A node by its form's code, an operand by its node, and a rule by its root. Assumes nothing.
+use mathlib.Core.Path.{_≡_, refl, ap, _∙_}
+use mathlib.Core.Bool.{Bool, true, false}
+use mathlib.Core.Option.{none}
+use mathlib.Core.List.{List}
+use Prim.Native.Nat.{ℕ, zero, suc, _+_, _-_, _<_, _≤_}
+use native.Mathlib.Omega.{arith}
+use lib.ListN.{length, getD, set, replicate}
+use lib.Dec.{ltb}
+use borrow.Author.Tests.{ltb-true, ltb-false}
+use Rattle.laws.specs.Choice.{if_then_else_}
+use Rattle.ocl.specs.Values.{obj, size}
+use Rattle.ocl.specs.Environment.{extend, start}
+use Rattle.ocl.specs.Forms.{undef, levels}
+use Rattle.ocl.specs.Evaluation.{tick, leafRun, evaluation, formRun, evaluateRule}
+use Rattle.values.specs.Cells.{fits-obj}
+use Rattle.values.specs.Contracts.{means-obj, Pushes}
+use Rattle.values.specs.declared.Simple.the-variants as simple
+use Rattle.nodes.specs.Nodes.{word, leafOf, formOf, treesBelow, treeAt}
+use Rattle.nodes.proofs.Nodes.{tree-law, below-law}
+use Rattle.evaluation.proofs.Levels.{collect-levels}
+use Rattle.nodes.proofs.Evaluation.{operandRun, leaf-run, unary-run, binary-run, connective-run, quantified-run, collect-run, over-run, isUndef-run, conditional-run, let-run, attribute-run, iterate-run, none-run, operand-run, late-run}
+use Rattle.tables.specs.declared.Counts.{Counts}
+use Rattle.evaluation.specs.declared.Ended.{Ended}
+use Rattle.evaluation.specs.declared.Ended.the-variants as ended
+use Rattle.evaluation.specs.Evaluating.{World, ModelIn, Reads, free, held, Rel, Meaning, Evals, Rules, leafFor, nodeFor, operandFor, unaryNode, binaryNode, connectiveNode, isUndefNode, conditionalNode, letNode, attributeNode, quantifiedNode, iterateNode, membersRun, collectNode, operandAt, Shallow}
+use Rattle.evaluation.proofs.Words.{under-refl, gives}
+use Rattle.evaluation.proofs.Composition.{rel-bind, valued, tick-on, tick-stop, ran-undefined-at}
+
+-- ---- the form
+
+unfoldable pub anyForm : List ℕ → ℕ → Meaning
+anyForm t n w = formRun (w .model) (w .mark) n (formOf (treesBelow t n) (word t n) (word t n 0))
+
+unfoldable pub undefNode : Meaning
+undefNode w = leafRun (w .model) undef
+
+any-node : (t : List ℕ) (n : ℕ) (w : World) → nodeFor t n w ≡ tick (anyForm t n w)
+unfolding nodeFor anyForm evaluation
+any-node t n w = ap (evaluation (w .model) (w .mark)) (tree-law t n)
+
+pub node-stop : {Ok : World → Type 0} (t : List ℕ) (n : ℕ) {env B : List ℕ} {sp s : ℕ} → 1000000 ≤ s → Evals Ok (nodeFor t n) env sp s B B (ended.Stop 16 s)
+node-stop t n h = tick-stop (anyForm t n) (any-node t n) h
+
+undef-done : {Ok : World → Type 0} {env B : List ℕ} {sp s : ℕ} → Evals Ok undefNode env sp s B B (ended.Undef s)
+unfolding undefNode leafRun
+undef-done = record { small = tt; ran = λ w ok ρ rel. ran-undefined-at under-refl }
+
+collect-by : (t : List ℕ) (n k : ℕ) → k ≡ word t n 0 → 27 ≤ k → k < 30 → (w : World) (b : Bool) → ltb 4 (word t n 5) ≡ b → evaluation (w .model) (w .mark) (treeAt t n) ≡ tick (if b then leafRun (w .model) undef else membersRun t n k w)
+unfolding membersRun
+collect-by t n k e a b w true f = over-run (w .model) (w .mark) t n k e a b (ltb-true 4 (word t n 5) f)
+collect-by t n k e a b w false f = collect-run (w .model) (w .mark) t n k e a b (ltb-false 4 (word t n 5) f)
+
+-- the code k is node n's, and a step may begin
+module _ {Ok : World → Type 0} (t : List ℕ) (n k : ℕ) {env B A : List ℕ} {sp s : ℕ} {r : Ended} (e : k ≡ word t n 0) (h : s < 1000000) where
+  pub node-unary : 7 ≤ k → k < 13 → Evals Ok (unaryNode t n k) env sp (s + 1) B A r → Evals Ok (nodeFor t n) env sp s B A r
+  unfolding nodeFor unaryNode operandFor operandRun
+  node-unary a b x = tick-on (unaryNode t n k) (λ w. unary-run (w .model) (w .mark) t n k e a b) h x
+
+  pub node-binary : 13 ≤ k → k < 23 → Evals Ok (binaryNode t n k) env sp (s + 1) B A r → Evals Ok (nodeFor t n) env sp s B A r
+  unfolding nodeFor binaryNode operandFor operandRun
+  node-binary a b x = tick-on (binaryNode t n k) (λ w. binary-run (w .model) (w .mark) t n k e a b) h x
+
+  pub node-connective : 23 ≤ k → k < 25 → Evals Ok (connectiveNode t n k) env sp (s + 1) B A r → Evals Ok (nodeFor t n) env sp s B A r
+  unfolding nodeFor connectiveNode operandFor operandRun
+  node-connective a b x = tick-on (connectiveNode t n k) (λ w. connective-run (w .model) (w .mark) t n k e a b) h x
+
+  pub node-quantified : 25 ≤ k → k < 27 → Evals Ok (quantifiedNode t n k) env sp (s + 1) B A r → Evals Ok (nodeFor t n) env sp s B A r
+  unfolding nodeFor quantifiedNode operandFor operandRun
+  node-quantified a b x = tick-on (quantifiedNode t n k) (λ w. quantified-run (w .model) (w .mark) t n k e a b) h x
+
+  pub node-collect : 27 ≤ k → k < 30 → Evals Ok (collectNode t n k) env sp (s + 1) B A r → Evals Ok (nodeFor t n) env sp s B A r
+  unfolding nodeFor collectNode
+  node-collect a b x = tick-on (collectNode t n k) (λ w. collect-by t n k e a b w (ltb 4 (word t n 5)) refl) h x
+
+  pub node-isUndef : k ≡ 30 → Evals Ok (isUndefNode t n) env sp (s + 1) B A r → Evals Ok (nodeFor t n) env sp s B A r
+  unfolding nodeFor isUndefNode operandFor operandRun
+  node-isUndef a x = tick-on (isUndefNode t n) (λ w. isUndef-run (w .model) (w .mark) t n k e a) h x
+
+  pub node-conditional : k ≡ 31 → Evals Ok (conditionalNode t n) env sp (s + 1) B A r → Evals Ok (nodeFor t n) env sp s B A r
+  unfolding nodeFor conditionalNode operandFor operandRun
+  node-conditional a x = tick-on (conditionalNode t n) (λ w. conditional-run (w .model) (w .mark) t n k e a) h x
+
+  pub node-let : k ≡ 32 → Evals Ok (letNode t n) env sp (s + 1) B A r → Evals Ok (nodeFor t n) env sp s B A r
+  unfolding nodeFor letNode operandFor operandRun
+  node-let a x = tick-on (letNode t n) (λ w. let-run (w .model) (w .mark) t n k e a) h x
+
+  pub node-attribute : k ≡ 33 → Evals Ok (attributeNode t n) env sp (s + 1) B A r → Evals Ok (nodeFor t n) env sp s B A r
+  unfolding nodeFor attributeNode operandFor operandRun
+  node-attribute a x = tick-on (attributeNode t n) (λ w. attribute-run (w .model) (w .mark) t n k e a) h x
+
+  pub node-iterate : k ≡ 34 → Evals Ok (iterateNode t n) env sp (s + 1) B A r → Evals Ok (nodeFor t n) env sp s B A r
+  unfolding nodeFor iterateNode operandFor operandRun
+  node-iterate a x = tick-on (iterateNode t n) (λ w. iterate-run (w .model) (w .mark) t n k e a) h x
+
+pub node-none : {Ok : World → Type 0} (t : List ℕ) (n k : ℕ) {env B : List ℕ} {sp s : ℕ} → k ≡ word t n 0 → s < 1000000 → 34 < k → Evals Ok (nodeFor t n) env sp s B B (ended.Undef (s + 1))
+unfolding nodeFor undefNode
+node-none t n k e h a = tick-on undefNode (λ w. none-run (w .model) (w .mark) t n k e a) h undef-done
+
+leaf-same : (t : List ℕ) (n k x : ℕ) → x ≡ word t n 1 → leafOf k (λ _. x) ≡ leafOf k (word t n)
+unfolding leafOf
+leaf-same t n k x e = rw e
+
+pub node-leaf : {st : Counts} {w0 w1 : List ℕ} (t : List ℕ) (n k x : ℕ) {env B A : List ℕ} {sp s : ℕ} {r : Ended} → k ≡ word t n 0 → s < 1000000 → k < 7 → x ≡ word t n 1
+    → Evals (ModelIn st w0) (leafFor k x) env sp (s + 1) B A r → Evals (Reads st w0 w1) (nodeFor t n) env sp s B A r
+unfolding nodeFor leafFor
+node-leaf t n k x e h a f y =
+    tick-on (leafFor k x) (λ w. leaf-run (w .model) (w .mark) t n k e a ∙ rw (leaf-same t n k x f)) h
+    (record { small = y .small; ran = λ w ok ρ rel. y .ran w (record { holds = ok .holds }) ρ rel })
+
+-- ---- an operand
+
+module _ {Ok : World → Type 0} (t : List ℕ) (n k a : ℕ) {env B : List ℕ} {sp s : ℕ} (e : a ≡ word t n k) where
+  pub below-done : {A : List ℕ} {r : Ended} → a < n → Evals Ok (nodeFor t a) env sp s B A r → Evals Ok (operandFor t n k) env sp s B A r
+  unfolding nodeFor operandFor operandRun
+  below-done h x = record { small = x .small; ran = λ w ok ρ rel. rw (operand-run (w .model) (w .mark) t n k a e h) (x .ran w ok ρ rel) }
+
+  pub below-stop : n ≤ a → 1000000 ≤ s → Evals Ok (operandFor t n k) env sp s B B (ended.Stop 16 s)
+  unfolding operandFor undefNode operandRun
+  below-stop h l = tick-stop undefNode (λ w. late-run (w .model) (w .mark) t n k a e h) l
+
+  pub below-late : n ≤ a → s < 1000000 → Evals Ok (operandFor t n k) env sp s B B (ended.Undef (s + 1))
+  unfolding operandFor undefNode operandRun
+  below-late h l = tick-on undefNode (λ w. late-run (w .model) (w .mark) t n k a e h) l undef-done
+
+-- ---- a rule
+
+zero-at : (k j : ℕ) → _≡_ {A = ℕ} (getD {A = ℕ} (replicate {A = ℕ} k 0) j 0) 0
+zero-at zero j = refl
+zero-at (suc k) zero = refl
+zero-at (suc k) (suc j) = zero-at k j
+
+nothing-bound : (S : List ℕ) (sp : ℕ) → Rel (replicate 16 0) S sp (λ j. none)
+nothing-bound S sp = record { slots = refl; at = λ j. free (zero-at 16 j) }
+
+pub rule-done : {Ok : World → Type 0} (t : List ℕ) (n o : ℕ) (B : List ℕ) {S A : List ℕ} {r : Ended} → 0 < length B → o < 4294967296 → Pushes (simple.Object o) 0 B S
+    → Evals Ok (nodeFor t n) (set (replicate 16 0) 0 1) 1 0 S A r → Rules Ok (treeAt t n) o A r
+unfolding nodeFor evaluateRule start size
+rule-done t n o B {S} room h p x = record {
+  small = x .small;
+  ends = λ w ok.
+      let g = valued (gives {s = 0} room p .is (obj o) (fits-obj h) means-obj) refl in
+      let v : g .v ≡ obj o = (let i = g .is in cc) in
+      x .ran w ok (extend (λ j. none) 0 (obj o)) (rel-bind (obj o) (omega arith) (held 0 refl (rw v at (g .lies)) (omega arith) (omega arith)) (nothing-bound S 1)) .ends;
+}
+
+-- ---- levels
+
+pub below-levels : (t : List ℕ) (n k a : ℕ) → a ≡ word t n k → a < n → levels (operandAt t n k) ≡ levels (treeAt t a)
+below-levels t n k a e h = rw (← e) (ap levels (below-law t n a h))
+
+pub shallow : (t : List ℕ) (n k left : ℕ) → k ≡ word t n 0 → 27 ≤ k → k < 30 → levels (treeAt t n) ≤ left + 1 → Shallow t n left
+shallow t n k left e a b h = record { members = λ c i m. let l = collect-levels t n k e a b c i m in omega arith }
+
+-- ---- codes of no form
+
+pub over-34 : (k : ℕ) → 30 ≤ k → (k ≡ 30 → ⊥) → (k ≡ 31 → ⊥) → (k ≡ 32 → ⊥) → (k ≡ 33 → ⊥) → (k ≡ 34 → ⊥) → 34 < k
+over-34 k h a b c d e = omega arith

@@ -1,0 +1,25 @@
+-- `evaluation::rule::evaluate_rule` meets its contract. Assumes nothing.
+use native.Mathlib.Omega.{arith}
+use Rattle.evaluation.proofs.NodeLaws.{rule-done}
+use borrow.Author.Needs.{needs}
+use Rattle.evaluation.proofs.rule.evaluate_rule.Statement.{statement}
+use Rattle.evaluation.proofs.rule.evaluate_rule.Tie as tie
+
+push-requires : tie.Need-push-requires
+push-requires c κs = search needs
+
+array-write-env : tie.Need-array-write-env
+array-write-env c = search needs
+
+node-requires : tie.Need-node-requires
+node-requires c κs = search needs
+
+same-length : tie.Need-same-length
+same-length c = search needs
+
+returns : tie.Need-returns
+returns c = rule-done _ _ _ (c .before .before .before .before .before .before .before .before .before .before .before .args .stack .now) (omega (arith, c .before .before .before .before .before .before .before .before .before .before .before .pre)) (c .before .before .before .before .before .before .before .before .before .before .before .pre .1 .1) (c .before .before .before .before .before .before .push .ensures) (c .before .before .node .ensures)
+
+pub evaluate-rule-spec : {M : Type 1} → statement M
+evaluate-rule-spec =
+    tie.close (tie.spec push-requires array-write-env node-requires same-length returns)

@@ -1,0 +1,70 @@
+-- The needs of `iterate`.
+use Rattle.evaluation.proofs.Composition.{bounds}
+use Rattle.evaluation.proofs.FormLaws.{iterate-first, iterate-stuck, iterate-second, iterate-done}
+use Prim.Native.Nat.{ℕ}
+use borrow.Author.Needs.{needs}
+use native.Mathlib.Omega.{arith}
+use Rattle.evaluation.proofs.walk.below.Reads as below
+use Rattle.evaluation.proofs.walk.fold_members.Reads as fold-members
+use Rattle.evaluation.proofs.walk.iterate.Reads as iterate
+use Rattle.values.proofs.cells.sort_of.Reads as sort-of-reads
+use Rattle.evaluation.proofs.walk.+attribute+below+binary+collection+conditional+connective+fold_members+is_undef+iterate+let_in+node+quantified+right+search_members+unary.Lts-iterate as lts
+use Rattle.evaluation.proofs.walk.+attribute+below+binary+collection+conditional+connective+fold_members+is_undef+iterate+let_in+node+quantified+right+search_members+unary.Proof.Base.{below-below, fold-members-below, iterate-at}
+
+module _ (t : ℕ) where
+  abbrev calls : lts.Claims
+  calls = (below-below t, below.Post, sort-of-reads.Asked, sort-of-reads.Learnt, fold-members-below t, fold-members.Post)
+
+  below-requires : lts.Need-below-requires calls (iterate-at t) iterate.Post
+  below-requires c κs = search needs
+
+  enum-known-first : lts.Need-enum-known-first calls (iterate-at t) iterate.Post
+  enum-known-first c = search needs
+
+  same-length : lts.Need-same-length calls (iterate-at t) iterate.Post
+  same-length c = search needs
+
+  returns : lts.Need-returns calls (iterate-at t) iterate.Post
+  returns c = iterate-first _ _ (c .before .before .before .below .ensures) (c .match .keys2)
+
+  mul-sort-of : lts.Need-mul-sort-of calls (iterate-at t) iterate.Post
+  mul-sort-of c = search needs
+
+  slice-read-sort-of : lts.Need-slice-read-sort-of calls (iterate-at t) iterate.Post
+  slice-read-sort-of c = search needs
+
+  sort-of-requires : lts.Need-sort-of-requires calls (iterate-at t) iterate.Post
+  sort-of-requires c κs = search needs
+
+  same-length-2 : lts.Need-same-length-2 calls (iterate-at t) iterate.Post
+  same-length-2 c = search needs
+
+  returns-2 : lts.Need-returns-2 calls (iterate-at t) iterate.Post
+  returns-2 c = iterate-stuck _ _ (c .before .before .before .before .before .before .before .before .below .ensures) (c .before .before .before .before .first .given .1) (c .before .sort-of .ensures) (c .if1 .taken)
+
+  add-below : lts.Need-add-below calls (iterate-at t) iterate.Post
+  add-below c = omega (arith, bounds (c .before .before .before .before .before .before .before .before .before .below .ensures .small) (c .before .before .before .before .before .first .given .1), c .before .before .before .before .before .before .before .before .before .before .before .before .before .before .pre)
+
+  below-requires-2 : lts.Need-below-requires-2 calls (iterate-at t) iterate.Post
+  below-requires-2 c κs = omega (arith, bounds (c .before .before .before .before .before .before .before .before .before .below .ensures .small) (c .before .before .before .before .before .first .given .1), c .before .before .before .before .before .before .before .before .before .before .before .before .before .before .pre, c .before .before .before .before .before .before .before .before .before .below .kept)
+
+  enum-known-second : lts.Need-enum-known-second calls (iterate-at t) iterate.Post
+  enum-known-second c = search needs
+
+  same-length-3 : lts.Need-same-length-3 calls (iterate-at t) iterate.Post
+  same-length-3 c = search needs
+
+  returns-3 : lts.Need-returns-3 calls (iterate-at t) iterate.Post
+  returns-3 c = iterate-second _ _ (c .before .before .before .before .before .before .before .before .before .before .before .before .before .below .ensures) (c .before .before .before .before .before .before .before .before .before .first .given .1) (c .before .before .before .before .before .before .sort-of .ensures) (c .before .before .before .before .before .if1 .left) (omega (arith, bounds (c .before .before .before .before .before .before .before .before .before .before .before .before .before .below .ensures .small) (c .before .before .before .before .before .before .before .before .before .first .given .1), c .before .before .before .before .before .before .before .before .before .before .before .before .before .before .before .before .before .before .pre, c .before .before .before .before .before .before .before .before .before .before .before .before .before .below .kept)) (c .before .before .before .below2 .ensures) (c .match2 .keys2)
+
+  fold-members-requires : lts.Need-fold-members-requires calls (iterate-at t) iterate.Post
+  fold-members-requires c κs = omega (arith, bounds (c .before .before .before .before .before .before .before .before .before .before .before .before .before .before .before .before .below .ensures .small) (c .before .before .before .before .before .before .before .before .before .before .before .before .first .given .1), bounds (c .before .before .before .before .before .before .below2 .ensures .small) (c .before .before .second .given .1), c .before .before .before .before .before .before .before .before .before .before .before .before .before .before .before .before .before .before .before .before .before .pre, c .before .before .before .before .before .before .before .before .before .before .before .before .before .before .before .before .below .kept, c .before .before .before .before .before .before .below2 .kept)
+
+  same-length-4 : lts.Need-same-length-4 calls (iterate-at t) iterate.Post
+  same-length-4 c = search needs
+
+  returns-4 : lts.Need-returns-4 calls (iterate-at t) iterate.Post
+  returns-4 c = iterate-done _ _ (c .before .before .before .before .before .before .before .before .before .before .before .before .before .before .before .before .before .before .before .below .ensures) (c .before .before .before .before .before .before .before .before .before .before .before .before .before .before .before .first .given .1) (c .before .before .before .before .before .before .before .before .before .before .before .before .sort-of .ensures) (c .before .before .before .before .before .before .before .before .before .before .before .if1 .left) (omega (arith, bounds (c .before .before .before .before .before .before .before .before .before .before .before .before .before .before .before .before .before .before .before .below .ensures .small) (c .before .before .before .before .before .before .before .before .before .before .before .before .before .before .before .first .given .1), c .before .before .before .before .before .before .before .before .before .before .before .before .before .before .before .before .before .before .before .before .before .before .before .before .pre, c .before .before .before .before .before .before .before .before .before .before .before .before .before .before .before .before .before .before .before .below .kept)) (c .before .before .before .before .before .before .before .before .before .below2 .ensures) (c .before .before .before .before .before .second .given .1) (c .before .before .fold-members .ensures)
+
+  pub closed : {M : Type 1} → lts.Closed calls (iterate-at t) iterate.Post M
+  closed = lts.spec calls (iterate-at t) iterate.Post below-requires enum-known-first same-length returns mul-sort-of slice-read-sort-of sort-of-requires same-length-2 returns-2 add-below below-requires-2 enum-known-second same-length-3 returns-3 fold-members-requires same-length-4 returns-4

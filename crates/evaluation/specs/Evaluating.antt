@@ -1,0 +1,154 @@
+-- What the recursion's contracts say: for every model and marks that the words hold, and every environment whose values lie
+-- below sp, the answer is the definition's outcome.
+use mathlib.Core.Path.{_≡_}
+use mathlib.Core.Bool.{Bool, _||_, Bool·beq}
+use mathlib.Core.Option.{Option, none, some}
+use mathlib.Core.List.{List}
+use Prim.Native.Nat.{ℕ, _+_, _*_, _≤_, _<_}
+use lib.ListN.{length, getD}
+use lib.Seq.{slice}
+use lib.Dec.{ltb}
+use Rattle.laws.specs.Choice.{if_then_else_}
+use Rattle.ocl.specs.Values.{Value, bool, Values}
+use Rattle.ocl.specs.Environment.{Env, extend}
+use Rattle.ocl.specs.Model.{Model}
+use Rattle.ocl.specs.Forms.{Expr, levels, Connective, Quantifier}
+use Rattle.ocl.specs.Forms.{undef}
+use Rattle.ocl.specs.Evaluation.{value, undefined, Run, bind, onBool, bound, leafRun, unaryRun, binaryRun, decides, connectiveRun, isUndefRun, conditionalRun, letRun, attributeRun, quantifiedRun, iterateRun, collectRun, evaluation, evaluateRule, operandsRun, search, fold}
+use Rattle.values.specs.Cells.{encs, AllFit}
+use Rattle.nodes.specs.Nodes.{word, variable, leafOf, unaryOf, binaryOf, connectiveOf, quantifierOf, kindOf, operandsIn, treesBelow, treeAt}
+use Rattle.tables.specs.declared.Counts.{Counts}
+use Rattle.tables.specs.Layout.{Fine}
+use Rattle.tables.specs.Stored.{HoldsModel}
+use Rattle.evaluation.specs.declared.Ended.{Ended}
+use Rattle.evaluation.specs.Answers.{Lies, Ends, Ran, Small}
+use Rattle.evaluation.specs.Tables.{Plain}
+
+-- ---- what is evaluated over
+
+-- a model, and the row that each `attr` node is marked with
+pub record World : Type 0 where
+  pub model : Model
+  pub mark : ℕ → ℕ
+
+pub record ModelIn (st : Counts) (w0 : List ℕ) (w : World) : Type 0 where
+  pub holds : HoldsModel st w0 (w .model)
+
+-- the tables hold the model, and w1 the marks, from 6144 on
+pub record Reads (st : Counts) (w0 w1 : List ℕ) (w : World) : Type 0 where
+  pub holds : HoldsModel st w0 (w .model)
+  pub plain : Plain st (w .model)
+  pub mark : (p : ℕ) → p < 768 → w .mark p ≡ getD w1 (6144 + p) 0
+  pub row : (p : ℕ) → p < 768 → w .mark p < 64
+
+-- ---- environments: 0 for unbound, else one more than where the value's cells start, below sp
+
+pub data Held (S : List ℕ) (sp at : ℕ) : Option Value → Type 0 where
+  free : at ≡ 0 → Held S sp at none
+  held : (p : ℕ) {v : Value} {len : ℕ} → at ≡ p + 1 → Lies v p len S → len ≤ 128 → p + len ≤ sp → Held S sp at (some v)
+
+pub record Rel (env S : List ℕ) (sp : ℕ) (ρ : Env Value) : Type 0 where
+  pub slots : length env ≡ 16
+  pub at : (j : ℕ) → Held S sp (getD env j 0) (ρ j)
+
+-- ---- what is evaluated
+
+abbrev pub Meaning : Type 0
+Meaning = World → Run
+
+pub record Evals (Ok : World → Type 0) (f : Meaning) (env : List ℕ) (sp s : ℕ) (B A : List ℕ) (r : Ended) : Type 0 where
+  pub small : Small r
+  pub ran : (w : World) → Ok w → (ρ : Env Value) → Rel env B sp ρ → Ran (f w ρ s) sp B A r
+
+-- a rule's outcome, its value at 1
+pub record Rules (Ok : World → Type 0) (e : Expr) (o : ℕ) (A : List ℕ) (r : Ended) : Type 0 where
+  pub small : Small r
+  pub ends : (w : World) → Ok w → Ends 1 A (evaluateRule (w .model) (w .mark) e o) r
+
+-- a variable's value once more
+pub record Variable (i : ℕ) (env : List ℕ) (sp s : ℕ) (B A : List ℕ) (r : Ended) : Type 0 where
+  pub small : Small r
+  pub ran : (ρ : Env Value) → Rel env B sp ρ → Ran (bound (ρ i) s) sp B A r
+
+-- the form with no operand that has this code, and this literal, variable or class
+unfoldable pub leafFor : ℕ → ℕ → Meaning
+leafFor k x w = leafRun (w .model) (leafOf k (λ _. x))
+
+-- ---- nodes and operands
+
+-- the tree of operand k of node n
+abbrev pub operandAt : List ℕ → ℕ → ℕ → Expr
+operandAt t n k = treesBelow t n (word t n k)
+
+unfoldable pub nodeFor : List ℕ → ℕ → Meaning
+nodeFor t n w = evaluation (w .model) (w .mark) (treeAt t n)
+
+unfoldable pub operandFor : List ℕ → ℕ → ℕ → Meaning
+operandFor t n k w = evaluation (w .model) (w .mark) (operandAt t n k)
+
+-- the counts are within the limits, the words are as many as are lent, n is a node, and the stack has room for left levels
+-- above sp: a level keeps at most 384 words below an operand, and 256 are for what is formed above
+pub record Room (st : Counts) (w0 w1 w2 n sp left : ℕ) : Type 0 where
+  pub fine : Fine st
+  pub tables : 8192 ≤ w0
+  pub nodes : 8192 ≤ w1
+  pub stack : 8192 ≤ w2
+  pub node : n < 768
+  pub room : sp + (384 * left + 256) ≤ 8192
+
+-- ---- the forms of node n over its operands
+
+unfoldable pub unaryNode : List ℕ → ℕ → ℕ → Meaning
+unaryNode t n k w = unaryRun (w .model) (unaryOf k (word t n)) (operandFor t n 1 w)
+
+unfoldable pub binaryNode : List ℕ → ℕ → ℕ → Meaning
+binaryNode t n k w = binaryRun (binaryOf k) (operandFor t n 1 w) (operandFor t n 2 w)
+
+unfoldable pub connectiveNode : List ℕ → ℕ → ℕ → Meaning
+connectiveNode t n k w = connectiveRun (connectiveOf k) (operandFor t n 1 w) (operandFor t n 2 w)
+
+-- the right side, after a left side that does not decide, known or undefined
+unfoldable pub rightSide : Bool → Connective → Meaning → Meaning
+rightSide known c g w ρ n = bind (g w ρ n) (λ v n. onBool v (λ b. if known || Bool·beq b (decides c) then value (bool b) n else undefined n))
+
+unfoldable pub isUndefNode : List ℕ → ℕ → Meaning
+isUndefNode t n w = isUndefRun (operandFor t n 1 w)
+
+unfoldable pub conditionalNode : List ℕ → ℕ → Meaning
+conditionalNode t n w = conditionalRun (operandFor t n 1 w) (operandFor t n 2 w) (operandFor t n 3 w)
+
+unfoldable pub letNode : List ℕ → ℕ → Meaning
+letNode t n w = letRun (variable (word t n 3)) (operandFor t n 1 w) (operandFor t n 2 w)
+
+unfoldable pub attributeNode : List ℕ → ℕ → Meaning
+attributeNode t n w = attributeRun (w .model) (w .mark n) (operandFor t n 1 w)
+
+unfoldable pub quantifiedNode : List ℕ → ℕ → ℕ → Meaning
+quantifiedNode t n k w = quantifiedRun (quantifierOf k) (variable (word t n 3)) (operandFor t n 1 w) (operandFor t n 2 w)
+
+unfoldable pub iterateNode : List ℕ → ℕ → Meaning
+iterateNode t n w = iterateRun (variable (word t n 4)) (variable (word t n 5)) (operandFor t n 1 w) (operandFor t n 2 w) (operandFor t n 3 w)
+
+-- the members of `coll`, by their nodes; more than four count as `undef`
+unfoldable pub membersRun : List ℕ → ℕ → ℕ → Meaning
+membersRun t n k w = collectRun (kindOf k) (operandsRun (w .model) (w .mark) (operandsIn (treesBelow t n) (word t n) (word t n 5) 1))
+
+unfoldable pub collectNode : List ℕ → ℕ → ℕ → Meaning
+collectNode t n k w = if ltb 4 (word t n 5) then leafRun (w .model) undef else membersRun t n k w
+
+-- each operand of `coll` has few enough levels
+pub record Shallow (t : List ℕ) (n left : ℕ) : Type 0 where
+  pub members : word t n 5 ≤ 4 → (i : ℕ) → i < word t n 5 → levels (operandAt t n (i + 1)) ≤ left
+
+-- ---- loops over the members of the collection of la cells at sp
+
+pub record Searches (Ok : World → Type 0) (q : Quantifier) (i : ℕ) (g : Meaning) (env : List ℕ) (sp la s : ℕ) (B A : List ℕ) (r : Ended) : Type 0 where
+  pub small : Small r
+  pub ran : (w : World) → Ok w → (ρ : Env Value) → Rel env B sp ρ → (vs : Values) → AllFit vs → slice (sp + 1) (sp + la) B ≡ encs vs
+      → Ran (search q (λ x. g w (extend ρ i x)) vs s) sp B A r
+
+-- the accumulator is the lb cells after the collection
+pub record Folds (Ok : World → Type 0) (i j : ℕ) (h : Meaning) (env : List ℕ) (sp la lb s : ℕ) (B A : List ℕ) (r : Ended) : Type 0 where
+  pub small : Small r
+  pub ran : (w : World) → Ok w → (ρ : Env Value) → Rel env B sp ρ → (vs : Values) → AllFit vs → slice (sp + 1) (sp + la) B ≡ encs vs
+      → (a : Value) → Lies a (sp + la) lb B → Ran (fold (λ x y. h w (extend (extend ρ i x) j y)) vs a s) sp B A r

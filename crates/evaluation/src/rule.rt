@@ -1,0 +1,30 @@
+// A rule for an object: the recursion from the rule's root, with nothing bound but `self`.
+use crate::Ended;
+use crate::walk::node;
+use tables::Counts;
+use values::Simple;
+use values::cells::push;
+ghost use Prim.Native.Nat.{_≤_, _<_};
+ghost use lib.ListN.{length};
+ghost use Rattle.ocl.specs.Forms.{levels};
+ghost use Rattle.nodes.specs.Nodes.{treeAt};
+ghost use Rattle.evaluation.specs.Evaluating.{Reads, Room, Rules};
+
+// The rule with this root, for an object, which is `self`: its cell is put at 0, and the value is formed at 1.
+pub fn evaluate_rule(
+    tables: &[u64],
+    st: Counts,
+    nodes: &[u64],
+    stack: &mut [u64],
+    root: usize,
+    object: u64,
+) -> Ended
+    requires { ⌜ Room st (length (now tables)) (length (now nodes)) (length (now stack)) root 1 19 ⌝ }
+    requires { ⌜ (levels (treeAt (now nodes) root) ≤ 19) × (object < 4294967296) ⌝ }
+    ensures { λ r. ⌜ Rules (Reads st (now (tables .entry)) (now (nodes .entry))) (treeAt (now (nodes .entry)) root) object (now (stack .exit)) r ⌝ }
+{
+    push(stack, 0, Simple::Object { number: object });
+    let mut env = [0usize; 16];
+    env[0] = 1;
+    node(tables, st, nodes, root, env, stack, 1, 19, 0)
+}
