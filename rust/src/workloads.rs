@@ -1,5 +1,6 @@
 //! What the benchmark runs: each workload small and about ten times as large.
 
+use crate::calls::Answer;
 use crate::generate::full::full;
 use crate::generate::limits::sequence;
 use crate::generate::random::Random;
@@ -12,6 +13,8 @@ pub enum Unit {
     Node,
     Step,
     Line,
+    /// A step, once for each of the members that collections have.
+    Member,
 }
 
 pub struct Workload {
@@ -20,6 +23,35 @@ pub struct Workload {
     /// The small job and the large one: the texts a call is made for.
     pub jobs: [Vec<Vec<u8>>; 2],
     pub call: Call,
+}
+
+impl Workload {
+    /// The units of a text that the call answered and wrote the output for.
+    pub fn units(&self, text: &[u8], answer: Answer, out: &[u8]) -> usize {
+        let lines = |bytes: &[u8], start: &[u8]| {
+            let lines = bytes.split_inclusive(|byte| *byte == b'\n');
+            lines.filter(|line| line.starts_with(start)).count()
+        };
+        let steps = answer.steps as usize;
+        match self.unit {
+            Unit::Byte => text.len(),
+            Unit::Node => lines(text, b"N"),
+            Unit::Step => steps,
+            Unit::Line => lines(&out[..answer.length as usize], b""),
+            Unit::Member => steps * members(text),
+        }
+    }
+}
+
+/// The members of the last value on the sheet.
+fn members(text: &[u8]) -> usize {
+    let mut lines = text.split(|byte| *byte == b'\n');
+    let last = lines.rfind(|line| line.starts_with(b"V"));
+    let commas = last
+        .unwrap_or_default()
+        .iter()
+        .filter(|byte| **byte == b',');
+    commas.count() + 1
 }
 
 const EVALUATE: Call = Call::Evaluate { rule: 0, object: 0 };
@@ -73,11 +105,16 @@ pub fn workloads() -> Vec<Workload> {
         ),
         workload(
             "values, Sets",
-            Unit::Step,
+            Unit::Member,
             EVALUATE,
             one(sets(12), sets(120)),
         ),
-        workload("values, Bags", Unit::Step, EVALUATE, one(bags(6), bags(60))),
+        workload(
+            "values, Bags",
+            Unit::Member,
+            EVALUATE,
+            one(bags(6), bags(60)),
+        ),
     ]
 }
 

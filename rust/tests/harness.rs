@@ -22,10 +22,10 @@ fn no_fault_is_no_difference_and_everything_is_reached() {
     let standin = StandIn { fault: Fault::None };
     let mut tally = Tally::default();
     let vectors = run::vectors().unwrap();
-    for (seed, (name, text)) in vectors.iter().enumerate() {
-        let asks = generate::vector_asks(seed as u64, text);
-        let result = run::sheet(&standin, text, seed as u64, &asks, &mut tally);
-        assert!(result.is_ok(), "{name}");
+    for (seed, vector) in (0..).zip(&vectors) {
+        let asks = generate::vector_asks(seed, &vector.text);
+        let result = run::sheet(&standin, &vector.text, seed, &asks, &mut tally);
+        assert!(result.is_ok(), "{}", vector.name);
     }
     for seed in 0..1_500 {
         let text = generate::sheet(seed);

@@ -2,23 +2,29 @@
 
 use second_evaluator::calls::{Answer, LEAST_WORDS, LONGEST_SHEET, PROGRAM_OUTPUT};
 use second_evaluator::harness::second;
-use second_evaluator::workloads::{workloads, Unit, Workload};
+use second_evaluator::workloads::{workloads, Workload};
 
-fn answers(workload: &Workload, size: usize) -> Vec<Answer> {
+/// The answer for each text of a job, and its units.
+fn answers(workload: &Workload, size: usize) -> Vec<(Answer, usize)> {
     let mut slices = [0; 3].map(|word| vec![word; LEAST_WORDS]);
     let mut out = vec![0; PROGRAM_OUTPUT];
     let call = |text: &Vec<u8>| {
         let words = slices.each_mut().map(Vec::as_mut_slice);
-        second(workload.call, text, words, &mut out)
+        let answer = second(workload.call, text, words, &mut out);
+        (answer, workload.units(text, answer, &out))
     };
     workload.jobs[size].iter().map(call).collect()
+}
+
+fn units(workload: &Workload, size: usize) -> usize {
+    answers(workload, size).iter().map(|(_, units)| units).sum()
 }
 
 #[test]
 fn every_job_is_answered() {
     for workload in workloads() {
         for size in 0..2 {
-            for answer in answers(&workload, size) {
+            for (answer, _) in answers(&workload, size) {
                 assert_eq!(answer.number, 0, "{} {answer:?}", workload.name);
             }
         }
@@ -28,24 +34,9 @@ fn every_job_is_answered() {
 #[test]
 fn large_jobs_are_about_ten_times_the_small_ones() {
     for workload in workloads() {
-        let measure = |size| match workload.unit {
-            Unit::Step => answers(&workload, size).iter().map(|a| a.steps).sum(),
-            Unit::Line => answers(&workload, size).iter().map(|a| a.length).sum(),
-            _ => workload.jobs[size]
-                .iter()
-                .map(|text| text.len() as u64)
-                .sum(),
-        };
-        let (small, large): (u64, u64) = (measure(0), measure(1));
-        // Values grow in their members, not in steps.
-        let tenfold = if workload.name.starts_with("values") {
-            1
-        } else {
-            10
-        };
+        let [small, large] = [0, 1].map(|size| units(&workload, size));
         let times = large as f64 / small as f64;
-        let near = f64::from(tenfold) * 0.5..f64::from(tenfold) * 1.5;
-        assert!(near.contains(&times), "{} {times}", workload.name);
+        assert!((5.0..15.0).contains(&times), "{} {times}", workload.name);
     }
 }
 
@@ -60,7 +51,7 @@ fn the_limits_are_near() {
         .iter()
         .filter(|workload| workload.name.starts_with("steps"))
     {
-        let steps = answers(workload, 1)[0].steps;
+        let (Answer { steps, .. }, _) = answers(workload, 1)[0];
         assert!(
             (900_000..=1_000_000).contains(&steps),
             "{} {steps}",

@@ -4,13 +4,19 @@ use second_evaluator::calls::{Answer, LEAST_WORDS, PROGRAM_OUTPUT};
 use second_evaluator::harness::linked::Linked;
 use second_evaluator::harness::standin::{Fault, StandIn};
 use second_evaluator::harness::Calls;
-use second_evaluator::workloads::{workloads, Unit, Workload};
+use second_evaluator::workloads::{workloads, Workload};
+use std::process::ExitCode;
 use std::time::{Duration, Instant};
 
 /// Rounds, in each of which both are timed once; the best of them counts.
 const ROUNDS: usize = 5;
 /// A timing repeats its job until so much time has passed.
 const ENOUGH: Duration = Duration::from_millis(60);
+/// The product's time for each of the second evaluator's, at most.
+const RATIO: f64 = 1.0;
+/// The product's time for a unit of the large job for each of the small one's,
+/// at most.
+const GROWTH: f64 = 1.3;
 
 struct Lent {
     words: [Vec<u64>; 3],
@@ -37,28 +43,70 @@ impl Lent {
     }
 
     /// What the time of a job is divided by.
-    fn units(&mut self, calls: &dyn Calls, workload: &Workload, job: &[Vec<u8>]) -> f64 {
-        let mut units = 0;
-        for text in job {
+    fn units(&mut self, calls: &dyn Calls, workload: &Workload, job: &[Vec<u8>]) -> usize {
+        let units = job.iter().map(|text| {
             let answer = self.call(calls, workload, text);
             assert_eq!(answer.number, 0, "{}", workload.name);
-            let lines = |bytes: &[u8], start: &[u8]| {
-                let lines = bytes.split_inclusive(|byte| *byte == b'\n');
-                lines.filter(|line| line.starts_with(start)).count()
-            };
-            units += match workload.unit {
-                Unit::Byte => text.len(),
-                Unit::Node => lines(text, b"N"),
-                Unit::Step => answer.steps as usize,
-                Unit::Line => lines(&self.out[..answer.length as usize], b""),
-            };
+            workload.units(text, answer, &self.out)
+        });
+        units.sum()
+    }
+
+    /// The best time of a job for a unit, the second evaluator's and the
+    /// product's, which is infinite where its call is not linked.
+    fn best(&mut self, workload: &Workload, job: &[Vec<u8>], units: usize) -> [f64; 2] {
+        let second = StandIn { fault: Fault::None };
+        let mut best = [f64::INFINITY; 2];
+        for _ in 0..ROUNDS {
+            best[0] = best[0].min(self.time(&second, workload, job));
+            if Linked.has(workload.call) {
+                best[1] = best[1].min(self.time(&Linked, workload, job));
+            }
         }
-        units as f64
+        best.map(|time| time / units as f64)
     }
 }
 
-fn main() {
+/// The figure, or a dash where there is none.
+fn figure(figure: f64) -> String {
+    match figure.is_finite() {
+        true => format!("{figure:.2}"),
+        false => "-".to_string(),
+    }
+}
+
+/// Times a workload, prints its lines, and says whether the product keeps within
+/// both bounds.
+fn run(lent: &mut Lent, workload: &Workload) -> bool {
     let second = StandIn { fault: Fault::None };
+    let mut times = [[0.0; 2]; 2];
+    for (size, job) in workload.jobs.iter().enumerate() {
+        let units = lent.units(&second, workload, job);
+        times[size] = lent.best(workload, job, units);
+        let [ours, theirs] = times[size];
+        println!(
+            "{:<24} {:>6} {units:>9} {:>6} {:>14} {:>14} {:>7}",
+            workload.name,
+            ["1x", "10x"][size],
+            format!("{:?}", workload.unit).to_lowercase(),
+            figure(ours),
+            figure(theirs),
+            figure(theirs / ours),
+        );
+    }
+    let [small, large] = times;
+    let growth = [0, 1].map(|calls| large[calls] / small[calls]);
+    println!(
+        "{:<48} {:>14} {:>14}",
+        "  growth per unit",
+        figure(growth[0]),
+        figure(growth[1])
+    );
+    let ratios = times.map(|[ours, theirs]| theirs / ours);
+    ratios.iter().all(|ratio| *ratio <= RATIO) && growth[1] <= GROWTH
+}
+
+fn main() -> ExitCode {
     let mut lent = Lent {
         words: [0; 3].map(|word| vec![word; LEAST_WORDS]),
         out: vec![0; PROGRAM_OUTPUT],
@@ -67,42 +115,20 @@ fn main() {
         "{:<24} {:>6} {:>9} {:>6} {:>14} {:>14} {:>7}",
         "", "size", "units", "unit", "second ns/unit", "product", "ratio"
     );
-    for workload in workloads() {
-        let linked = Linked.has(workload.call);
-        let mut per_unit = [[f64::INFINITY; 2]; 2];
-        for (size, job) in workload.jobs.iter().enumerate() {
-            let units = lent.units(&second, &workload, job);
-            for _ in 0..ROUNDS {
-                let ours = lent.time(&second, &workload, job) / units;
-                per_unit[0][size] = per_unit[0][size].min(ours);
-                if linked {
-                    let theirs = lent.time(&Linked, &workload, job) / units;
-                    per_unit[1][size] = per_unit[1][size].min(theirs);
-                }
-            }
-            print!(
-                "{:<24} {:>6} {units:>9} {:>6} {:>14.2}",
-                workload.name,
-                ["1x", "10x"][size],
-                format!("{:?}", workload.unit).to_lowercase(),
-                per_unit[0][size],
-            );
-            match linked {
-                true => {
-                    let ratio = per_unit[1][size] / per_unit[0][size];
-                    println!(" {:>14.2} {ratio:>7.2}", per_unit[1][size]);
-                }
-                false => println!(" {:>14} {:>7}", "-", "-"),
-            }
-        }
-        let growth = per_unit.map(|[small, large]| large / small);
-        print!("{:<48} {:>14.2}", "  growth per unit", growth[0]);
-        match linked {
-            true => println!(" {:>14.2}", growth[1]),
-            false => println!(" {:>14}", "-"),
-        }
+    let all = workloads();
+    let beyond: Vec<&str> = (all.iter())
+        .filter(|workload| !run(&mut lent, workload))
+        .map(|workload| workload.name)
+        .collect();
+    if all.iter().any(|workload| !Linked.has(workload.call)) {
+        println!("Nothing is judged: a dash stands for a call that is not linked.");
+        return ExitCode::FAILURE;
     }
-    if !Linked.has(second_evaluator::generate::Call::Report) {
-        println!("A dash stands for a call that is not linked.");
+    let bounds = format!("a ratio of {RATIO:.1} and a growth of {GROWTH:.1}");
+    if beyond.is_empty() {
+        println!("Every workload is within {bounds}.");
+        return ExitCode::SUCCESS;
     }
+    println!("Not within {bounds}: {}.", beyond.join("; "));
+    ExitCode::FAILURE
 }

@@ -6,7 +6,7 @@
 use second_evaluator::generate::{asks, sheet, vector_asks, Ask, Call};
 use second_evaluator::harness::linked::Linked;
 use second_evaluator::harness::program::long_texts;
-use second_evaluator::harness::run::{self, Difference};
+use second_evaluator::harness::run::{self, Difference, Vector};
 use second_evaluator::harness::standin::{Fault, StandIn};
 use second_evaluator::harness::tally::Tally;
 use second_evaluator::harness::Calls;
@@ -85,9 +85,9 @@ fn main() -> ExitCode {
     }
 
     let vectors = run::vectors().expect("the vectors can be read");
-    for (seed, (name, text)) in vectors.iter().enumerate() {
-        let asks = vector_asks(seed as u64, text);
-        if !comparison.sheet(&format!("vector {name}"), seed as u64, text, &asks) {
+    for (seed, Vector { name, text, .. }) in (0..).zip(&vectors) {
+        let asks = vector_asks(seed, text);
+        if !comparison.sheet(&format!("vector {name}"), seed, text, &asks) {
             return ExitCode::FAILURE;
         }
     }

@@ -13,64 +13,57 @@ pub struct Linked;
 /// The product must do with this much, on any machine it ships in.
 const STACK: usize = 128 * 1024;
 
-extern "C" {
-    #[cfg(feature = "read")]
-    fn ocl_read_sheet(
-        text: *const u8,
-        text_length: usize,
-        first: *mut u64,
-        first_length: usize,
-        second: *mut u64,
-        second_length: usize,
-        third: *mut u64,
-        third_length: usize,
-    ) -> Answer;
+/// A call of the static library: the text, the numbers it takes, the words and,
+/// where it has one, the output.
+macro_rules! linked {
+    ($feature:literal, $call:ident($($number:ident),*), [$($out:ident)?]) => {
+        #[cfg(feature = $feature)]
+        fn $call(text: &[u8], $($number: u64,)* words: Words, $($out: &mut [u8])?) -> Answer {
+            extern "C" {
+                fn $call(
+                    text: *const u8,
+                    text_length: usize,
+                    $($number: u64,)*
+                    first: *mut u64,
+                    first_length: usize,
+                    second: *mut u64,
+                    second_length: usize,
+                    third: *mut u64,
+                    third_length: usize,
+                    $($out: *mut u8, out_length: usize,)?
+                ) -> Answer;
+            }
+            let [first, second, third] = words;
+            // SAFETY: each pointer and length come from one slice that outlives
+            // the call, and the mutable ones overlap nothing.
+            unsafe {
+                $call(
+                    text.as_ptr(),
+                    text.len(),
+                    $($number,)*
+                    first.as_mut_ptr(),
+                    first.len(),
+                    second.as_mut_ptr(),
+                    second.len(),
+                    third.as_mut_ptr(),
+                    third.len(),
+                    $($out.as_mut_ptr(), $out.len(),)?
+                )
+            }
+        }
 
-    #[cfg(feature = "typing")]
-    fn ocl_type_rule(
-        text: *const u8,
-        text_length: usize,
-        rule: u64,
-        first: *mut u64,
-        first_length: usize,
-        second: *mut u64,
-        second_length: usize,
-        third: *mut u64,
-        third_length: usize,
-        out: *mut u8,
-        out_length: usize,
-    ) -> Answer;
-
-    #[cfg(feature = "evaluate")]
-    fn ocl_evaluate_rule(
-        text: *const u8,
-        text_length: usize,
-        rule: u64,
-        object: u64,
-        first: *mut u64,
-        first_length: usize,
-        second: *mut u64,
-        second_length: usize,
-        third: *mut u64,
-        third_length: usize,
-        out: *mut u8,
-        out_length: usize,
-    ) -> Answer;
-
-    #[cfg(feature = "report")]
-    fn ocl_report(
-        text: *const u8,
-        text_length: usize,
-        first: *mut u64,
-        first_length: usize,
-        second: *mut u64,
-        second_length: usize,
-        third: *mut u64,
-        third_length: usize,
-        out: *mut u8,
-        out_length: usize,
-    ) -> Answer;
+        #[cfg(not(feature = $feature))]
+        fn $call(_: &[u8], $($number: u64,)* _: Words, $($out: &mut [u8])?) -> Answer {
+            let _ = ($($number,)* $($out)?);
+            panic!("{} is not linked", stringify!($call));
+        }
+    };
 }
+
+linked!("read", ocl_read_sheet(), []);
+linked!("typing", ocl_type_rule(rule), [out]);
+linked!("evaluate", ocl_evaluate_rule(rule, object), [out]);
+linked!("report", ocl_report(), [out]);
 
 impl Calls for Linked {
     fn has(&self, call: Call) -> bool {
@@ -86,75 +79,12 @@ impl Calls for Linked {
         STACK
     }
 
-    #[allow(unused_variables)]
     fn call(&self, call: Call, text: &[u8], words: Words, out: &mut [u8]) -> Answer {
-        let [first, second, third] = words;
-        // SAFETY: each pointer and length come from one slice that outlives the
-        // call, and the mutable ones overlap nothing.
         match call {
-            #[cfg(feature = "read")]
-            Call::Read => unsafe {
-                ocl_read_sheet(
-                    text.as_ptr(),
-                    text.len(),
-                    first.as_mut_ptr(),
-                    first.len(),
-                    second.as_mut_ptr(),
-                    second.len(),
-                    third.as_mut_ptr(),
-                    third.len(),
-                )
-            },
-            #[cfg(feature = "typing")]
-            Call::Type { rule } => unsafe {
-                ocl_type_rule(
-                    text.as_ptr(),
-                    text.len(),
-                    rule,
-                    first.as_mut_ptr(),
-                    first.len(),
-                    second.as_mut_ptr(),
-                    second.len(),
-                    third.as_mut_ptr(),
-                    third.len(),
-                    out.as_mut_ptr(),
-                    out.len(),
-                )
-            },
-            #[cfg(feature = "evaluate")]
-            Call::Evaluate { rule, object } => unsafe {
-                ocl_evaluate_rule(
-                    text.as_ptr(),
-                    text.len(),
-                    rule,
-                    object,
-                    first.as_mut_ptr(),
-                    first.len(),
-                    second.as_mut_ptr(),
-                    second.len(),
-                    third.as_mut_ptr(),
-                    third.len(),
-                    out.as_mut_ptr(),
-                    out.len(),
-                )
-            },
-            #[cfg(feature = "report")]
-            Call::Report => unsafe {
-                ocl_report(
-                    text.as_ptr(),
-                    text.len(),
-                    first.as_mut_ptr(),
-                    first.len(),
-                    second.as_mut_ptr(),
-                    second.len(),
-                    third.as_mut_ptr(),
-                    third.len(),
-                    out.as_mut_ptr(),
-                    out.len(),
-                )
-            },
-            #[allow(unreachable_patterns)]
-            other => panic!("{other:?} is not linked"),
+            Call::Read => ocl_read_sheet(text, words),
+            Call::Type { rule } => ocl_type_rule(text, rule, words, out),
+            Call::Evaluate { rule, object } => ocl_evaluate_rule(text, rule, object, words, out),
+            Call::Report => ocl_report(text, words, out),
         }
     }
 }

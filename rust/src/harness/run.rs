@@ -64,9 +64,16 @@ pub fn program_sheet(product: &Path, text: &[u8]) -> io::Result<Result<(), Diffe
     }))
 }
 
-/// The sheets among the vectors, by name.
-pub fn vectors() -> io::Result<Vec<(String, Vec<u8>)>> {
-    let folder = Path::new(env!("CARGO_MANIFEST_DIR")).join("../tests/vectors");
+/// A sheet with what the program must print for it.
+pub struct Vector {
+    pub name: String,
+    pub text: Vec<u8>,
+    pub printed: Vec<u8>,
+}
+
+/// The vectors in the order of their names.
+pub fn vectors() -> io::Result<Vec<Vector>> {
+    let folder = Path::new(env!("CARGO_MANIFEST_DIR")).join("../crates/sheets/data");
     let mut vectors = Vec::new();
     for entry in fs::read_dir(folder)? {
         let path = entry?.path();
@@ -75,9 +82,13 @@ pub fn vectors() -> io::Result<Vec<(String, Vec<u8>)>> {
             .is_some_and(|extension| extension == "sheet")
         {
             let name = path.file_stem().unwrap_or_default().to_string_lossy();
-            vectors.push((name.into_owned(), fs::read(&path)?));
+            vectors.push(Vector {
+                name: name.into_owned(),
+                text: fs::read(&path)?,
+                printed: fs::read(path.with_extension("out"))?,
+            });
         }
     }
-    vectors.sort();
+    vectors.sort_by(|left, right| left.name.cmp(&right.name));
     Ok(vectors)
 }

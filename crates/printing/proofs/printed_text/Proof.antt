@@ -1,0 +1,40 @@
+-- `printed_text` meets its contract: what the report call answers is printed. Assumes nothing.
+use native.Mathlib.Omega.{arith}
+use borrow.Author.Needs.{needs}
+use mathlib.Core.Path.{refl}
+use Rattle.printing.proofs.Verdicts.{report-printed, refusal-is}
+use Rattle.printing.proofs.printed_text.Statement.{statement}
+use Rattle.printing.proofs.printed_text.Tie as tie
+
+slice-aggregate-ocl-report : tie.Need-slice-aggregate-ocl-report
+slice-aggregate-ocl-report c = search needs
+
+slice-aggregate-ocl-report-2 : tie.Need-slice-aggregate-ocl-report-2
+slice-aggregate-ocl-report-2 c = search needs
+
+slice-aggregate-ocl-report-3 : tie.Need-slice-aggregate-ocl-report-3
+slice-aggregate-ocl-report-3 c = search needs
+
+ocl-report-requires : tie.Need-ocl-report-requires
+ocl-report-requires c κs = search needs
+
+returns : tie.Need-returns
+returns c = report-printed (c .before .before .before .before .before .before .before .before .before .before .args .text .now) _ _ _ _ refl refl refl (omega arith) (c .before .before .before .before .ocl-report .ensures) (c .if1 .taken)
+
+put-refusal-requires : tie.Need-put-refusal-requires
+put-refusal-requires c κs = search needs
+
+returns-2 : tie.Need-returns-2
+returns-2 c = rw (← refusal-is (c .before .before .before .before .before .before .before .before .before .before .before .before .args .text .now) _ _ _ _ refl refl refl (omega arith) (c .before .before .before .before .before .before .ocl-report .ensures) (c .before .before .if1 .left)) (c .put-refusal .ensures)
+
+pub printed-text-spec : {M : Type 1} → statement M
+printed-text-spec =
+    tie.close
+    (tie.spec
+    slice-aggregate-ocl-report
+    slice-aggregate-ocl-report-2
+    slice-aggregate-ocl-report-3
+    ocl-report-requires
+    returns
+    put-refusal-requires
+    returns-2)

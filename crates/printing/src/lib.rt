@@ -1,0 +1,76 @@
+// What the program prints for a text, and for what a descriptor gives. It depends on `checker` for the report, on `text` for
+// writing a refusal, and on the kit's io for reading.
+ghost use mathlib.Core.Path.{_≡_};
+ghost use Prim.Native.Nat.{_≤_, _<_};
+ghost use lib.ListN.{length};
+ghost use Rattle.sheet.specs.Calls.{refusalAt};
+ghost use Rattle.sheet.specs.Report.{printed, program};
+ghost use Rattle.printing.specs.Printed.{Front, Within, Reported};
+use checker::report_call::ocl_report;
+use text::spelling::put_byte;
+use text::spelling::put_bytes;
+use text::spelling::put_number;
+
+// How many bytes stand at the front of a buffer, or that the input could not be read.
+pub enum Filled {
+    With(usize),
+    Failed,
+}
+
+// `!`, number and place on a line, at the front of the output.
+fn put_refusal(number: u64, place: u64, out: &mut [u8]) -> usize
+    requires { ⌜ (0 < number) × (64 ≤ length (now out)) ⌝ }
+    ensures { λ r. ⌜ Front (printed (refusalAt number place)) (now (out .exit)) r ⌝ }
+{
+    let mark = put_bytes(out, 0, b"! ");
+    let gap = put_number(out, mark, number);
+    let behind = put_byte(out, gap, b' ');
+    let end = put_number(out, behind, place);
+    put_byte(out, end, b'\n')
+}
+
+// What the program prints for a text, at the front of the output; its length is answered.
+pub fn printed_text(text: &[u8], out: &mut [u8; 65536]) -> usize
+    ensures { λ r. ⌜ Front (program (now (text .entry))) (now (out .exit)) r ⌝ }
+{
+    let mut w0: [u64; 8192] = [0; 8192];
+    let mut w1: [u64; 8192] = [0; 8192];
+    let mut w2: [u64; 8192] = [0; 8192];
+    let answer = ocl_report(text, &mut w0, &mut w1, &mut w2, out);
+    let number = answer.number;
+    if number == 0 {
+        return answer.length as usize;
+    }
+    put_refusal(number, answer.place, out)
+}
+
+// Reads until the input ends or the buffer is full.
+fn read_text(fd: i32, text: &mut [u8]) -> Filled
+    ensures { λ r. ⌜ Within (now (text .exit)) r ⌝ }
+{
+    let mut n: usize = 0;
+    while n < text.len() {
+        let got = libc::read(fd, &mut text[n..]);
+        if got < 0 {
+            return Filled::Failed;
+        }
+        let more = io::count(got, &text[n..]);
+        if more == 0 {
+            return Filled::With(n);
+        }
+        n += more;
+    }
+    Filled::With(n)
+}
+
+// Reads an input and puts what the program prints for it at the front of the output. What is lent for the text holds more than
+// a sheet may have, so that a long sheet is told from one that was cut.
+pub fn report_input(fd: i32, text: &mut [u8], out: &mut [u8; 65536]) -> Filled
+    requires { ⌜ 49152 < length (now text) ⌝ }
+    ensures { λ r. ⌜ Reported (now (text .exit)) (now (out .exit)) r ⌝ }
+{
+    let Filled::With(n) = read_text(fd, text) else {
+        return Filled::Failed;
+    };
+    Filled::With(printed_text(&text[..n], out))
+}
