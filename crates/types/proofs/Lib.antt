@@ -4,7 +4,6 @@ pub mod Levels
 pub mod Members
 pub mod Words
 pub mod RowLaws
-pub mod Digits
 pub mod Closing
 pub mod Spelled
 pub mod TypeFields

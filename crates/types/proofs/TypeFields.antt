@@ -12,20 +12,23 @@ use lib.Dec.{eqb, leb, ltb}
 use lib.ListN.{length, getD, take, drop, length-drop, List·getD-eq-default}
 use lib.Seq.{getD-drop, drop-drop}
 use Rattle.laws.specs.Choice.{if_then_else_, onSome, mapSome}
+use Rattle.laws.proofs.Tests.{and-true}
 use Rattle.laws.proofs.Parts.{part-all}
 use Rattle.ocl.specs.Types.{Letter, Ty, void, around, Any, Boolean, Integer, Class, depth}
-use Rattle.sheet.specs.Text.{Bytes, bytes, whole, number}
+use Rattle.sheet.specs.Text.{Bytes, bytes}
+use Rattle.sheet.specs.Lines.{aNumber}
 use Rattle.sheet.specs.Refusals.{typeWithin, classBelow, simpleClassBelow}
 use Rattle.sheet.specs.Spelling.{readType}
+use Rattle.text.specs.declared.numbers.Num.{Num}
+use Rattle.text.specs.declared.numbers.Num.the-variants as n
+use Rattle.text.specs.Numbers.{numOf}
 use Rattle.types.specs.declared.GotType.{GotType}
 use Rattle.types.specs.declared.GotType.the-variants as g
 use Rattle.types.specs.declared.Base.{Base}
 use Rattle.types.specs.declared.Base.the-variants as b
 use Rattle.types.specs.declared.FlatType.{FlatType}
-use Rattle.types.specs.declared.reading.Num.{Num}
-use Rattle.types.specs.declared.reading.Num.the-variants as n
 use Rattle.types.specs.Flat.{baseType, baseClass, letterOf, layer, tyOf}
-use Rattle.types.specs.Reading.{TypeField, bad, big, is, typeField, held, closes, spells, baseBefore, hashBefore, numberBefore, byteCode, codeLetter, lettered, typeBefore, opensOf, Opens, deeper, letteredField, numOf, classField}
+use Rattle.types.specs.Reading.{TypeField, bad, big, is, typeField, held, closes, spells, baseBefore, hashBefore, numberBefore, byteCode, codeLetter, lettered, typeBefore, opensOf, Opens, deeper, letteredField, classField}
 use Rattle.types.proofs.Closing.{number-short, number-off, number-closed}
 use Rattle.types.proofs.Spelled.{base-law, hash-none, hash-off, hash-on, read-law}
 
@@ -205,14 +208,15 @@ module _ (d : ℕ) (s : Bytes) where
   unfolding mapSome
   class-off e = bad-field (ap (mapSome Class) (number-off d s (sym (ap (closes d) (part-all s (length s - d))) ∙ sym e)))
 
-  pub class-on : {m : Num} (r : GotType) → true ≡ closes d (take (length s - (length s - d)) (drop (length s - d) s)) → m ≡ numOf (whole number (take (length s - d) s)) → typeField r ≡ classField m → typeField r ≡ held (mapSome Class (numberBefore d s))
+  pub class-on : {m : Num} (r : GotType) → true ≡ closes d (take (length s - (length s - d)) (drop (length s - d) s)) → m ≡ numOf (aNumber (take (length s - d) s)) → typeField r ≡ classField m → typeField r ≡ held (mapSome Class (numberBefore d s))
+  unfolding aNumber
   class-on r e q h = h ∙ ap classField q ∙ class-held _ ∙ ap (λ (o : Option ℕ). held (mapSome Class o)) (sym (number-closed d (length s - d) s (sym (ap (closes d) (part-all s (length s - d))) ∙ sym e)))
 
-pub small-class : (m : Num) (c : ℕ) (t : FlatType) → m ≡ n.Value c → c < 64 → tyOf t ≡ Class c → typeField (g.Is t) ≡ classField m
+pub small-class : (m : Num) (c : ℕ) (t : FlatType) → m ≡ n.Is c → c < 64 → tyOf t ≡ Class c → typeField (g.Is t) ≡ classField m
 unfolding typeField classField
 small-class m c t e h q = rw (e, lt-ltb c 64 h, q)
 
-pub big-class : (m : Num) (c : ℕ) → m ≡ n.Value c → 64 ≤ c → typeField g.Big ≡ classField m
+pub big-class : (m : Num) (c : ℕ) → m ≡ n.Is c → 64 ≤ c → typeField g.Big ≡ classField m
 unfolding typeField classField
 big-class m c e h = rw (e, le-ltb c 64 h)
 
@@ -286,10 +290,6 @@ layer-class (suc o) zero i x = refl
 layer-class (suc o) (suc m) zero x = refl
 layer-class (suc o) (suc m) (suc i) x = refl
 
-and-second : (x y : Bool) → x && y ≡ true → y ≡ true
-and-second true y e = e
-and-second false y e = absurd (let z : _≡_ {A = ℕ} 0 1 = cc in omega arith)
-
 pub within-class : (t : FlatType) → typeWithin (tyOf t) ≡ true → baseClass (t .base) < 64
 unfolding typeWithin
-within-class t e = base-class (t .base) (sym (layer-class (t .outer) (t .middle) (t .inner) (baseType (t .base))) ∙ and-second (leb (depth (tyOf t)) 3) (classBelow 64 (tyOf t)) e)
+within-class t e = base-class (t .base) (sym (layer-class (t .outer) (t .middle) (t .inner) (baseType (t .base))) ∙ and-true (leb (depth (tyOf t)) 3) (classBelow 64 (tyOf t)) e .1)
