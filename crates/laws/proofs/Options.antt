@@ -37,3 +37,10 @@ pub mapSome-some : {A B : Type 0} (f : A → B) (o : Option A) {y : B} → mapSo
 unfolding mapSome
 mapSome-some f none e = absurd (Option·none-ne-some _ e)
 mapSome-some f (some x) e = (x, refl, Option·some-injective _ _ e)
+
+-- ---- an option that leads nowhere
+
+pub nowhere : {A B : Type 0} (o : Option A) (f : A → Option B) → ((x : A) → f x ≡ none) → onSome o f ≡ none
+unfolding onSome
+nowhere none f h = refl
+nowhere (some x) f h = h x

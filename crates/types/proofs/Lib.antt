@@ -7,5 +7,6 @@ pub mod RowLaws
 pub mod Closing
 pub mod Spelled
 pub mod TypeFields
+pub mod Within
 pub mod WrittenLaws
 pub mod RowBounds
