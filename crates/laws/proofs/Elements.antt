@@ -1,12 +1,11 @@
--- A list's elements by tests and by places, and an option with no other after it. Assumes nothing.
+-- A list's elements by tests and by places. Assumes nothing.
 use mathlib.Core.Path.{_≡_, refl, sym, ap, _∙_}
 use mathlib.Core.Bool.{Bool, _&&_, and-assoc}
-use mathlib.Core.Option.{Option, none, some}
+use mathlib.Core.Option.{none, some}
 use mathlib.Core.List.{List, [], _∷_, _++_, map}
 use Prim.Native.Nat.{ℕ, zero, suc, _<_, _≤_}
 use native.Mathlib.Omega.{arith}
 use lib.ListN.{length, getD, getElem?}
-use Rattle.laws.specs.Choice.{orElse}
 use Rattle.laws.specs.Lists.{allOf}
 
 pub all-append : {A : Type 0} (f : A → Bool) (xs ys : List A) → allOf f (xs ++ ys) ≡ allOf f xs && allOf f ys
@@ -29,8 +28,3 @@ pub elem-none : {A : Type 0} (l : List A) (i : ℕ) → length l ≤ i → getEl
 elem-none [] i h = refl
 elem-none (a ∷ l) zero h = absurd (omega arith)
 elem-none (a ∷ l) (suc i) h = elem-none l i (omega arith)
-
-pub else-none : {A : Type 0} (o : Option A) → orElse o none ≡ o
-unfolding orElse
-else-none none = refl
-else-none (some x) = refl
