@@ -1,6 +1,6 @@
 -- No run returns more than 1,000,000 steps, typed or not: a law for each piece that evaluation is written in, and one induction over
 -- the forms. Assumes nothing.
-use mathlib.Core.Bool.{Bool, true, false, not, Bool·beq}
+use mathlib.Core.Bool.{Bool, true, false, Bool·beq}
 use mathlib.Core.Option.{Option, none, some}
 use Prim.Native.Nat.{ℕ, _+_, _≤_}
 use native.Mathlib.Omega.{arith as linear}
@@ -10,7 +10,7 @@ use Rattle.laws.specs.Choice.{if_then_else_}
 use Rattle.laws.proofs.Tests.{by-if}
 use Rattle.ocl.specs.Types.{class, Kind, sameKind}
 use Rattle.ocl.specs.Values.{Value, bool, int, obj, coll, Values, nil, cons, size, add}
-use Rattle.ocl.specs.Model.{Row, Model, isA}
+use Rattle.ocl.specs.Model.{Model, isA}
 use Rattle.ocl.specs.Environment.{Env, extend, start}
 use Rattle.ocl.specs.Forms.{Connective, Quantifier, Leaf, truth, undef, number, self, var, all, Unary, negation, sizeOf, convert, castTo, Binary, equal, less, arith, includes, including, union, Expr, node, Form, leaf, unary, binary, connective, isUndef, conditional, letIn, attribute, quantified, iterate, collect, Operands, noOperand, operand}
 use Rattle.ocl.specs.Evaluation.{Outcome, value, undefined, stuck, stop, Run, resume, bind, tick, form, given, bound, onBool, onInt, onObj, onColl, arithmetic, leafRun, cast, unaryApply, unaryRun, leftFits, binaryApply, binaryRun, decides, connectiveRun, isUndefRun, conditionalRun, letRun, attributeRun, endsAt, search, quantifiedRun, fold, iterateRun, Gather, noOperandRun, operandRun, collectRun, evaluation, formRun, operandsRun, evaluateRule}

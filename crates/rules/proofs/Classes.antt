@@ -1,14 +1,14 @@
 -- The classes and rows of a sheet that lies in the words, as typing and evaluation read them. Assumes nothing.
-use mathlib.Core.Path.{_≡_, refl, sym, ap, _∙_, fun-ext}
+use mathlib.Core.Path.{_≡_, refl, fun-ext}
 use mathlib.Core.Option.{Option, none, some}
 use mathlib.Core.List.{List, map}
-use Prim.Native.Nat.{ℕ, suc, _+_, _≤_, _<_}
+use Prim.Native.Nat.{ℕ, suc, _≤_, _<_}
 use native.Mathlib.Omega.{arith}
 use lib.ListN.{length, getD, List·getD-map}
 use lib.Dec.{leb}
 use borrow.Author.Tests.{le-leb}
 use Rattle.laws.specs.Choice.{if_then_else_}
-use Rattle.ocl.specs.Model.{Row, Model}
+use Rattle.ocl.specs.Model.{Row}
 use Rattle.sheet.specs.Sheet.{Sheet, noRow, modelOf}
 use Rattle.types.specs.Flat.{parentWord, parentOf, parentsIn}
 use Rattle.types.specs.Word.{typeIn}

@@ -1,19 +1,19 @@
 -- How long a report line can be, for a rule of an accepted sheet with a type and an object of its context. Assumes nothing.
-use mathlib.Core.Path.{_≡_, refl, sym, ap, _∙_}
+use mathlib.Core.Path.{_≡_, refl}
 use mathlib.Core.Logic.{_≢_}
 use mathlib.Core.Bool.{Bool, true, false}
 use mathlib.Core.Option.{Option, none, some}
-use mathlib.Core.List.{List, [], _∷_, _++_}
-use Prim.Native.Nat.{ℕ, suc, _+_, _≤_, _<_}
+use mathlib.Core.List.{List}
+use Prim.Native.Nat.{ℕ, _+_, _≤_, _<_}
 use native.Mathlib.Omega.{arith}
 use native.Mathlib.Decide.{ℕ-discrete}
 use borrow.Author.Tests.{lt-ltb}
 use lib.ListN.{length, getElem?, length-append}
-use lib.Dec.{T, ltb, ltb→lt}
+use lib.Dec.{T, ltb→lt}
 use Rattle.laws.proofs.Tests.{and-i, and-l, and-r}
 use Rattle.laws.proofs.Elements.{elem-at}
 use Rattle.ocl.specs.Types.{Simple, any, boolean, integer, class, exactly, Ty, void, simple, around, simpleSubtype, letterSubtype, climbs, height, up, sameSimple, simpleCode}
-use Rattle.ocl.specs.Values.{Value, bool, int, obj, coll, Values, nil, cons, size}
+use Rattle.ocl.specs.Values.{Value, bool, int, obj, coll, Values, size}
 use Rattle.ocl.specs.Model.{Model, classBelow, isA, every, belongs}
 use Rattle.ocl.specs.Forms.{reach}
 use Rattle.ocl.specs.Typing.{typed}
@@ -27,15 +27,13 @@ use Rattle.sheet.specs.Sheet.{Rule, Sheet, modelOf}
 use Rattle.sheet.specs.Refusals.{everyPart, everyParts, partWithin}
 use Rattle.sheet.specs.Calls.{typingOf, outcomeOf}
 use Rattle.sheet.specs.Report.{spellOutcome, reportLine}
-use Rattle.sheet.specs.SpellingLaws.{LengthLaws}
 use Rattle.sheet.proofs.Acceptance.{accepted-good}
 use Rattle.sheet.proofs.Soundness.{sound-rule}
 use Rattle.sheet.proofs.Lengths.{length-laws}
-use Rattle.values.specs.Cells.{Fits, fits-bool, fits-int, fits-obj, fits-coll, AllFit, fit-nil, fit-cons}
+use Rattle.values.specs.Cells.{Fits, fits-int, fits-coll, AllFit, fit-nil, fit-cons}
 use Rattle.tables.specs.declared.Counts.{Counts}
-use Rattle.tables.specs.Layout.{Counted, Holds, Fine}
 use Rattle.evaluation.specs.declared.Ended.{Ended}
-use Rattle.evaluation.specs.Answers.{Lies, Ends, ends-value, ends-undefined, ends-stuck, ends-stop}
+use Rattle.evaluation.specs.Answers.{Ends, ends-value, ends-undefined, ends-stuck, ends-stop}
 use Rattle.rules.specs.Accepted.{Accepted}
 use Rattle.rules.specs.Width.{width}
 

@@ -2,7 +2,7 @@
 use mathlib.Core.Path.{_≡_, sym, ap, _∙_}
 use mathlib.Core.Option.{none, some}
 use mathlib.Core.List.{List}
-use Prim.Native.Nat.{ℕ, _+_, _≤_, _<_}
+use Prim.Native.Nat.{ℕ, _+_, _<_}
 use native.Mathlib.Omega.{arith}
 use native.Mathlib.Decide.{decLt}
 use lib.ListN.{length, getD, getElem?, List·getD-eq-default}
@@ -11,14 +11,13 @@ use borrow.Author.Tests.{lt-ltb, le-ltb}
 use Rattle.laws.specs.Choice.{if_then_else_}
 use Rattle.laws.proofs.Lists.{each-imp}
 use Rattle.laws.proofs.Elements.{elem-some, elem-none}
-use Rattle.ocl.specs.Model.{Row, Model}
+use Rattle.ocl.specs.Model.{Row}
 use Rattle.sheet.specs.Sheet.{Slot, Sheet, noRow, modelOf}
-use Rattle.sheet.specs.Laws.{TypeRefusal}
-use Rattle.sheet.proofs.Good.{SlotOk, Good}
+use Rattle.sheet.proofs.Good.{Good}
 use Rattle.sheet.proofs.Acceptance.{accepted-good, good-model}
 use Rattle.sheet.proofs.Soundness.{type-refusals}
 use Rattle.tables.specs.declared.Counts.{Counts}
-use Rattle.tables.specs.Layout.{HoldsTables, Counted, Holds, Fine}
+use Rattle.tables.specs.Layout.{Holds, Fine}
 use Rattle.tables.specs.Stored.{HoldsModel}
 use Rattle.tables.proofs.Tables.{tab-at}
 use Rattle.evaluation.specs.Tables.{Plain}
@@ -35,7 +34,7 @@ module _ {st : Counts} {w0 w1 : List ℕ} {s : Sheet} (fine : Fine st) (holds : 
   object-class o (yes l) =
       let z : o < length (s .objects) = (let c = holds .counted .objects in omega arith) in
       rw (lt-ltb o (st .objects) l)
-      (elem-some (s .objects) o 0 z ∙ ap some (sym (sym (tab-at 256 (length (s .objects)) w0 o z) ∙ ap (λ (l : List ℕ). getD l o 0) (holds .tables .objects))))
+      (elem-some (s .objects) o 0 z ∙ ap some (ap (λ (l : List ℕ). getD l o 0) (sym (holds .tables .objects)) ∙ tab-at 256 (length (s .objects)) w0 o z))
   object-class o (no l) = rw (le-ltb o (st .objects) (omega arith)) (elem-none (s .objects) o (let c = holds .counted .objects in omega arith))
 
   model-held : HoldsModel st w0 (modelOf s)

@@ -11,14 +11,14 @@ use Rattle.laws.proofs.Elements.{elem-some, elem-none, elem-at, each-elem}
 use Rattle.ocl.specs.Types.{Class}
 use Rattle.ocl.specs.Environment.{start}
 use Rattle.ocl.specs.Forms.{undef, node, Form}
-use Rattle.ocl.specs.Typing.{refused as untyped, typeRule, markOf}
+use Rattle.ocl.specs.Typing.{typeRule, markOf}
 use Rattle.ocl.proofs.Places.{mark-below}
 use Rattle.sheet.specs.Sheet.{Rule, Sheet, modelOf}
 use Rattle.sheet.specs.Calls.{typingOf}
-use Rattle.sheet.proofs.Good.{RuleOk, Good}
+use Rattle.sheet.proofs.Good.{Good}
 use Rattle.nodes.specs.Nodes.{word, treeAt}
 use Rattle.tables.specs.declared.Counts.{Counts}
-use Rattle.tables.specs.Layout.{tab, linesIn, HoldsTables, HoldsRules, Counted, Holds, Fine}
+use Rattle.tables.specs.Layout.{tab, linesIn, Holds, Fine}
 use Rattle.tables.proofs.Tables.{tab-at, entry-of, entry-by}
 use Rattle.rules.specs.Accepted.{RuleIn}
 

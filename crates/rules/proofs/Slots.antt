@@ -6,11 +6,10 @@ use mathlib.Core.Option.{Option, none, some}
 use mathlib.Core.List.{List, [], _∷_, _++_, map, map-append, append-assoc}
 use Prim.Native.Nat.{ℕ, zero, suc, _+_, _*_, _≤_, _<_}
 use native.Mathlib.Omega.{arith}
-use lib.ListN.{length, getD, take, drop, length-append, length-take, length-drop, length-map}
+use lib.ListN.{length, getD, drop, length-append, length-take, length-drop, length-map}
 use lib.Seq.{slice, getD-at}
-use lib.Dec.{T, eqb, eqb→eq}
+use lib.Dec.{eqb, eqb→eq}
 use borrow.Author.Tests.{eq-eqb, ne-eqb}
-use Rattle.laws.specs.Choice.{if_then_else_}
 use Rattle.laws.specs.Lists.{Each, each-nil, each-cons, concat}
 use Rattle.laws.proofs.Tests.{and-l, and-r, by-if}
 use Rattle.laws.proofs.Lists.{each-right, each-head}
@@ -19,7 +18,7 @@ use Rattle.ocl.specs.Values.{Value, size}
 use Rattle.sheet.specs.Sheet.{Slot, Sheet, lookup}
 use Rattle.sheet.specs.Refusals.{totalSize}
 use Rattle.sheet.proofs.Ascending.{Before, smaller-object, smaller-row, Ascending, ascending-nil, ascending-cons}
-use Rattle.values.specs.Cells.{enc, Fits}
+use Rattle.values.specs.Cells.{enc}
 use Rattle.values.proofs.Encoding.{size-law, some-cells}
 use Rattle.tables.specs.declared.Counts.{Counts}
 use Rattle.tables.specs.Layout.{tab, slotKey, startsFrom, cellsOf, HoldsTables, Counted, Fine}
