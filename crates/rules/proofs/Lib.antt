@@ -1,0 +1,5 @@
+pub mod Classes
+pub mod Slots
+pub mod RulesIn
+pub mod Ready
+pub mod Lengths
