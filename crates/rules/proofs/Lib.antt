@@ -1,0 +1,4 @@
+pub mod Ready
+pub mod Typings
+pub mod Marks
+pub mod Evaluations
