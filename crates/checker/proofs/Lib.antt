@@ -1,1 +1,4 @@
 pub mod Answers
+pub mod Readings
+pub mod ReadCalls
+pub mod TypeCalls
