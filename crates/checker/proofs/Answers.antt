@@ -21,7 +21,7 @@ use Rattle.checker.specs.Parts.{Gives, Leaves, Wipes, writtenTo}
 
 -- ---- lengths
 
-pub or-true : (b : Bool) → b || true ≡ true
+or-true : (b : Bool) → b || true ≡ true
 or-true true = refl
 or-true false = refl
 
@@ -77,7 +77,7 @@ pub untouched : {a : Answer} (w0 w1 w2 : List ℕ) → a ≡ answerOf (refusalAt
 unfolding refusal refusalAt wordsAfter
 untouched w0 w1 w2 e = record { is = e; words0 = refl; words1 = refl; words2 = refl }
 
-pub untouched-output : {a : Answer} (w0 w1 w2 : List ℕ) (out : Bytes) → a ≡ answerOf (refusalAt 1 0) → AnswersWith (refusal 1) a w0 w1 w2 out w0 w1 w2 out
+untouched-output : {a : Answer} (w0 w1 w2 : List ℕ) (out : Bytes) → a ≡ answerOf (refusalAt 1 0) → AnswersWith (refusal 1) a w0 w1 w2 out w0 w1 w2 out
 unfolding refusal refusalAt outputAfter
 untouched-output w0 w1 w2 out e = record { answers = untouched w0 w1 w2 e; output = refl }
 
@@ -92,5 +92,25 @@ module _ {v : Verdict} {a : Answer} {w0 w1 w2 v0 v1 v2 x0 x1 x2 : List ℕ} (n :
       let q : eqb (v .number) 1 ≡ false = ne-eqb (v .number) 1 n in
       record { is = e; words0 = z .words0 ∙ wiped-kept k0 ∙ rw q; words1 = z .words1 ∙ wiped-kept k1 ∙ rw q; words2 = z .words2 ∙ wiped-kept k2 ∙ rw q }
 
-  pub finished : {out after : Bytes} → Leaves v a w0 w1 w2 out v0 v1 v2 after → Wipes v0 v1 v2 x0 x1 x2 → AnswersWith v a w0 w1 w2 out x0 x1 x2 after
+  finished : {out after : Bytes} → Leaves v a w0 w1 w2 out v0 v1 v2 after → Wipes v0 v1 v2 x0 x1 x2 → AnswersWith v a w0 w1 w2 out x0 x1 x2 after
   finished l z = record { answers = wiped-after (l .gives .is) (l .kept0) (l .kept1) (l .kept2) z; output = l .gives .output }
+
+-- ---- a call that lends an output, with the verdict v where nothing is short
+
+abbrev call : Verdict → List ℕ → List ℕ → List ℕ → Bytes → Verdict
+call v w0 w1 w2 out = if shortWords w0 w1 w2 || shortOutput out then refusal 1 else v
+
+module _ (v : Verdict) (w0 w1 w2 : List ℕ) (out : Bytes) {a : Answer} where
+  pub short-call : a ≡ answerOf (refusalAt 1 0) → shortWords w0 w1 w2 ≡ true → AnswersWith (call v w0 w1 w2 out) a w0 w1 w2 out w0 w1 w2 out
+  short-call e q = rw q (untouched-output w0 w1 w2 out e)
+
+  pub short-output-call : a ≡ answerOf (refusalAt 1 0) → length out < 2048 → AnswersWith (call v w0 w1 w2 out) a w0 w1 w2 out w0 w1 w2 out
+  unfolding shortOutput
+  short-output-call e h = rw (lt-ltb (length out) 2048 h, or-true (shortWords w0 w1 w2)) (untouched-output w0 w1 w2 out e)
+
+  pub long-call : {v0 v1 v2 x0 x1 x2 : List ℕ} {after : Bytes} → v .number ≢ 1 → Lent w0 w1 w2 out
+      → Leaves v a w0 w1 w2 out v0 v1 v2 after → Wipes v0 v1 v2 x0 x1 x2 → AnswersWith (call v w0 w1 w2 out) a w0 w1 w2 out x0 x1 x2 after
+  unfolding shortWords shortOutput
+  long-call n l d z =
+      rw (le-ltb (length w0) 8192 (l .words0), le-ltb (length w1) 8192 (l .words1), le-ltb (length w2) 8192 (l .words2), le-ltb (length out) 2048 (l .output))
+      (finished n d z)

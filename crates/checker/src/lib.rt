@@ -9,6 +9,7 @@ ghost use Rattle.checker.specs.Parts.{ReadsText, Wipes, writtenTo};
 use reader::SheetRead;
 use reader::read;
 
+pub mod evaluate_call; // ocl_evaluate_rule
 pub mod read_call; // ocl_read_sheet
 pub mod type_call; // ocl_type_rule
 

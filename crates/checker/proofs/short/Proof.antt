@@ -2,18 +2,13 @@ use native.Mathlib.Omega.{arith}
 use Rattle.checker.proofs.Answers.{short0, short1, short2}
 use Rattle.checker.proofs.short.Statement.{statement}
 use Rattle.checker.proofs.short.Tie as tie
-use Rattle.checker.proofs.short.Reads as reads
-use Rattle.checker.proofs.short.Lts as lts
 
--- src/lib.rt:53:9
 returns : tie.Need-returns
 returns c = short0 _ _ _ (c .if1 .taken)
 
--- src/lib.rt:56:9
 returns-2 : tie.Need-returns-2
 returns-2 c = short1 (c .before .before .args .w0 .now) _ _ (c .if2 .taken)
 
--- src/lib.rt:49:1
 returns-3 : tie.Need-returns-3
 returns-3 c = short2 (c .before .before .args .w0 .now) (c .before .before .args .w1 .now) (c .before .before .args .w2 .now) (omega arith) (omega arith)
 

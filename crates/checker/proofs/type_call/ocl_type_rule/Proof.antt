@@ -4,82 +4,58 @@ use Rattle.checker.proofs.Answers.{all-lent, still-long}
 use Rattle.checker.proofs.TypeCalls.{type-short, type-short-output, type-done}
 use Rattle.checker.proofs.type_call.ocl_type_rule.Statement.{statement}
 use Rattle.checker.proofs.type_call.ocl_type_rule.Tie as tie
-use Rattle.checker.proofs.type_call.ocl_type_rule.Reads as reads
-use Rattle.checker.proofs.type_call.ocl_type_rule.Lts as lts
-use Rattle.checker.proofs.refused.Reads as refused-reads
-use Rattle.checker.proofs.short.Reads as short-reads
-use Rattle.checker.proofs.type_call.type_answer.Reads as type-answer-reads
-use Rattle.checker.proofs.wipe_all.Reads as wipe-all-reads
 
--- src/type_call.rt:70:8
 short-requires : tie.Need-short-requires
 short-requires c κs = search needs
 
--- src/type_call.rt:71:9
 refused-requires : tie.Need-refused-requires
 refused-requires c κs = search needs
 
--- src/type_call.rt:71:9
 same-length : tie.Need-same-length
 same-length c = search needs
 
--- src/type_call.rt:71:9
 same-length-2 : tie.Need-same-length-2
 same-length-2 c = search needs
 
--- src/type_call.rt:71:9
 same-length-3 : tie.Need-same-length-3
 same-length-3 c = search needs
 
--- src/type_call.rt:71:9
 returns : tie.Need-returns
 returns c = type-short _ _ _ _ _ _ (c .refused .ensures) (sym (c .before .before .short .ensures) ∙ c .before .if1 .taken)
 
--- src/type_call.rt:74:9
 refused-requires-2 : tie.Need-refused-requires-2
 refused-requires-2 c κs = search needs
 
--- src/type_call.rt:74:9
 same-length-4 : tie.Need-same-length-4
 same-length-4 c = search needs
 
--- src/type_call.rt:74:9
 same-length-5 : tie.Need-same-length-5
 same-length-5 c = search needs
 
--- src/type_call.rt:74:9
 same-length-6 : tie.Need-same-length-6
 same-length-6 c = search needs
 
--- src/type_call.rt:74:9
 returns-2 : tie.Need-returns-2
 returns-2 c = type-short-output _ _ _ _ _ _ (c .refused2 .ensures) (c .before .if2 .taken)
 
--- src/type_call.rt:76:9
 type-answer-requires : tie.Need-type-answer-requires
 type-answer-requires c κs = all-lent (sym (c .before .before .before .before .before .before .short .ensures) ∙ c .before .before .before .before .before .if1 .left) (c .before .before .before .before .if2 .left)
 
--- src/type_call.rt:77:5
 wipe-all-requires : tie.Need-wipe-all-requires
 wipe-all-requires c κs = still-long (all-lent (sym (c .before .before .before .before .before .before .before .before .before .before .before .before .before .before .before .before .before .before .short .ensures) ∙ c .before .before .before .before .before .before .before .before .before .before .before .before .before .before .before .before .before .if1 .left) (c .before .before .before .before .before .before .before .before .before .before .before .before .before .before .before .before .if2 .left)) (c .before .before .before .before .before .before .before .before .before .before .before .type-answer .ensures)
 
--- src/type_call.rt:59:1
 same-length-7 : tie.Need-same-length-7
 same-length-7 c = search needs
 
--- src/type_call.rt:59:1
 same-length-8 : tie.Need-same-length-8
 same-length-8 c = search needs
 
--- src/type_call.rt:59:1
 same-length-9 : tie.Need-same-length-9
 same-length-9 c = search needs
 
--- src/type_call.rt:59:1
 same-length-10 : tie.Need-same-length-10
 same-length-10 c = search needs
 
--- src/type_call.rt:59:1
 returns-3 : tie.Need-returns-3
 returns-3 c = type-done _ _ _ _ _ _ (all-lent (sym (c .before .before .before .before .before .before .before .before .before .before .before .before .before .before .before .before .before .before .before .before .before .before .before .before .before .short .ensures) ∙ c .before .before .before .before .before .before .before .before .before .before .before .before .before .before .before .before .before .before .before .before .before .before .before .before .if1 .left) (c .before .before .before .before .before .before .before .before .before .before .before .before .before .before .before .before .before .before .before .before .before .before .before .if2 .left)) (c .before .before .before .before .before .before .before .before .before .before .before .before .before .before .before .before .before .before .type-answer .ensures) (c .before .before .before .before .before .before .wipe-all .ensures)
 

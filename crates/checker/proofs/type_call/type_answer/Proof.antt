@@ -5,61 +5,43 @@ use Rattle.checker.proofs.Answers.{still-lent}
 use Rattle.checker.proofs.Readings.{known-on, gives-on, gives-stop}
 use Rattle.checker.proofs.type_call.type_answer.Statement.{statement}
 use Rattle.checker.proofs.type_call.type_answer.Tie as tie
-use Rattle.checker.proofs.type_call.type_answer.Reads as reads
-use Rattle.checker.proofs.type_call.type_answer.Lts as lts
-use Rattle.checker.proofs.read_text.Reads as read-text-reads
-use Rattle.checker.proofs.refused.Reads as refused-reads
-use Rattle.checker.proofs.type_call.type_on.Reads as type-on-reads
 
--- src/type_call.rt:51:11
 read-text-requires : tie.Need-read-text-requires
 read-text-requires c κs = search needs
 
--- src/type_call.rt:52:26
 enum-known-st : tie.Need-enum-known-st
 enum-known-st c = search needs
 
--- src/type_call.rt:52:33
 type-on-requires : tie.Need-type-on-requires
 type-on-requires c κs = (still-lent (c .before .before .before .before .before .before .before .before .before .before .before .before .before .before .before .before .before .before .before .pre) (c .before .before .before .before .before .before .before .before .before .before .before .read-text .ensures .kept0) (c .before .before .before .before .before .before .before .before .before .before .before .read-text .ensures .kept1), known-on (rw (c .before .before .before .before .before .st .given .1) at (c .before .before .before .before .before .before .before .before .before .before .before .read-text .ensures .is)) _ refl)
 
--- src/type_call.rt:53:28
 enum-known-n : tie.Need-enum-known-n
 enum-known-n c = search needs
 
--- src/type_call.rt:53:37
 refused-requires : tie.Need-refused-requires
 refused-requires c κs = search needs
 
--- src/type_call.rt:40:1
 same-length : tie.Need-same-length
 same-length c = search needs
 
--- src/type_call.rt:40:1
 same-length-2 : tie.Need-same-length-2
 same-length-2 c = search needs
 
--- src/type_call.rt:40:1
 same-length-3 : tie.Need-same-length-3
 same-length-3 c = search needs
 
--- src/type_call.rt:40:1
 same-length-4 : tie.Need-same-length-4
 same-length-4 c = search needs
 
--- src/type_call.rt:40:1
 returns : tie.Need-returns
 returns c = record { gives = gives-on (rw (c .before .before .before .before .before .before .before .before .before .before .st .given .1) at (c .before .before .before .before .before .before .before .before .before .before .before .before .before .before .before .before .read-text .ensures .is)) _ refl (c .before .before .before .before .type-on .ensures .0); kept0 = c .before .before .before .before .before .before .before .before .before .before .before .before .before .before .before .before .read-text .ensures .kept0; kept1 = c .before .before .before .before .before .before .before .before .before .before .before .before .before .before .before .before .read-text .ensures .kept1; kept2 = c .before .before .before .before .type-on .ensures .1 }
 
--- src/type_call.rt:40:1
 same-length-5 : tie.Need-same-length-5
 same-length-5 c = search needs
 
--- src/type_call.rt:40:1
 same-length-6 : tie.Need-same-length-6
 same-length-6 c = search needs
 
--- src/type_call.rt:40:1
 returns-2 : tie.Need-returns-2
 returns-2 c = record { gives = gives-stop (rw (c .before .before .n .given .1) at (c .before .before .before .before .before .before .before .before .read-text .ensures .is)) _ _ (c .refused .ensures); kept0 = c .before .before .before .before .before .before .before .before .read-text .ensures .kept0; kept1 = c .before .before .before .before .before .before .before .before .read-text .ensures .kept1; kept2 = kept-refl _ }
 
