@@ -3,3 +3,6 @@ pub mod Slots
 pub mod RulesIn
 pub mod Ready
 pub mod Lengths
+pub mod Typings
+pub mod Marks
+pub mod Evaluations
