@@ -3,8 +3,10 @@ pub mod MachineLaws
 pub mod LimitLaws
 pub mod CellLaws
 pub mod TurnLaws
+pub mod BeginLaws
 pub mod OrderLaws
 pub mod ObjectLaws
+pub mod ClimbLaws
 pub mod SuitLaws
 pub mod SlotLaws
 pub mod PutLaws
