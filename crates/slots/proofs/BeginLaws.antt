@@ -103,15 +103,12 @@ module _ {f : Bytes} {A : List ℕ} {at : ℕ} {o : Open} (w : Wanted f A at o) 
         sure = record {
           depth = w .sure .depth;
           over = λ y. record { is = λ u g. never-part (length A) u (resumed (w .frames) v (drop e f) (sym q ∙ g) .parts (alone-part al ∙ t)) };
-          fine = λ y. clash y;
+          fine = λ y. absurd (omega arith);
         };
-        tidy = λ y. clash y;
+        tidy = λ y. absurd (omega arith);
         enough = later (let u = af .up in omega arith) (af .within) (w .enough);
         same = q;
       })
-    where
-      clash : {C : Type 0} → true ≡ false → C
-      clash e = absurd (let z : _≡_ {A = ℕ} 0 1 = cc in omega arith)
 
   pub begin-opens : {c e : ℕ} {B : List ℕ} {s : Open} → PartIs f at (part.Opens c e) → OpensCell c A o B s → Live f B e 1 s
   begin-opens {c} {e} {B} {s} (part-opens k q l n) a =
@@ -138,12 +135,12 @@ module _ {f : Bytes} {A : List ℕ} {at : ℕ} {o : Open} (w : Wanted f A at o) 
 
 -- ---- the beginning
 
-pub begun : (f : Bytes) (A : List ℕ) {o : Open} → o ≡ record { depth = 0; size = 0; over = false; second = 0; third = 0 } → Live f A 0 0 o
+pub begun : (f : Bytes) (A : List ℕ) {o : Open} → o ≡ record { depth = 0; size = 0; second = 0; third = 0 } → Live f A 0 0 o
 unfolding readValue whole resume laid
 begun f A z = rw z (live-wanted refl (record {
   frames = [];
   parts = length f;
-  sure = record { depth = refl; over = λ e. absurd (let z : _≡_ {A = ℕ} 0 1 = cc in omega arith); fine = λ e. record { small = omega arith; room = omega arith; laid = refl; sound = sound-nil; heads = heads-nil } };
+  sure = record { depth = refl; over = λ e. absurd (omega arith); fine = λ e. record { small = omega arith; room = omega arith; laid = refl; sound = sound-nil; heads = heads-nil } };
   enough = record { within = omega arith; deep = omega arith; parts = each-nil };
   left = omega arith;
   same = refl;

@@ -1,6 +1,6 @@
 -- The cells that are written while a field is read: one more, a collection that opens, a member counted. Assumes nothing.
 use mathlib.Core.Path.{_≡_, refl, sym, ap, _∙_}
-use mathlib.Core.Bool.{Bool, true, false, _||_}
+use mathlib.Core.Bool.{Bool, true, false}
 use mathlib.Core.List.{List, [], _∷_, _++_, append-assoc, append-nil}
 use Prim.Native.Nat.{ℕ, zero, suc, _+_, _-_, _<_, _≤_}
 use native.Mathlib.Omega.{arith}
@@ -26,22 +26,10 @@ use Rattle.slots.specs.Machine.{mayBe, Frame, grown, laid, headAt, outwa
 use Rattle.slots.proofs.MachineLaws.{parts-append, nestings-append}
 use Rattle.slots.proofs.LimitLaws.{never-wide, never-room, never-deep}
 
-clash : {C : Type 0} {b : Bool} → b ≡ true → b ≡ false → C
-clash e f = absurd (let z : _≡_ {A = ℕ} 0 1 = cc in omega arith)
-
 -- ---- one cell more
 
 pub lies-size : {A : List ℕ} {o : Open} {fs : List Frame} {X : List ℕ} → Lies A o fs X → o .size ≡ length (laid fs) + length X
 lies-size {A} {o} {fs} {X} l = sym (length-take-le (o .size) A (l .room)) ∙ ap length (l .laid) ∙ length-append (laid fs) X
-
-pub added-over : {A : List ℕ} {o : Open} (cell : ℕ) → o .over ≡ true → AddsCell cell A o A o
-added-over cell e = record {
-  depth = refl;
-  second = refl;
-  third = refl;
-  over = λ q. q;
-  is = λ f fs d deep s. record { depth = s .depth; over = s .over; fine = λ q. clash e q };
-}
 
 heads-keep : {o r : Open} {fs : List Frame} → Heads o fs → ((i : ℕ) → 0 < i → i ≤ length fs → headAt r i ≡ headAt o i) → Heads r fs
 heads-keep heads-nil h = heads-nil
@@ -51,17 +39,17 @@ heads-same : (o r : Open) {fs : List Frame} → r .second ≡ o .second → r .t
 unfolding headAt
 heads-same o r p q hs = heads-keep hs (λ i a b. rw (p, q))
 
-pub added-cell : {A : List ℕ} {o r : Open} (cell : ℕ) → o .over ≡ false → o .size < 128 → o .size < length A
-    → r ≡ record { depth = o .depth; size = o .size + 1; over = o .over; second = o .second; third = o .third } → AddsCell cell A o (set A (o .size) cell) r
-added-cell {A} {o} {r} cell e p q z = rw z (record {
+pub added-cell : {A : List ℕ} {o r : Open} (cell : ℕ) → o .size < 128 → o .size < length A
+    → r ≡ record { depth = o .depth; size = o .size + 1; second = o .second; third = o .third } → AddsCell cell A o (set A (o .size) cell) r
+added-cell {A} {o} {r} cell p q z = rw z (record {
   depth = refl;
   second = refl;
   third = refl;
-  over = λ t. t;
-  is = λ f fs d deep s. record { depth = s .depth; over = λ t. clash t e; fine = λ t. put fs (s .fine e) };
+  over = λ t. omega arith;
+  is = λ f fs d deep s. record { depth = s .depth; over = λ t. absurd (omega arith); fine = λ t. put fs (s .fine (omega arith)) };
 })
   where
-    put : (fs : List Frame) → Lies A o fs [] → Lies (set A (o .size) cell) (record { depth = o .depth; size = o .size + 1; over = o .over; second = o .second; third = o .third }) fs (cell ∷ [])
+    put : (fs : List Frame) → Lies A o fs [] → Lies (set A (o .size) cell) (record { depth = o .depth; size = o .size + 1; second = o .second; third = o .third }) fs (cell ∷ [])
     put fs l = record {
       small = omega arith;
       room = rw (length-set A (o .size) cell) (omega arith);
@@ -70,13 +58,13 @@ added-cell {A} {o} {r} cell e p q z = rw z (record {
       heads = heads-same o _ refl refl (l .heads);
     }
 
-pub added-full : {A : List ℕ} {o r : Open} (cell : ℕ) → o .over ≡ false → (o .size < 128 → o .size < length A → ⊥) → r ≡ beyond o → AddsCell cell A o A r
-added-full {A} {o} {r} cell e full z = rw z (record {
+pub added-full : {A : List ℕ} {o r : Open} (cell : ℕ) → (o .size < 128 → o .size < length A → ⊥) → r ≡ beyond o → AddsCell cell A o A r
+added-full {A} {o} {r} cell full z = rw z (record {
   depth = refl;
   second = refl;
   third = refl;
-  over = λ t. refl;
-  is = λ f fs d deep s. record { depth = s .depth; over = λ t. record { is = λ v g. none fs v (deep .wide v g) (lies-size (s .fine e)) }; fine = λ t. clash refl t };
+  over = λ t. omega arith;
+  is = λ f fs d deep s. record { depth = s .depth; over = λ t. never f fs d deep s (decLt 128 (o .size)); fine = λ t. absurd (omega arith) };
 })
   where
     none : (fs : List Frame) (v : Value) → length (laid fs) < size v → o .size ≡ length (laid fs) + length {A = ℕ} [] → mayBe (length A) v ≡ false
@@ -89,6 +77,10 @@ added-full {A} {o} {r} cell e full z = rw z (record {
             rest (yes m) = absurd (full l m)
             rest (no m) = omega arith
         go (no l) = never-wide (length A) v (omega arith)
+
+    never : (f : Bytes) (fs : List Frame) (d : ℕ) → Deep f fs d → Sure f A o fs [] → Dec (128 < o .size) → Never f (length A)
+    never f fs d deep s (yes h) = s .over h
+    never f fs d deep s (no h) = record { is = λ v g. none fs v (deep .wide v g) (lies-size (s .fine (omega arith))) }
 
 -- ---- a collection that opens
 
@@ -109,10 +101,10 @@ unfolding laid
 none-laid [] e = refl
 none-laid (x ∷ fs) e = absurd (omega arith)
 
-module _ {A B : List ℕ} {o s : Open} {cell : ℕ} (a : AddsCell cell A o B s) {ov : Bool} {p q : ℕ}
-    (eo : ov ≡ s .over || leb 3 (o .depth)) (ep : p ≡ (if eqb (o .depth) 1 then o .size else o .second)) (eq : q ≡ (if eqb (o .depth) 2 then o .size else o .third)) where
+module _ {A B : List ℕ} {o s : Open} {cell : ℕ} (a : AddsCell cell A o B s) {m p q : ℕ}
+    (em : m ≡ (if leb 3 (o .depth) then 129 else s .size)) (ep : p ≡ (if eqb (o .depth) 1 then o .size else o .second)) (eq : q ≡ (if eqb (o .depth) 2 then o .size else o .third)) where
   abbrev after : Open
-  after = record { depth = o .depth + 1; size = s .size; over = ov; second = p; third = q }
+  after = record { depth = o .depth + 1; size = m; second = p; third = q }
 
   kept-second : (i : ℕ) → i ≤ o .depth → i ≡ 2 → p ≡ s .second
   kept-second i h e = ep ∙ rw (ne-eqb (o .depth) 1 (λ z. omega arith)) (sym (a .second))
@@ -130,12 +122,12 @@ module _ {A B : List ℕ} {o s : Open} {cell : ℕ} (a : AddsCell cell A o B s) 
       go (suc (suc zero)) e f l = rw (← e) (eq ∙ rw (eq-eqb (o .depth) 2 f) z)
       go (suc (suc (suc n))) e f l = absurd (omega arith)
 
-  opened-lies : (fs : List Frame) (k : Kind) (n : ℕ) → cell ≡ head (coll k nil) → o .depth ≡ length fs → o .depth < 3 → Lies A o fs [] → Lies B s fs (cell ∷ []) → Lies B after (record { kind = k; inside = nil; parts = n } ∷ fs) []
+  opened-lies : (fs : List Frame) (k : Kind) (n : ℕ) → m ≡ s .size → cell ≡ head (coll k nil) → o .depth ≡ length fs → o .depth < 3 → Lies A o fs [] → Lies B s fs (cell ∷ []) → Lies B after (record { kind = k; inside = nil; parts = n } ∷ fs) []
   unfolding laid enc encs everyParts nestings
-  opened-lies fs k n ce d h before l = record {
-    small = l .small;
-    room = l .room;
-    laid = l .laid ∙ ap (λ (c : ℕ). laid fs ++ (c ∷ [])) ce ∙ sym (append-nil (laid fs ++ (head (coll k nil) ∷ [])));
+  opened-lies fs k n me ce d h before l = record {
+    small = let x = l .small in omega arith;
+    room = let x = l .room in omega arith;
+    laid = ap (λ (i : ℕ). take i B) me ∙ l .laid ∙ ap (λ (c : ℕ). laid fs ++ (c ∷ [])) ce ∙ sym (append-nil (laid fs ++ (head (coll k nil) ∷ [])));
     sound = sound-cons {x = record { kind = k; inside = nil; parts = n }} {fs = fs} refl (omega arith) (l .sound);
     heads = heads-cons (new-head fs d h (lies-size before ∙ omega arith)) (heads-keep (l .heads) (λ i x y. heads-agree s after i x (λ z. kept-second i (omega arith) z) (λ z. kept-third i (omega arith) z)));
   }
@@ -146,18 +138,18 @@ module _ {A B : List ℕ} {o s : Open} {cell : ℕ} (a : AddsCell cell A o B s) 
       made : (f : Bytes) (fs : List Frame) (k : Kind) (n : ℕ) → Deep f fs 1 → cell ≡ head (coll k nil) → Sure f A o fs [] → Sure f B s fs (cell ∷ []) → Sure f B after (record { kind = k; inside = nil; parts = n } ∷ fs) []
       made f fs k n deep ce sure t = record {
         depth = let d = sure .depth in omega arith;
-        over = λ e. passed (s .over) refl (sym eo ∙ e);
-        fine = λ e. fine (s .over) refl (o .over) refl (sym eo ∙ e);
+        over = λ e. passed (leb 3 (o .depth)) refl em e;
+        fine = λ e. fine (leb 3 (o .depth)) refl em e (decLt 128 (o .size));
       }
         where
-          passed : (b : Bool) → s .over ≡ b → b || leb 3 (o .depth) ≡ true → Never f (length B)
-          passed true g e = t .over g
-          passed false g e = record { is = λ v h. let l = leb-true 3 (o .depth) e in let w = deep .deep v h in let d = sure .depth in never-deep (length B) v (omega arith) }
+          passed : (b : Bool) → leb 3 (o .depth) ≡ b → m ≡ (if b then 129 else s .size) → 128 < m → Never f (length B)
+          passed true g me e = record { is = λ v h. let l = leb-true 3 (o .depth) g in let w = deep .deep v h in let d = sure .depth in never-deep (length B) v (omega arith) }
+          passed false g me e = t .over (omega arith)
 
-          fine : (b : Bool) → s .over ≡ b → (c : Bool) → o .over ≡ c → b || leb 3 (o .depth) ≡ false → Lies B after (record { kind = k; inside = nil; parts = n } ∷ fs) []
-          fine true g c h e = clash {b = true} refl e
-          fine false g true h e = clash (a .over h) g
-          fine false g false h e = opened-lies fs k n ce (sure .depth) (leb-false 3 (o .depth) e) (sure .fine h) (t .fine g)
+          fine : (b : Bool) → leb 3 (o .depth) ≡ b → m ≡ (if b then 129 else s .size) → m ≤ 128 → Dec (128 < o .size) → Lies B after (record { kind = k; inside = nil; parts = n } ∷ fs) []
+          fine true g me e h = absurd (omega arith)
+          fine false g me e (yes h) = absurd (let x = a .over h in omega arith)
+          fine false g me e (no h) = opened-lies fs k n me ce (sure .depth) (leb-false 3 (o .depth) g) (sure .fine (omega arith)) (t .fine (omega arith))
 
 -- ---- a member counted
 
@@ -253,11 +245,11 @@ grown-sound x fs u t s =
     sound-cons {x = grown x u} {fs = fs} (parts-append u (x .inside) ∙ rw (head-parts s, t .parts))
     (let a = head-nested s in let b = t .nested in let e = nestings-append u (x .inside) in omega arith) (tail-sound s)
 
-pub raised : {A : List ℕ} {o : Open} {h : ℕ} → o .over ≡ false → h ≡ headAt o (o .depth) → Raises A o (set A h (getD A h 0 + 1))
+pub raised : {A : List ℕ} {o : Open} {h : ℕ} → o .size ≤ 128 → h ≡ headAt o (o .depth) → Raises A o (set A h (getD A h 0 + 1))
 raised {A} {o} {h} e he = record {
   is = λ f x fs u t s. record {
     depth = s .depth;
-    over = λ q. clash q e;
+    over = λ q. absurd (omega arith);
     fine = λ q. up x fs u (t e) (s .depth) (s .fine e);
   };
 }
@@ -274,8 +266,8 @@ raised {A} {o} {h} e he = record {
           heads = heads-cons (head-at (l .heads)) (tail-heads (l .heads));
         }
 
-pub raised-over : {A : List ℕ} {o : Open} → o .over ≡ true → Raises A o A
-raised-over e = record { is = λ f x fs u t s. record { depth = s .depth; over = s .over; fine = λ q. clash e q } }
+pub raised-over : {A : List ℕ} {o : Open} → 128 < o .size → Raises A o A
+raised-over e = record { is = λ f x fs u t s. record { depth = s .depth; over = s .over; fine = λ q. absurd (omega arith) } }
 
 -- ---- a collection that closes
 

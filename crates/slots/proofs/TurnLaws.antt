@@ -49,10 +49,10 @@ module _ {f : Bytes} {at : ℕ} {o : Open} where
       go v [] z = refl
       go v (x ∷ fs) z = absurd (omega arith)
 
-  pub last-over : length f ≤ at → o .over ≡ true → Last f at o read.Over
+  pub last-over : length f ≤ at → 128 < o .size → Last f at o read.Over
   last-over h t = record { is = λ cells e d. read-over (e .value) (at-last e d h) (e .sure .over t .is (e .value) (at-last e d h)) }
 
-  pub last-is : length f ≤ at → o .over ≡ false → Last f at o (read.Is (o .size))
+  pub last-is : length f ≤ at → o .size ≤ 128 → Last f at o (read.Is (o .size))
   last-is h t = record { is = λ cells e d. made cells e d (e .sure .fine t) (e .tidy t) }
     where
       made : (cells : List ℕ) (e : Ending f cells at o) → o .depth ≡ 0 → Lies cells o (e .frames) (enc (e .value)) → Tidy (e .value) (length (e .frames)) → ReadIs f cells (read.Is (o .size))
@@ -82,7 +82,7 @@ head-enough {f} {at} {x} {fs} e = first (e .parts)
     first (each-cons p ps) = p
 
 module _ {f : Bytes} {A : List ℕ} {at : ℕ} {o : Open} (e : Ending f A at o) (inside : o .depth ≡ 0 → ⊥) where
-  pub may-raise : o .over ≡ false → (headAt o (o .depth) < length A) × (getD A (headAt o (o .depth)) 0 < 18446744073709551615)
+  pub may-raise : o .size ≤ 128 → (headAt o (o .depth) < length A) × (getD A (headAt o (o .depth)) 0 < 18446744073709551615)
   may-raise t = go (e .frames) (e .sure .depth) (e .sure .fine t)
     where
       go : (fs : List Frame) → o .depth ≡ length fs → Lies A o fs (enc (e .value)) → (headAt o (o .depth) < length A) × (getD A (headAt o (o .depth)) 0 < 18446744073709551615)
@@ -93,7 +93,7 @@ module _ {f : Bytes} {A : List ℕ} {at : ℕ} {o : Open} (e : Ending f A at o) 
   unfolding resume
   ended-on {B} r = turn-on {at = at} (omega arith) (live-joined refl (go (e .frames) (e .sure .depth) (e .sure) (e .tidy) (e .enough) (e .same)))
     where
-      go : (fs : List Frame) → o .depth ≡ length fs → Sure f A o fs (enc (e .value)) → (o .over ≡ false → Tidy (e .value) (length fs)) → Enough f at fs → readValue f ≡ resume fs (e .value) (drop at f) → Joined f B at o
+      go : (fs : List Frame) → o .depth ≡ length fs → Sure f A o fs (enc (e .value)) → (o .size ≤ 128 → Tidy (e .value) (length fs)) → Enough f at fs → readValue f ≡ resume fs (e .value) (drop at f) → Joined f B at o
       go [] d s t n q = absurd (inside d)
       go (x ∷ fs) d s t n q = record {
         frame = grown x (e .value);
