@@ -6,10 +6,9 @@ use mathlib.Core.List.{List, [], _∷_, map}
 use Prim.Native.Nat.{ℕ, zero, suc, _-_, _<_, _≤_}
 use native.Mathlib.Omega.{arith}
 use lib.ListN.{length, getD, getElem?}
-use lib.Dec.{eqb, eqb→eq}
-use borrow.Author.Tests.{eq-eqb, ne-eqb, eqb-true}
+use lib.Dec.{eqb, eqb·suc-suc}
+use borrow.Author.Tests.{ne-eqb, eqb-true}
 use Rattle.laws.specs.Choice.{if_then_else_}
-use Rattle.laws.proofs.Tests.{test-same}
 use Rattle.laws.proofs.Elements.{elem-some, elem-none}
 use Rattle.ocl.specs.Types.{Simple, any, boolean, integer, class, Parents, parentOr, up, height, simpleCode, sameSimple, climbs, simpleSubtype}
 use Rattle.ocl.specs.Model.{classBelow, isA}
@@ -18,16 +17,13 @@ use Rattle.slots.specs.Suits.{simpleBy, parentsOf, ClimbsIs, ObjectSuits
 
 -- ---- one simple type and another
 
-eqb-suc : (a b : ℕ) → eqb (suc a) (suc b) ≡ eqb a b
-eqb-suc a b = test-same _ _ (λ t. let e = eqb→eq (suc a) (suc b) t in rw (eq-eqb a b (omega arith)) tt) (λ t. let e = eqb→eq a b t in rw (eq-eqb (suc a) (suc b) (omega arith)) tt)
-
 class-not : (x c : ℕ) → c < 3 → eqb (suc (suc (suc x))) c ≡ false
 class-not x c h = ne-eqb (suc (suc (suc x))) c (λ e. omega arith)
 
 module _ {tag : ℕ} (d x : ℕ) where
   pub class-other : (tag ≡ 1 → ⊥) → (tag ≡ 2 → ⊥) → (tag ≡ 3 → ⊥) → eqb x d ≡ sameSimple (class x) (simpleBy tag d)
   unfolding simpleBy sameSimple simpleCode
-  class-other p q r = sym (rw (ne-eqb tag 1 p, ne-eqb tag 2 q, ne-eqb tag 3 r) (eqb-suc (suc (suc x)) (suc (suc d)) ∙ eqb-suc (suc x) (suc d) ∙ eqb-suc x d))
+  class-other p q r = sym (rw (ne-eqb tag 1 p, ne-eqb tag 2 q, ne-eqb tag 3 r) (eqb·suc-suc (suc (suc x)) (suc (suc d)) ∙ eqb·suc-suc (suc x) (suc d) ∙ eqb·suc-suc x d))
 
   pub class-one : tag ≡ 1 → false ≡ sameSimple (class x) (simpleBy tag d)
   unfolding simpleBy sameSimple simpleCode

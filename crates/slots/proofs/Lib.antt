@@ -2,6 +2,7 @@ pub mod PartLaws
 pub mod MachineLaws
 pub mod LimitLaws
 pub mod CellLaws
+pub mod CountLaws
 pub mod TurnLaws
 pub mod BeginLaws
 pub mod OrderLaws

@@ -1,9 +1,8 @@
 -- Where the reading stands after each byte: the answers of `last`, `ended`, `next_part` and the loop. Assumes nothing.
 use mathlib.Core.Path.{_≡_, refl, sym, ap, _∙_}
-use mathlib.Core.Bool.{true, false}
 use mathlib.Core.Option.{none, some}
 use mathlib.Core.List.{List, [], _∷_}
-use Prim.Native.Nat.{ℕ, zero, suc, _+_, _-_, _<_, _≤_}
+use Prim.Native.Nat.{ℕ, zero, suc, _+_, _<_, _≤_}
 use native.Mathlib.Omega.{arith}
 use lib.ListN.{length, getD, take, drop, drop-of-length-le}
 use lib.Seq.{length-take-le}
@@ -23,7 +22,8 @@ use Rattle.slots.specs.declared.reader.Turn.the-variants as turn
 use Rattle.slots.specs.Machine.{Frame, grown, resume, among, start, enter, laid, headAt, outward, Tidy, Lies, Sure, Enough, Wanted, Joined, Ending, Live, live-wanted, live-opened, live-joined, ReadIs, read-bad, read-over, read-is, TurnIs, turn-on, turn-stop, Raises, Last}
 use Rattle.slots.proofs.MachineLaws.{start-end, enter-end, among-end, among-comma, close, other, enter-close, enter-value}
 use Rattle.slots.proofs.LimitLaws.{may}
-use Rattle.slots.proofs.CellLaws.{first-at, raise-may, closed-sure, closed-tidy, other-parts}
+use Rattle.slots.proofs.PartLaws.{from-byte}
+use Rattle.slots.proofs.CountLaws.{first-at, raise-may, closed-sure, closed-tidy, other-parts}
 
 -- ---- the field's end
 
@@ -105,9 +105,6 @@ module _ {f : Bytes} {A : List ℕ} {at : ℕ} {o : Open} (e : Ending f A at o) 
 
 -- ---- what comes at `at`, by the phase
 
-byte-at : (f : Bytes) (at : ℕ) → at < length f → {b : ℕ} → getD f at 0 ≡ b → drop at f ≡ b ∷ drop (at + 1) f
-byte-at f at h e = at-next 0 f at h ∙ ap (λ (c : ℕ). c ∷ drop (at + 1) f) e
-
 pub some-parts : (n : ℕ) → 0 < n → (m : ℕ) × (n ≡ suc m)
 some-parts zero h = absurd (omega arith)
 some-parts (suc m) h = (m, refl)
@@ -140,7 +137,7 @@ module _ {f : Bytes} {A : List ℕ} {at : ℕ} {o : Open} where
       sure = closed-sure (w .sure);
       tidy = λ t. closed-tidy (w .sure .fine t);
       enough = later (omega arith) (omega arith) (tail-enough (w .enough));
-      same = w .same ∙ ap (enter (suc (w .parts)) (w .kind) (w .frames)) (byte-at f at h e) ∙ enter-close (w .parts) (w .kind) (w .frames) (drop (at + 1) f);
+      same = w .same ∙ ap (enter (suc (w .parts)) (w .kind) (w .frames)) (from-byte f at h e) ∙ enter-close (w .parts) (w .kind) (w .frames) (drop (at + 1) f);
     })
     closes (live-joined p w) n e z =
         let q = joined-parts w in
@@ -150,7 +147,7 @@ module _ {f : Bytes} {A : List ℕ} {at : ℕ} {o : Open} where
           sure = closed-sure (w .sure);
           tidy = λ t. closed-tidy (w .sure .fine t);
           enough = later (omega arith) (omega arith) (tail-enough (w .enough));
-          same = w .same ∙ ap (among (w .frame) (w .frames)) (byte-at f at h e) ∙ rw (q .1) (close (w .frame .kind) (w .frame .inside) (w .frames) (q .0) (drop (at + 1) f));
+          same = w .same ∙ ap (among (w .frame) (w .frames)) (from-byte f at h e) ∙ rw (q .1) (close (w .frame .kind) (w .frame .inside) (w .frames) (q .0) (drop (at + 1) f));
         })
 
     pub begins : {phase : ℕ} → Live f A at phase o → phase ≡ 1 → (getD f at 0 ≡ 41 → ⊥) → Wanted f A at o
@@ -161,7 +158,7 @@ module _ {f : Bytes} {A : List ℕ} {at : ℕ} {o : Open} where
       sure = w .sure;
       enough = w .enough;
       left = head-enough (w .enough);
-      same = w .same ∙ ap (enter (suc (w .parts)) (w .kind) (w .frames)) (byte-at f at h refl) ∙ enter-value (w .parts) (w .kind) (w .frames) (getD f at 0) (drop (at + 1) f) n ∙ ap (start (w .parts) (record { kind = w .kind; inside = nil; parts = w .parts } ∷ w .frames)) (sym (byte-at f at h refl));
+      same = w .same ∙ ap (enter (suc (w .parts)) (w .kind) (w .frames)) (from-byte f at h refl) ∙ enter-value (w .parts) (w .kind) (w .frames) (getD f at 0) (drop (at + 1) f) n ∙ ap (start (w .parts) (record { kind = w .kind; inside = nil; parts = w .parts } ∷ w .frames)) (sym (from-byte f at h refl));
     }
     begins (live-joined p w) e n = absurd (omega arith)
 
@@ -179,7 +176,7 @@ module _ {f : Bytes} {A : List ℕ} {at : ℕ} {o : Open} where
           sure = other-parts (q .0) (w .sure);
           enough = record { within = omega arith; deep = let d = w .enough .deep in omega arith; parts = each-cons {n = record { kind = w .frame .kind; inside = w .frame .inside; parts = q .0 }} (omega arith) (t .parts) };
           left = omega arith;
-          same = w .same ∙ ap (among (w .frame) (w .frames)) (byte-at f at h e) ∙ among-comma (w .frame) (w .frames) (q .0) (drop (at + 1) f) (q .1);
+          same = w .same ∙ ap (among (w .frame) (w .frames)) (from-byte f at h e) ∙ among-comma (w .frame) (w .frames) (q .0) (drop (at + 1) f) (q .1);
         })
 
     pub others : {phase : ℕ} → Live f A at phase o → (phase ≡ 0 → ⊥) → (phase ≡ 1 → ⊥) → (getD f at 0 ≡ 41 → ⊥) → (getD f at 0 ≡ 44 → ⊥) → readValue f ≡ none
@@ -187,7 +184,7 @@ module _ {f : Bytes} {A : List ℕ} {at : ℕ} {o : Open} where
     others (live-opened p w) n m c d = absurd (m p)
     others (live-joined p w) n m c d =
         let q = joined-parts w in
-        w .same ∙ ap (among (w .frame) (w .frames)) (byte-at f at h refl) ∙ rw (q .1) (other (w .frame .kind) (w .frame .inside) (w .frames) (q .0) (getD f at 0) (drop (at + 1) f) c d)
+        w .same ∙ ap (among (w .frame) (w .frames)) (from-byte f at h refl) ∙ rw (q .1) (other (w .frame .kind) (w .frame .inside) (w .frames) (q .0) (getD f at 0) (drop (at + 1) f) c d)
 
 -- ---- turns
 

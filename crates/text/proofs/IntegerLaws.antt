@@ -13,6 +13,7 @@ use lib.ListN.{length, getD, take, drop, drop-of-length-le, length-drop}
 use lib.Seq.{drop-drop}
 use Rattle.laws.specs.Choice.{if_then_else_, mapSome, onSome, orElse}
 use Rattle.laws.proofs.Tests.{Any?, any-some}
+use Rattle.laws.proofs.Elements.{else-none}
 use Rattle.laws.proofs.Parts.{at-next}
 use Rattle.ocl.specs.Evaluation.{inRange}
 use Rattle.sheet.specs.Text.{Bytes, bytes, after, behind, _or_, _then_, given, isDigit, digits, afterDigits, plain, valueOfDigits, number, minus, integer}
@@ -117,14 +118,9 @@ minus-room s {at} {m} h e = omega (arith, simp length-drop at (minus-within (dro
 
 -- ---- what is read is told by `leadingInteger`, and what is left by the digits
 
-or-none : {A : Type 0} (o : Option A) → orElse o none ≡ o
-unfolding orElse
-or-none none = refl
-or-none (some x) = refl
-
 minus-leading : (s : Bytes) → integer (45 ∷ s) ≡ mapSome (λ z. (z, afterDigits s)) (onSome (leading s) (signed 1))
 unfolding integer _or_ behind _then_ given after bytes onSome mapSome number plain digits isDigit minus signed
-minus-leading s = or-none ((number then minus) s) ∙ rw (number-leading s) (go (leading s))
+minus-leading s = else-none ((number then minus) s) ∙ rw (number-leading s) (go (leading s))
   where
     go : (o : Option ℕ) → onSome {A = ℕ × Bytes} (mapSome (λ n. (n, afterDigits s)) o) (λ x. minus (x .0) (x .1)) ≡ mapSome (λ z. (z, afterDigits s)) (onSome o (signed 1))
     go none = refl

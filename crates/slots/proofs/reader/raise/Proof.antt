@@ -1,5 +1,5 @@
 -- `slots::reader::raise` meets its contract. Assumes nothing.
-use Rattle.slots.proofs.CellLaws.{raised-over, raised}
+use Rattle.slots.proofs.CountLaws.{raised-over, raised}
 use lib.ListN.{getD}
 use Prim.Native.Nat.{ℕ}
 use mathlib.Core.Path.{ap}
