@@ -157,7 +157,7 @@ module _ (n : ℕ) where
 -- ---- the part
 
 module _ (f : Bytes) (at : ℕ) (h : at < length f) where
-  from-byte : {b : ℕ} → getD f at 0 ≡ b → drop at f ≡ b ∷ drop (at + 1) f
+  pub from-byte : {b : ℕ} → getD f at 0 ≡ b → drop at f ≡ b ∷ drop (at + 1) f
   from-byte e = at-next 0 f at h ∙ ap (λ (c : ℕ). c ∷ drop (at + 1) f) e
 
   next-byte : After f at (at + 1)

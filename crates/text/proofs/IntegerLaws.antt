@@ -19,8 +19,9 @@ use Rattle.ocl.specs.Evaluation.{inRange}
 pub use Rattle.ocl.proofs.Ranges.{unbias-bias, bias-unbias, unbias-ranged, bias-small}
 use Rattle.sheet.specs.Text.{Bytes, bytes, after, behind, _or_, _then_, given, isDigit, digits, afterDigits, plain, valueOfDigits, number, minus, integer}
 use Rattle.sheet.specs.Lines.{anInteger}
-use Rattle.laws.specs.Integers.{bias}
-use Rattle.text.specs.Numbers.{leading, DigitsEnd, IntegerEnd, ranged, wholeOf, minusAt, signed, leadingInteger}
+use Rattle.laws.specs.Integers.{bias, unbias}
+use Rattle.text.specs.Numbers.{leading, DigitsEnd, DigitsRead, IntegerEnd, IntegerRead, ranged, wholeOf, minusAt, signed, leadingInteger}
+use Rattle.text.specs.declared.numbers.Digits.{Digits}
 use Rattle.text.specs.declared.numbers.Whole.the-variants.{Bad, Out, Is}
 use Rattle.text.proofs.NumberLaws.{number-leading, digits-after, leading-some, leading-none, whole-read, whole-left}
 
@@ -125,8 +126,8 @@ integer-leading (b ∷ s) = go (eqb 45 b) refl
 
 -- ---- an Integer in a field
 
-pub integer-ends : {s : Bytes} {at m e : ℕ} → m ≡ minusAt (drop at s) → DigitsEnd s (at + m) e → IntegerEnd s at e
-integer-ends q to = record { digits = rw q at to }
+pub digits-behind : {s : Bytes} {at m : ℕ} {d : Digits} → m ≡ minusAt (drop at s) → DigitsRead s (at + m) d → IntegerRead s at d
+digits-behind q to = record { ends = record { digits = rw q at (to .ends) }; value = rw q at (to .value) }
 
 module _ {s : Bytes} {at e : ℕ} (to : IntegerEnd s at e) where
   -- the Integer that begins at `at`, and what stands after it
@@ -141,9 +142,9 @@ module _ {s : Bytes} {at e : ℕ} (to : IntegerEnd s at e) where
     unfolding leadingInteger
     by-leading = rw (← sign, drop-drop m at s)
 
-    pub integer-read : {n : ℕ} → t ≡ true → n ≡ min (valueOfDigits 0 (take (e - (at + m)) (drop (at + m) s))) 10000000000 → wholeOf (signed m n) ≡ wholeOf (leadingInteger (drop at s))
+    pub integer-read : {n : ℕ} → t ≡ true → n ≡ min (valueOfDigits 0 (digits (drop (at + minusAt (drop at s)) s))) 10000000000 → wholeOf (signed m n) ≡ wholeOf (leadingInteger (drop at s))
     unfolding onSome
-    integer-read h p = rw (p, by-leading, leading-some digits-to told h) (cut-whole m _)
+    integer-read h p = rw (p, ← sign, by-leading, leading-some digits-to told h) (cut-whole m _)
 
     pub integer-bad : t ≡ false → Bad ≡ wholeOf (leadingInteger (drop at s))
     unfolding onSome wholeOf
