@@ -21,7 +21,7 @@ use Rattle.checker.specs.Answers.{answerOf}
 use Rattle.checker.specs.Parts.{Gives, GivesFor}
 use Rattle.checker.proofs.Answers.{gives-refusal}
 
-module _ {st : Counts} {w0 w1 : List ℕ} (room0 : 8192 ≤ length w0) (room1 : 8192 ≤ length w1) where
+module _ {st : Counts} {w0 w1 : List ℕ} where
   pub no-rule : {a : Answer} (f : Sheet → Rule → Verdict) (r : ℕ) (out : Bytes) → st .rules ≤ r → a ≡ answerOf (refusalAt 14 0)
       → GivesFor st w0 w1 (λ s. onRule (getElem? (s .rules) r) (f s)) a out out
   unfolding onRule refusal

@@ -39,7 +39,7 @@ rule-outcome s x o i e = rw (e, i .body)
 pub rule-shallow : {w0 w1 : List ℕ} {r root : ℕ} {x : Rule} → RuleIn w0 w1 r x → root ≡ getD w0 (4512 + r) 0 → levels (treeAt w1 root) ≤ 19
 rule-shallow i e = rw (e, i .body) (omega (arith, i .shallow))
 
-module _ {st : Counts} {w0 w1 : List ℕ} (room0 : 8192 ≤ length w0) (room1 : 8192 ≤ length w1) where
+module _ {st : Counts} {w0 w1 : List ℕ} where
   -- the sheet's model and the rule's marks, as evaluation reads them
   world-in : (r : ℕ) (s : Sheet) → Accepted st w0 w1 s → (x : Rule) → getElem? (s .rules) r ≡ some x → MarksIn w1 (typingOf s x)
       → Reads st w0 w1 (record { model = modelOf s; mark = markOf (typingOf s x) })
