@@ -1,21 +1,54 @@
 -- Laws of the row tables. Assumes nothing.
 use mathlib.Core.Path.{_≡_, refl, sym, ap, _∙_, fun-ext}
-use mathlib.Core.Bool.{_&&_}
+use mathlib.Core.Bool.{Bool, true, false, _&&_, true≢false}
 use mathlib.Core.Option.{Option, none, some}
 use mathlib.Core.List.{List}
-use Prim.Native.Nat.{ℕ, zero, suc, _-_, _≤_, _<_}
+use Prim.Native.Nat.{ℕ, zero, suc, _+_, _-_, _≤_, _<_}
 use native.Mathlib.Omega.{arith}
 use lib.ListN.{getD}
-use lib.Dec.{eqb}
-use borrow.Author.Tests.{eq-eqb, ne-eqb}
+use lib.Dec.{eqb, ltb}
+use borrow.Author.Tests.{eq-eqb, ne-eqb, ltb-true, ltb-false}
 use Rattle.laws.specs.Choice.{if_then_else_, orElse, onSome}
 use Rattle.ocl.specs.Types.{Simple, class, Parents, simpleSubtype}
 use Rattle.ocl.specs.Model.{Model, classBelow, isA, declared, nearest, rowRead}
 use Rattle.types.specs.declared.Found.{Found}
 use Rattle.types.specs.declared.Found.the-variants as f
 use Rattle.types.specs.Flat.{parentWord, parentsIn}
-use Rattle.types.specs.Rows.{declaredIn, nearestIn, rowReadIn, found}
+use Rattle.types.specs.Rows.{declaredIn, nearestIn, rowReadIn, found, Unnamed}
 use Rattle.types.proofs.Parents.{parent-le, parent-none, parent-some}
+
+-- ---- rows of other names
+
+module _ {names : List ℕ} {name : ℕ} where
+  pub unnamed-none : {n : ℕ} → Unnamed names name n n
+  unnamed-none = record { other = λ i p q e. omega arith }
+
+  pub none-left : {n high : ℕ} → n ≤ 0 → Unnamed names name n high → Unnamed names name 0 high
+  none-left h u = record { other = λ i p q. u .other i (omega arith) q }
+
+  join-by : {low mid high : ℕ} → Unnamed names name low mid → Unnamed names name mid high → (i : ℕ) → low ≤ i → i < high
+      → (b : Bool) → ltb i mid ≡ b → getD names i 0 ≡ name → ⊥
+  join-by {mid = mid} u v i p q true e = u .other i p (ltb-true i mid e)
+  join-by {mid = mid} u v i p q false e = v .other i (ltb-false i mid e) q
+
+  unnamed-join : {low mid high : ℕ} → Unnamed names name low mid → Unnamed names name mid high → Unnamed names name low high
+  unnamed-join {mid = mid} u v = record { other = λ i p q. join-by u v i p q (ltb i mid) refl }
+
+  unnamed-one : {n : ℕ} → (getD names n 0 ≡ name → ⊥) → Unnamed names name n (n + 1)
+  unnamed-one {n} h = record { other = λ i p q e. let z : i ≡ n = omega arith in h (ap (λ (j : ℕ). getD names j 0) (sym z) ∙ e) }
+
+  pub unnamed-up : {n : ℕ} → Unnamed names name 0 n → (getD names n 0 ≡ name → ⊥) → Unnamed names name 0 (n + 1)
+  unnamed-up u h = unnamed-join u (unnamed-one h)
+
+  pub unnamed-down : {n high : ℕ} → 0 < n → Unnamed names name n high → (getD names (n - 1) 0 ≡ name → ⊥) → Unnamed names name (n - 1) high
+  unnamed-down {n} {high} p u h = let z : n - 1 + 1 ≡ n = omega arith in unnamed-join (unnamed-one h) (rw z u)
+
+-- a row of another name is passed by
+other-name : (a b : Bool) (x y : Option ℕ) → b ≡ false → (if a && b then x else y) ≡ y
+other-name true false x y e = refl
+other-name false false x y e = refl
+other-name true true x y e = absurd (true≢false e)
+other-name false true x y e = absurd (true≢false e)
 
 -- ---- one turn of the search for the row that a class declares, where i rows are left
 
@@ -25,10 +58,25 @@ module _ (owners names : List ℕ) (c name : ℕ) where
   declared-pred zero h = absurd (omega arith)
   declared-pred (suc i) h = let e : suc i - 1 ≡ i = omega arith in rw e
 
-  pub declared-none : (i : ℕ) → i ≤ 0 → none ≡ declaredIn owners names c name i
+  pass-by : (n : ℕ) → (getD names n 0 ≡ name → ⊥) → declaredIn owners names c name n ≡ declaredIn owners names c name (suc n)
   unfolding declaredIn
-  declared-none zero h = refl
-  declared-none (suc i) h = absurd (omega arith)
+  pass-by n h = sym (other-name (eqb (getD owners n 0) c) (eqb (getD names n 0) name) (some n) (declaredIn owners names c name n) (ne-eqb _ _ h))
+
+  -- rows of other names declare nothing
+  pub declared-none : {start : ℕ} → Unnamed names name 0 start → (i : ℕ) → i ≤ start → none ≡ declaredIn owners names c name i
+  unfolding declaredIn
+  declared-none u zero h = refl
+  declared-none u (suc i) h = declared-none u i (omega arith) ∙ pass-by i (u .other i (omega arith) (omega arith))
+
+  pub declared-cut : {low : ℕ} (high : ℕ) → low ≤ high → Unnamed names name low high → declaredIn owners names c name low ≡ declaredIn owners names c name high
+  declared-cut {low} zero h u = let e : low ≡ 0 = omega arith in rw e
+  declared-cut {low} (suc high) h u =
+      by-le (λ k. declared-cut high k (record { other = λ i p q. u .other i p (omega arith) })) (ltb low (suc high)) refl
+    where
+      by-le : (low ≤ high → declaredIn owners names c name low ≡ declaredIn owners names c name high)
+          → (b : Bool) → ltb low (suc high) ≡ b → declaredIn owners names c name low ≡ declaredIn owners names c name (suc high)
+      by-le f false e = let z : low ≡ suc high = omega (arith, ltb-false low (suc high) e) in rw z
+      by-le f true e = let z = ltb-true low (suc high) e in f (omega arith) ∙ pass-by high (u .other high (omega arith) (omega arith))
 
   pub declared-here : (i : ℕ) → 0 < i → getD owners (i - 1) 0 ≡ c → getD names (i - 1) 0 ≡ name → some (i - 1) ≡ declaredIn owners names c name i
   declared-here i h p q = sym (declared-pred i h ∙ rw (eq-eqb _ _ p, eq-eqb _ _ q))
@@ -65,6 +113,19 @@ module _ (ps owners names : List ℕ) (rows name : ℕ) where
     pub read-up : (q : ℕ) → r ≡ f.Nothing → q ≡ parentWord ps c → (q ≡ 0 → ⊥) → rowReadIn ps owners names rows (q - 1) name ≡ rowReadIn ps owners names rows c name
     unfolding rowReadIn nearestIn found orElse onSome
     read-up q e w z = sym (rw (sym at, e, parent-some ps c q w z) (nearest-more c (suc (q - 1)) (q - 1) (omega (arith, parent-le ps c)) (omega arith)))
+
+-- rows of other names after the rest change nothing
+module _ (ps owners names : List ℕ) (name : ℕ) {low high : ℕ} (h : low ≤ high) (u : Unnamed names name low high) where
+  nearest-cut : (n c : ℕ) → nearestIn (parentsIn ps) owners names low name n c ≡ nearestIn (parentsIn ps) owners names high name n c
+  unfolding nearestIn
+  nearest-cut zero c = refl
+  nearest-cut (suc n) c =
+      ap (λ o. orElse o (onSome (parentsIn ps c) (nearestIn (parentsIn ps) owners names low name n))) (declared-cut owners names c name high h u)
+      ∙ ap (λ g. orElse (declaredIn owners names c name high) (onSome (parentsIn ps c) g)) (fun-ext (nearest-cut n))
+
+  pub read-cut : (c : ℕ) → rowReadIn ps owners names low c name ≡ rowReadIn ps owners names high c name
+  unfolding rowReadIn
+  read-cut c = nearest-cut (suc c) c
 
 -- ---- a model whose parents and rows are these tables finds the same rows
 

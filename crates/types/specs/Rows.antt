@@ -3,7 +3,8 @@
 use mathlib.Core.Bool.{_&&_}
 use mathlib.Core.Option.{Option, none, some}
 use mathlib.Core.List.{List}
-use Prim.Native.Nat.{ℕ, zero, suc}
+use mathlib.Core.Path.{_≡_}
+use Prim.Native.Nat.{ℕ, zero, suc, _≤_, _<_}
 use lib.ListN.{getD}
 use lib.Dec.{eqb}
 use Rattle.laws.specs.Choice.{if_then_else_, orElse, onSome}
@@ -31,3 +32,7 @@ rowReadIn ps owners names rows c name = nearestIn (parentsIn ps) owners names ro
 unfoldable pub found : Found → Option ℕ
 found (f.At i) = some i
 found f.Nothing = none
+
+-- the rows from `low` to `high` have another name
+pub record Unnamed (names : List ℕ) (name low high : ℕ) : Type 0 where
+  pub other : (i : ℕ) → low ≤ i → i < high → getD names i 0 ≡ name → ⊥

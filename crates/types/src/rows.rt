@@ -2,7 +2,7 @@
 ghost use mathlib.Core.Path.{_≡_};
 ghost use Prim.Native.Nat.{_≤_};
 ghost use lib.ListN.{length};
-ghost use Rattle.types.specs.Rows.{declaredIn, rowReadIn, found};
+ghost use Rattle.types.specs.Rows.{declaredIn, rowReadIn, found, Unnamed};
 use super::Found;
 use super::classes::parent;
 
@@ -12,14 +12,46 @@ fn number(i: usize) -> u64
     i as u64
 }
 
-// The row that class c itself declares with the name. A class has a name once, so that the order does not matter.
-fn declared(owners: &[u64], names: &[u64], rows: usize, c: u64, name: u64) -> Found
-    requires { ⌜ rows ≤ length (now owners) ⌝ }
+// The rows from here on, up to `rows`, have another name.
+fn named_end(names: &[u64], rows: usize, name: u64) -> usize
     requires { ⌜ rows ≤ length (now names) ⌝ }
-    ensures { λ r. ⌜ found r ≡ declaredIn (now (owners .entry)) (now (names .entry)) c name rows ⌝ }
+    ensures { λ r. ⌜ (r ≤ rows) × Unnamed (now (names .entry)) name r rows ⌝ }
 {
     let mut i = rows;
     while 0 < i {
+        if names[i - 1] == name {
+            return i;
+        }
+        i -= 1;
+    }
+    0
+}
+
+// The rows before this one have another name.
+fn named_start(names: &[u64], end: usize, name: u64) -> usize
+    requires { ⌜ end ≤ length (now names) ⌝ }
+    ensures { λ r. ⌜ Unnamed (now (names .entry)) name 0 r ⌝ }
+{
+    let mut i = 0;
+    while i < end {
+        if names[i] == name {
+            return i;
+        }
+        i += 1;
+    }
+    i
+}
+
+// The row that class c itself declares with the name, which no row before `start` has. A class has a name once, so that the
+// order does not matter.
+fn declared(owners: &[u64], names: &[u64], start: usize, end: usize, c: u64, name: u64) -> Found
+    requires { ⌜ end ≤ length (now owners) ⌝ }
+    requires { ⌜ end ≤ length (now names) ⌝ }
+    requires { ⌜ Unnamed (now names) name 0 start ⌝ }
+    ensures { λ r. ⌜ found r ≡ declaredIn (now (owners .entry)) (now (names .entry)) c name end ⌝ }
+{
+    let mut i = end;
+    while start < i {
         i -= 1;
         if owners[i] == c {
             if names[i] == name {
@@ -30,7 +62,37 @@ fn declared(owners: &[u64], names: &[u64], rows: usize, c: u64, name: u64) -> Fo
     Found::Nothing
 }
 
-// The nearest declaration of the name from class c upward.
+// The nearest declaration from class c upward, among the rows before `end`.
+fn nearest(
+    parents: &[u64],
+    owners: &[u64],
+    names: &[u64],
+    start: usize,
+    end: usize,
+    c: u64,
+    name: u64,
+) -> Found
+    requires { ⌜ end ≤ length (now owners) ⌝ }
+    requires { ⌜ end ≤ length (now names) ⌝ }
+    requires { ⌜ Unnamed (now names) name 0 start ⌝ }
+    ensures { λ r. ⌜ found r ≡ rowReadIn (now (parents .entry)) (now (owners .entry)) (now (names .entry)) end c name ⌝ }
+{
+    let mut x = c;
+    loop {
+        let f = declared(owners, names, start, end, x, name);
+        let Found::Nothing = f else {
+            return f;
+        };
+        let p = parent(parents, x);
+        if p == 0 {
+            return Found::Nothing;
+        }
+        x = p - 1;
+    }
+}
+
+// The nearest declaration of the name from class c upward. Most names are a few rows', so that only those are looked at for
+// each class.
 pub fn row_read(
     parents: &[u64],
     owners: &[u64],
@@ -43,16 +105,7 @@ pub fn row_read(
     requires { ⌜ rows ≤ length (now names) ⌝ }
     ensures { λ r. ⌜ found r ≡ rowReadIn (now (parents .entry)) (now (owners .entry)) (now (names .entry)) rows c name ⌝ }
 {
-    let mut x = c;
-    loop {
-        let f = declared(owners, names, rows, x, name);
-        let Found::Nothing = f else {
-            return f;
-        };
-        let p = parent(parents, x);
-        if p == 0 {
-            return Found::Nothing;
-        }
-        x = p - 1;
-    }
+    let end = named_end(names, rows, name);
+    let start = named_start(names, end, name);
+    nearest(parents, owners, names, start, end, c, name)
 }

@@ -1,7 +1,7 @@
 -- `declared` meets its contract. The loop's invariant: the rows passed hold no such row.
 use borrow.Author.Needs.{needs}
 use native.Mathlib.Omega.{arith}
-use Prim.Native.Nat.{_≤_}
+use Prim.Native.Nat.{ℕ, _≤_, _<_}
 use mathlib.Core.Option.{some}
 use mathlib.Core.Path.{_≡_, refl, ap, _∙_}
 use Rattle.types.specs.Rows.{declaredIn, found}
@@ -9,11 +9,15 @@ use Rattle.types.proofs.RowLaws.{declared-none, declared-here, declared
 use Rattle.types.proofs.rows.declared.Statement.{statement}
 use Rattle.types.proofs.rows.declared.Tie as tie
 
+-- a row is left
+positive : {a b : ℕ} → a < b → 0 < b
+positive h = omega arith
+
 abbrev Inv-loop : tie.InvT-loop
-Inv-loop owners names rows c name i₀ i = (i ≤ rows) × (declaredIn owners names c name i ≡ declaredIn owners names c name rows)
+Inv-loop owners names start end c name i₀ i = (i ≤ end) × (declaredIn owners names c name i ≡ declaredIn owners names c name end)
 
 abbrev μ-loop : tie.MeasureT-loop
-μ-loop owners names rows c name i₀ i = i
+μ-loop owners names start end c name i₀ i = i
 
 loop-holds : tie.Need-loop-holds Inv-loop μ-loop
 loop-holds c = (omega arith, refl)
@@ -38,23 +42,23 @@ number-requires c κs = search needs
 
 returns : tie.Need-returns Inv-loop μ-loop
 unfolding found
-returns c = ap some (c .number .ensures) ∙ declared-here _ _ _ _ _ (c .before .before .before .before .before .loop-test .taken) (c .before .before .before .if1 .taken) (c .before .if2 .taken) ∙ c .before .before .before .before .before .before .loop .inv .1
+returns c = ap some (c .number .ensures) ∙ declared-here _ _ _ _ _ (positive (c .before .before .before .before .before .loop-test .taken)) (c .before .before .before .if1 .taken) (c .before .if2 .taken) ∙ c .before .before .before .before .before .before .loop .inv .1
 
 loop-less : tie.Need-loop-less Inv-loop μ-loop
 loop-less c = omega arith
 
 loop-again : tie.Need-loop-again Inv-loop μ-loop
-loop-again c = (omega arith, declared-name _ _ _ _ _ (c .before .before .before .before .loop-test .taken) (c .before .before .if1 .taken) (c .if2 .left) ∙ c .before .before .before .before .before .loop .inv .1)
+loop-again c = (omega arith, declared-name _ _ _ _ _ (positive (c .before .before .before .before .loop-test .taken)) (c .before .before .if1 .taken) (c .if2 .left) ∙ c .before .before .before .before .before .loop .inv .1)
 
 loop-less-2 : tie.Need-loop-less-2 Inv-loop μ-loop
 loop-less-2 c = omega arith
 
 loop-again-2 : tie.Need-loop-again-2 Inv-loop μ-loop
-loop-again-2 c = (omega arith, declared-owner _ _ _ _ _ (c .before .before .loop-test .taken) (c .if1 .left) ∙ c .before .before .before .loop .inv .1)
+loop-again-2 c = (omega arith, declared-owner _ _ _ _ _ (positive (c .before .before .loop-test .taken)) (c .if1 .left) ∙ c .before .before .before .loop .inv .1)
 
 returns-2 : tie.Need-returns-2 Inv-loop μ-loop
 unfolding found
-returns-2 c = declared-none _ _ _ _ _ (c .loop-test .left) ∙ c .before .loop .inv .1
+returns-2 c = declared-none _ _ _ _ (c .before .before .before .before .pre .1 .1) _ (c .loop-test .left) ∙ c .before .loop .inv .1
 
 pub declared-spec : {M : Type 1} → statement M
 declared-spec =

@@ -1,62 +1,21 @@
--- `row_read` meets its contract. The loop's invariant: the class reached reads the row that c reads.
+-- `row_read` meets its contract: only rows that have the name can be found.
 use borrow.Author.Needs.{needs}
-use mathlib.Core.Path.{_≡_, refl, sym, _∙_}
-use Rattle.types.specs.Rows.{rowReadIn, found}
-use Rattle.types.proofs.Parents.{parent-falls}
-use Rattle.types.proofs.RowLaws.{read-here, read-none, read-up}
+use mathlib.Core.Path.{_∙_}
+use Rattle.types.proofs.RowLaws.{read-cut}
 use Rattle.types.proofs.rows.row_read.Statement.{statement}
 use Rattle.types.proofs.rows.row_read.Tie as tie
 
-abbrev Inv-loop : tie.InvT-loop
-Inv-loop parents owners names rows c name x₀ x = rowReadIn parents owners names rows x name ≡ rowReadIn parents owners names rows c name
+named-end-requires : tie.Need-named-end-requires
+named-end-requires c κs = search needs
 
-abbrev μ-loop : tie.MeasureT-loop
-μ-loop parents owners names rows c name x₀ x = x
+named-start-requires : tie.Need-named-start-requires
+named-start-requires c κs = search needs
 
-loop-holds : tie.Need-loop-holds Inv-loop μ-loop
-loop-holds c = refl
+nearest-requires : tie.Need-nearest-requires
+nearest-requires c κs = search needs
 
-declared-requires : tie.Need-declared-requires Inv-loop μ-loop
-declared-requires c κs = search needs
-
-enum-told : tie.Need-enum-told Inv-loop μ-loop
-enum-told c = search needs
-
-enum-told-2 : tie.Need-enum-told-2 Inv-loop μ-loop
-enum-told-2 c = search needs
-
-returns : tie.Need-returns Inv-loop μ-loop
-returns c = read-here _ _ _ _ _ _ _ (c .before .before .declared .ensures) _ (c .enum-told2 .given .1) ∙ c .before .before .before .loop .inv
-
-parent-requires : tie.Need-parent-requires Inv-loop μ-loop
-parent-requires c κs = search needs
-
-returns-2 : tie.Need-returns-2 Inv-loop μ-loop
-unfolding found
-returns-2 c = read-none _ _ _ _ _ _ _ (c .before .before .before .before .declared .ensures) (c .before .before .enum-told .given .1) (sym (c .if1 .taken) ∙ c .before .parent .ensures) ∙ c .before .before .before .before .before .loop .inv
-
-sub-x : tie.Need-sub-x Inv-loop μ-loop
-sub-x c = search needs
-
-loop-less : tie.Need-loop-less Inv-loop μ-loop
-loop-less c = parent-falls _ _ _ (c .before .parent .ensures) (c .if1 .left)
-
-loop-again : tie.Need-loop-again Inv-loop μ-loop
-loop-again c = read-up _ _ _ _ _ _ _ (c .before .before .before .before .declared .ensures) _ (c .before .before .enum-told .given .1) (c .before .parent .ensures) (c .if1 .left) ∙ c .before .before .before .before .before .loop .inv
+returns : tie.Need-returns
+returns c = c .nearest .ensures ∙ read-cut _ _ _ _ (c .before .before .named-end .ensures .0) (c .before .before .named-end .ensures .1) _
 
 pub row-read-spec : {M : Type 1} → statement M
-row-read-spec =
-    tie.close
-    (tie.spec
-    Inv-loop
-    μ-loop
-    loop-holds
-    declared-requires
-    enum-told
-    enum-told-2
-    returns
-    parent-requires
-    returns-2
-    sub-x
-    loop-less
-    loop-again)
+row-read-spec = tie.close (tie.spec named-end-requires named-start-requires nearest-requires returns)
