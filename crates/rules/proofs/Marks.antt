@@ -5,7 +5,7 @@ use mathlib.Core.List.{List, [], _∷_, _++_, map}
 use Prim.Native.Nat.{ℕ, zero, suc, _+_, _*_, _≤_, _<_}
 use native.Mathlib.Omega.{arith}
 use lib.ListN.{length, getD, getElem?, take, drop, set, length-set}
-use lib.Seq.{getD-take, getD-drop, take-set-le, drop-set-lt, getD-set-same, getD-set-other}
+use lib.Seq.{drop-drop, getD-take, getD-drop, take-set-le, drop-set-lt, getD-set-same, getD-set-other}
 use borrow.Author.Count.{below-more}
 use Rattle.laws.specs.Lists.{Each, each-nil, each-cons}
 use Rattle.sheet.specs.Sheet.{Rule, Current, Sheet}
@@ -13,7 +13,7 @@ use Rattle.sheet.specs.Calls.{typingOf}
 use Rattle.nodes.specs.Nodes.{treeAt}
 use Rattle.nodes.proofs.Keep.{tree-keep}
 use Rattle.tables.specs.declared.Counts.{Counts}
-use Rattle.tables.specs.Layout.{tab, linesIn, HoldsCurrent, HoldsOpen, closed, opened}
+use Rattle.tables.specs.Layout.{tab, linesIn, HoldsCurrent, HoldsOpen, closed, opened, Kept}
 use Rattle.typing.specs.declared.Reply.{Reply}
 use Rattle.rules.specs.Accepted.{Accepted, Known, MarksIn}
 use Rattle.rules.specs.Numbered.{TypesNumbered, KeepsMarks}
@@ -107,6 +107,9 @@ module _ {w2 w1 v1 : List ℕ} (k : KeepsMarks w2 w1 v1) where
 
   pub known-same : {st : Counts} {w0 : List ℕ} → Known st w0 w1 → Known st w0 v1
   known-same g = record { sheet = g .sheet; accepted = accepted-same (g .accepted) }
+
+pub marks-kept : {w2 w1 v1 : List ℕ} → KeepsMarks w2 w1 v1 → Kept w1 v1
+marks-kept {w2} {w1} {v1} k = record { size = k .size; rest = sym (drop-drop 1280 6912 v1) ∙ ap (drop 1280) (k .above) ∙ drop-drop 1280 6912 w1 }
 
 -- ---- the marks that typing left
 
