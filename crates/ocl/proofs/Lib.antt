@@ -6,6 +6,7 @@ pub mod Sorted
 pub mod Ends
 pub mod Formed
 pub mod Runs
+pub mod Steps
 pub mod Marks
 pub mod Places
 pub mod Soundness
