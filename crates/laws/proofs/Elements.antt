@@ -1,12 +1,11 @@
--- A list's elements by tests and by places, and an option with no other after it. Assumes nothing.
+-- A list's elements by tests and by places. Assumes nothing.
 use mathlib.Core.Path.{_≡_, refl, sym, ap, _∙_, subst}
 use mathlib.Core.Bool.{Bool, _&&_, and-assoc}
-use mathlib.Core.Option.{Option, none, some, Option·none-ne-some, Option·some-injective}
+use mathlib.Core.Option.{none, some, Option·none-ne-some, Option·some-injective}
 use mathlib.Core.List.{List, [], _∷_, _++_, map}
 use Prim.Native.Nat.{ℕ, zero, suc, _<_, _≤_}
 use native.Mathlib.Omega.{arith}
 use lib.ListN.{length, getD, getElem?}
-use Rattle.laws.specs.Choice.{orElse}
 use Rattle.laws.specs.Lists.{allOf, Each, each-nil, each-cons}
 
 pub all-append : {A : Type 0} (f : A → Bool) (xs ys : List A) → allOf f (xs ++ ys) ≡ allOf f xs && allOf f ys
@@ -40,8 +39,3 @@ pub each-elem : {A : Type 0} {P : A → Type 0} {l : List A} (i : ℕ) {x : A} �
 each-elem i each-nil e = absurd (Option·none-ne-some _ e)
 each-elem {P} zero (each-cons h hs) e = subst P (Option·some-injective _ _ e) h
 each-elem (suc i) (each-cons h hs) e = each-elem i hs e
-
-pub else-none : {A : Type 0} (o : Option A) → orElse o none ≡ o
-unfolding orElse
-else-none none = refl
-else-none (some x) = refl

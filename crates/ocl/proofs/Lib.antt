@@ -2,6 +2,7 @@ pub mod Types
 pub mod Subtyping
 pub mod Values
 pub mod Order
+pub mod Ranges
 pub mod Sorted
 pub mod Ends
 pub mod Formed

@@ -7,10 +7,10 @@ use Prim.Native.Nat.{ℕ, zero, suc, _+_, _-_, _<_, _≤_}
 use native.Mathlib.Omega.{arith}
 use lib.ListN.{length, getD, getElem?}
 use lib.Seq.{slice, slice-cons}
-use lib.Dec.{eqb, eqb→eq}
-use borrow.Author.Tests.{eq-eqb, ne-eqb, eqb-true}
+use lib.Dec.{eqb}
+use borrow.Author.Tests.{ne-eqb, eqb-true}
 use Rattle.laws.specs.Choice.{if_then_else_}
-use Rattle.laws.proofs.Tests.{test-same}
+use Rattle.laws.proofs.Cases.{eqb-suc}
 use Rattle.laws.proofs.Slices.{split-right}
 use Rattle.laws.proofs.Elements.{elem-some, elem-none}
 use Rattle.ocl.specs.Types.{Simple, any, boolean, integer, class, Kind, set, sequence, bag, kindCode, sameKind, Letter, collection, exactly, Ty, simple, around, Parents, parentOr, up, height, simpleCode, sameSimple, climbs, simpleSubtype, letterSubtype}
@@ -29,9 +29,6 @@ use Rattle.tables.specs.Layout.{parentCode}
 use Rattle.slots.specs.Suits.{simpleBy, parentsOf, Seen, ClimbsIs, ObjectSuits, BaseSuits, lettered, LetterSuits, BelongsAt}
 
 -- ---- one simple type and another
-
-eqb-suc : (a b : ℕ) → eqb (suc a) (suc b) ≡ eqb a b
-eqb-suc a b = test-same _ _ (λ t. let e = eqb→eq (suc a) (suc b) t in rw (eq-eqb a b (omega arith)) tt) (λ t. let e = eqb→eq a b t in rw (eq-eqb (suc a) (suc b) (omega arith)) tt)
 
 class-not : (x c : ℕ) → c < 3 → eqb (suc (suc (suc x))) c ≡ false
 class-not x c h = ne-eqb (suc (suc (suc x))) c (λ e. omega arith)

@@ -9,12 +9,13 @@ use native.Mathlib.Omega.{arith}
 use borrow.Author.Tests.{eq-eqb, ne-eqb}
 use lib.Dec.{eqb}
 use lib.ListN.{length, getD, take, drop, drop-of-length-le}
-use lib.Seq.{drop-drop}
+use lib.Seq.{take-at, drop-at, drop-drop}
 use Rattle.laws.specs.Choice.{if_then_else_, mapSome, onSome}
 use Rattle.laws.proofs.Tests.{Any?, any-some}
 use Rattle.laws.proofs.Parts.{at-next, part-next, part-none}
 use Rattle.sheet.specs.Text.{Bytes, Parser, isDigit, digits, afterDigits, plain, valueOfDigits, number, whole, atEnd}
 use Rattle.sheet.specs.Lines.{aNumber}
+use Rattle.sheet.proofs.Numbers.{digits-split}
 use Rattle.text.specs.Words.{byteKind}
 use Rattle.text.specs.Numbers.{numOf, leading, DigitsEnd}
 use Rattle.text.specs.declared.numbers.Num.the-variants.{Bad, Is}
@@ -55,22 +56,10 @@ module _ (s : Bytes) (i : ℕ) {x : ℕ} (inv : i + length (digits (drop i s)) �
       omega arith
 
 digits-front : (s : Bytes) → take (length (digits s)) s ≡ digits s
-unfolding digits
-digits-front [] = refl
-digits-front (b ∷ s) = go (isDigit b) (digits-front s)
-  where
-    go : (t : Bool) → take (length (digits s)) s ≡ digits s → take (length (if t then b ∷ digits s else [])) (b ∷ s) ≡ (if t then b ∷ digits s else [])
-    go true ih = ap (λ (l : Bytes). b ∷ l) ih
-    go false ih = refl
+digits-front s = ap (take (length (digits s))) (digits-split s) ∙ take-at (digits s) (afterDigits s) (length (digits s)) refl
 
-digits-rest : (s : Bytes) → afterDigits s ≡ drop (length (digits s)) s
-unfolding digits afterDigits
-digits-rest [] = refl
-digits-rest (b ∷ s) = go (isDigit b) (digits-rest s)
-  where
-    go : (t : Bool) → afterDigits s ≡ drop (length (digits s)) s → (if t then afterDigits s else b ∷ s) ≡ drop (length (if t then b ∷ digits s else [])) (b ∷ s)
-    go true ih = ih
-    go false ih = refl
+pub digits-rest : (s : Bytes) → afterDigits s ≡ drop (length (digits s)) s
+digits-rest s = sym (ap (drop (length (digits s))) (digits-split s) ∙ drop-at (digits s) (afterDigits s) (length (digits s)) refl)
 
 -- what is read is told by `leading`, and what is left by the digits
 pub number-leading : (s : Bytes) → number s ≡ mapSome (λ n. (n, afterDigits s)) (leading s)

@@ -1,11 +1,11 @@
 -- An operand has fewer levels than its node: one law for each range of codes. Assumes nothing.
-use mathlib.Core.Path.{_≡_, refl, sym, ap, _∙_}
+use mathlib.Core.Path.{_≡_, sym, ap, _∙_}
 use mathlib.Core.List.{List}
 use Prim.Native.Nat.{ℕ, zero, suc, _+_, _<_, _≤_, max}
 use native.Mathlib.Omega.{arith}
-use Rattle.ocl.specs.Forms.{Expr, Form, Operands, levels, levelsIn, levelsOf}
+use Rattle.ocl.specs.Forms.{Expr, Form, levels, levelsIn, levelsOf}
 use Rattle.nodes.specs.Nodes.{word, operandsIn, formOf, treesBelow, treeAt}
-use Rattle.nodes.proofs.Nodes.{tree-law, late-law, unary-range, binary-range, connective-range, quantified-range, collect-range, isUndef-code, conditional-code, let-code, attribute-code, iterate-code}
+use Rattle.nodes.proofs.Nodes.{tree-law, unary-range, binary-range, connective-range, quantified-range, collect-range, isUndef-code, conditional-code, let-code, attribute-code, iterate-code}
 
 -- a tree has a level at least
 pub some-level : (e : Expr) → 1 ≤ levels e
