@@ -36,6 +36,7 @@ use Rattle.evaluation.specs.Tables.{IsA}
 use Rattle.rules.specs.Accepted.{Accepted, Known}
 use Rattle.rules.specs.Numbered.{TypesNumbered, KeepsMarks, EvaluatesNumbered}
 use Rattle.rules.proofs.Ready.{ready}
+use Rattle.rules.proofs.Lengths.{value-length}
 use Rattle.rules.proofs.Marks.{accepted-same, marks-in}
 use Rattle.checker.specs.declared.Answer.{Answer}
 use Rattle.checker.specs.Answers.{answerOf, AnswersWith}
@@ -44,11 +45,6 @@ use Rattle.checker.specs.Outcomes.{Fitting, GivesEnded}
 use Rattle.checker.proofs.Answers.{gives-refusal, short-call, short-output-call, long-call}
 use Rattle.checker.proofs.Readings.{read-number}
 use Rattle.checker.proofs.RuleLaws.{no-rule, for-rule, type-refused, type-given}
-
--- TEMPORARY
-spelled-short : (text : Bytes) (s : Sheet) → readText text ≡ accepted s → (r o : ℕ) (x : Rule) (t : Ty) → getElem? (s .rules) r ≡ some x
-    → typingOf s x .answer ≡ typed t → T (isA (modelOf s) o (class (x .context))) → (v : Value) (n : ℕ) → outcomeOf s x o ≡ value v n → length (spellValue v) ≤ 1536
-spelled-short = ?
 
 -- what evaluate does for a rule
 abbrev forObject : ℕ → Sheet → Rule → Verdict
@@ -65,35 +61,35 @@ module _ (m : Model) (o c : ℕ) (v : Verdict) where
   unfolding onObject
   present e q = rw (e, q)
 
-module _ {st : Counts} {w0 w1 : List ℕ} (room0 : 8192 ≤ length w0) (room1 : 8192 ≤ length w1) where
+module _ {st : Counts} {w0 w1 : List ℕ} where
   pub evaluate-no-rule : {a : Answer} (r o : ℕ) (out : Bytes) → st .rules ≤ r → a ≡ answerOf (refusalAt 14 0) → GivesFor st w0 w1 (λ s. evaluateOn s r o) a out out
   unfolding evaluateOn
-  evaluate-no-rule r o = no-rule room0 room1 (forObject o) r
+  evaluate-no-rule r o = no-rule (forObject o) r
 
   pub no-object : {a : Answer} {r o : ℕ} (out : Bytes) → r < st .rules → st .objects ≤ o → a ≡ answerOf (refusalAt 14 0) → GivesFor st w0 w1 (λ s. evaluateOn s r o) a out out
   unfolding evaluateOn refusal
   no-object {o = o} out h k e =
-      for-rule room0 room1 h (forObject o)
-      (λ s g x i. rw (absent (modelOf s) o (x .context) _ (ready st w0 w1 s room0 room1 g .model .classOf o ∙ rw (le-ltb o (st .objects) k))) (gives-refusal 14 0 out e))
+      for-rule h (forObject o)
+      (λ s g x i. rw (absent (modelOf s) o (x .context) _ (ready g .model .classOf o ∙ rw (le-ltb o (st .objects) k))) (gives-refusal 14 0 out e))
 
   -- an object that is there, of the rule's context class or not
   object-is : {b : Bool} {o : ℕ} (r : ℕ) → o < st .objects → IsA st w0 o (getD w0 (4448 + r) 0) b → (s : Sheet) → Accepted st w0 w1 s → (x : Rule) → getElem? (s .rules) r ≡ some x
       → isA (modelOf s) o (class (x .context)) ≡ b
   object-is {o = o} r h i s g x q =
-      let y = ready st w0 w1 s room0 room1 g in
+      let y = ready g in
       ap (λ (c : ℕ). isA (modelOf s) o (class c)) (sym (y .rule r x q .context)) ∙ sym (i .is (modelOf s) (y .model))
 
   object-verdict : {b : Bool} {o : ℕ} (r : ℕ) → o < st .objects → IsA st w0 o (getD w0 (4448 + r) 0) b → (s : Sheet) → Accepted st w0 w1 s → (x : Rule) → getElem? (s .rules) r ≡ some x
       → (v : Verdict) → onObject (modelOf s) (modelOf s .classOf o) o (x .context) v ≡ (if b then v else refusal 15)
   object-verdict {o = o} r h i s g x q v =
-      let e : modelOf s .classOf o ≡ some (getD w0 (256 + o) 0) = ready st w0 w1 s room0 room1 g .model .classOf o ∙ rw (lt-ltb o (st .objects) h) in
+      let e : modelOf s .classOf o ≡ some (getD w0 (256 + o) 0) = ready g .model .classOf o ∙ rw (lt-ltb o (st .objects) h) in
       present (modelOf s) o (x .context) v e (object-is r h i s g x q)
 
   pub other-class : {a : Answer} {r o : ℕ} (out : Bytes) → r < st .rules → o < st .objects → IsA st w0 o (getD w0 (4448 + r) 0) false → a ≡ answerOf (refusalAt 15 0)
       → GivesFor st w0 w1 (λ s. evaluateOn s r o) a out out
   unfolding evaluateOn refusal
   other-class {r = r} {o = o} out h k i e =
-      for-rule room0 room1 h (forObject o)
+      for-rule h (forObject o)
       (λ s g x q. rw (object-verdict r k i s g x q (onType s (typingOf s x .answer) (λ t. ended (outcomeOf s x o)))) (gives-refusal 15 0 out e))
 
   -- ---- an object of the class: the rule is typed, then evaluated
@@ -103,8 +99,8 @@ module _ {st : Counts} {w0 w1 : List ℕ} (room0 : 8192 ≤ length w0) (room1 : 
         → a ≡ answerOf (refusalAt n l) → GivesFor st w0 w1 (λ s. evaluateOn s r o) a out out
     unfolding evaluateOn
     evaluate-refused {n = n} {l = l} out t q e =
-        for-rule room0 room1 h (forObject o)
-        (λ s g x j. rw (object-verdict r k i s g x j (onType s (typingOf s x .answer) (λ t. ended (outcomeOf s x o))), type-refused room0 room1 t q s g x j (λ t. ended (outcomeOf s x o))) (gives-refusal n l out e))
+        for-rule h (forObject o)
+        (λ s g x j. rw (object-verdict r k i s g x j (onType s (typingOf s x .answer) (λ t. ended (outcomeOf s x o))), type-refused t q s g x j (λ t. ended (outcomeOf s x o))) (gives-refusal n l out e))
 
     module _ {v1 before marks after : List ℕ} {y : FlatType} {e : Ended} (t : TypesNumbered st w0 w1 r before marks (reply.Is y)) (m : KeepsMarks marks w1 v1)
         (d : EvaluatesNumbered st w0 v1 r o marks after e) where
@@ -115,19 +111,19 @@ module _ {st : Counts} {w0 w1 : List ℕ} (room0 : 8192 ≤ length w0) (room1 : 
       fitting u =
           let s = u .sheet in
           let g = u .accepted in
-          let x = ready st w0 w1 s room0 room1 g .some-rule r h in
+          let x = ready g .some-rule r h in
           record {
             outcome = outcomeOf s (x .0) o;
             ends = ends s g (x .0) (x .1);
             short = λ v n q.
-                let z = spelled-short (g .text) s (g .was) r o (x .0) (tyOf y) (x .1) (sym (t .is s g (x .0) (x .1))) (rw (object-is r k i s g (x .0) (x .1)) (tt {0})) v n q in
+                let z = value-length g r o (x .1) (sym (t .is s g (x .0) (x .1))) (rw (object-is r k i s g (x .0) (x .1)) tt) (ends s g (x .0) (x .1)) q in
                 omega arith;
           }
 
       pub evaluate-ended : {a : Answer} {out put : Bytes} → GivesEnded after e a out put → GivesFor st w0 w1 (λ s. evaluateOn s r o) a out put
       unfolding evaluateOn
       evaluate-ended z =
-          for-rule room0 room1 h (forObject o)
+          for-rule h (forObject o)
           (λ s g x j. rw (object-verdict r k i s g x j (onType s (typingOf s x .answer) (λ t. ended (outcomeOf s x o))), type-given t s g x j (λ t. ended (outcomeOf s x o))) (z .for (outcomeOf s x o) (ends s g x j)))
 
 -- ---- the whole call

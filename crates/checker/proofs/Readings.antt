@@ -49,12 +49,12 @@ module _ {v0 v1 : List ℕ} where
   gives-stop {n} {k} h f out e = rw (refusal-on h f) (gives-refusal n k out e)
 
   pub known-on : {st : Counts} {x : Reading} → EndsAs v0 v1 (sheet.Sheet st) x → (text : Bytes) → readText text ≡ x → Known st v0 v1
-  known-on (a-sheet {st} {s} f g) text e = record { sheet = s; accepted = record { text = text; was = e; fine = f; holds = g; now-ready = ? } }
+  known-on (a-sheet {st} {s} f g) text e = record { sheet = s; accepted = record { text = text; was = e; fine = f; holds = g } }
 
   pub gives-on : {st : Counts} {x : Reading} {a : Answer} {before after : Bytes} {f : Sheet → Verdict} → EndsAs v0 v1 (sheet.Sheet st) x
       → (text : Bytes) → readText text ≡ x → GivesFor st v0 v1 f a before after → Gives (onSheet x f) a before after
   unfolding onSheet
-  gives-on (a-sheet {st} {s} f g) text e h = h .for s (record { text = text; was = e; fine = f; holds = g; now-ready = ? })
+  gives-on (a-sheet {st} {s} f g) text e h = h .for s (record { text = text; was = e; fine = f; holds = g })
 
 -- ---- no call refuses with 1 after a reading
 

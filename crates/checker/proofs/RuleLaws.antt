@@ -21,23 +21,23 @@ use Rattle.checker.specs.Answers.{answerOf}
 use Rattle.checker.specs.Parts.{Gives, GivesFor}
 use Rattle.checker.proofs.Answers.{gives-refusal}
 
-module _ {st : Counts} {w0 w1 : List ℕ} (room0 : 8192 ≤ length w0) (room1 : 8192 ≤ length w1) where
+module _ {st : Counts} {w0 w1 : List ℕ} where
   pub no-rule : {a : Answer} (f : Sheet → Rule → Verdict) (r : ℕ) (out : Bytes) → st .rules ≤ r → a ≡ answerOf (refusalAt 14 0)
       → GivesFor st w0 w1 (λ s. onRule (getElem? (s .rules) r) (f s)) a out out
   unfolding onRule refusal
-  no-rule f r out h e = record { for = λ s g. rw (ready st w0 w1 s room0 room1 g .no-rule r h) (gives-refusal 14 0 out e) }
+  no-rule f r out h e = record { for = λ s g. rw (ready g .no-rule r h) (gives-refusal 14 0 out e) }
 
   module _ {r : ℕ} (h : r < st .rules) where
     pub for-rule : {a : Answer} {before after : Bytes} (f : Sheet → Rule → Verdict)
         → ((s : Sheet) → Accepted st w0 w1 s → (x : Rule) → getElem? (s .rules) r ≡ some x → Gives (f s x) a before after)
         → GivesFor st w0 w1 (λ s. onRule (getElem? (s .rules) r) (f s)) a before after
     unfolding onRule
-    for-rule f k = record { for = λ s g. let x = ready st w0 w1 s room0 room1 g .some-rule r h in rw (x .1) (k s g (x .0) (x .1)) }
+    for-rule f k = record { for = λ s g. let x = ready g .some-rule r h in rw (x .1) (k s g (x .0) (x .1)) }
 
     -- the node of a refusal is one of the table
     pub refusal-place : {n p : ℕ} {before after : List ℕ} → Known st w0 w1 → TypesNumbered st w0 w1 r before after (reply.No n p) → p < 768
     refusal-place {n} {p} k t =
-        let a = ready st w0 w1 (k .sheet) room0 room1 (k .accepted) in
+        let a = ready (k .accepted) in
         let x = a .some-rule r h in
         a .place r (x .0) n p (x .1) (sym (t .is (k .sheet) (k .accepted) (x .0) (x .1))) .0
 
@@ -47,7 +47,7 @@ module _ {st : Counts} {w0 w1 : List ℕ} (room0 : 8192 ≤ length w0) (room1 : 
   unfolding onType
   type-refused {r} {n} {p} {k} t q s g x e f =
       let u = sym (t .is s g x e) in
-      rw u (ap (refusalAt n) (ready st w0 w1 s room0 room1 g .place r x n p e u .1 ∙ sym q))
+      rw u (ap (refusalAt n) (ready g .place r x n p e u .1 ∙ sym q))
 
 pub type-given : {st : Counts} {w0 w1 : List ℕ} {r : ℕ} {y : FlatType} {before after : List ℕ} → TypesNumbered st w0 w1 r before after (reply.Is y)
     → (s : Sheet) → Accepted st w0 w1 s → (x : Rule) → getElem? (s .rules) r ≡ some x → (f : Ty → Verdict)

@@ -31,24 +31,24 @@ use Rattle.checker.proofs.RuleLaws.{no-rule, for-rule, type-refused, ty
 
 -- ---- on a sheet that lies in the words
 
-module _ {st : Counts} {w0 w1 : List ℕ} (room0 : 8192 ≤ length w0) (room1 : 8192 ≤ length w1) where
+module _ {st : Counts} {w0 w1 : List ℕ} where
   pub type-no-rule : {a : Answer} (r : ℕ) (out : Bytes) → st .rules ≤ r → a ≡ answerOf (refusalAt 14 0) → GivesFor st w0 w1 (λ s. typeOn s r) a out out
   unfolding typeOn
-  type-no-rule = no-rule room0 room1 (λ s x. onType s (typingOf s x .answer) (λ t. answer (spellType t)))
+  type-no-rule = no-rule (λ s x. onType s (typingOf s x .answer) (λ t. answer (spellType t)))
 
   module _ {r : ℕ} {before after : List ℕ} (h : r < st .rules) where
     pub rule-refused : {a : Answer} {n p k : ℕ} (out : Bytes) → TypesNumbered st w0 w1 r before after (reply.No n p) → k ≡ word w1 p 7
         → a ≡ answerOf (refusalAt n k) → GivesFor st w0 w1 (λ s. typeOn s r) a out out
     unfolding typeOn
     rule-refused {n = n} {k = k} out t q e =
-        for-rule room0 room1 h (λ s x. onType s (typingOf s x .answer) (λ t. answer (spellType t)))
-        (λ s g x i. rw (type-refused room0 room1 t q s g x i (λ t. answer (spellType t))) (gives-refusal n k out e))
+        for-rule h (λ s x. onType s (typingOf s x .answer) (λ t. answer (spellType t)))
+        (λ s g x i. rw (type-refused t q s g x i (λ t. answer (spellType t))) (gives-refusal n k out e))
 
     pub rule-typed : {a : Answer} {y : FlatType} {end : ℕ} {out put : Bytes} → TypesNumbered st w0 w1 r before after (reply.Is y)
         → Puts 0 (spellType (tyOf y)) out put end → a ≡ writtenTo end 0 → GivesFor st w0 w1 (λ s. typeOn s r) a out put
     unfolding typeOn answer
     rule-typed t p e =
-        for-rule room0 room1 h (λ s x. onType s (typingOf s x .answer) (λ t. answer (spellType t)))
+        for-rule h (λ s x. onType s (typingOf s x .answer) (λ t. answer (spellType t)))
         (λ s g x i. rw (type-given t s g x i (λ t. answer (spellType t))) (gives-written p e))
 
 -- ---- the whole call

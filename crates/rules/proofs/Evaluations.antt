@@ -39,12 +39,12 @@ rule-outcome s x o i e = rw (e, i .body)
 pub rule-shallow : {w0 w1 : List ℕ} {r root : ℕ} {x : Rule} → RuleIn w0 w1 r x → root ≡ getD w0 (4512 + r) 0 → levels (treeAt w1 root) ≤ 19
 rule-shallow i e = rw (e, i .body) (omega (arith, i .shallow))
 
-module _ {st : Counts} {w0 w1 : List ℕ} (room0 : 8192 ≤ length w0) (room1 : 8192 ≤ length w1) where
+module _ {st : Counts} {w0 w1 : List ℕ} where
   -- the sheet's model and the rule's marks, as evaluation reads them
   world-in : (r : ℕ) (s : Sheet) → Accepted st w0 w1 s → (x : Rule) → getElem? (s .rules) r ≡ some x → MarksIn w1 (typingOf s x)
       → Reads st w0 w1 (record { model = modelOf s; mark = markOf (typingOf s x) })
   world-in r s g x q m =
-      let a = ready st w0 w1 s room0 room1 g in
+      let a = ready g in
       record { holds = a .model; plain = a .plain; mark = m .at; row = λ p h. a .mark r x q p }
 
   pub evaluates-numbered : {r o root : ℕ} {before part : List ℕ} {e : Ended} → 8192 ≤ length before → length part ≡ length (take 8192 before)
@@ -55,7 +55,7 @@ module _ {st : Counts} {w0 w1 : List ℕ} (room0 : 8192 ≤ length w0) (room1 : 
       record {
         small = t .small;
         ends = λ s g x q m.
-            let i = ready st w0 w1 s room0 room1 g .rule r x q in
+            let i = ready g .rule r x q in
             rw (rule-outcome s x o i at) at (ends-above (drop 8192 before) (omega arith) (t .ends (record { model = modelOf s; mark = markOf (typingOf s x) }) (world-in r s g x q m)));
         kept = record { size = simp (length-append, length-drop) (omega arith); rest = drop-at part (drop 8192 before) 8192 size };
       }

@@ -16,7 +16,7 @@ use Rattle.tables.specs.Layout.{Kept}
 use Rattle.typing.specs.declared.Reply.{Reply}
 use Rattle.typing.specs.Replies.{meaning}
 use Rattle.typing.specs.Rules.{Kept as KeptMarks, TypesRule}
-use Rattle.rules.specs.Accepted.{Accepted, Known, RuleIn, Ready}
+use Rattle.rules.specs.Accepted.{Known, RuleIn}
 use Rattle.rules.specs.Numbered.{TypesNumbered}
 use Rattle.rules.proofs.Ready.{ready}
 
@@ -29,20 +29,19 @@ rule-typing : {w0 w1 : List ℕ} {r root : ℕ} (s : Sheet) (x : Rule) → RuleI
 unfolding typingOf
 rule-typing s x i e = rw (i .context, e, i .body)
 
-module _ {st : Counts} {w0 w1 : List ℕ} {r : ℕ} (room0 : 8192 ≤ length w0) (room1 : 8192 ≤ length w1) where
+module _ {st : Counts} {w0 w1 : List ℕ} {r : ℕ} where
   -- some sheet is known, and rule r is one of its rules
   pub rule-known : Known st w0 w1 → r < st .rules → (x : Rule) × RuleIn w0 w1 r x
   rule-known k h =
-      let a = ready st w0 w1 (k .sheet) room0 room1 (k .accepted) in
+      let a = ready (k .accepted) in
       let x = a .some-rule r h in
       (x .0, a .rule r (x .0) (x .1))
 
   pub types-numbered : {classes rows root : ℕ} {before after : List ℕ} {a : Reply} → classes ≡ st .classes → rows ≡ st .rows → root ≡ getD w0 (4512 + r) 0
       → TypesRule w0 classes rows w1 (getD w0 (4448 + r) 0) root before after a → TypesNumbered st w0 w1 r before after a
   types-numbered c n e t =
-      let at : (s : Sheet) → Accepted st w0 w1 s → Ready st w0 w1 s = (λ s g. ready st w0 w1 s room0 room1 g) in
       record {
-        is = λ s g x q. t .is (modelOf s) (rw (c, n) (at s g .classes)) ∙ ap (λ (y : Typed). y .answer) (rule-typing s x (at s g .rule r x q) e);
-        marked = λ s g x q p l. t .marked (modelOf s) (rw (c, n) (at s g .classes)) p l ∙ ap (λ (y : Typed). markOf y p) (rule-typing s x (at s g .rule r x q) e);
+        is = λ s g x q. t .is (modelOf s) (rw (c, n) (ready g .classes)) ∙ ap (λ (y : Typed). y .answer) (rule-typing s x (ready g .rule r x q) e);
+        marked = λ s g x q p l. t .marked (modelOf s) (rw (c, n) (ready g .classes)) p l ∙ ap (λ (y : Typed). markOf y p) (rule-typing s x (ready g .rule r x q) e);
         kept = kept-words (t .kept);
       }

@@ -9,13 +9,13 @@ refused-requires : tie.Need-refused-requires
 refused-requires c κs = search needs
 
 returns : tie.Need-returns
-returns c = (evaluate-no-rule (c .before .before .before .before .before .before .before .pre .0 .words0) (c .before .before .before .before .before .before .before .pre .0 .words1) _ _ _ (c .before .if1 .taken) (c .refused .ensures), kept-refl _, kept-refl _)
+returns c = (evaluate-no-rule _ _ _ (c .before .if1 .taken) (c .refused .ensures), kept-refl _, kept-refl _)
 
 refused-requires-2 : tie.Need-refused-requires-2
 refused-requires-2 c κs = search needs
 
 returns-2 : tie.Need-returns-2
-returns-2 c = (no-object (c .before .before .before .before .before .before .before .before .before .pre .0 .words0) (c .before .before .before .before .before .before .before .before .before .pre .0 .words1) _ (c .before .before .before .if1 .left) (c .before .if2 .taken) (c .refused2 .ensures), kept-refl _, kept-refl _)
+returns-2 c = (no-object _ (c .before .before .before .if1 .left) (c .before .if2 .taken) (c .refused2 .ensures), kept-refl _, kept-refl _)
 
 wide-requires : tie.Need-wide-requires
 wide-requires c κs = search needs
@@ -51,7 +51,7 @@ refused-requires-3 : tie.Need-refused-requires-3
 refused-requires-3 c κs = search needs
 
 returns-4 : tie.Need-returns-4
-returns-4 c = (other-class (c .before .before .before .before .before .before .before .before .before .before .before .before .before .pre .0 .words0) (c .before .before .before .before .before .before .before .before .before .before .before .before .before .pre .0 .words1) _ (c .before .before .before .before .before .before .before .if1 .left) (c .before .before .before .before .before .if2 .left) (rw (c .before .if3 .left, c .before .before .before .before .wide .ensures) at (c .before .before .is-a .ensures)) (c .refused3 .ensures), kept-refl _, kept-refl _)
+returns-4 c = (other-class _ (c .before .before .before .before .before .before .before .if1 .left) (c .before .before .before .before .before .if2 .left) (rw (c .before .if3 .left, c .before .before .before .before .wide .ensures) at (c .before .before .is-a .ensures)) (c .refused3 .ensures), kept-refl _, kept-refl _)
 
 pub evaluate-on-spec : {M : Type 1} → statement M
 evaluate-on-spec =

@@ -32,13 +32,13 @@ wide-requires-3 : tie.Need-wide-requires-3
 wide-requires-3 c κs = search needs
 
 type-rule-requires : tie.Need-type-rule-requires
-type-rule-requires c κs = let k = rule-known (c .before .before .before .before .before .before .before .before .before .pre .0 .0) (c .before .before .before .before .before .before .before .before .before .pre .0 .1) (c .before .before .before .before .before .before .before .before .before .pre .1 .0) (c .before .before .before .before .before .before .before .before .before .pre .1 .1) in (omega (arith, k .1 .root), record { in-classes = omega arith; in-rows = omega arith; in-tables = omega arith; all-nodes = omega arith; all-marks = omega arith })
+type-rule-requires c κs = let k = rule-known (c .before .before .before .before .before .before .before .before .before .pre .1 .0) (c .before .before .before .before .before .before .before .before .before .pre .1 .1) in (omega (arith, k .1 .root), record { in-classes = omega arith; in-rows = omega arith; in-tables = omega arith; all-nodes = omega arith; all-marks = omega arith })
 
 same-length : tie.Need-same-length
 same-length c = search needs
 
 returns : tie.Need-returns
-returns c = types-numbered (c .before .before .before .before .before .before .before .before .before .before .before .before .pre .0 .0) (c .before .before .before .before .before .before .before .before .before .before .before .before .pre .0 .1) (c .before .before .before .before .before .before .before .before .wide .ensures) (c .before .before .before .before .before .before .before .wide2 .ensures) (c .before .before .before .before .wide3 .ensures) (c .before .before .type-rule .ensures)
+returns c = types-numbered (c .before .before .before .before .before .before .before .before .wide .ensures) (c .before .before .before .before .before .before .before .wide2 .ensures) (c .before .before .before .before .wide3 .ensures) (c .before .before .type-rule .ensures)
 
 pub type-numbered-spec : {M : Type 1} → statement M
 type-numbered-spec =
