@@ -1,0 +1,40 @@
+-- `put_line` meets its contract. Assumes nothing.
+use mathlib.Core.Path.{_∙_}
+use native.Mathlib.Omega.{arith}
+use Rattle.report.proofs.LineLaws.{rule-room, object-room, outcome-fits, steps-room, puts-line}
+use borrow.Author.Needs.{needs}
+use Rattle.report.proofs.lines.put_line.Statement.{statement}
+use Rattle.report.proofs.lines.put_line.Tie as tie
+
+put-column-requires : tie.Need-put-column-requires
+put-column-requires c κs = rule-room (c .before .before .before .pre)
+
+put-column-requires-2 : tie.Need-put-column-requires-2
+put-column-requires-2 c κs = omega (arith, c .before .before .before .put-column .kept .0, object-room (c .before .before .before .before .before .before .before .pre) (c .before .before .before .put-column .ensures))
+
+put-outcome-requires : tie.Need-put-outcome-requires
+put-outcome-requires c κs = outcome-fits (c .before .before .before .before .before .before .before .before .before .before .before .pre) (c .before .before .before .before .before .before .before .put-column .ensures) (c .before .before .before .put-column2 .ensures) (c .before .before .before .put-column2 .kept .0 ∙ c .before .before .before .before .before .before .before .put-column .kept .0)
+
+steps-of-requires : tie.Need-steps-of-requires
+steps-of-requires c κs = search needs
+
+put-steps-requires : tie.Need-put-steps-requires
+put-steps-requires c κs = omega (arith, c .before .before .before .before .before .before .before .before .before .before .before .before .put-column .kept .0, c .before .before .before .before .before .before .before .before .put-column2 .kept .0, c .before .before .before .before .put-outcome .kept .0, steps-room (c .before .before .before .before .before .before .before .before .before .before .before .before .before .before .before .before .pre) (c .before .before .before .before .before .before .before .before .before .before .before .before .put-column .ensures) (c .before .before .before .before .before .before .before .before .put-column2 .ensures) (c .before .before .before .before .put-outcome .ensures) (c .steps-of .ensures))
+
+same-length : tie.Need-same-length
+same-length c = search needs
+
+returns : tie.Need-returns
+returns c = puts-line (c .before .before .before .before .before .before .before .before .before .before .before .before .before .before .before .before .before .before .before .pre) (c .before .before .before .before .before .before .before .before .before .before .before .before .before .before .before .put-column .ensures) (c .before .before .before .before .before .before .before .before .before .before .before .put-column2 .ensures) (c .before .before .before .before .before .before .before .before .before .before .before .before .before .before .before .put-column .kept .0) (c .before .before .before .before .before .before .before .before .before .before .before .put-column2 .kept .0) (c .before .before .before .before .before .before .before .put-outcome .ensures) (c .before .before .before .before .before .before .before .put-outcome .kept .0) (c .before .before .before .steps-of .ensures) (c .before .before .put-steps .ensures) (c .before .before .put-steps .kept .0)
+
+pub put-line-spec : {M : Type 1} → statement M
+put-line-spec =
+    tie.close
+    (tie.spec
+    put-column-requires
+    put-column-requires-2
+    put-outcome-requires
+    steps-of-requires
+    put-steps-requires
+    same-length
+    returns)

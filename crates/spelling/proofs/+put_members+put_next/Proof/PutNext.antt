@@ -1,0 +1,78 @@
+-- The needs of `put_next`. Assumes nothing.
+use Prim.Native.Nat.{ℕ}
+use mathlib.Core.Path.{_∙_}
+use borrow.Author.Needs.{needs}
+use native.Mathlib.Omega.{arith}
+use Rattle.spelling.proofs.CellLaws.{value-within}
+use Rattle.spelling.proofs.ValueLaws.{simple-room, wrote-simple, opening-room, members-wait, wrote-opened}
+use Rattle.spelling.proofs.put_members.Reads as put-members
+use Rattle.spelling.proofs.put_next.Reads as put-next
+use Rattle.spelling.proofs.put_opening.Reads as put-opening-reads
+use Rattle.spelling.proofs.put_simple.Reads as put-simple-reads
+use Rattle.values.proofs.cells.member_count.Reads as member-count-reads
+use Rattle.values.proofs.cells.simple_of.Reads as simple-of-reads
+use Rattle.values.proofs.cells.sort_of.Reads as sort-of-reads
+use Rattle.spelling.proofs.+put_members+put_next.Lts-put_next as lts
+use Rattle.spelling.proofs.+put_members+put_next.Proof.Base.{put-next-at, put-members-below}
+
+module _ (t : ℕ) where
+  abbrev calls : lts.Claims
+  calls = (
+    sort-of-reads.Asked,
+    sort-of-reads.Learnt,
+    simple-of-reads.Asked,
+    simple-of-reads.Learnt,
+    put-simple-reads.Asked,
+    put-simple-reads.Learnt,
+    put-opening-reads.Asked,
+    put-opening-reads.Learnt,
+    member-count-reads.Asked,
+    member-count-reads.Learnt,
+    put-members-below t,
+    put-members.Post,
+  )
+
+  mul-cell : lts.Need-mul-cell calls (put-next-at t) put-next.Post
+  mul-cell c = omega (arith, value-within (c .before .before .pre .1 .v) (c .before .before .pre .1 .stands))
+
+  shared-slice-read-cell : lts.Need-shared-slice-read-cell calls (put-next-at t) put-next.Post
+  shared-slice-read-cell c = value-within (c .before .before .before .pre .1 .v) (c .before .before .before .pre .1 .stands)
+
+  sort-of-requires : lts.Need-sort-of-requires calls (put-next-at t) put-next.Post
+  sort-of-requires c κs = search needs
+
+  simple-of-requires : lts.Need-simple-of-requires calls (put-next-at t) put-next.Post
+  simple-of-requires c κs = search needs
+
+  put-simple-requires : lts.Need-put-simple-requires calls (put-next-at t) put-next.Post
+  put-simple-requires c κs = simple-room (c .before .before .before .sort-of .ensures) (c .simple-of .ensures) (c .before .before .if1 .taken) (c .before .before .before .before .before .before .before .pre .1)
+
+  add-t16 : lts.Need-add-t16 calls (put-next-at t) put-next.Post
+  add-t16 c = omega (arith, value-within (c .before .before .before .before .before .before .before .before .before .before .pre .1 .v) (c .before .before .before .before .before .before .before .before .before .before .pre .1 .stands))
+
+  same-length : lts.Need-same-length calls (put-next-at t) put-next.Post
+  same-length c = c .before .before .put-simple .kept .0
+
+  returns : lts.Need-returns calls (put-next-at t) put-next.Post
+  returns c = wrote-simple (c .before .before .before .before .before .before .sort-of .ensures) (c .before .before .before .simple-of .ensures) (c .before .before .before .before .before .if1 .taken) (c .before .before .put-simple .ensures)
+
+  put-opening-requires : lts.Need-put-opening-requires calls (put-next-at t) put-next.Post
+  put-opening-requires c κs = opening-room (c .before .before .sort-of .ensures) (c .before .if1 .left) (c .before .before .before .before .before .before .pre .1)
+
+  add-put-members : lts.Need-add-put-members calls (put-next-at t) put-next.Post
+  add-put-members c = omega (arith, value-within (c .before .before .before .before .before .before .before .before .before .before .pre .1 .v) (c .before .before .before .before .before .before .before .before .before .before .pre .1 .stands))
+
+  member-count-requires : lts.Need-member-count-requires calls (put-next-at t) put-next.Post
+  member-count-requires c κs = search needs
+
+  put-members-requires : lts.Need-put-members-requires calls (put-next-at t) put-next.Post
+  put-members-requires c κs = (omega (arith, c .before .before .before .before .before .before .before .before .before .before .before .pre .0, value-within (c .before .before .before .before .before .before .before .before .before .before .before .pre .1 .v) (c .before .before .before .before .before .before .before .before .before .before .before .pre .1 .stands)), members-wait (c .before .before .before .before .before .before .before .sort-of .ensures) (c .before .before .before .before .before .before .if1 .left) (c .before .before .before .before .put-opening .ensures) (c .before .before .before .before .put-opening .kept .0) (c .member-count .ensures .0) (c .before .before .before .before .before .before .before .before .before .before .before .pre .1))
+
+  same-length-2 : lts.Need-same-length-2 calls (put-next-at t) put-next.Post
+  same-length-2 c = c .before .before .put-members .kept .0 ∙ c .before .before .before .before .before .before .before .put-opening .kept .0
+
+  returns-2 : lts.Need-returns-2 calls (put-next-at t) put-next.Post
+  returns-2 c = wrote-opened (c .before .before .before .before .before .before .before .before .before .before .sort-of .ensures) (c .before .before .before .before .before .before .before .before .before .if1 .left) (c .before .before .before .before .before .before .before .put-opening .ensures) (c .before .before .before .before .before .before .before .put-opening .kept .0) (c .before .before .put-members .ensures) (c .before .before .put-members .kept .0) (c .before .before .before .member-count .ensures .0)
+
+  pub closed : {M : Type 1} → lts.Closed calls (put-next-at t) put-next.Post M
+  closed = lts.spec calls (put-next-at t) put-next.Post mul-cell shared-slice-read-cell sort-of-requires simple-of-requires put-simple-requires add-t16 same-length returns put-opening-requires add-put-members member-count-requires put-members-requires same-length-2 returns-2

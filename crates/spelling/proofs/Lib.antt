@@ -1,0 +1,5 @@
+pub mod PutLaws
+mod LeafLaws
+mod CellLaws
+mod ValueLaws
+mod MemberLaws
