@@ -1,17 +1,19 @@
-//! Times the linked calls and the second evaluator side by side.
+//! Times the linked calls and the second evaluator side by side, in processor
+//! time.
 
 use second_evaluator::calls::{Answer, LEAST_WORDS, PROGRAM_OUTPUT};
+use second_evaluator::harness::clock;
 use second_evaluator::harness::linked::Linked;
 use second_evaluator::harness::standin::{Fault, StandIn};
 use second_evaluator::harness::Calls;
 use second_evaluator::workloads::{workloads, Workload};
 use std::process::ExitCode;
-use std::time::{Duration, Instant};
+use std::time::Duration;
 
 /// Rounds, in each of which both are timed once; the best of them counts.
-const ROUNDS: usize = 5;
+const ROUNDS: usize = 40;
 /// A timing repeats its job until so much time has passed.
-const ENOUGH: Duration = Duration::from_millis(60);
+const ENOUGH: Duration = Duration::from_millis(5);
 /// The product's time for each of the second evaluator's, at most.
 const RATIO: f64 = 1.0;
 /// The product's time for a unit of the large job for each of the small one's,
@@ -29,17 +31,20 @@ impl Lent {
         calls.call(workload.call, text, words, &mut self.out)
     }
 
-    /// Nanoseconds for one run of a job.
+    /// Nanoseconds of processor time for one run of a job.
     fn time(&mut self, calls: &dyn Calls, workload: &Workload, job: &[Vec<u8>]) -> f64 {
-        let start = Instant::now();
+        let start = clock::now();
         let mut runs = 0;
-        while start.elapsed() < ENOUGH {
+        loop {
             for text in job {
                 std::hint::black_box(self.call(calls, workload, text));
             }
             runs += 1;
+            let passed = clock::now() - start;
+            if passed >= ENOUGH {
+                return passed.as_nanos() as f64 / f64::from(runs);
+            }
         }
-        start.elapsed().as_nanos() as f64 / f64::from(runs)
     }
 
     /// What the time of a job is divided by.

@@ -1,5 +1,6 @@
 //! Compares the product's calls and program with the second evaluator's.
 
+pub mod clock;
 pub mod compare;
 pub mod linked;
 pub mod program;
