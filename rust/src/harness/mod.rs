@@ -1,6 +1,7 @@
 //! Compares the product's calls and program with the second evaluator's.
 
 pub mod compare;
+#[cfg(feature = "linked")]
 pub mod linked;
 pub mod program;
 pub mod run;
@@ -13,9 +14,6 @@ use crate::generate::Call;
 
 /// An implementation of the four calls.
 pub trait Calls: Sync {
-    /// Whether the call is there to be compared.
-    fn has(&self, call: Call) -> bool;
-
     /// The stack the calls must do with.
     fn stack(&self) -> usize;
 
