@@ -133,3 +133,20 @@ fn short_slices_are_left_alone() {
         });
     }
 }
+
+#[test]
+fn threads_share_a_text() {
+    let text = small();
+    std::thread::scope(|scope| {
+        for _ in 0..4 {
+            scope.spawn(|| {
+                let mut memory = Box::new(Memory::new());
+                let mut output = [0; LEAST_OUTPUT];
+                for _ in 0..200 {
+                    let lines = report(&text, &mut memory, &mut output);
+                    assert_eq!(lines, Ok("0 1 Q(@1) 2\n1 0 5 1\n1 1 5 1\n"));
+                }
+            });
+        }
+    });
+}
