@@ -1,97 +1,116 @@
--- The call that reads: its answer and the words after it. Assumes nothing.
-use mathlib.Core.Path.{_≡_, refl, sym, ap, _∙_, subst}
+-- What all calls have in common: short slices leave everything as it was; long ones are wiped. Assumes nothing.
+use mathlib.Core.Path.{_≡_, refl, sym, ap, _∙_}
 use mathlib.Core.Logic.{_≢_}
 use mathlib.Core.Bool.{Bool, true, false, _||_}
 use mathlib.Core.List.{List, [], _++_}
-use Prim.Native.Nat.{ℕ, _≤_, _<_}
+use Prim.Native.Nat.{ℕ, _+_, _≤_, _<_}
 use native.Mathlib.Omega.{arith}
-use borrow.Author.Tests.{lt-ltb, le-ltb, ne-eqb}
+use native.Mathlib.Nat.{zero-add}
+use borrow.Author.Tests.{lt-ltb, le-ltb, ltb-false, ne-eqb}
 use lib.ListN.{length, drop, replicate}
 use lib.Dec.{ltb, eqb}
 use Rattle.laws.specs.Choice.{if_then_else_}
-use Rattle.sheet.specs.Text.{Bytes, linesOf}
-use Rattle.sheet.specs.Sheet.{Sheet, empty}
-use Rattle.sheet.specs.Reading.{Reading, accepted, refused, readLines, readText}
-use Rattle.sheet.specs.Calls.{Verdict, answer, refusalAt, refusal, wiped, wordsAfter, shortWords, onSheet, readCall}
-use Rattle.sheet.specs.Laws.{ReadRefusal, long-sheet, at-line}
-use Rattle.sheet.proofs.Listed.{read-refusals}
-use Rattle.tables.specs.declared.Counts.{Counts}
+use Rattle.sheet.specs.Text.{Bytes}
+use Rattle.sheet.specs.Calls.{Verdict, refusalAt, refusal, wiped, wordsAfter, outputAfter, shortWords, shortOutput}
+use Rattle.sheet.specs.Soundness.{Lent}
 use Rattle.tables.specs.Layout.{Kept}
-use Rattle.reader.specs.Contracts.{EndsAs, a-sheet, a-refusal}
-use Rattle.checker.specs.Answers.{answerOf, Answers}
+use Rattle.text.specs.Written.{Puts}
 use Rattle.checker.specs.declared.Answer.{Answer}
-use Rattle.reader.specs.declared.SheetRead.the-variants as sheet
+use Rattle.checker.specs.Answers.{answerOf, Answers, AnswersWith}
+use Rattle.checker.specs.Parts.{Gives, Leaves, Wipes, writtenTo}
 
--- what the call comes to for a text, the words being long enough
-abbrev pub verdictOf : Bytes → Verdict
-verdictOf text = onSheet (readText text) (λ s. answer [])
-
-pub long-text : (text : Bytes) → 49152 < length text → verdictOf text ≡ refusalAt 2 0
-unfolding readText onSheet
-long-text text h = rw (lt-ltb 49152 (length text) h)
-
-module _ (text : Bytes) (h : length text ≤ 49152) where
-  by-lines : verdictOf text ≡ onSheet (readLines empty 0 (linesOf text)) (λ s. answer [])
-  unfolding readText
-  by-lines = rw (le-ltb 49152 (length text) h)
-
-  sheet-on : {v0 v1 : List ℕ} {st : Counts} {x : Reading} → EndsAs v0 v1 (sheet.Sheet st) x → onSheet x (λ s. answer []) ≡ refusalAt 0 0
-  unfolding onSheet answer refusalAt
-  sheet-on (a-sheet f g) = refl
-
-  refusal-on : {v0 v1 : List ℕ} {n k : ℕ} {x : Reading} → EndsAs v0 v1 (sheet.Refused n k) x → onSheet x (λ s. answer []) ≡ refusalAt n k
-  unfolding onSheet
-  refusal-on a-refusal = refl
-
-  pub sheet-text : {v0 v1 : List ℕ} {st : Counts} → EndsAs v0 v1 (sheet.Sheet st) (readLines empty 0 (linesOf text)) → verdictOf text ≡ refusalAt 0 0
-  sheet-text e = by-lines ∙ sheet-on e
-
-  pub refused-text : {v0 v1 : List ℕ} {n k : ℕ} → EndsAs v0 v1 (sheet.Refused n k) (readLines empty 0 (linesOf text)) → verdictOf text ≡ refusalAt n k
-  refused-text e = by-lines ∙ refusal-on e
-
--- ---- short words
+-- ---- lengths
 
 or-true : (b : Bool) → b || true ≡ true
 or-true true = refl
 or-true false = refl
 
-module _ (text : Bytes) (w0 w1 w2 : List ℕ) where
-  short-answers : shortWords w0 w1 w2 ≡ true → (r : Answer) → r ≡ answerOf (refusalAt 1 0) → Answers (readCall text w0 w1 w2) r w0 w1 w2 w0 w1 w2
-  unfolding readCall refusal refusalAt wordsAfter
-  short-answers e r q = rw e (record { is = q; words0 = refl; words1 = refl; words2 = refl })
+or-false : (a b : Bool) → a || b ≡ false → (a ≡ false) × (b ≡ false)
+or-false false b e = (refl, e)
+or-false true b e = absurd (let z : _≡_ {A = ℕ} 0 1 = cc in omega arith)
 
-  pub short0 : length w0 < 8192 → (r : Answer) → r ≡ answerOf (refusalAt 1 0) → Answers (readCall text w0 w1 w2) r w0 w1 w2 w0 w1 w2
+module _ (w0 w1 w2 : List ℕ) where
+  pub short0 : length w0 < 8192 → true ≡ shortWords w0 w1 w2
   unfolding shortWords
-  short0 h = short-answers (rw (lt-ltb (length w0) 8192 h))
+  short0 h = rw (lt-ltb (length w0) 8192 h)
 
-  pub short1 : length w1 < 8192 → (r : Answer) → r ≡ answerOf (refusalAt 1 0) → Answers (readCall text w0 w1 w2) r w0 w1 w2 w0 w1 w2
+  pub short1 : length w1 < 8192 → true ≡ shortWords w0 w1 w2
   unfolding shortWords
-  short1 h = short-answers (rw (lt-ltb (length w1) 8192 h, or-true (ltb (length w0) 8192)))
+  short1 h = rw (lt-ltb (length w1) 8192 h, or-true (ltb (length w0) 8192))
 
-  pub short2 : length w2 < 8192 → (r : Answer) → r ≡ answerOf (refusalAt 1 0) → Answers (readCall text w0 w1 w2) r w0 w1 w2 w0 w1 w2
+  pub short2 : 8192 ≤ length w0 → 8192 ≤ length w1 → ltb (length w2) 8192 ≡ shortWords w0 w1 w2
   unfolding shortWords
-  short2 h = short-answers (rw (lt-ltb (length w2) 8192 h) (or-true (ltb (length w0) 8192 || ltb (length w1) 8192)))
+  short2 h k = rw (le-ltb (length w0) 8192 h, le-ltb (length w1) 8192 k)
 
--- ---- words that are long enough are wiped
+  pub long-words : shortWords w0 w1 w2 ≡ false → (8192 ≤ length w0) × (8192 ≤ length w1) × (8192 ≤ length w2)
+  unfolding shortWords
+  long-words e =
+      let a = or-false (ltb (length w0) 8192 || ltb (length w1) 8192) (ltb (length w2) 8192) e in
+      let b = or-false (ltb (length w0) 8192) (ltb (length w1) 8192) (a .0) in
+      (ltb-false (length w0) 8192 (b .0), ltb-false (length w1) 8192 (b .1), ltb-false (length w2) 8192 (a .1))
 
-verdict-by : (text : Bytes) (x : Reading) → readText text ≡ x → onSheet x (λ s. answer []) .number ≢ 1
-unfolding onSheet answer refusalAt
-verdict-by text (accepted s) e q = omega arith
-verdict-by text (refused n k) e q = by (read-refusals text n k e)
-  where
-    by : ReadRefusal text n k → ⊥
-    by (long-sheet a b) = omega arith
-    by (at-line a b c d) = omega arith
+pub all-lent : {w0 w1 w2 : List ℕ} {out : Bytes} → shortWords w0 w1 w2 ≡ false → 2048 ≤ length out → Lent w0 w1 w2 out
+all-lent {w0} {w1} {w2} e h = let l = long-words w0 w1 w2 e in record { words0 = l .0; words1 = l .1; words2 = l .2; output = h }
+
+-- the words are as many after as before
+pub still-lent : {w0 w1 w2 v0 v1 : List ℕ} {out : Bytes} → Lent w0 w1 w2 out → Kept w0 v0 → Kept w1 v1 → Lent v0 v1 w2 out
+still-lent l k0 k1 = record { words0 = omega (arith, l .words0, k0 .size); words1 = omega (arith, l .words1, k1 .size); words2 = l .words2; output = l .output }
+
+pub still-long : {v : Verdict} {a : Answer} {w0 w1 w2 v0 v1 v2 : List ℕ} {out after : Bytes} → Lent w0 w1 w2 out
+    → Leaves v a w0 w1 w2 out v0 v1 v2 after → (8192 ≤ length v0) × (8192 ≤ length v1) × (8192 ≤ length v2)
+still-long l k = (omega (arith, l .words0, k .kept0 .size), omega (arith, l .words1, k .kept1 .size), omega (arith, l .words2, k .kept2 .size))
+
+-- ---- a refusal, and an output with what was written
+
+pub gives-refusal : {a : Answer} (n k : ℕ) (out : Bytes) → a ≡ answerOf (refusalAt n k) → Gives (refusalAt n k) a out out
+unfolding refusalAt outputAfter
+gives-refusal n k out e = record { is = e; output = refl }
+
+pub gives-written : {a : Answer} {out after w : Bytes} {end steps : ℕ} → Puts 0 w out after end → a ≡ writtenTo end steps
+    → Gives (record { number = 0; steps = steps; place = 0; output = w }) a out after
+unfolding outputAfter
+gives-written {w = w} p e = record { is = rw (p .end, zero-add (length w)) at e; output = rw (zero-add (length w)) at (p .is) }
+
+-- ---- the words and the output after a call
+
+pub untouched : {a : Answer} (w0 w1 w2 : List ℕ) → a ≡ answerOf (refusalAt 1 0) → Answers (refusal 1) a w0 w1 w2 w0 w1 w2
+unfolding refusal refusalAt wordsAfter
+untouched w0 w1 w2 e = record { is = e; words0 = refl; words1 = refl; words2 = refl }
+
+untouched-output : {a : Answer} (w0 w1 w2 : List ℕ) (out : Bytes) → a ≡ answerOf (refusalAt 1 0) → AnswersWith (refusal 1) a w0 w1 w2 out w0 w1 w2 out
+unfolding refusal refusalAt outputAfter
+untouched-output w0 w1 w2 out e = record { answers = untouched w0 w1 w2 e; output = refl }
 
 wiped-kept : {w v : List ℕ} → Kept w v → wiped v ≡ wiped w
 unfolding wiped
 wiped-kept k = ap (λ l. replicate 8192 0 ++ l) (k .rest)
 
-pub read-done : (text : Bytes) (w0 w1 w2 v0 v1 x0 x1 x2 : List ℕ) (r : Answer) → 8192 ≤ length w0 → 8192 ≤ length w1 → 8192 ≤ length w2
-    → r ≡ answerOf (verdictOf text) → Kept w0 v0 → Kept w1 v1 → x0 ≡ wiped v0 → x1 ≡ wiped v1 → x2 ≡ wiped w2
-    → Answers (readCall text w0 w1 w2) r w0 w1 w2 x0 x1 x2
-unfolding readCall shortWords wordsAfter
-read-done text w0 w1 w2 v0 v1 x0 x1 x2 r a b c e k l p q z =
-    let n : eqb (verdictOf text .number) 1 ≡ false = ne-eqb (verdictOf text .number) 1 (verdict-by text (readText text) refl) in
-    rw (le-ltb (length w0) 8192 a, le-ltb (length w1) 8192 b, le-ltb (length w2) 8192 c)
-    (record { is = e; words0 = p ∙ wiped-kept k ∙ rw n; words1 = q ∙ wiped-kept l ∙ rw n; words2 = z ∙ rw n })
+module _ {v : Verdict} {a : Answer} {w0 w1 w2 v0 v1 v2 x0 x1 x2 : List ℕ} (n : v .number ≢ 1) where
+  pub wiped-after : a ≡ answerOf v → Kept w0 v0 → Kept w1 v1 → Kept w2 v2 → Wipes v0 v1 v2 x0 x1 x2 → Answers v a w0 w1 w2 x0 x1 x2
+  unfolding wordsAfter
+  wiped-after e k0 k1 k2 z =
+      let q : eqb (v .number) 1 ≡ false = ne-eqb (v .number) 1 n in
+      record { is = e; words0 = z .words0 ∙ wiped-kept k0 ∙ rw q; words1 = z .words1 ∙ wiped-kept k1 ∙ rw q; words2 = z .words2 ∙ wiped-kept k2 ∙ rw q }
+
+  finished : {out after : Bytes} → Leaves v a w0 w1 w2 out v0 v1 v2 after → Wipes v0 v1 v2 x0 x1 x2 → AnswersWith v a w0 w1 w2 out x0 x1 x2 after
+  finished l z = record { answers = wiped-after (l .gives .is) (l .kept0) (l .kept1) (l .kept2) z; output = l .gives .output }
+
+-- ---- a call that lends an output, with the verdict v where nothing is short
+
+abbrev call : Verdict → List ℕ → List ℕ → List ℕ → Bytes → Verdict
+call v w0 w1 w2 out = if shortWords w0 w1 w2 || shortOutput out then refusal 1 else v
+
+module _ (v : Verdict) (w0 w1 w2 : List ℕ) (out : Bytes) {a : Answer} where
+  pub short-call : a ≡ answerOf (refusalAt 1 0) → shortWords w0 w1 w2 ≡ true → AnswersWith (call v w0 w1 w2 out) a w0 w1 w2 out w0 w1 w2 out
+  short-call e q = rw q (untouched-output w0 w1 w2 out e)
+
+  pub short-output-call : a ≡ answerOf (refusalAt 1 0) → length out < 2048 → AnswersWith (call v w0 w1 w2 out) a w0 w1 w2 out w0 w1 w2 out
+  unfolding shortOutput
+  short-output-call e h = rw (lt-ltb (length out) 2048 h, or-true (shortWords w0 w1 w2)) (untouched-output w0 w1 w2 out e)
+
+  pub long-call : {v0 v1 v2 x0 x1 x2 : List ℕ} {after : Bytes} → v .number ≢ 1 → Lent w0 w1 w2 out
+      → Leaves v a w0 w1 w2 out v0 v1 v2 after → Wipes v0 v1 v2 x0 x1 x2 → AnswersWith (call v w0 w1 w2 out) a w0 w1 w2 out x0 x1 x2 after
+  unfolding shortWords shortOutput
+  long-call n l d z =
+      rw (le-ltb (length w0) 8192 (l .words0), le-ltb (length w1) 8192 (l .words1), le-ltb (length w2) 8192 (l .words2), le-ltb (length out) 2048 (l .output))
+      (finished n d z)

@@ -4,7 +4,7 @@ use mathlib.Core.List.{List}
 use Prim.Native.Nat.{ℕ}
 use lib.ListN.{length}
 use Rattle.sheet.specs.Text.{Bytes}
-use Rattle.sheet.specs.Calls.{Verdict, wordsAfter}
+use Rattle.sheet.specs.Calls.{Verdict, wordsAfter, outputAfter}
 use Rattle.checker.specs.declared.Answer.{Answer}
 
 -- number, steps and place as the definition gives them; the length is that of what is written
@@ -17,3 +17,8 @@ pub record Answers (v : Verdict) (r : Answer) (w0 w1 w2 v0 v1 v2 : List ℕ) : T
   pub words0 : v0 ≡ wordsAfter v w0
   pub words1 : v1 ≡ wordsAfter v w1
   pub words2 : v2 ≡ wordsAfter v w2
+
+-- a call that lends an output: what is written stands in front of it
+pub record AnswersWith (v : Verdict) (r : Answer) (w0 w1 w2 : List ℕ) (out : Bytes) (v0 v1 v2 : List ℕ) (after : Bytes) : Type 0 where
+  pub answers : Answers v r w0 w1 w2 v0 v1 v2
+  pub output : after ≡ outputAfter v out

@@ -1,1 +1,4 @@
 pub mod Answers
+pub mod Parts
+pub mod Outcomes
+pub mod Soundness

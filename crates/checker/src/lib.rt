@@ -1,15 +1,17 @@
 // The public calls. Each reads the text anew, uses the lent words as working memory and leaves their first 8,192 words zero.
-// Document 01, Calls.
+// Document 01, Calls. It depends on `reader` for the sheet and on `rules` for a rule of it.
 ghost use mathlib.Core.Path.{_≡_};
-ghost use mathlib.Core.List.{[]};
 ghost use Prim.Native.Nat.{_≤_};
 ghost use lib.ListN.{length};
-ghost use Rattle.sheet.specs.Calls.{readCall, onSheet, refusalAt, answer as answerWith};
-ghost use Rattle.sheet.specs.Reading.{readText};
-ghost use Rattle.tables.specs.Layout.{Kept};
-ghost use Rattle.checker.specs.Answers.{Answers, answerOf};
+ghost use Rattle.sheet.specs.Calls.{refusalAt, shortWords};
+ghost use Rattle.checker.specs.Answers.{answerOf};
+ghost use Rattle.checker.specs.Parts.{ReadsText, Wipes, writtenTo};
 use reader::SheetRead;
 use reader::read;
+
+pub mod evaluate_call; // ocl_evaluate_rule
+pub mod read_call; // ocl_read_sheet
+pub mod type_call; // ocl_type_rule
 
 // What a call returns: 0 or a refusal's number, the steps of an evaluation, a line number, and the bytes written.
 #[repr(C)]
@@ -32,42 +34,48 @@ fn refused(number: u64, place: u64) -> Answer
     }
 }
 
-// The text's own answer, whatever the words held; the words are not wiped yet.
-fn read_answer(text: &[u8], w0: &mut [u64], w1: &mut [u64]) -> Answer
-    requires { ⌜ (8192 ≤ length (now w0)) × (8192 ≤ length (now w1)) ⌝ }
-    ensures { λ r. ⌜ (r ≡ answerOf (onSheet (readText (now (text .entry))) (λ s. answerWith []))) × Kept (now (w0 .entry)) (now (w0 .exit)) × Kept (now (w1 .entry)) (now (w1 .exit)) ⌝ }
+// An answer with what was written to the output, up to `end`.
+fn written(end: usize, steps: u64) -> Answer
+    ensures { λ r. ⌜ r ≡ writtenTo end steps ⌝ }
 {
-    if 49152 < text.len() {
-        return refused(2, 0);
-    }
-    match read(text, w0, w1) {
-        SheetRead::Sheet(_) => refused(0, 0),
-        SheetRead::Refused(n, k) => refused(n, k),
+    Answer {
+        number: 0,
+        steps: steps,
+        place: 0,
+        length: end as u64,
     }
 }
 
-// Reads a sheet: 0 where it is accepted, else a refusal with its line. Each word slice lends at least 8,192 words.
-#[no_mangle]
-pub extern "C" fn ocl_read_sheet(
-    text: &[u8],
-    w0: &mut [u64],
-    w1: &mut [u64],
-    w2: &mut [u64],
-) -> Answer
-    ensures { λ r. ⌜ Answers (readCall (now (text .entry)) (now (w0 .entry)) (now (w1 .entry)) (now (w2 .entry))) r (now (w0 .entry)) (now (w1 .entry)) (now (w2 .entry)) (now (w0 .exit)) (now (w1 .exit)) (now (w2 .exit)) ⌝ }
+// Whether a word slice has fewer than 8,192 words.
+fn short(w0: &[u64], w1: &[u64], w2: &[u64]) -> bool
+    ensures { λ r. ⌜ r ≡ shortWords (now (w0 .entry)) (now (w1 .entry)) (now (w2 .entry)) ⌝ }
 {
     if w0.len() < 8192 {
-        return refused(1, 0);
+        return true;
     }
     if w1.len() < 8192 {
-        return refused(1, 0);
+        return true;
     }
-    if w2.len() < 8192 {
-        return refused(1, 0);
+    w2.len() < 8192
+}
+
+// A text of any length: its sheet in the words, or a refusal.
+fn read_text(text: &[u8], w0: &mut [u64], w1: &mut [u64]) -> SheetRead
+    requires { ⌜ (8192 ≤ length (now w0)) × (8192 ≤ length (now w1)) ⌝ }
+    ensures { λ r. ⌜ ReadsText (now (text .entry)) r (now (w0 .entry)) (now (w1 .entry)) (now (w0 .exit)) (now (w1 .exit)) ⌝ }
+{
+    if 49152 < text.len() {
+        return SheetRead::Refused(2, 0);
     }
-    let a = read_answer(text, w0, w1);
+    read(text, w0, w1)
+}
+
+// The first 8,192 words of each slice are set to 0.
+fn wipe_all(w0: &mut [u64], w1: &mut [u64], w2: &mut [u64])
+    requires { ⌜ (8192 ≤ length (now w0)) × (8192 ≤ length (now w1)) × (8192 ≤ length (now w2)) ⌝ }
+    ensures { λ _. ⌜ Wipes (now (w0 .entry)) (now (w1 .entry)) (now (w2 .entry)) (now (w0 .exit)) (now (w1 .exit)) (now (w2 .exit)) ⌝ }
+{
     tables::wipe(w0);
     tables::wipe(w1);
     tables::wipe(w2);
-    a
 }

@@ -1,20 +1,20 @@
 -- The class inside a type, and the names that a class declares: what the code's tests say. Assumes nothing.
 use mathlib.Core.Path.{_≡_, refl, sym, ap, _∙_}
-use mathlib.Core.Bool.{Bool, true, false, _&&_, _||_, true≢false}
+use mathlib.Core.Bool.{Bool, true, false, _&&_, _||_}
 use mathlib.Core.List.{List, [], _∷_, map}
-use Prim.Native.Nat.{ℕ, zero, suc, _+_, _≤_, _<_}
+use Prim.Native.Nat.{ℕ, _+_, _≤_, _<_}
 use native.Mathlib.Omega.{arith}
-use borrow.Author.Tests.{ltb-true, lt-ltb, le-ltb, eq-eqb, ne-eqb}
-use lib.Dec.{eqb, leb, ltb}
+use borrow.Author.Tests.{lt-ltb, le-ltb, eq-eqb, ne-eqb}
+use lib.Dec.{eqb, ltb}
 use lib.ListN.{length, getD, drop, drop-of-length-le}
 use Rattle.laws.proofs.Parts.{at-next}
-use Rattle.ocl.specs.Types.{Ty, depth}
 use Rattle.ocl.specs.Model.{Row}
-use Rattle.sheet.specs.Refusals.{isClass, simpleClassBelow, classBelow, typeWithin, declares}
+use Rattle.sheet.specs.Refusals.{isClass, simpleClassBelow, classBelow, declares}
 use Rattle.types.specs.declared.Base.{Base}
 use Rattle.types.specs.declared.Base.the-variants as b
 use Rattle.types.specs.declared.FlatType.{FlatType}
-use Rattle.types.specs.Flat.{baseType, baseTag, baseClass, layer, tyOf}
+use Rattle.types.specs.Flat.{baseType, baseTag, baseClass, tyOf}
+use Rattle.types.proofs.Within.{type-class}
 use Rattle.tables.specs.Layout.{tab}
 use Rattle.tables.proofs.Tables.{tab-length, tab-at}
 use Rattle.declarations.specs.Fields.{namedIn}
@@ -22,15 +22,6 @@ use Rattle.declarations.specs.Fields.{namedIn}
 -- ---- the class inside a type
 
 module _ (n : ℕ) where
-  layer-class : (k : ℕ) (base u : Ty) → classBelow n u ≡ classBelow n base → classBelow n (layer k base u) ≡ classBelow n base
-  unfolding layer classBelow
-  layer-class zero base u h = refl
-  layer-class (suc k) base u h = h
-
-  -- the letters do not matter
-  base-class : (t : FlatType) → classBelow n (tyOf t) ≡ classBelow n (baseType (t .base))
-  base-class t = layer-class (t .outer) _ _ (layer-class (t .middle) _ _ (layer-class (t .inner) _ _ refl))
-
   no-class : (a : Base) → (baseTag a ≡ 4 → ⊥) → true ≡ classBelow n (baseType a)
   unfolding classBelow simpleClassBelow
   no-class b.Void h = refl
@@ -49,26 +40,10 @@ module _ (n : ℕ) where
 
   module _ (t : FlatType) {r : ℕ} (told : r ≡ baseTag (t .base)) where
     pub known-without : (r ≡ 4 → ⊥) → true ≡ classBelow n (tyOf t)
-    known-without h = no-class (t .base) (λ e. h (told ∙ e)) ∙ sym (base-class t)
+    known-without h = no-class (t .base) (λ e. h (told ∙ e)) ∙ sym (type-class n t)
 
     pub known-class : {c : ℕ} → r ≡ 4 → c ≡ baseClass (t .base) → ltb c n ≡ classBelow n (tyOf t)
-    known-class h e = ap (λ (x : ℕ). ltb x n) e ∙ a-class (t .base) (sym told ∙ h) ∙ sym (base-class t)
-
--- the class of a type that is within the limits is small
-pub class-small : (t : FlatType) → typeWithin (tyOf t) ≡ true → baseClass (t .base) < 64
-unfolding typeWithin classBelow simpleClassBelow
-class-small t h = go (t .base) (sym (base-class 64 t) ∙ second (leb (depth (tyOf t)) 3) _ h)
-  where
-    second : (x y : Bool) → (x && y) ≡ true → y ≡ true
-    second true y q = q
-    second false y q = absurd (true≢false (sym q))
-
-    go : (a : Base) → classBelow 64 (baseType a) ≡ true → baseClass a < 64
-    go b.Void h = omega arith
-    go b.Bool h = omega arith
-    go b.Int h = omega arith
-    go b.Any h = omega arith
-    go (b.Class c) h = ltb-true c 64 h
+    known-class h e = ap (λ (x : ℕ). ltb x n) e ∙ a-class (t .base) (sym told ∙ h) ∙ sym (type-class n t)
 
 -- ---- the names
 

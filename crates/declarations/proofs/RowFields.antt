@@ -1,23 +1,15 @@
 -- A lines: how they are spelled, by the fields that code reads. Assumes nothing.
-use mathlib.Core.Path.{_≡_, refl, sym, ap, _∙_}
-use mathlib.Core.Bool.{Bool, true, false, true≢false}
-use mathlib.Core.Option.{Option, none, some}
+use mathlib.Core.Path.{_≡_, sym, _∙_}
+use mathlib.Core.Bool.{true, true≢false}
+use mathlib.Core.Option.{none, some}
 use mathlib.Core.List.{List, [], _∷_}
 use Prim.Native.Nat.{ℕ, _<_}
 use native.Mathlib.Omega.{arith}
 use lib.ListN.{length, getD, drop, length-drop}
-use Rattle.laws.specs.Choice.{if_then_else_}
-use Rattle.ocl.specs.Types.{Ty, void}
+use Rattle.ocl.specs.Types.{Ty}
 use Rattle.sheet.specs.Text.{Bytes, bytes, fieldsOf}
 use Rattle.sheet.specs.Spelling.{readType}
 use Rattle.sheet.specs.Lines.{rowLine, is, next, done, aNumber, lineOf}
-use Rattle.sheet.specs.Refusals.{typeWithin}
-use Rattle.types.specs.declared.FlatType.{FlatType}
-use Rattle.types.specs.declared.GotType.{GotType}
-use Rattle.types.specs.declared.GotType.the-variants as got
-use Rattle.types.specs.Flat.{tyOf}
-use Rattle.types.specs.Reading.{bad, big, typeField, held}
-use Rattle.types.specs.Reading.{is as isType}
 use Rattle.text.specs.Numbers.{numOf}
 use Rattle.text.specs.declared.parts.Fields.{Fields}
 use Rattle.text.specs.declared.numbers.Num.the-variants as num
@@ -25,54 +17,6 @@ use Rattle.text.proofs.NumberLaws.{num-bad}
 use Rattle.text.proofs.PartLaws.{counted-exact}
 use Rattle.tables.proofs.LineFields.{word-is, takes-none, takes-more, field-bad, field-some, fields-done, the, num-some, num-exact}
 use Rattle.declarations.specs.Taken.{Lettered}
-
--- ---- the type's field, by the answer
-
-abbrev pub theType : Option Ty → Ty
-theType none = void
-theType (some t) = t
-
-held-bad : (o : Option Ty) → bad ≡ held o → o ≡ none
-unfolding held
-held-bad none h = refl
-held-bad (some t) h = go (typeWithin t) h
-  where
-    go : (b : Bool) → bad ≡ (if b then isType t else big) → some t ≡ none
-    go true h = absurd (let z : _≡_ {A = ℕ} 0 1 = cc in omega arith)
-    go false h = absurd (let z : _≡_ {A = ℕ} 0 1 = cc in omega arith)
-
-held-big : (o : Option Ty) → big ≡ held o → (o ≡ some (theType o)) × (typeWithin (theType o) ≡ false)
-unfolding held
-held-big none h = absurd (let z : _≡_ {A = ℕ} 0 1 = cc in omega arith)
-held-big (some t) h = (refl, go (typeWithin t) h)
-  where
-    go : (b : Bool) → big ≡ (if b then isType t else big) → b ≡ false
-    go true h = absurd (let z : _≡_ {A = ℕ} 0 1 = cc in omega arith)
-    go false h = refl
-
-held-is : (o : Option Ty) (t : Ty) → isType t ≡ held o → (o ≡ some t) × (typeWithin t ≡ true)
-unfolding held
-held-is none t h = absurd (let z : _≡_ {A = ℕ} 0 1 = cc in omega arith)
-held-is (some u) t h = go (typeWithin u) refl h
-  where
-    go : (b : Bool) → b ≡ typeWithin u → isType t ≡ (if b then isType u else big) → (some u ≡ some t) × (typeWithin t ≡ true)
-    go true e h = let z : t ≡ u = cc in (ap some (sym z), rw z (sym e))
-    go false e h = absurd (let z : _≡_ {A = ℕ} 0 1 = cc in omega arith)
-
-module _ {r : GotType} (o : Option Ty) (read : typeField r ≡ held o) where
-  pub type-bad : r ≡ got.Bad → o ≡ none
-  unfolding typeField
-  type-bad e = held-bad o (rw e at read)
-
-  pub type-big : r ≡ got.Big → (o ≡ some (theType o)) × (typeWithin (theType o) ≡ false)
-  unfolding typeField
-  type-big e = held-big o (rw e at read)
-
-  pub type-is : (t : FlatType) → r ≡ got.Is t → (o ≡ some (tyOf t)) × (typeWithin (tyOf t) ≡ true)
-  unfolding typeField
-  type-is t e = held-is o (tyOf t) (rw e at read)
-
--- ---- the fields
 
 row-fields : (fs : List Bytes) → is (getD fs 0 []) (bytes "A") ≡ true
     → lineOf fs ≡ next aNumber (λ n. next aNumber (λ c. next aNumber (λ name. next readType (λ t. done (rowLine n c name t))))) (drop 1 fs)

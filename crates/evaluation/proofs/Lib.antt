@@ -10,4 +10,3 @@ pub mod FormLaws
 pub mod LoopLaws
 pub mod CollectLaws
 pub mod NodeLaws
-pub mod Levels

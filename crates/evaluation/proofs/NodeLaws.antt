@@ -18,7 +18,7 @@ use Rattle.values.specs.Contracts.{means-obj, Pushes}
 use Rattle.values.specs.declared.Simple.the-variants as simple
 use Rattle.nodes.specs.Nodes.{word, leafOf, formOf, treesBelow, treeAt}
 use Rattle.nodes.proofs.Nodes.{tree-law, below-law}
-use Rattle.evaluation.proofs.Levels.{collect-levels}
+use Rattle.nodes.proofs.Levels.{collect-levels}
 use Rattle.nodes.proofs.Evaluation.{operandRun, leaf-run, unary-run, binary-run, connective-run, quantified-run, collect-run, over-run, isUndef-run, conditional-run, let-run, attribute-run, iterate-run, none-run, operand-run, late-run}
 use Rattle.tables.specs.declared.Counts.{Counts}
 use Rattle.evaluation.specs.declared.Ended.{Ended}

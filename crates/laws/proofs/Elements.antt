@@ -1,13 +1,12 @@
--- A list's elements by tests and by places, and an option with no other after it. Assumes nothing.
-use mathlib.Core.Path.{_≡_, refl, sym, ap, _∙_}
+-- A list's elements by tests and by places. Assumes nothing.
+use mathlib.Core.Path.{_≡_, refl, sym, ap, _∙_, subst}
 use mathlib.Core.Bool.{Bool, _&&_, and-assoc}
-use mathlib.Core.Option.{Option, none, some}
+use mathlib.Core.Option.{none, some, Option·none-ne-some, Option·some-injective}
 use mathlib.Core.List.{List, [], _∷_, _++_, map}
 use Prim.Native.Nat.{ℕ, zero, suc, _<_, _≤_}
 use native.Mathlib.Omega.{arith}
 use lib.ListN.{length, getD, getElem?}
-use Rattle.laws.specs.Choice.{orElse}
-use Rattle.laws.specs.Lists.{allOf}
+use Rattle.laws.specs.Lists.{allOf, Each, each-nil, each-cons}
 
 pub all-append : {A : Type 0} (f : A → Bool) (xs ys : List A) → allOf f (xs ++ ys) ≡ allOf f xs && allOf f ys
 unfolding allOf
@@ -30,7 +29,13 @@ elem-none [] i h = refl
 elem-none (a ∷ l) zero h = absurd (omega arith)
 elem-none (a ∷ l) (suc i) h = elem-none l i (omega arith)
 
-pub else-none : {A : Type 0} (o : Option A) → orElse o none ≡ o
-unfolding orElse
-else-none none = refl
-else-none (some x) = refl
+-- an element that is there, whatever stands for the places past the list
+pub elem-at : {A : Type 0} (l : List A) (i : ℕ) {x : A} (d : A) → getElem? l i ≡ some x → (i < length l) × (getD l i d ≡ x)
+elem-at [] i d e = absurd (Option·none-ne-some _ e)
+elem-at (a ∷ l) zero d e = (omega arith, Option·some-injective _ _ e)
+elem-at (a ∷ l) (suc i) d e = let h = elem-at l i d e in (omega arith, h .1)
+
+pub each-elem : {A : Type 0} {P : A → Type 0} {l : List A} (i : ℕ) {x : A} → Each P l → getElem? l i ≡ some x → P x
+each-elem i each-nil e = absurd (Option·none-ne-some _ e)
+each-elem {P} zero (each-cons h hs) e = subst P (Option·some-injective _ _ e) h
+each-elem (suc i) (each-cons h hs) e = each-elem i hs e

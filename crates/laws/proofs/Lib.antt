@@ -4,6 +4,7 @@ pub mod Lists
 pub mod Orders
 pub mod Parts
 pub mod Bounds
+pub mod Cases
 pub mod Integers
 pub mod Slices
 pub mod Elements

@@ -2,8 +2,10 @@
 use mathlib.Core.Path.{_≡_, refl}
 use mathlib.Core.Logic.{_≢_, _↔_}
 use mathlib.Core.Bool.{Bool, true, false, _||_}
-use mathlib.Core.List.{List, [], _∷_, _++_, List·Memᴰ, List·Memᴰ·head, List·Memᴰ·tail}
-use Prim.Native.Nat.{ℕ}
+use mathlib.Core.List.{List, [], _∷_, _++_, map, List·Memᴰ, List·Memᴰ·head, List·Memᴰ·tail}
+use Prim.Native.Nat.{ℕ, _<_}
+use native.Mathlib.Omega.{arith}
+use borrow.Author.Tests.{ne-eqb}
 use lib.Dec.{T, eqb, eqb→eq, eqb-refl}
 use Rattle.laws.specs.Lists.{member, Each, each-nil, each-cons, Distinct, distinct-nil, distinct-cons}
 use Rattle.laws.proofs.Tests.{or-l, or-r, or-e}
@@ -33,6 +35,12 @@ unfolding member
 member-append n [] b = refl
 member-append n (m ∷ a) b = rw (member-append n a b) (or-assoc (eqb n m) (member n a) (member n b))
 
+-- a number above all
+pub member-none : (n : ℕ) (ns : List ℕ) → Each (λ m. m < n) ns → member n ns ≡ false
+unfolding member
+member-none n [] each-nil = refl
+member-none n (m ∷ ns) (each-cons p h) = rw (ne-eqb n m (λ e. omega arith), member-none n ns h)
+
 -- ---- each
 
 pub each-imp : {A : Type 0} {P Q : A → Type 0} {ns : List A} → ((n : A) → P n → Q n) → Each P ns → Each Q ns
@@ -57,6 +65,10 @@ each-head (each-cons p h) = p
 pub each-at : {A : Type 0} {P : A → Type 0} {n : A} {ns : List A} → Each P ns → List·Memᴰ n ns → P n
 each-at (each-cons p h) (List·Memᴰ·head e) = rw e p
 each-at (each-cons p h) (List·Memᴰ·tail m) = each-at h m
+
+pub map-each : {A B : Type 0} (f g : A → B) (ns : List A) → Each (λ n. f n ≡ g n) ns → map f ns ≡ map g ns
+map-each f g [] each-nil = refl
+map-each f g (n ∷ ns) (each-cons p h) = rw (p, map-each f g ns h)
 
 -- each is a member
 pub each-member : (ns : List ℕ) → Each (λ n. T (member n ns)) ns

@@ -1,6 +1,6 @@
 -- Laws of tests and options that the other files share. Assumes nothing.
 use mathlib.Core.Path.{_≡_, refl, sym}
-use mathlib.Core.Bool.{Bool, true, false, not, _&&_, _||_}
+use mathlib.Core.Bool.{Bool, true, false, not, _&&_, _||_, true≢false}
 use mathlib.Core.Option.{Option, none, some}
 use lib.Dec.{T}
 use Rattle.laws.specs.Choice.{if_then_else_, orElse, onSome}
@@ -16,6 +16,11 @@ and-l false b p = p
 pub and-r : (a b : Bool) → T (a && b) → T b
 and-r true b p = p
 and-r false b p = absurd p
+
+-- the same of equations
+pub and-true : (a b : Bool) → a && b ≡ true → (a ≡ true) × (b ≡ true)
+and-true true b e = (refl, e)
+and-true false b e = absurd (true≢false (sym e))
 
 pub or-l : (a b : Bool) → T a → T (a || b)
 or-l true b p = tt
@@ -55,6 +60,11 @@ test-same false b f g = sym (test-fails b g)
 pub by-test {ℓ} : {C : Type ℓ} (b : Bool) → (T b → C) → (T (not b) → C) → C
 by-test true f g = f tt
 by-test false f g = g tt
+
+-- a choice that is none
+pub if-same : {A : Type 0} (b : Bool) (x : A) → (if b then x else x) ≡ x
+if-same true x = refl
+if-same false x = refl
 
 -- two choices by one test
 pub same-choice : {A : Type 0} (b : Bool) {x y z w : A} → (T b → x ≡ z) → (T (not b) → y ≡ w) → (if b then x else y) ≡ (if b then z else w)

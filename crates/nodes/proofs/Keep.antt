@@ -1,5 +1,5 @@
 -- A node's tree is told by the words of the nodes up to it, and it is no deeper than these are many. Assumes nothing.
-use mathlib.Core.Path.{_≡_, refl, sym, ap, _∙_, fun-ext}
+use mathlib.Core.Path.{_≡_, refl, ap, _∙_, fun-ext}
 use mathlib.Core.Bool.{Bool, true, false}
 use mathlib.Core.List.{List}
 use Prim.Native.Nat.{ℕ, zero, suc, _+_, _*_, _<_, _≤_, max}
@@ -11,8 +11,7 @@ use Rattle.laws.specs.Choice.{if_then_else_}
 use Rattle.laws.proofs.Tests.{by-if}
 use Rattle.ocl.specs.Types.{Kind}
 use Rattle.ocl.specs.Forms.{Expr, node, Form, leaf, collect, undef, levels, levelsIn, levelsOf}
-use Rattle.nodes.specs.Nodes.{word, variable, leafOf, unaryOf, binaryOf, connectiveOf, quantifierOf, kindOf, operandsIn, formOf, treesBelow, treeAt}
-use Rattle.types.specs.Word.{typeIn}
+use Rattle.nodes.specs.Nodes.{word, leafOf, unaryOf, kindOf, operandsIn, formOf, treesBelow, treeAt}
 
 -- ---- what a form takes of its words
 

@@ -1,13 +1,12 @@
 -- A node's tree is its form over smaller trees, and one range of codes is one constructor: what a match with ranges needs. Assumes nothing.
-use mathlib.Core.Path.{_≡_, refl, sym, ap, _∙_}
+use mathlib.Core.Path.{_≡_, refl}
 use mathlib.Core.Bool.{Bool, true, false}
 use mathlib.Core.List.{List}
-use Prim.Native.Nat.{ℕ, zero, suc, _+_, _*_, _<_, _≤_}
+use Prim.Native.Nat.{ℕ, zero, suc, _<_, _≤_}
 use native.Mathlib.Omega.{arith}
-use lib.Dec.{eqb, ltb}
+use lib.Dec.{eqb}
 use borrow.Author.Tests.{eq-eqb, ne-eqb, eqb-true, eqb-false, lt-ltb, le-ltb}
-use Rattle.laws.specs.Choice.{if_then_else_}
-use Rattle.ocl.specs.Forms.{Expr, node, Form, leaf, unary, binary, connective, isUndef, conditional, letIn, attribute, quantified, iterate, collect, undef}
+use Rattle.ocl.specs.Forms.{Expr, node, leaf, unary, binary, connective, isUndef, conditional, letIn, attribute, quantified, iterate, collect, undef}
 use Rattle.nodes.specs.Nodes.{word, variable, leafOf, unaryOf, binaryOf, connectiveOf, quantifierOf, kindOf, operandsIn, formOf, treesBelow, treeAt}
 use Rattle.types.specs.Word.{typeIn}
 

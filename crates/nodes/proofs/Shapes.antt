@@ -1,22 +1,22 @@
 -- A node whose words are those of a node line has the line's form over its operands' trees. Assumes nothing.
-use mathlib.Core.Path.{_≡_, refl, sym, ap, _∙_}
-use mathlib.Core.Bool.{Bool, true, false, _&&_}
+use mathlib.Core.Path.{_≡_, refl, ap, _∙_}
+use mathlib.Core.Bool.{true, false, _&&_}
 use mathlib.Core.List.{List, [], _∷_}
-use Prim.Native.Nat.{ℕ, zero, suc, _+_, _-_, _*_, _%_, _<_, _≤_}
+use Prim.Native.Nat.{ℕ, suc, _+_, _-_, _%_, _<_, _≤_}
 use native.Mathlib.Omega.{arith}
 use lib.IntN.{ℤ, pos, negsuc}
 use lib.ListN.{length, getD}
-use lib.Dec.{eqb, ltb, leb}
+use lib.Dec.{leb}
 use borrow.Author.Tests.{ltb-true, lt-ltb, le-ltb, leb-true}
-use Rattle.laws.specs.Choice.{if_then_else_}
 use Rattle.laws.specs.Integers.{bias, unbias}
 use Rattle.laws.specs.Lists.{Each, each-nil, each-cons}
+use Rattle.laws.proofs.Tests.{and-true}
 use Rattle.ocl.specs.Types.{Kind, set, sequence, bag, Ty}
 use Rattle.ocl.specs.Evaluation.{inRange}
-use Rattle.ocl.specs.Forms.{Arith, plus, minus, times, div, modulo, Connective, and, or, Quantifier, forAll, exists, Leaf, truth, undef, number, self, var, all, Unary, negation, sizeOf, convert, castTo, Binary, equal, less, arith as calculation, includes, including, union, Expr, node, Form}
+use Rattle.ocl.specs.Forms.{plus, minus, times, div, modulo, Connective, and, or, Quantifier, forAll, exists, Leaf, truth, undef, number, self, var, all, Unary, negation, sizeOf, convert, castTo, Binary, equal, less, arith as calculation, includes, including, union, Expr, node, Form}
 use Rattle.sheet.specs.Lines.{Shape, leaf, unary, binary, connective, isUndef, conditional, letIn, attribute, quantified, iterate, collect}
 use Rattle.sheet.specs.Sheet.{operandsOf, growAll, grow}
-use Rattle.sheet.specs.Refusals.{isVariable, typeWithin, leafWithin, unaryWithin, formWithin}
+use Rattle.sheet.specs.Refusals.{isVariable, typeWithin, leafWithin, formWithin}
 use Rattle.types.specs.Word.{typeIn}
 use Rattle.nodes.specs.Nodes.{word, variable, leafOf, unaryOf, arithOf, binaryOf, connectiveOf, quantifierOf, kindOf, operandsIn, formOf, treesBelow, treeAt, leafWords, unaryWords, arithCode, binaryCode, connectiveCode, quantifierCode, collectCode, operandWord, shapeWords}
 use Rattle.nodes.proofs.Nodes.{tree-law, below-law, collect-range}
@@ -38,17 +38,9 @@ integer-back (negsuc n) h =
     let q : (2147483648 - suc n) % 4294967296 ≡ 2147483648 - suc n = omega arith in
     rw (q, lt-ltb (2147483648 - suc n) 2147483648 (omega arith)) (ap negsuc (omega arith))
 
-and-first : (a b : Bool) → (a && b) ≡ true → a ≡ true
-and-first true b h = refl
-and-first false b h = h
-
-and-second : (a b : Bool) → (a && b) ≡ true → b ≡ true
-and-second true b h = h
-and-second false b h = absurd (let z : _≡_ {A = Bool} false true = h in let q : _≡_ {A = ℕ} 0 1 = cc in omega arith)
-
 variable-back : (i : ℕ) → isVariable i ≡ true → variable i ≡ i
 unfolding isVariable
-variable-back i h = omega (arith, leb-true i 15 (and-second (leb 1 i) (leb i 15) h))
+variable-back i h = omega (arith, leb-true i 15 (and-true (leb 1 i) (leb i 15) h .1))
 
 -- ---- codes of collections
 
@@ -140,9 +132,9 @@ module _ (f g : ℕ → Expr) (w : ℕ → ℕ) (first n type line : ℕ) (near 
       → Words (iterate i j t a e b) → formOf f w (w 0) ≡ Form.iterate i j t (g a) (g e) (g b)
   unfolding Words shapeWords formOf
   iterate-grow i j t a e b h s l m o ws =
-      let both = and-first (isVariable i && isVariable j) (typeWithin t) h in
-      let member = and-first (isVariable i) (isVariable j) both in
-      let accumulator = and-second (isVariable i) (isVariable j) both in
+      let both = and-true (isVariable i && isVariable j) (typeWithin t) h .0 in
+      let member = and-true (isVariable i) (isVariable j) both .0 in
+      let accumulator = and-true (isVariable i) (isVariable j) both .1 in
       rw (ws 0 (omega arith), ws 1 (omega arith), ws 2 (omega arith), ws 3 (omega arith), ws 4 (omega arith), ws 5 (omega arith), ws 6 (omega arith), variable-back i member, variable-back j accumulator, s, near a l, near e m, near b o)
 
   pub form-grow : (x : Shape) → formWithin x ≡ true → TypeSaid type x → Each (λ a. a < n) (operandsOf x) → length (operandsOf x) ≤ 4

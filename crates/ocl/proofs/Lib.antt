@@ -2,10 +2,12 @@ pub mod Types
 pub mod Subtyping
 pub mod Values
 pub mod Order
+pub mod Ranges
 pub mod Sorted
 pub mod Ends
 pub mod Formed
 pub mod Runs
+pub mod Steps
 pub mod Marks
 pub mod Places
 pub mod Soundness

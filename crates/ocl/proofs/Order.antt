@@ -21,7 +21,7 @@ then-same Ordering·lt q e = absurd (lt-not-eq e)
 then-same Ordering·eq q e = (refl, e)
 then-same Ordering·gt q e = absurd (gt-not-eq e)
 
-then-eq : (p : Ordering) → thenOrder p Ordering·eq ≡ p
+pub then-eq : (p : Ordering) → thenOrder p Ordering·eq ≡ p
 unfolding thenOrder
 then-eq Ordering·lt = refl
 then-eq Ordering·eq = refl
@@ -136,7 +136,7 @@ head-count v w e = let h = head-same v w e in let s = h .0 in let r = h .1 in cc
 
 -- ---- whole values: what holds of a value once it holds of its members holds of every value
 
-order-is : (v w : Value) → order v w ≡ thenOrder (headOrder v w) (orders (members v) (members w))
+pub order-is : (v w : Value) → order v w ≡ thenOrder (headOrder v w) (orders (members v) (members w))
 unfolding order members
 order-is (bool b) w = sym (then-eq (headOrder (bool b) w))
 order-is (int z) w = sym (then-eq (headOrder (int z) w))
@@ -147,7 +147,7 @@ module _ (P : Value → Type 0) (Q : Values → Type 0) (whole : (v : Value) →
   mutual
     unfolding members
 
-    by-members : (v : Value) → P v
+    pub by-members : (v : Value) → P v
     by-members (bool b) = whole (bool b) none
     by-members (int z) = whole (int z) none
     by-members (obj o) = whole (obj o) none
@@ -187,7 +187,7 @@ told-more v vs p q (cons w ws) n e =
     let f = p w (b .0) in
     let g = q ws (omega arith) (b .1) in cc
 
-order-same : (v w : Value) → order v w ≡ Ordering·eq → v ≡ w
+pub order-same : (v w : Value) → order v w ≡ Ordering·eq → v ≡ w
 order-same v = by-members Told ToldAll told-whole told-none told-more v
 
 -- ---- the other way round

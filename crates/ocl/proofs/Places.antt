@@ -5,16 +5,16 @@ use mathlib.Core.Option.{Option, none, some}
 use mathlib.Core.List.{List, _++_}
 use Prim.Native.Nat.{ℕ, _≤_, _<_}
 use native.Mathlib.Omega.{arith as linear}
-use lib.Dec.{T, leb, leb→le}
+use lib.Dec.{T, eqb, leb, leb→le}
 use Rattle.laws.specs.Choice.{if_then_else_}
 use Rattle.laws.specs.Lists.{member, Each}
 use Rattle.ocl.specs.Environment.{Env, extend}
 use Rattle.ocl.specs.Types.{any, boolean, integer, class, Kind, Letter, collection, exactly, Ty, void, simple, around, Class, Boolean, Integer, depth, sameKind, subtype, join}
 use Rattle.ocl.specs.Model.{Model}
 use Rattle.ocl.specs.Forms.{Leaf, truth, undef, number, self, var, all, Unary, negation, sizeOf, convert, castTo, Binary, equal, less, arith, includes, including, union, Expr, node, Form, leaf, unary, binary, connective, isUndef, conditional, letIn, attribute, quantified, iterate, collect, Operands, noOperand, operand, numbers, numbersIn, numbersOf}
-use Rattle.ocl.specs.Typing.{Answer, typed, refused, Marks, Typed, pure, thenFor, andThen, below, common, wrap, onCollection, onKind, bound, leafType, castType, unaryType, bothBelow, binaryType, conditionalType, rowType, attributeType, leafTyping, unaryTyping, binaryTyping, connectiveTyping, isUndefTyping, conditionalTyping, letTyping, attributeTyping, quantifiedTyping, iterateTyping, noOperandTyping, operandTyping, collectTyping, typing, formTyping, operandsTyping}
+use Rattle.ocl.specs.Typing.{Answer, typed, refused, Marks, Typed, pure, thenFor, andThen, below, common, wrap, onCollection, onKind, bound, leafType, castType, unaryType, bothBelow, binaryType, conditionalType, rowType, attributeType, leafTyping, unaryTyping, binaryTyping, connectiveTyping, isUndefTyping, conditionalTyping, letTyping, attributeTyping, quantifiedTyping, iterateTyping, noOperandTyping, operandTyping, collectTyping, typing, formTyping, operandsTyping, markOr, markOf}
 use Rattle.ocl.specs.Laws.{Refusal, EachMark, no-mark, mark-then, TypingPlacesLaw}
-use Rattle.laws.proofs.Tests.{and-l, and-r, All?, all-none, all-some}
+use Rattle.laws.proofs.Tests.{and-l, and-r, by-if, All?, all-none, all-some}
 use Rattle.laws.proofs.Lists.{each-left, each-right, each-head, each-member}
 use Rattle.ocl.proofs.Values.{rowRead-row}
 
@@ -206,3 +206,14 @@ typing-places s e Γ =
       refusals = λ n p r. refusal-of (h .says) r;
       marked = each-mark-imp (λ p i q. record { placed = q .0; is-row = q .1 }) (h .marks);
     }
+
+-- ---- the marks as evaluation reads them: each node's is below n, if the rows are
+
+below-or : {n : ℕ} (d : ℕ) {m : Marks} (p : ℕ) → d < n → EachMark (λ q i. i < n) m → markOr d m p < n
+unfolding markOr
+below-or d p h no-mark = h
+below-or {n} d p h (mark-then {p = q} {i} l k) = below-or (if eqb p q then i else d) p (by-if (λ x. x < n) (eqb p q) i d (λ t. l) (λ t. h)) k
+
+pub mark-below : (s : Model) (e : Expr) (Γ : Env Ty) (n p : ℕ) → 0 < n → s .rowCount ≤ n → markOf (typing s e Γ) p < n
+unfolding markOf
+mark-below s e Γ n p h l = below-or 0 p h (each-mark-imp (λ q i k. let r = k .is-row in omega linear) (typing-places s e Γ .marked))

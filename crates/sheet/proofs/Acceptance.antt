@@ -1,5 +1,5 @@
--- What every sheet that reading accepts has: parents that are smaller, values that belong to their rows' types, rules whose trees
--- have no node twice. The induction over the lines, over the laws of proofs/Good.antt. Assumes nothing.
+-- What every sheet that reading accepts has: parents that are smaller, slots that ascend, values that belong to their rows' types,
+-- rules whose trees have no node twice and at most 12 levels. The induction over the lines, over the laws of proofs/Good.antt. Assumes nothing.
 use mathlib.Core.Path.{_≡_, refl, subst}
 use mathlib.Core.Bool.{Bool, true, false, _&&_}
 use mathlib.Core.Option.{Option, none, some}
@@ -7,7 +7,7 @@ use mathlib.Core.List.{List, [], _∷_}
 use Prim.Native.Nat.{ℕ, suc, _+_, _-_, _<_, _≤_}
 use native.Mathlib.Omega.{arith}
 use lib.ListN.{length, getD}
-use lib.Dec.{T, eqb, eqb→eq, ltb, leb}
+use lib.Dec.{T, eqb, eqb→eq, ltb, leb, leb→le}
 use Rattle.laws.specs.Choice.{if_then_else_, onSome}
 use Rattle.laws.specs.Lists.{Each, each-nil, each-cons, Distinct}
 use Rattle.laws.proofs.Tests.{and-r, by-if}
@@ -37,10 +37,11 @@ last-tree [] body e = absurd (let z : _≡_ {A = ℕ} 0 1 = cc in omega arith)
 last-tree (x ∷ []) body e = record { index = 0; inside = omega arith; is = (let z : x ≡ body = cc in z) }
 last-tree (x ∷ y ∷ trees) body e = let r = last-tree (y ∷ trees) body e in record { index = suc (r .index); inside = omega arith; is = r .is }
 
-rule-ok : (n : ℕ) (c : Current) (body : Expr) → CurrentOk n c → lastTree (c .trees) ≡ some body → RuleOk n (record { context = c .context; body = body })
-rule-ok n c body h e = let r = last-tree (c .trees) body e in record {
+rule-ok : (n : ℕ) (c : Current) (body : Expr) → CurrentOk n c → lastTree (c .trees) ≡ some body → levels body ≤ 12 → RuleOk n (record { context = c .context; body = body })
+rule-ok n c body h e l = let r = last-tree (c .trees) body e in record {
   distinct = subst (λ x. Distinct (numbers x)) (r .is) (h .forest .distinct (r .index) (r .inside));
   on-sheet = subst (λ i. Each (λ p. p < i) (numbers body)) (h .count) (subst (λ x. Each (λ p. p < c .first + length (c .trees)) (numbers x)) (r .is) (h .forest .below (r .index) (r .inside)));
+  shallow = l;
 }
 
 -- a sheet, if there is one, is good
@@ -58,7 +59,10 @@ good-body s c g h (some body) e =
       parents = g .parents;
       early = g .early;
       slots = g .slots;
-      rules = each-append (g .rules) (each-cons (rule-ok (length (s .lines)) c body h e) each-nil);
+      ascending = g .ascending;
+      rules =
+          each-append (g .rules)
+          (each-cons (rule-ok (length (s .lines)) c body h e (leb→le (levels body) 12 (and-r (allUsed (c .used) (length (c .trees) - 1)) _ t))) each-nil);
       current = no-rule;
     }))
     (λ t. bad-end)

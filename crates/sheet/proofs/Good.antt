@@ -1,5 +1,5 @@
--- What holds of a sheet after every line that is taken: parents that are smaller, values that belong to their rows' types, and a forest
--- of the open rule's nodes. One law for each line kind. Assumes nothing.
+-- What holds of a sheet after every line that is taken: parents that are smaller, slots that ascend, values that belong to their rows'
+-- types, rules of at most 12 levels, and a forest of the open rule's nodes. One law for each line kind. Assumes nothing.
 use mathlib.Core.Path.{_≡_, refl, sym, ap, _∙_, subst}
 use mathlib.Core.Bool.{Bool, true, false, _&&_}
 use mathlib.Core.Option.{Option, none, some}
@@ -17,10 +17,11 @@ use Rattle.laws.proofs.Lists.{each-imp, each-append}
 use Rattle.ocl.specs.Types.{Simple, Ty, void, simple, around, letterSubtype, exactly}
 use Rattle.ocl.specs.Values.{Value, bool, int, obj, coll, Values, nil, cons, size}
 use Rattle.ocl.specs.Model.{Model, every, isA, belongs}
-use Rattle.ocl.specs.Forms.{node, numbers}
+use Rattle.ocl.specs.Forms.{node, numbers, levels}
 use Rattle.sheet.specs.Lines.{Line, classLine, rowLine, objectLine, valueLine, ruleLine, nodeLine, Shape}
 use Rattle.sheet.specs.Sheet.{Slot, Rule, Current, Sheet, empty, noRow, modelOf, grow, treeOf, withNode, added}
-use Rattle.sheet.specs.Refusals.{everyPart, partWithin, valueWithin, withinLimits, blockOf, numbered, inOrder, parentSmaller, partsKnown, suits, operandsFresh, treeHolds}
+use Rattle.sheet.specs.Refusals.{everyPart, partWithin, valueWithin, withinLimits, blockOf, numbered, inOrder, afterSlots, ordered, parentSmaller, partsKnown, suits, operandsFresh, treeHolds}
+use Rattle.sheet.proofs.Ascending.{Ascending, ascending-nil, ascending-more}
 use Rattle.sheet.proofs.Forest.{Forest, forest-empty, forest-more}
 
 -- ---- belonging looks at classes alone
@@ -63,11 +64,13 @@ plain s = record {
 pub record SlotOk (m : Model) (x : Slot) : Type 0 where
   pub belong : T (belongs m (m .row (x .row) .type) (x .value))
   pub small : size (x .value) ≤ 128
+  pub low-row : x .row < 64
 
 -- an ended rule's tree, on a sheet with n nodes
 pub record RuleOk (n : ℕ) (r : Rule) : Type 0 where
   pub distinct : Distinct (numbers (r .body))
   pub on-sheet : Each (λ p. p < n) (numbers (r .body))
+  pub shallow : levels (r .body) ≤ 12
 
 pub record CurrentOk (n : ℕ) (c : Current) : Type 0 where
   pub forest : Forest (c .first) (c .trees) (c .used)
@@ -82,6 +85,7 @@ pub record Good (s : Sheet) : Type 0 where
   -- no value stands on the sheet before its block
   pub early : s .block < 3 → s .slots ≡ []
   pub slots : Each (SlotOk (plain s)) (s .slots)
+  pub ascending : Ascending (s .slots)
   pub rules : Each (RuleOk (length (s .lines))) (s .rules)
   pub current : OpenOk (length (s .lines)) (s .current)
 
@@ -91,6 +95,7 @@ good-empty = record {
   parents = λ c p e. absurd (let z : _≡_ {A = ℕ} 0 1 = cc in omega arith);
   early = λ h. refl;
   slots = each-nil;
+  ascending = ascending-nil;
   rules = each-nil;
   current = no-rule;
 }
@@ -160,6 +165,7 @@ good-class s k n p g m = let e = no-slot s (classLine n p) g m (omega arith) in 
   parents = parent-more (s .parents) p (g .parents) (subst (λ i. T (parentSmaller i p)) (eqb→eq n (length (s .parents)) (met-numbered s (classLine n p) m)) (m .parts));
   early = λ h. e;
   slots = each-none e;
+  ascending = g .ascending;
   rules = g .rules;
   current = g .current;
 }
@@ -170,6 +176,7 @@ good-row s k n c name t g m = let e = no-slot s (rowLine n c name t) g m (omega 
   parents = g .parents;
   early = λ h. e;
   slots = each-none e;
+  ascending = g .ascending;
   rules = g .rules;
   current = g .current;
 }
@@ -180,6 +187,7 @@ good-object s k n c g m = let e = no-slot s (objectLine n c) g m (omega arith) i
   parents = g .parents;
   early = λ h. e;
   slots = each-none e;
+  ascending = g .ascending;
   rules = g .rules;
   current = g .current;
 }
@@ -187,18 +195,21 @@ good-object s k n c g m = let e = no-slot s (objectLine n c) g m (omega arith) i
 -- the value of a V line belongs to its row's type, and is small
 slot-ok : (s : Sheet) (o a : ℕ) (v : Value) → Met s (valueLine o a v) → SlotOk (plain s) (record { object = o; row = a; value = v })
 unfolding plain modelOf suits withinLimits valueWithin
-slot-ok s o a v m = record {
-  belong = subst T (belongs-same (modelOf s) (plain s) refl refl (getD (s .rows) a noRow .type) v) (and-r (isA (modelOf s) o _) _ (m .suit));
-  small = leb→le (size v) 128 (and-r (everyPart partWithin v) _ (and-l (everyPart partWithin v && leb (size v) 128) _
-      (and-r (ltb o 96 && ltb a 64) _ (and-l (ltb o 96 && ltb a 64 && valueWithin v) _ (and-l (ltb o 96 && ltb a 64 && valueWithin v && ltb (length (s .slots)) 1024) _ (m .limits))))));
-}
+slot-ok s o a v m =
+    let x = and-l (ltb o 96 && ltb a 64 && valueWithin v) _ (and-l (ltb o 96 && ltb a 64 && valueWithin v && ltb (length (s .slots)) 1024) _ (m .limits)) in
+    record {
+      belong = subst T (belongs-same (modelOf s) (plain s) refl refl (getD (s .rows) a noRow .type) v) (and-r (isA (modelOf s) o _) _ (m .suit));
+      small = leb→le (size v) 128 (and-r (everyPart partWithin v) _ (and-l (everyPart partWithin v && leb (size v) 128) _ (and-r (ltb o 96 && ltb a 64) _ x)));
+      low-row = ltb→lt a 64 (and-r (ltb o 96) (ltb a 64) (and-l (ltb o 96 && ltb a 64) (valueWithin v) x));
+    }
 
 good-value : (s : Sheet) (k o a : ℕ) (v : Value) → Good s → Met s (valueLine o a v) → Good (added s k (valueLine o a v))
-unfolding added plain
+unfolding added plain numbered
 good-value s k o a v g m = record {
   parents = g .parents;
   early = λ h. absurd (omega arith);
   slots = each-append (g .slots) (each-cons (slot-ok s o a v m) each-nil);
+  ascending = ascending-more (s .slots) (record { object = o; row = a; value = v }) (g .ascending) (and-l (afterSlots (s .slots) o a) (ordered v) (met-numbered s (valueLine o a v) m));
   rules = g .rules;
   current = g .current;
 }
@@ -209,6 +220,7 @@ good-rule s k n c g = record {
   parents = g .parents;
   early = λ h. absurd (omega arith);
   slots = g .slots;
+  ascending = g .ascending;
   rules = g .rules;
   current = open-rule (record { forest = forest-empty (length (s .lines)); count = omega arith });
 }
@@ -216,7 +228,7 @@ good-rule s k n c g = record {
 -- ---- a node line
 
 rules-more : {n : ℕ} {l : List Rule} → Each (RuleOk n) l → Each (RuleOk (suc n)) l
-rules-more h = each-imp (λ r x. record { distinct = x .distinct; on-sheet = each-imp (λ p l. omega arith) (x .on-sheet) }) h
+rules-more h = each-imp (λ r x. record { distinct = x .distinct; on-sheet = each-imp (λ p l. omega arith) (x .on-sheet); shallow = x .shallow }) h
 
 current-more : (n : ℕ) (x : Shape) {o : Option Current} → OpenOk n o → T (operandsFresh o x) → OpenOk (suc n) (onSome o (λ c. some (withNode c x)))
 unfolding onSome withNode operandsFresh
@@ -232,6 +244,7 @@ good-node s k n x g m = let e = length-one (s .lines) k in record {
   parents = g .parents;
   early = λ h. absurd (omega arith);
   slots = g .slots;
+  ascending = g .ascending;
   rules = subst (λ i. Each (RuleOk i) (s .rules)) (sym e) (rules-more (g .rules));
   current = subst (λ i. OpenOk i (onSome (s .current) (λ c. some (withNode c x)))) (sym e) (current-more (length (s .lines)) x (g .current) (m .tree));
 }

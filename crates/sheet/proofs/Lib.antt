@@ -1,4 +1,5 @@
 pub mod Forest
+pub mod Ascending
 pub mod Good
 pub mod Acceptance
 pub mod Listed

@@ -160,7 +160,7 @@ unfolding digits
 digits-all [] = each-nil
 digits-all (b ∷ s) = by-if (Each (λ c. T (isDigit c))) (isDigit b) (b ∷ digits s) [] (λ t. each-cons t (digits-all s)) (λ t. each-nil)
 
-digits-split : (s : Bytes) → s ≡ digits s ++ afterDigits s
+pub digits-split : (s : Bytes) → s ≡ digits s ++ afterDigits s
 unfolding digits afterDigits
 digits-split [] = refl
 digits-split (b ∷ s) = step (isDigit b) (digits-split s)

@@ -4,7 +4,7 @@ use mathlib.Core.Logic.{_≢_}
 use mathlib.Core.Bool.{Bool, true, false, _||_}
 use mathlib.Core.Option.{Option, none, some, Option·some-injective}
 use mathlib.Core.List.{List, [], _∷_}
-use Prim.Native.Nat.{ℕ, zero, suc, _≤_, _<_}
+use Prim.Native.Nat.{ℕ, _≤_, _<_}
 use native.Mathlib.Omega.{arith}
 use native.Mathlib.Decide.{ℕ-discrete}
 use borrow.Author.Tests.{le-ltb}
@@ -12,8 +12,8 @@ use lib.ListN.{length, getElem?, getD}
 use lib.Dec.{T, T-not, ltb}
 use Rattle.laws.proofs.Tests.{by-if}
 use Rattle.laws.proofs.Lists.{each-at, member-exact}
+use Rattle.laws.proofs.Elements.{each-elem}
 use Rattle.laws.specs.Choice.{if_then_else_}
-use Rattle.laws.specs.Lists.{Each, each-nil, each-cons}
 use Rattle.ocl.specs.Types.{class, Ty}
 use Rattle.ocl.specs.Values.{Value}
 use Rattle.ocl.specs.Model.{Model, classBelow, isA, belongs}
@@ -67,17 +67,11 @@ module _ (m : Model) (t : Ty) (k : ℕ) where
 
 -- ---- a sheet, a rule and an object of it
 
--- the rule of a number is one of the list
-each-some : {P : Rule → Type 0} (l : List Rule) (r : ℕ) (x : Rule) → Each P l → getElem? l r ≡ some x → P x
-each-some {P} [] r x each-nil e = absurd (let z : _≡_ {A = ℕ} 0 1 = cc in omega arith)
-each-some {P} (y ∷ l) zero x (each-cons h hs) e = let z : y ≡ x = cc in subst P z h
-each-some {P} (y ∷ l) (suc r) x (each-cons h hs) e = each-some l r x hs e
-
 pub sound-rule : (s : Sheet) → Good s → (r o : ℕ) (x : Rule) (t : Ty) → getElem? (s .rules) r ≡ some x → typingOf s x .answer ≡ typed t
     → T (isA (modelOf s) o (class (x .context))) → Sound (modelOf s) t (reach (x .body)) (outcomeOf s x o)
 unfolding typingOf outcomeOf
 sound-rule s g r o x t e h a =
-    soundness (modelOf s) (good-model s g) (x .body) (each-some (s .rules) r x (g .rules) e .distinct) (x .context) o t h a
+    soundness (modelOf s) (good-model s g) (x .body) (each-elem r (g .rules) e .distinct) (x .context) o t h a
 
 -- ---- the calls, with every slice at its minimum or above
 
@@ -178,6 +172,6 @@ demand3 text w0 w1 w2 out l r o t a b c =
 pub type-refusals : TypeRefusals
 unfolding typingOf typeRule
 type-refusals text s e r x q n p h =
-    let g = each-some (s .rules) r x (accepted-good text s e .rules) q in
+    let g = each-elem r (accepted-good text s e .rules) q in
     let k = typing-places (modelOf s) (x .body) (start (Class (x .context))) .refusals n p h in
     record { low = k .low; high = k .high; node-of-rule = k .placed; on-sheet = each-at (g .on-sheet) (member-exact p (numbers (x .body)) .0 (k .placed)) }

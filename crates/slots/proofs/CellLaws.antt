@@ -1,67 +1,49 @@
--- The cells that are written while a field is read: one more, a collection that opens, a member counted. Assumes nothing.
+-- The cells that are written while a field is read: one more, and a collection that opens. Assumes nothing.
 use mathlib.Core.Path.{_≡_, refl, sym, ap, _∙_}
-use mathlib.Core.Bool.{Bool, true, false, _||_}
-use mathlib.Core.List.{List, [], _∷_, _++_, append-assoc, append-nil}
-use Prim.Native.Nat.{ℕ, zero, suc, _+_, _-_, _<_, _≤_}
+use mathlib.Core.Bool.{Bool, true, false}
+use mathlib.Core.List.{List, [], _∷_, _++_, append-nil}
+use Prim.Native.Nat.{ℕ, zero, suc, _+_, _<_, _≤_}
 use native.Mathlib.Omega.{arith}
 use native.Mathlib.Decide.{decLt}
 use native.Mathlib.Numerals.{add-one}
-use lib.ListN.{length, getD, take, set, length-append, length-set}
-use lib.Seq.{length-take-le, take-suc-set, take-set-lt, set-at, getD-take, getD-append-add}
+use lib.ListN.{length, take, set, length-append, length-set}
+use lib.Seq.{length-take-le, take-suc-set}
 use lib.Dec.{eqb, leb}
 use borrow.Author.Tests.{eq-eqb, ne-eqb, leb-true, leb-false, eqb-true, eqb-false}
 use Rattle.laws.specs.Choice.{if_then_else_}
-use Rattle.ocl.specs.Types.{Kind, kindCode}
-use Rattle.ocl.specs.Types.{set as setKind, sequence, bag}
-use Rattle.ocl.specs.Values.{Value, coll, Values, nil, size, sizes, count, append}
-use Rattle.ocl.proofs.Values.{count-sizes}
+use Rattle.ocl.specs.Types.{Kind}
+use Rattle.ocl.specs.Values.{Value, coll, nil, size}
 use Rattle.sheet.specs.Text.{Bytes}
-use Rattle.sheet.specs.Refusals.{everyPart, everyParts, partWithin, nesting, nestings}
+use Rattle.sheet.specs.Refusals.{everyParts, nestings}
 use Rattle.values.specs.Cells.{head, enc, encs}
-use Rattle.values.proofs.Heads.{head-coll}
-use Rattle.values.proofs.Encoding.{size-law}
-use Rattle.values.proofs.Growing.{append-cells, append-count}
 use Rattle.slots.specs.declared.reader.Open.{Open}
-use Rattle.slots.specs.Machine.{mayBe, Frame, grown, laid, headAt, outward, beyond, Heads, heads-nil, heads-cons, Never, Deep, Tidy, Sound, sound-cons, Lies, Sure, AddsCell, OpensCell, Raises}
-use Rattle.slots.proofs.MachineLaws.{parts-append, nestings-append}
+use Rattle.slots.specs.Machine.{mayBe, Frame, laid, headAt, beyond, Heads, heads-nil, heads-cons, Never, Deep, sound-cons, Lies, Sure, AddsCell, OpensCell}
 use Rattle.slots.proofs.LimitLaws.{never-wide, never-room, never-deep}
-
-clash : {C : Type 0} {b : Bool} → b ≡ true → b ≡ false → C
-clash e f = absurd (let z : _≡_ {A = ℕ} 0 1 = cc in omega arith)
 
 -- ---- one cell more
 
 pub lies-size : {A : List ℕ} {o : Open} {fs : List Frame} {X : List ℕ} → Lies A o fs X → o .size ≡ length (laid fs) + length X
 lies-size {A} {o} {fs} {X} l = sym (length-take-le (o .size) A (l .room)) ∙ ap length (l .laid) ∙ length-append (laid fs) X
 
-pub added-over : {A : List ℕ} {o : Open} (cell : ℕ) → o .over ≡ true → AddsCell cell A o A o
-added-over cell e = record {
-  depth = refl;
-  second = refl;
-  third = refl;
-  over = λ q. q;
-  is = λ f fs d deep s. record { depth = s .depth; over = s .over; fine = λ q. clash e q };
-}
-
 heads-keep : {o r : Open} {fs : List Frame} → Heads o fs → ((i : ℕ) → 0 < i → i ≤ length fs → headAt r i ≡ headAt o i) → Heads r fs
 heads-keep heads-nil h = heads-nil
 heads-keep (heads-cons {fs} e hs) h = heads-cons (h (suc (length fs)) (omega arith) (omega arith) ∙ e) (heads-keep hs (λ i p q. h i p (omega arith)))
 
-heads-same : (o r : Open) {fs : List Frame} → r .second ≡ o .second → r .third ≡ o .third → Heads o fs → Heads r fs
+pub heads-same : (o r : Open) {fs : List Frame} → r .second ≡ o .second → r .third ≡ o .third → Heads o fs → Heads r fs
 unfolding headAt
 heads-same o r p q hs = heads-keep hs (λ i a b. rw (p, q))
 
-pub added-cell : {A : List ℕ} {o r : Open} (cell : ℕ) → o .over ≡ false → o .size < 128 → o .size < length A
-    → r ≡ record { depth = o .depth; size = o .size + 1; over = o .over; second = o .second; third = o .third } → AddsCell cell A o (set A (o .size) cell) r
-added-cell {A} {o} {r} cell e p q z = rw z (record {
+pub added-cell : {A : List ℕ} {o r : Open} (cell : ℕ) → o .size < 128 → o .size < length A
+    → r ≡ record { depth = o .depth; size = o .size + 1; second = o .second; third = o .third } → AddsCell cell A o (set A (o .size) cell) r
+added-cell {A} {o} {r} cell p q z = rw z (record {
   depth = refl;
   second = refl;
   third = refl;
-  over = λ t. t;
-  is = λ f fs d deep s. record { depth = s .depth; over = λ t. clash t e; fine = λ t. put fs (s .fine e) };
+  over = λ t. omega arith;
+  is = λ f fs d deep s. record { depth = s .depth; over = λ t. absurd (omega arith); fine = λ t. put fs (s .fine (omega arith)) };
 })
   where
-    put : (fs : List Frame) → Lies A o fs [] → Lies (set A (o .size) cell) (record { depth = o .depth; size = o .size + 1; over = o .over; second = o .second; third = o .third }) fs (cell ∷ [])
+    put : (fs : List Frame) → Lies A o fs [] → Lies (set A (o .size) cell) (record { depth = o .depth; size = o .size + 1; second = o .second; third = o .third }) fs (cell ∷ [])
     put fs l = record {
       small = omega arith;
       room = rw (length-set A (o .size) cell) (omega arith);
@@ -70,13 +52,13 @@ added-cell {A} {o} {r} cell e p q z = rw z (record {
       heads = heads-same o _ refl refl (l .heads);
     }
 
-pub added-full : {A : List ℕ} {o r : Open} (cell : ℕ) → o .over ≡ false → (o .size < 128 → o .size < length A → ⊥) → r ≡ beyond o → AddsCell cell A o A r
-added-full {A} {o} {r} cell e full z = rw z (record {
+pub added-full : {A : List ℕ} {o r : Open} (cell : ℕ) → (o .size < 128 → o .size < length A → ⊥) → r ≡ beyond o → AddsCell cell A o A r
+added-full {A} {o} {r} cell full z = rw z (record {
   depth = refl;
   second = refl;
   third = refl;
-  over = λ t. refl;
-  is = λ f fs d deep s. record { depth = s .depth; over = λ t. record { is = λ v g. none fs v (deep .wide v g) (lies-size (s .fine e)) }; fine = λ t. clash refl t };
+  over = λ t. omega arith;
+  is = λ f fs d deep s. record { depth = s .depth; over = λ t. never f fs d deep s (decLt 128 (o .size)); fine = λ t. absurd (omega arith) };
 })
   where
     none : (fs : List Frame) (v : Value) → length (laid fs) < size v → o .size ≡ length (laid fs) + length {A = ℕ} [] → mayBe (length A) v ≡ false
@@ -89,6 +71,10 @@ added-full {A} {o} {r} cell e full z = rw z (record {
             rest (yes m) = absurd (full l m)
             rest (no m) = omega arith
         go (no l) = never-wide (length A) v (omega arith)
+
+    never : (f : Bytes) (fs : List Frame) (d : ℕ) → Deep f fs d → Sure f A o fs [] → Dec (128 < o .size) → Never f (length A)
+    never f fs d deep s (yes h) = s .over h
+    never f fs d deep s (no h) = record { is = λ v g. none fs v (deep .wide v g) (lies-size (s .fine (omega arith))) }
 
 -- ---- a collection that opens
 
@@ -109,10 +95,10 @@ unfolding laid
 none-laid [] e = refl
 none-laid (x ∷ fs) e = absurd (omega arith)
 
-module _ {A B : List ℕ} {o s : Open} {cell : ℕ} (a : AddsCell cell A o B s) {ov : Bool} {p q : ℕ}
-    (eo : ov ≡ s .over || leb 3 (o .depth)) (ep : p ≡ (if eqb (o .depth) 1 then o .size else o .second)) (eq : q ≡ (if eqb (o .depth) 2 then o .size else o .third)) where
+module _ {A B : List ℕ} {o s : Open} {cell : ℕ} (a : AddsCell cell A o B s) {m p q : ℕ}
+    (em : m ≡ (if leb 3 (o .depth) then 129 else s .size)) (ep : p ≡ (if eqb (o .depth) 1 then o .size else o .second)) (eq : q ≡ (if eqb (o .depth) 2 then o .size else o .third)) where
   abbrev after : Open
-  after = record { depth = o .depth + 1; size = s .size; over = ov; second = p; third = q }
+  after = record { depth = o .depth + 1; size = m; second = p; third = q }
 
   kept-second : (i : ℕ) → i ≤ o .depth → i ≡ 2 → p ≡ s .second
   kept-second i h e = ep ∙ rw (ne-eqb (o .depth) 1 (λ z. omega arith)) (sym (a .second))
@@ -130,12 +116,12 @@ module _ {A B : List ℕ} {o s : Open} {cell : ℕ} (a : AddsCell cell A o B s) 
       go (suc (suc zero)) e f l = rw (← e) (eq ∙ rw (eq-eqb (o .depth) 2 f) z)
       go (suc (suc (suc n))) e f l = absurd (omega arith)
 
-  opened-lies : (fs : List Frame) (k : Kind) (n : ℕ) → cell ≡ head (coll k nil) → o .depth ≡ length fs → o .depth < 3 → Lies A o fs [] → Lies B s fs (cell ∷ []) → Lies B after (record { kind = k; inside = nil; parts = n } ∷ fs) []
+  opened-lies : (fs : List Frame) (k : Kind) (n : ℕ) → m ≡ s .size → cell ≡ head (coll k nil) → o .depth ≡ length fs → o .depth < 3 → Lies A o fs [] → Lies B s fs (cell ∷ []) → Lies B after (record { kind = k; inside = nil; parts = n } ∷ fs) []
   unfolding laid enc encs everyParts nestings
-  opened-lies fs k n ce d h before l = record {
-    small = l .small;
-    room = l .room;
-    laid = l .laid ∙ ap (λ (c : ℕ). laid fs ++ (c ∷ [])) ce ∙ sym (append-nil (laid fs ++ (head (coll k nil) ∷ [])));
+  opened-lies fs k n me ce d h before l = record {
+    small = let x = l .small in omega arith;
+    room = let x = l .room in omega arith;
+    laid = ap (λ (i : ℕ). take i B) me ∙ l .laid ∙ ap (λ (c : ℕ). laid fs ++ (c ∷ [])) ce ∙ sym (append-nil (laid fs ++ (head (coll k nil) ∷ [])));
     sound = sound-cons {x = record { kind = k; inside = nil; parts = n }} {fs = fs} refl (omega arith) (l .sound);
     heads = heads-cons (new-head fs d h (lies-size before ∙ omega arith)) (heads-keep (l .heads) (λ i x y. heads-agree s after i x (λ z. kept-second i (omega arith) z) (λ z. kept-third i (omega arith) z)));
   }
@@ -146,168 +132,15 @@ module _ {A B : List ℕ} {o s : Open} {cell : ℕ} (a : AddsCell cell A o B s) 
       made : (f : Bytes) (fs : List Frame) (k : Kind) (n : ℕ) → Deep f fs 1 → cell ≡ head (coll k nil) → Sure f A o fs [] → Sure f B s fs (cell ∷ []) → Sure f B after (record { kind = k; inside = nil; parts = n } ∷ fs) []
       made f fs k n deep ce sure t = record {
         depth = let d = sure .depth in omega arith;
-        over = λ e. passed (s .over) refl (sym eo ∙ e);
-        fine = λ e. fine (s .over) refl (o .over) refl (sym eo ∙ e);
+        over = λ e. passed (leb 3 (o .depth)) refl em e;
+        fine = λ e. fine (leb 3 (o .depth)) refl em e (decLt 128 (o .size));
       }
         where
-          passed : (b : Bool) → s .over ≡ b → b || leb 3 (o .depth) ≡ true → Never f (length B)
-          passed true g e = t .over g
-          passed false g e = record { is = λ v h. let l = leb-true 3 (o .depth) e in let w = deep .deep v h in let d = sure .depth in never-deep (length B) v (omega arith) }
+          passed : (b : Bool) → leb 3 (o .depth) ≡ b → m ≡ (if b then 129 else s .size) → 128 < m → Never f (length B)
+          passed true g me e = record { is = λ v h. let l = leb-true 3 (o .depth) g in let w = deep .deep v h in let d = sure .depth in never-deep (length B) v (omega arith) }
+          passed false g me e = t .over (omega arith)
 
-          fine : (b : Bool) → s .over ≡ b → (c : Bool) → o .over ≡ c → b || leb 3 (o .depth) ≡ false → Lies B after (record { kind = k; inside = nil; parts = n } ∷ fs) []
-          fine true g c h e = clash {b = true} refl e
-          fine false g true h e = clash (a .over h) g
-          fine false g false h e = opened-lies fs k n ce (sure .depth) (leb-false 3 (o .depth) e) (sure .fine h) (t .fine g)
-
--- ---- a member counted
-
-module _ (o : Open) where
-  pub header-first : o .depth ≡ 1 → 0 ≡ headAt o (o .depth)
-  unfolding headAt
-  header-first e = rw e
-
-  pub header-second : o .depth ≡ 2 → o .second ≡ headAt o (o .depth)
-  unfolding headAt
-  header-second e = rw e
-
-  pub header-third : (o .depth ≡ 1 → ⊥) → (o .depth ≡ 2 → ⊥) → o .third ≡ headAt o (o .depth)
-  unfolding headAt
-  header-third p q = rw (ne-eqb (o .depth) 1 p, ne-eqb (o .depth) 2 q)
-
--- the inmost open collection's cell
-pub record First (A : List ℕ) (x : Frame) (at : ℕ) : Type 0 where
-  pub within : at < length A
-  pub cell : getD A at 0 ≡ head (coll (x .kind) (x .inside))
-  pub few : count (x .inside) ≤ 128
-
-module _ {A : List ℕ} {o : Open} {x : Frame} {fs : List Frame} {X : List ℕ} (l : Lies A o (x ∷ fs) X) where
-  abbrev top : ℕ
-  top = head (coll (x .kind) (x .inside))
-
-  spread : take (o .size) A ≡ laid fs ++ (top ∷ (encs (x .inside) ++ X))
-  unfolding laid enc
-  spread = l .laid ∙ append-assoc (laid fs) (top ∷ encs (x .inside)) X
-
-  far : length (laid fs) + suc (sizes (x .inside)) ≤ o .size
-  unfolding laid size
-  far = omega (arith, lies-size l, length-append (laid fs) (enc (coll (x .kind) (x .inside))), size-law (coll (x .kind) (x .inside)))
-
-  pub first-cell : First A x (length (laid fs))
-  first-cell = record {
-    within = omega (arith, far, l .room);
-    cell =
-        sym (getD-take (o .size) A (length (laid fs)) 0 (omega (arith, far)))
-        ∙ ap (λ (t : List ℕ). getD t (length (laid fs)) 0) spread
-        ∙ ap (λ (n : ℕ). getD (laid fs ++ (top ∷ (encs (x .inside) ++ X))) n 0) (omega arith)
-        ∙ getD-append-add (laid fs) (top ∷ (encs (x .inside) ++ X)) 0 0;
-    few = omega (arith, far, l .small, count-sizes (x .inside));
-  }
-
-head-at : {o : Open} {x : Frame} {fs : List Frame} → Heads o (x ∷ fs) → headAt o (suc (length fs)) ≡ length (laid fs)
-head-at (heads-cons e hs) = e
-
-pub first-at : {A : List ℕ} {o : Open} {x : Frame} {fs : List Frame} {X : List ℕ} → o .depth ≡ length (x ∷ fs) → Lies A o (x ∷ fs) X → First A x (headAt o (o .depth))
-unfolding headAt
-first-at {A} {o} {x} {fs} d l = rw (d, head-at (l .heads)) (first-cell l)
-
-small-code : (k : Kind) → kindCode k ≤ 2
-unfolding kindCode
-small-code setKind = omega arith
-small-code sequence = omega arith
-small-code bag = omega arith
-
-small-cell : (k : Kind) (us : Values) → count us ≤ 128 → head (coll k us) < 18446744073709551615
-small-cell k us h = omega (arith, head-coll k us, small-code k)
-
-pub raise-may : {A : List ℕ} {x : Frame} {at : ℕ} → First A x at → (at < length A) × (getD A at 0 < 18446744073709551615)
-raise-may {x} c = (c .within, rw (c .cell) (small-cell (x .kind) (x .inside) (c .few)))
-
-tail-sound : {x : Frame} {fs : List Frame} → Sound (x ∷ fs) → Sound fs
-tail-sound (sound-cons p n s) = s
-
-tail-heads : {o : Open} {x : Frame} {fs : List Frame} → Heads o (x ∷ fs) → Heads o fs
-tail-heads (heads-cons e hs) = hs
-
-head-parts : {x : Frame} {fs : List Frame} → Sound (x ∷ fs) → everyParts partWithin (x .inside) ≡ true
-head-parts (sound-cons p n s) = p
-
-head-nested : {x : Frame} {fs : List Frame} → Sound (x ∷ fs) → nestings (x .inside) + suc (length fs) ≤ 3
-head-nested (sound-cons p n s) = n
-
-module _ {A : List ℕ} {o : Open} (x : Frame) (fs : List Frame) (u : Value) (l : Lies A o (x ∷ fs) (enc u)) (h : ℕ) (z : h ≡ length (laid fs)) (c : First A x (length (laid fs))) where
-  counted : getD A h 0 + 1 ≡ head (coll (x .kind) (append u (x .inside)))
-  counted = omega (arith, ap (λ (n : ℕ). getD A n 0) z, c .cell, head-coll (x .kind) (x .inside), head-coll (x .kind) (append u (x .inside)), append-count u (x .inside))
-
-  written : take (o .size) (set A h (getD A h 0 + 1)) ≡ laid (grown x u ∷ fs) ++ []
-  unfolding laid enc
-  written =
-      take-set-lt (o .size) A h (getD A h 0 + 1) (omega (arith, far l))
-      ∙ ap (λ (t : List ℕ). set t h (getD A h 0 + 1)) (spread l)
-      ∙ set-at (laid fs) _ (encs (x .inside) ++ enc u) (getD A h 0 + 1) h (sym z)
-      ∙ ap (λ (n : ℕ). laid fs ++ (n ∷ (encs (x .inside) ++ enc u))) counted
-      ∙ ap (λ (t : List ℕ). laid fs ++ (head (coll (x .kind) (append u (x .inside))) ∷ t)) (ap (λ (t : List ℕ). encs (x .inside) ++ t) (sym (append-nil (enc u))) ∙ sym (append-cells u (x .inside)))
-      ∙ sym (append-nil (laid (grown x u ∷ fs)))
-
-grown-sound : (x : Frame) (fs : List Frame) (u : Value) → Tidy u (suc (length fs)) → Sound (x ∷ fs) → Sound (grown x u ∷ fs)
-grown-sound x fs u t s =
-    sound-cons {x = grown x u} {fs = fs} (parts-append u (x .inside) ∙ rw (head-parts s, t .parts))
-    (let a = head-nested s in let b = t .nested in let e = nestings-append u (x .inside) in omega arith) (tail-sound s)
-
-pub raised : {A : List ℕ} {o : Open} {h : ℕ} → o .over ≡ false → h ≡ headAt o (o .depth) → Raises A o (set A h (getD A h 0 + 1))
-raised {A} {o} {h} e he = record {
-  is = λ f x fs u t s. record {
-    depth = s .depth;
-    over = λ q. clash q e;
-    fine = λ q. up x fs u (t e) (s .depth) (s .fine e);
-  };
-}
-  where
-    up : (x : Frame) (fs : List Frame) (u : Value) → Tidy u (suc (length fs)) → o .depth ≡ length (x ∷ fs) → Lies A o (x ∷ fs) (enc u) → Lies (set A h (getD A h 0 + 1)) o (grown x u ∷ fs) []
-    up x fs u t d l =
-        let z : h ≡ length (laid fs) = he ∙ ap (headAt o) d ∙ head-at (l .heads) in
-        let c = first-cell l in
-        record {
-          small = l .small;
-          room = rw (length-set A h (getD A h 0 + 1)) (l .room);
-          laid = written x fs u l h z c;
-          sound = grown-sound x fs u t (l .sound);
-          heads = heads-cons (head-at (l .heads)) (tail-heads (l .heads));
-        }
-
-pub raised-over : {A : List ℕ} {o : Open} → o .over ≡ true → Raises A o A
-raised-over e = record { is = λ f x fs u t s. record { depth = s .depth; over = s .over; fine = λ q. clash e q } }
-
--- ---- a collection that closes
-
-pub closed-sure : {f : Bytes} {A : List ℕ} {o : Open} {x : Frame} {fs : List Frame} → Sure f A o (x ∷ fs) [] → Sure f A (outward o) fs (enc (coll (x .kind) (x .inside)))
-unfolding laid
-closed-sure {f} {A} {o} {x} {fs} s = record {
-  depth = let d = s .depth in omega arith;
-  over = s .over;
-  fine = λ e. let l = s .fine e in record {
-    small = l .small;
-    room = l .room;
-    laid = l .laid ∙ append-nil (laid fs ++ enc (coll (x .kind) (x .inside)));
-    sound = tail-sound (l .sound);
-    heads = heads-same o (outward o) refl refl (tail-heads (l .heads));
-  };
-}
-
-pub closed-tidy : {A : List ℕ} {o : Open} {x : Frame} {fs : List Frame} {X : List ℕ} → Lies A o (x ∷ fs) X → Tidy (coll (x .kind) (x .inside)) (length fs)
-unfolding everyPart nesting
-closed-tidy l = record { parts = head-parts (l .sound); nested = let n = head-nested (l .sound) in omega arith }
-
--- how many parts may be read in a collection says nothing of its cells
-pub other-parts : {f : Bytes} {A : List ℕ} {o : Open} {x : Frame} {fs : List Frame} (m : ℕ) → Sure f A o (x ∷ fs) [] → Sure f A o (record { kind = x .kind; inside = x .inside; parts = m } ∷ fs) []
-unfolding laid
-other-parts {f} {A} {o} {x} {fs} m s = record {
-  depth = s .depth;
-  over = s .over;
-  fine = λ e. let l = s .fine e in record {
-    small = l .small;
-    room = l .room;
-    laid = l .laid;
-    sound = sound-cons {x = record { kind = x .kind; inside = x .inside; parts = m }} {fs = fs} (head-parts (l .sound)) (head-nested (l .sound)) (tail-sound (l .sound));
-    heads = heads-cons (head-at (l .heads)) (tail-heads (l .heads));
-  };
-}
+          fine : (b : Bool) → leb 3 (o .depth) ≡ b → m ≡ (if b then 129 else s .size) → m ≤ 128 → Dec (128 < o .size) → Lies B after (record { kind = k; inside = nil; parts = n } ∷ fs) []
+          fine true g me e h = absurd (omega arith)
+          fine false g me e (yes h) = absurd (let x = a .over h in omega arith)
+          fine false g me e (no h) = opened-lies fs k n me ce (sure .depth) (leb-false 3 (o .depth) g) (sure .fine (omega arith)) (t .fine (omega arith))

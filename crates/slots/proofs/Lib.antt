@@ -2,9 +2,12 @@ pub mod PartLaws
 pub mod MachineLaws
 pub mod LimitLaws
 pub mod CellLaws
+pub mod CountLaws
 pub mod TurnLaws
+pub mod BeginLaws
 pub mod OrderLaws
 pub mod ObjectLaws
+pub mod ClimbLaws
 pub mod SuitLaws
 pub mod SlotLaws
 pub mod PutLaws

@@ -16,6 +16,7 @@ use Rattle.sheet.specs.Spelling.{valueWithin, membersWithin, moreWithin}
 use Rattle.sheet.specs.Refusals.{everyPart, everyParts, partWithin, nesting, nestings}
 use Rattle.values.specs.Cells.{enc}
 use Rattle.values.proofs.Encoding.{size-law}
+use Rattle.values.proofs.Growing.{append-grows}
 use Rattle.slots.specs.Machine.{Frame, glue, resume, among, start, enter, laid}
 
 -- ---- members put together
@@ -109,11 +110,6 @@ enter-value n k fs b s p = rw (ne-eqb 41 b (λ e. p (sym e))) (member k nil fs n
 
 -- ---- the finished value holds each part that was read
 
-sizes-append : (v : Value) (us : Values) → sizes (append v us) ≡ sizes us + size v
-unfolding append sizes
-sizes-append v nil = omega arith
-sizes-append v (cons u us) = let e = sizes-append v us in omega arith
-
 sizes-glue : (us ys : Values) → sizes (glue us ys) ≡ sizes us + sizes ys
 unfolding glue sizes
 sizes-glue nil ys = omega arith
@@ -147,7 +143,7 @@ pub record Holds (u : Value) (us ys : Values) : Type 0 where
 
 holds : (u : Value) (us ys : Values) → Holds u us ys
 holds u us ys = record {
-  wide = omega (arith, sizes-glue (append u us) ys, sizes-append u us);
+  wide = omega (arith, sizes-glue (append u us) ys, append-grows u us);
   deep = omega (arith, nestings-glue (append u us) ys, nestings-append u us);
   parts = λ e. parts-glue (append u us) ys ∙ rw (parts-append u us, e, and-comm (everyParts partWithin us) false);
 }

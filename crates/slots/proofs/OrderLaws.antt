@@ -8,6 +8,7 @@ use native.Mathlib.Omega.{arith}
 use lib.ListN.{length, getD}
 use lib.Seq.{slice, slice-cons, length-slice, take-length}
 use lib.Dec.{eqb, ltb}
+use Rattle.laws.specs.Choice.{if_then_else_}
 use borrow.Author.Tests.{ne-eqb}
 use Rattle.laws.proofs.Slices.{split-left, split-right}
 use Rattle.ocl.specs.Types.{Kind, set, sequence, bag}
@@ -82,6 +83,31 @@ glue-fits fit-nil g = g
 glue-fits (fit-cons f fs) g = fit-cons f (glue-fits fs g)
 
 -- ---- a value's own members: the loop of `in_row`
+
+-- where a greater member may come first, each may follow each
+free-follows : (t c : ℕ) → follows t 2 ≡ true → follows t c ≡ true
+unfolding follows
+free-follows t c e = go (eqb t 3) (eqb t 5) e
+  where
+    go : (a b : Bool) → (if a then eqb 2 0 else if b then ltb 2 2 else true) ≡ true → (if a then eqb c 0 else if b then ltb c 2 else true) ≡ true
+    go true b h = absurd (let z : _≡_ {A = ℕ} 0 1 = cc in omega arith)
+    go false true h = absurd (let z : _≡_ {A = ℕ} 0 1 = cc in omega arith)
+    go false false h = refl
+
+free-row : (t : ℕ) → follows t 2 ≡ true → (vs : Values) → row t vs ≡ true
+unfolding row
+free-row t e nil = refl
+free-row t e (cons v nil) = refl
+free-row t e (cons v (cons w ws)) = rw (free-follows t (code (order v w)) e, free-row t e (cons w ws))
+
+pub row-free : {S : List ℕ} {p t : ℕ} {b : Bool} → p < length S → SortOf (getD S p 0) t → b ≡ follows t 2 → b ≡ true → RowAt S p true
+unfolding inRow
+row-free {S} {p} {t} h so got z = record { is = λ v y f e. told v y f e }
+  where
+    told : (v : Value) (y : List ℕ) → Fits v → slice p (length S) S ≡ enc v ++ y → true ≡ inRow v
+    told v y f e =
+        let g : getD S p 0 ≡ head v = sym (ap (λ (l : List ℕ). getD l 0 0) (slice-cons p (length S) S 0 h (omega arith))) ∙ ap (λ (l : List ℕ). getD l 0 0) (e ∙ ap (λ (l : List ℕ). l ++ y) (enc-parts v)) in
+        sym (ap (λ (n : ℕ). row n (members v)) (sym (so .is v f g)) ∙ free-row t (sym got ∙ z) (members v))
 
 pub record InRow (S : List ℕ) (v : Value) (sort end q : ℕ) : Type 0 where
   pub rest : Values

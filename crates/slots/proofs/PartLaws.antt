@@ -3,10 +3,10 @@ use mathlib.Core.Path.{_≡_, refl, sym, ap, _∙_}
 use mathlib.Core.Bool.{true, false}
 use mathlib.Core.Option.{Option, none, some}
 use mathlib.Core.List.{[], _∷_}
-use Prim.Native.Nat.{ℕ, suc, _+_, _*_, _-_, _<_, _≤_, min}
+use Prim.Native.Nat.{ℕ, suc, _+_, _*_, _<_, _≤_, min}
 use native.Mathlib.Omega.{arith}
 use native.Mathlib.Decide.{decLt}
-use lib.IntN.{ℤ, pos, negsuc}
+use lib.IntN.{ℤ}
 use lib.ListN.{length, getD, drop, drop-of-length-le}
 use lib.Seq.{drop-drop}
 use lib.Dec.{eqb}
@@ -15,7 +15,7 @@ use Rattle.laws.specs.Choice.{if_then_else_, orElse, onSome, mapSome}
 use Rattle.laws.proofs.Tests.{Any?, any-some}
 use Rattle.laws.proofs.Options.{onSome-some}
 use Rattle.laws.proofs.Parts.{at-next}
-use Rattle.laws.proofs.Elements.{else-none}
+use Rattle.laws.proofs.Options.{orElse-none}
 use Rattle.ocl.specs.Types.{Kind, set, sequence, bag, kindCode}
 use Rattle.ocl.specs.Values.{bool, int, obj, coll, nil, sort, count}
 use Rattle.ocl.specs.Evaluation.{inRange}
@@ -31,7 +31,7 @@ use Rattle.text.specs.declared.numbers.Whole.the-variants as whole
 use Rattle.text.proofs.NumberLaws.{number-from, end-from, num-bad, num-is}
 use Rattle.text.proofs.IntegerLaws.{integer-from, whole-bad, whole-out, whole-is}
 use Rattle.text.proofs.IntegerLaws.{bias-small as text-bias-small}
-use Rattle.values.specs.Cells.{bias, bit, payload, head}
+use Rattle.values.specs.Cells.{bit, payload, head}
 use Rattle.values.proofs.Heads.{head-int, head-obj, head-coll}
 use Rattle.slots.specs.declared.parts.Part.{Part}
 use Rattle.slots.specs.declared.parts.Part.the-variants as part
@@ -145,19 +145,19 @@ module _ (n : ℕ) where
 
   letter-first : (k : Kind) (s : Bytes) → valueWithin (suc n) (kindByte k ∷ 40 ∷ s) ≡ given (coll k) (membersWithin n) s
   unfolding valueWithin kindByte letterByte bytes after literal behind _or_ given orElse onSome mapSome integer number digits plain isDigit
-  letter-first set s = else-none _
-  letter-first sequence s = else-none _
+  letter-first set s = orElse-none _
+  letter-first sequence s = orElse-none _
   letter-first bag s = refl
 
   -- any other byte begins an Integer or nothing
   integer-first : (b : ℕ) (s : Bytes) → (116 ≡ b → ⊥) → (102 ≡ b → ⊥) → (64 ≡ b → ⊥) → (83 ≡ b → ⊥) → (81 ≡ b → ⊥) → (66 ≡ b → ⊥) → valueWithin (suc n) (b ∷ s) ≡ given int integer (b ∷ s)
   unfolding valueWithin bytes after literal behind _or_ orElse onSome mapSome
-  integer-first b s p q r x y z = rw (ne-eqb 116 b p, ne-eqb 102 b q, ne-eqb 64 b r, ne-eqb 83 b x, ne-eqb 81 b y, ne-eqb 66 b z) (else-none _)
+  integer-first b s p q r x y z = rw (ne-eqb 116 b p, ne-eqb 102 b q, ne-eqb 64 b r, ne-eqb 83 b x, ne-eqb 81 b y, ne-eqb 66 b z) (orElse-none _)
 
 -- ---- the part
 
 module _ (f : Bytes) (at : ℕ) (h : at < length f) where
-  from-byte : {b : ℕ} → getD f at 0 ≡ b → drop at f ≡ b ∷ drop (at + 1) f
+  pub from-byte : {b : ℕ} → getD f at 0 ≡ b → drop at f ≡ b ∷ drop (at + 1) f
   from-byte e = at-next 0 f at h ∙ ap (λ (c : ℕ). c ∷ drop (at + 1) f) e
 
   next-byte : After f at (at + 1)

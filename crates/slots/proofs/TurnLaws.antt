@@ -1,34 +1,29 @@
--- Where the reading stands after each part: the answers of `last`, `ended`, `begin`, `next_part` and the loop. Assumes nothing.
+-- Where the reading stands after each byte: the answers of `last`, `ended`, `next_part` and the loop. Assumes nothing.
 use mathlib.Core.Path.{_≡_, refl, sym, ap, _∙_}
-use mathlib.Core.Bool.{true, false}
 use mathlib.Core.Option.{none, some}
 use mathlib.Core.List.{List, [], _∷_}
-use Prim.Native.Nat.{ℕ, zero, suc, _+_, _-_, _<_, _≤_}
+use Prim.Native.Nat.{ℕ, zero, suc, _+_, _<_, _≤_}
 use native.Mathlib.Omega.{arith}
 use lib.ListN.{length, getD, take, drop, drop-of-length-le}
 use lib.Seq.{length-take-le}
-use Rattle.laws.specs.Lists.{Each, each-nil, each-cons}
+use Rattle.laws.specs.Lists.{Each, each-cons}
 use Rattle.laws.proofs.Lists.{each-imp}
-use Rattle.laws.proofs.Options.{onSome-some}
 use Rattle.laws.proofs.Parts.{at-next}
-use Rattle.ocl.specs.Types.{Kind}
 use Rattle.ocl.specs.Values.{Value, coll, nil, size}
-use Rattle.sheet.specs.Text.{Bytes, atEnd, whole}
-use Rattle.sheet.specs.Spelling.{valueWithin, membersWithin, readValue}
-use Rattle.sheet.specs.Refusals.{everyPart, partWithin, nesting}
-use Rattle.values.specs.Cells.{head, enc}
+use Rattle.sheet.specs.Text.{Bytes, atEnd}
+use Rattle.sheet.specs.Spelling.{readValue}
+use Rattle.values.specs.Cells.{enc}
 use Rattle.values.proofs.Encoding.{size-law}
-use Rattle.slots.specs.declared.parts.Part.the-variants as part
 use Rattle.slots.specs.declared.reader.Open.{Open}
 use Rattle.slots.specs.declared.reader.Read.{Read}
 use Rattle.slots.specs.declared.reader.Read.the-variants as read
 use Rattle.slots.specs.declared.reader.Turn.{Turn}
 use Rattle.slots.specs.declared.reader.Turn.the-variants as turn
-use Rattle.slots.specs.Parts.{Alone, alone-bool, alone-int, alone-obj, told-simple, told-wide, PartIs, part-bad, part-alone, part-opens}
-use Rattle.slots.specs.Machine.{Frame, grown, resume, among, start, enter, laid, headAt, outward, beyond, Deep, Tidy, Sound, sound-nil, sound-cons, heads-nil, Lies, Sure, Enough, Wanted, Joined, Ending, Live, live-wanted, live-opened, live-joined, ReadIs, read-bad, read-over, read-is, TurnIs, turn-on, turn-stop, AddsCell, OpensCell, Raises, Last}
-use Rattle.slots.proofs.MachineLaws.{start-end, enter-end, among-end, start-alone, start-none, start-opens, among-comma, close, other, enter-close, enter-value, resumed}
-use Rattle.slots.proofs.LimitLaws.{may, never-part}
-use Rattle.slots.proofs.CellLaws.{first-at, raise-may, closed-sure, closed-tidy, other-parts}
+use Rattle.slots.specs.Machine.{Frame, grown, resume, among, start, enter, laid, headAt, outward, Tidy, Lies, Sure, Enough, Wanted, Joined, Ending, Live, live-wanted, live-opened, live-joined, ReadIs, read-bad, read-over, read-is, TurnIs, turn-on, turn-stop, Raises, Last}
+use Rattle.slots.proofs.MachineLaws.{start-end, enter-end, among-end, among-comma, close, other, enter-close, enter-value}
+use Rattle.slots.proofs.LimitLaws.{may}
+use Rattle.slots.proofs.PartLaws.{from-byte}
+use Rattle.slots.proofs.CountLaws.{first-at, raise-may, closed-sure, closed-tidy, other-parts}
 
 -- ---- the field's end
 
@@ -54,10 +49,10 @@ module _ {f : Bytes} {at : ℕ} {o : Open} where
       go v [] z = refl
       go v (x ∷ fs) z = absurd (omega arith)
 
-  pub last-over : length f ≤ at → o .over ≡ true → Last f at o read.Over
+  pub last-over : length f ≤ at → 128 < o .size → Last f at o read.Over
   last-over h t = record { is = λ cells e d. read-over (e .value) (at-last e d h) (e .sure .over t .is (e .value) (at-last e d h)) }
 
-  pub last-is : length f ≤ at → o .over ≡ false → Last f at o (read.Is (o .size))
+  pub last-is : length f ≤ at → o .size ≤ 128 → Last f at o (read.Is (o .size))
   last-is h t = record { is = λ cells e d. made cells e d (e .sure .fine t) (e .tidy t) }
     where
       made : (cells : List ℕ) (e : Ending f cells at o) → o .depth ≡ 0 → Lies cells o (e .frames) (enc (e .value)) → Tidy (e .value) (length (e .frames)) → ReadIs f cells (read.Is (o .size))
@@ -71,7 +66,7 @@ module _ {f : Bytes} {at : ℕ} {o : Open} where
 
 -- ---- a value ends
 
-later : {f : Bytes} {at to : ℕ} {fs : List Frame} → at ≤ to → to ≤ length f → Enough f at fs → Enough f to fs
+pub later : {f : Bytes} {at to : ℕ} {fs : List Frame} → at ≤ to → to ≤ length f → Enough f at fs → Enough f to fs
 later p q e = record { within = q; deep = let d = e .deep in omega arith; parts = each-imp (λ x h. omega arith) (e .parts) }
 
 tail-enough : {f : Bytes} {at : ℕ} {x : Frame} {fs : List Frame} → Enough f at (x ∷ fs) → Enough f at fs
@@ -87,7 +82,7 @@ head-enough {f} {at} {x} {fs} e = first (e .parts)
     first (each-cons p ps) = p
 
 module _ {f : Bytes} {A : List ℕ} {at : ℕ} {o : Open} (e : Ending f A at o) (inside : o .depth ≡ 0 → ⊥) where
-  pub may-raise : o .over ≡ false → (headAt o (o .depth) < length A) × (getD A (headAt o (o .depth)) 0 < 18446744073709551615)
+  pub may-raise : o .size ≤ 128 → (headAt o (o .depth) < length A) × (getD A (headAt o (o .depth)) 0 < 18446744073709551615)
   may-raise t = go (e .frames) (e .sure .depth) (e .sure .fine t)
     where
       go : (fs : List Frame) → o .depth ≡ length fs → Lies A o fs (enc (e .value)) → (headAt o (o .depth) < length A) × (getD A (headAt o (o .depth)) 0 < 18446744073709551615)
@@ -98,7 +93,7 @@ module _ {f : Bytes} {A : List ℕ} {at : ℕ} {o : Open} (e : Ending f A at o) 
   unfolding resume
   ended-on {B} r = turn-on {at = at} (omega arith) (live-joined refl (go (e .frames) (e .sure .depth) (e .sure) (e .tidy) (e .enough) (e .same)))
     where
-      go : (fs : List Frame) → o .depth ≡ length fs → Sure f A o fs (enc (e .value)) → (o .over ≡ false → Tidy (e .value) (length fs)) → Enough f at fs → readValue f ≡ resume fs (e .value) (drop at f) → Joined f B at o
+      go : (fs : List Frame) → o .depth ≡ length fs → Sure f A o fs (enc (e .value)) → (o .size ≤ 128 → Tidy (e .value) (length fs)) → Enough f at fs → readValue f ≡ resume fs (e .value) (drop at f) → Joined f B at o
       go [] d s t n q = absurd (inside d)
       go (x ∷ fs) d s t n q = record {
         frame = grown x (e .value);
@@ -110,10 +105,7 @@ module _ {f : Bytes} {A : List ℕ} {at : ℕ} {o : Open} (e : Ending f A at o) 
 
 -- ---- what comes at `at`, by the phase
 
-byte-at : (f : Bytes) (at : ℕ) → at < length f → {b : ℕ} → getD f at 0 ≡ b → drop at f ≡ b ∷ drop (at + 1) f
-byte-at f at h e = at-next 0 f at h ∙ ap (λ (c : ℕ). c ∷ drop (at + 1) f) e
-
-some-parts : (n : ℕ) → 0 < n → (m : ℕ) × (n ≡ suc m)
+pub some-parts : (n : ℕ) → 0 < n → (m : ℕ) × (n ≡ suc m)
 some-parts zero h = absurd (omega arith)
 some-parts (suc m) h = (m, refl)
 
@@ -145,7 +137,7 @@ module _ {f : Bytes} {A : List ℕ} {at : ℕ} {o : Open} where
       sure = closed-sure (w .sure);
       tidy = λ t. closed-tidy (w .sure .fine t);
       enough = later (omega arith) (omega arith) (tail-enough (w .enough));
-      same = w .same ∙ ap (enter (suc (w .parts)) (w .kind) (w .frames)) (byte-at f at h e) ∙ enter-close (w .parts) (w .kind) (w .frames) (drop (at + 1) f);
+      same = w .same ∙ ap (enter (suc (w .parts)) (w .kind) (w .frames)) (from-byte f at h e) ∙ enter-close (w .parts) (w .kind) (w .frames) (drop (at + 1) f);
     })
     closes (live-joined p w) n e z =
         let q = joined-parts w in
@@ -155,7 +147,7 @@ module _ {f : Bytes} {A : List ℕ} {at : ℕ} {o : Open} where
           sure = closed-sure (w .sure);
           tidy = λ t. closed-tidy (w .sure .fine t);
           enough = later (omega arith) (omega arith) (tail-enough (w .enough));
-          same = w .same ∙ ap (among (w .frame) (w .frames)) (byte-at f at h e) ∙ rw (q .1) (close (w .frame .kind) (w .frame .inside) (w .frames) (q .0) (drop (at + 1) f));
+          same = w .same ∙ ap (among (w .frame) (w .frames)) (from-byte f at h e) ∙ rw (q .1) (close (w .frame .kind) (w .frame .inside) (w .frames) (q .0) (drop (at + 1) f));
         })
 
     pub begins : {phase : ℕ} → Live f A at phase o → phase ≡ 1 → (getD f at 0 ≡ 41 → ⊥) → Wanted f A at o
@@ -166,7 +158,7 @@ module _ {f : Bytes} {A : List ℕ} {at : ℕ} {o : Open} where
       sure = w .sure;
       enough = w .enough;
       left = head-enough (w .enough);
-      same = w .same ∙ ap (enter (suc (w .parts)) (w .kind) (w .frames)) (byte-at f at h refl) ∙ enter-value (w .parts) (w .kind) (w .frames) (getD f at 0) (drop (at + 1) f) n ∙ ap (start (w .parts) (record { kind = w .kind; inside = nil; parts = w .parts } ∷ w .frames)) (sym (byte-at f at h refl));
+      same = w .same ∙ ap (enter (suc (w .parts)) (w .kind) (w .frames)) (from-byte f at h refl) ∙ enter-value (w .parts) (w .kind) (w .frames) (getD f at 0) (drop (at + 1) f) n ∙ ap (start (w .parts) (record { kind = w .kind; inside = nil; parts = w .parts } ∷ w .frames)) (sym (from-byte f at h refl));
     }
     begins (live-joined p w) e n = absurd (omega arith)
 
@@ -184,7 +176,7 @@ module _ {f : Bytes} {A : List ℕ} {at : ℕ} {o : Open} where
           sure = other-parts (q .0) (w .sure);
           enough = record { within = omega arith; deep = let d = w .enough .deep in omega arith; parts = each-cons {n = record { kind = w .frame .kind; inside = w .frame .inside; parts = q .0 }} (omega arith) (t .parts) };
           left = omega arith;
-          same = w .same ∙ ap (among (w .frame) (w .frames)) (byte-at f at h e) ∙ among-comma (w .frame) (w .frames) (q .0) (drop (at + 1) f) (q .1);
+          same = w .same ∙ ap (among (w .frame) (w .frames)) (from-byte f at h e) ∙ among-comma (w .frame) (w .frames) (q .0) (drop (at + 1) f) (q .1);
         })
 
     pub others : {phase : ℕ} → Live f A at phase o → (phase ≡ 0 → ⊥) → (phase ≡ 1 → ⊥) → (getD f at 0 ≡ 41 → ⊥) → (getD f at 0 ≡ 44 → ⊥) → readValue f ≡ none
@@ -192,134 +184,7 @@ module _ {f : Bytes} {A : List ℕ} {at : ℕ} {o : Open} where
     others (live-opened p w) n m c d = absurd (m p)
     others (live-joined p w) n m c d =
         let q = joined-parts w in
-        w .same ∙ ap (among (w .frame) (w .frames)) (byte-at f at h refl) ∙ rw (q .1) (other (w .frame .kind) (w .frame .inside) (w .frames) (q .0) (getD f at 0) (drop (at + 1) f) c d)
-
--- ---- a value begins
-
-sound-length : {fs : List Frame} → Sound fs → length fs ≤ 3
-sound-length sound-nil = omega arith
-sound-length (sound-cons p n s) = omega arith
-
-alone-cells : {v : Value} → Alone v → enc v ≡ head v ∷ []
-unfolding enc
-alone-cells alone-bool = refl
-alone-cells alone-int = refl
-alone-cells alone-obj = refl
-
-alone-size : {v : Value} → Alone v → size v ≡ 1
-unfolding size
-alone-size alone-bool = refl
-alone-size alone-int = refl
-alone-size alone-obj = refl
-
-alone-nesting : {v : Value} → Alone v → nesting v ≡ 0
-unfolding nesting
-alone-nesting alone-bool = refl
-alone-nesting alone-int = refl
-alone-nesting alone-obj = refl
-
-alone-part : {v : Value} → Alone v → everyPart partWithin v ≡ partWithin v
-unfolding everyPart
-alone-part alone-bool = refl
-alone-part alone-int = refl
-alone-part alone-obj = refl
-
-deep-by : {f : Bytes} {fs : List Frame} (u : Value) (s : Bytes) → readValue f ≡ resume fs u s → 1 ≤ size u → Deep f fs 0
-deep-by {f} {fs} u s e h = record {
-  wide = λ v g. let b = resumed fs u s (sym e ∙ g) .wide in omega arith;
-  deep = λ v g. let b = resumed fs u s (sym e ∙ g) .deep in omega arith;
-}
-
-deep-open : {f : Bytes} {fs : List Frame} (n : ℕ) (k : Kind) (s : Bytes) → readValue f ≡ enter n k fs s → Deep f fs 1
-unfolding size nesting
-deep-open {f} {fs} n k s e = record {
-  wide = λ v g. let m = onSome-some (membersWithin n s) _ (sym e ∙ g) in let b = resumed fs (coll k (m .0 .0)) (m .0 .1) (m .2) .wide in omega arith;
-  deep = λ v g. let m = onSome-some (membersWithin n s) _ (sym e ∙ g) in let b = resumed fs (coll k (m .0 .0)) (m .0 .1) (m .2) .deep in omega arith;
-}
-
-module _ {f : Bytes} {A : List ℕ} {at : ℕ} {o : Open} (w : Wanted f A at o) (h : at < length f) where
-  wanted-parts : (m : ℕ) × (w .parts ≡ suc m)
-  wanted-parts = some-parts (w .parts) (let l = w .left in omega arith)
-
-  pub begin-bad : PartIs f at part.Bad → readValue f ≡ none
-  begin-bad (part-bad q n) = let m = wanted-parts in w .same ∙ start-none (w .parts) (w .frames) (drop at f) (ap (λ (k : ℕ). valueWithin k (drop at f)) (m .1) ∙ n (m .0))
-  begin-bad (part-opens k q l n) = absurd (let z : _≡_ {A = ℕ} 0 1 = cc in omega arith)
-
-  read-to : {v : Value} {r : Bytes} → ((n : ℕ) → valueWithin (suc n) (drop at f) ≡ some (v, r)) → readValue f ≡ resume (w .frames) v r
-  read-to n = let m = wanted-parts in w .same ∙ start-alone (w .parts) (w .frames) (drop at f) (ap (λ (k : ℕ). valueWithin k (drop at f)) (m .1) ∙ n (m .0))
-
-  pub begin-simple : {c e : ℕ} {B : List ℕ} {s : Open} → PartIs f at (part.Simple c e) → AddsCell c A o B s → Ending f B e s
-  begin-simple (part-bad q n) a = absurd (let z : _≡_ {A = ℕ} 0 1 = cc in omega arith)
-  begin-simple (part-opens k q l n) a = absurd (let z : _≡_ {A = ℕ} 0 1 = cc in omega arith)
-  begin-simple {c} {e} {B} {s} (part-alone v al (told-simple af ce t) n) a =
-      let q = read-to n in
-      let one = alone-size al in
-      let sure = a .is f (w .frames) 0 (deep-by v (drop e f) q (omega arith)) (w .sure) in
-      record {
-        frames = w .frames;
-        value = v;
-        sure = rw (alone-cells al, ← ce) sure;
-        tidy = λ y. record { parts = alone-part al ∙ t; nested = let z = alone-nesting al in let l = sound-length (sure .fine y .sound) in omega arith };
-        enough = later (let u = af .up in omega arith) (af .within) (w .enough);
-        same = q;
-      }
-
-  pub begin-wide : {e : ℕ} {s : Open} → PartIs f at (part.Wide e) → s ≡ beyond o → Ending f A e s
-  begin-wide (part-bad q n) z = absurd (let z : _≡_ {A = ℕ} 0 1 = cc in omega arith)
-  begin-wide (part-opens k q l n) z = absurd (let z : _≡_ {A = ℕ} 0 1 = cc in omega arith)
-  begin-wide {e} {s} (part-alone v al (told-wide af t) n) z =
-      let q = read-to n in
-      rw z (record {
-        frames = w .frames;
-        value = v;
-        sure = record {
-          depth = w .sure .depth;
-          over = λ y. record { is = λ u g. never-part (length A) u (resumed (w .frames) v (drop e f) (sym q ∙ g) .parts (alone-part al ∙ t)) };
-          fine = λ y. clash y;
-        };
-        tidy = λ y. clash y;
-        enough = later (let u = af .up in omega arith) (af .within) (w .enough);
-        same = q;
-      })
-    where
-      clash : {C : Type 0} → true ≡ false → C
-      clash e = absurd (let z : _≡_ {A = ℕ} 0 1 = cc in omega arith)
-
-  pub begin-opens : {c e : ℕ} {B : List ℕ} {s : Open} → PartIs f at (part.Opens c e) → OpensCell c A o B s → Live f B e 1 s
-  begin-opens {c} {e} {B} {s} (part-opens k q l n) a =
-      let m = wanted-parts in
-      let x = some-parts (m .0) (let y = w .left in let z = m .1 in omega arith) in
-      let same : readValue f ≡ enter (m .0) k (w .frames) (drop (at + 2) f) =
-      w .same ∙ start-opens (w .parts) (w .frames) (drop at f) (m .0) k (drop (at + 2) f) (ap (λ (i : ℕ). valueWithin i (drop at f)) (m .1) ∙ n (m .0)) in
-      let end : at + 2 ≡ e = cc in
-      let cell : c ≡ head (coll k nil) = cc in
-      let t = later {to = at + 2} (omega arith) l (w .enough) in
-      rw (← end) (live-opened refl (record {
-        kind = k;
-        parts = x .0;
-        frames = w .frames;
-        sure = a .is f (w .frames) k (x .0) (deep-open (m .0) k (drop (at + 2) f) same) cell (w .sure);
-        enough = record {
-          within = l;
-          deep = let d = w .enough .deep in omega arith;
-          parts = each-cons {n = record { kind = k; inside = nil; parts = x .0 }} (let y = w .left in let z = m .1 in let u = x .1 in omega arith) (t .parts);
-        };
-        same = same ∙ ap (λ (i : ℕ). enter i k (w .frames) (drop (at + 2) f)) (x .1);
-      }))
-  begin-opens (part-bad q n) a = absurd (let z : _≡_ {A = ℕ} 0 1 = cc in omega arith)
-
--- ---- the beginning
-
-pub begun : (f : Bytes) (A : List ℕ) {o : Open} → o ≡ record { depth = 0; size = 0; over = false; second = 0; third = 0 } → Live f A 0 0 o
-unfolding readValue whole resume laid
-begun f A z = rw z (live-wanted refl (record {
-  frames = [];
-  parts = length f;
-  sure = record { depth = refl; over = λ e. absurd (let z : _≡_ {A = ℕ} 0 1 = cc in omega arith); fine = λ e. record { small = omega arith; room = omega arith; laid = refl; sound = sound-nil; heads = heads-nil } };
-  enough = record { within = omega arith; deep = omega arith; parts = each-nil };
-  left = omega arith;
-  same = refl;
-}))
+        w .same ∙ ap (among (w .frame) (w .frames)) (from-byte f at h refl) ∙ rw (q .1) (other (w .frame .kind) (w .frame .inside) (w .frames) (q .0) (getD f at 0) (drop (at + 1) f) c d)
 
 -- ---- turns
 
@@ -340,21 +205,3 @@ pub live-within : {f : Bytes} {A : List ℕ} {at phase : ℕ} {o : Open} → Liv
 live-within (live-wanted p w) = w .enough .within
 live-within (live-opened p w) = w .enough .within
 live-within (live-joined p w) = w .enough .within
-
-pub simple-up : {f : Bytes} {at c e : ℕ} → PartIs f at (part.Simple c e) → at + 1 ≤ e
-simple-up (part-bad q n) = absurd (let z : _≡_ {A = ℕ} 0 1 = cc in omega arith)
-simple-up (part-opens k q l n) = absurd (let z : _≡_ {A = ℕ} 0 1 = cc in omega arith)
-simple-up (part-alone v al (told-simple af ce t) n) = let u = af .up in omega arith
-
-pub wide-up : {f : Bytes} {at e : ℕ} → PartIs f at (part.Wide e) → at + 1 ≤ e
-wide-up (part-bad q n) = absurd (let z : _≡_ {A = ℕ} 0 1 = cc in omega arith)
-wide-up (part-opens k q l n) = absurd (let z : _≡_ {A = ℕ} 0 1 = cc in omega arith)
-wide-up (part-alone v al (told-wide af t) n) = let u = af .up in omega arith
-
-pub opens-up : {f : Bytes} {at c e : ℕ} → PartIs f at (part.Opens c e) → at + 1 ≤ e
-opens-up {at} {e} (part-opens k q l n) = let z : at + 2 ≡ e = cc in omega arith
-opens-up (part-bad q n) = absurd (let z : _≡_ {A = ℕ} 0 1 = cc in omega arith)
-
--- at most as many collections are open as bytes are read
-pub wanted-depth : {f : Bytes} {A : List ℕ} {at : ℕ} {o : Open} → Wanted f A at o → o .depth ≤ at
-wanted-depth w = let a = w .enough .deep in let b = w .sure .depth in omega arith

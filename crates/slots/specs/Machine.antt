@@ -68,11 +68,11 @@ headAt o n = if eqb n 1 then 0 else if eqb n 2 then o .second else o .third
 
 -- the inmost is closed
 abbrev pub outward : Open → Open
-outward o = record { depth = o .depth - 1; size = o .size; over = o .over; second = o .second; third = o .third }
+outward o = record { depth = o .depth - 1; size = o .size; second = o .second; third = o .third }
 
 -- a limit is passed
 abbrev pub beyond : Open → Open
-beyond o = record { depth = o .depth; size = o .size; over = true; second = o .second; third = o .third }
+beyond o = record { depth = o .depth; size = 129; second = o .second; third = o .third }
 
 pub data Heads (o : Open) : List Frame → Type 0 where
   heads-nil : Heads o []
@@ -113,8 +113,8 @@ pub record Lies (cells : List ℕ) (o : Open) (fs : List Frame) (X : List ℕ) :
 
 pub record Sure (f : Bytes) (cells : List ℕ) (o : Open) (fs : List Frame) (X : List ℕ) : Type 0 where
   pub depth : o .depth ≡ length fs
-  pub over : o .over ≡ true → Never f (length cells)
-  pub fine : o .over ≡ false → Lies cells o fs X
+  pub over : 128 < o .size → Never f (length cells)
+  pub fine : o .size ≤ 128 → Lies cells o fs X
 
 -- ---- where the reading stands
 
@@ -151,7 +151,7 @@ pub record Ending (f : Bytes) (cells : List ℕ) (at : ℕ) (o : Open) : Type 0 
   pub frames : List Frame
   pub value : Value
   pub sure : Sure f cells o frames (enc value)
-  pub tidy : o .over ≡ false → Tidy value (length frames)
+  pub tidy : o .size ≤ 128 → Tidy value (length frames)
   pub enough : Enough f at frames
   pub same : readValue f ≡ resume frames value (drop at f)
 
@@ -176,7 +176,7 @@ pub record AddsCell (cell : ℕ) (before : List ℕ) (o : Open) (after : List �
   pub depth : r .depth ≡ o .depth
   pub second : r .second ≡ o .second
   pub third : r .third ≡ o .third
-  pub over : o .over ≡ true → r .over ≡ true
+  pub over : 128 < o .size → 128 < r .size
   pub is : (f : Bytes) (fs : List Frame) (d : ℕ) → Deep f fs d → Sure f before o fs [] → Sure f after r fs (cell ∷ [])
 
 pub record OpensCell (cell : ℕ) (before : List ℕ) (o : Open) (after : List ℕ) (r : Open) : Type 0 where
@@ -184,7 +184,7 @@ pub record OpensCell (cell : ℕ) (before : List ℕ) (o : Open) (after : List �
       → Sure f after r (record { kind = k; inside = nil; parts = n } ∷ fs) []
 
 pub record Raises (before : List ℕ) (o : Open) (after : List ℕ) : Type 0 where
-  pub is : (f : Bytes) (x : Frame) (fs : List Frame) (u : Value) → (o .over ≡ false → Tidy u (suc (length fs))) → Sure f before o (x ∷ fs) (enc u)
+  pub is : (f : Bytes) (x : Frame) (fs : List Frame) (u : Value) → (o .size ≤ 128 → Tidy u (suc (length fs))) → Sure f before o (x ∷ fs) (enc u)
       → Sure f after o (grown x u ∷ fs) []
 
 pub record Last (f : Bytes) (at : ℕ) (o : Open) (r : Read) : Type 0 where

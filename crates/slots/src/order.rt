@@ -27,6 +27,9 @@ fn in_row(cells: &[u64], p: usize) -> bool
     ensures { λ r. ⌜ RowAt (now (cells .entry)) p r ⌝ }
 {
     let sort = sort_of(cells[p]);
+    if may_follow(sort, 2) {
+        return true; // no Set and no Bag: any member may follow any other
+    }
     let end = skip(cells, p, cells.len());
     let mut q = p + 1;
     while q < end {

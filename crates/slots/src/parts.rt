@@ -4,9 +4,9 @@ ghost use lib.ListN.{length};
 ghost use Rattle.slots.specs.Parts.{PartIs, ObjectIs, IntegerIs, OpensIs};
 use text::numbers::Num;
 use text::numbers::Whole;
-use text::numbers::digits_end;
+use text::numbers::digits_at;
 use text::numbers::integer_at;
-use text::numbers::integer_end;
+use text::numbers::integer_digits;
 use text::numbers::number_at;
 
 // A value's cell is this many times its sort, and a payload below it.
@@ -27,8 +27,9 @@ fn object_at(f: &[u8], at: usize) -> Part
     requires { ⌜ at ≤ length (now f) ⌝ }
     ensures { λ r. ⌜ ObjectIs (now (f .entry)) at r ⌝ }
 {
-    let end = digits_end(f, at);
-    let n = number_at(f, at, end);
+    let d = digits_at(f, at);
+    let n = number_at(f, at, d);
+    let end = d.end;
     match n {
         Num::Bad => Part::Bad,
         Num::Is(o) => {
@@ -49,8 +50,9 @@ fn whole_at(f: &[u8], at: usize) -> Part
     requires { ⌜ at ≤ length (now f) ⌝ }
     ensures { λ r. ⌜ IntegerIs (now (f .entry)) at r ⌝ }
 {
-    let end = integer_end(f, at);
-    let z = integer_at(f, at, end);
+    let d = integer_digits(f, at);
+    let z = integer_at(f, at, d);
+    let end = d.end;
     match z {
         Whole::Bad => Part::Bad,
         Whole::Out => Part::Wide { end },

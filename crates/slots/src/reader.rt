@@ -2,7 +2,6 @@
 // that no stack can hold them: of the open collections only their number is known. A value within the limits has at most
 // three of them, and only such a value's cells matter.
 ghost use mathlib.Core.Path.{_≡_};
-ghost use mathlib.Core.Bool.{true, false, _||_};
 ghost use Rattle.laws.specs.Choice.{if_then_else_};
 ghost use Prim.Native.Nat.{_+_, _<_, _≤_};
 ghost use lib.ListN.{length, getD};
@@ -13,14 +12,17 @@ use crate::parts::part_at;
 // The most cells and the most open collections of a value.
 const LARGEST: usize = 128;
 
+// The size that stands for every value over a limit.
+const OVER: usize = 129;
+
 const DEEPEST: usize = 3;
 
-// How many collections are open, and how many cells are written. The cell of the outermost open one is the first; those of
-// the second and the third are remembered. Once the value is over a limit, no cell is written any more.
+// How many collections are open, and how many cells are written: more than the most once the value is over a limit, and then
+// no cell is written any more. The cell of the outermost open one is the first; those of the second and the third are
+// remembered.
 pub struct Open {
     pub depth: usize,
     pub size: usize,
-    pub over: bool,
     pub second: usize,
     pub third: usize,
 }
@@ -56,9 +58,6 @@ fn add_cell(cells: &mut [u64], o: Open, cell: u64) -> Open
     ensures { λ r. ⌜ AddsCell cell (now (cells .entry)) o (now (cells .exit)) r ⌝ }
 {
     let mut r = o;
-    if o.over {
-        return r;
-    }
     let n = o.size;
     if n < LARGEST {
         if n < cells.len() {
@@ -67,14 +66,8 @@ fn add_cell(cells: &mut [u64], o: Open, cell: u64) -> Open
             return r;
         }
     }
-    r.over = true;
+    r.size = OVER;
     r
-}
-
-fn either(a: bool, b: bool) -> bool
-    ensures { λ r. ⌜ r ≡ a || b ⌝ }
-{
-    if a { true } else { b }
 }
 
 fn pick(test: bool, x: usize, y: usize) -> usize
@@ -92,8 +85,7 @@ fn open_cell(cells: &mut [u64], o: Open, cell: u64) -> Open
     let r = add_cell(cells, o, cell);
     Open {
         depth: o.depth + 1,
-        size: r.size,
-        over: either(r.over, DEEPEST <= o.depth),
+        size: pick(DEEPEST <= o.depth, OVER, r.size),
         second: pick(o.depth == 1, n, o.second),
         third: pick(o.depth == 2, n, o.third),
     }
@@ -101,10 +93,10 @@ fn open_cell(cells: &mut [u64], o: Open, cell: u64) -> Open
 
 // The inmost open collection has one member more.
 fn raise(cells: &mut [u64], o: Open)
-    requires { ⌜ (o .over ≡ false → (headAt o (o .depth) < length (now cells)) × (getD (now cells) (headAt o (o .depth)) 0 < 18446744073709551615)) ⌝ }
+    requires { ⌜ (o .size ≤ 128 → (headAt o (o .depth) < length (now cells)) × (getD (now cells) (headAt o (o .depth)) 0 < 18446744073709551615)) ⌝ }
     ensures { λ _. ⌜ Raises (now (cells .entry)) o (now (cells .exit)) ⌝ }
 {
-    if o.over {
+    if LARGEST < o.size {
         return;
     }
     let h = header(o);
@@ -118,7 +110,7 @@ fn last(f: &[u8], at: usize, o: Open) -> Read
     if at < f.len() {
         return Read::Bad;
     }
-    if o.over {
+    if LARGEST < o.size {
         return Read::Over;
     }
     Read::Is { size: o.size }
@@ -157,7 +149,7 @@ fn passed(o: Open) -> Open
     ensures { λ r. ⌜ r ≡ beyond o ⌝ }
 {
     let mut r = o;
-    r.over = true;
+    r.size = OVER;
     r
 }
 
@@ -193,23 +185,22 @@ fn next_part(f: &[u8], cells: &mut [u64], at: usize, phase: u64, o: Open) -> Tur
     if f.len() <= at {
         return Turn::Stop { read: Read::Bad };
     }
-    if phase == 0 {
-        return begin(f, cells, at, o);
+    if phase != 0 {
+        if f[at] == b')' {
+            return ended(f, cells, at + 1, closed(o));
+        }
+        if phase != 1 {
+            if f[at] == b',' {
+                return Turn::On {
+                    at: at + 1,
+                    phase: 0,
+                    open: o,
+                };
+            }
+            return Turn::Stop { read: Read::Bad };
+        }
     }
-    if f[at] == b')' {
-        return ended(f, cells, at + 1, closed(o));
-    }
-    if phase == 1 {
-        return begin(f, cells, at, o);
-    }
-    if f[at] == b',' {
-        return Turn::On {
-            at: at + 1,
-            phase: 0,
-            open: o,
-        };
-    }
-    Turn::Stop { read: Read::Bad }
+    begin(f, cells, at, o)
 }
 
 // The value that the field spells, as cells from the first on; there is room for as many as `cells` has.
@@ -221,7 +212,6 @@ pub fn read_value(f: &[u8], cells: &mut [u64]) -> Read
     let mut o = Open {
         depth: 0,
         size: 0,
-        over: false,
         second: 0,
         third: 0,
     };

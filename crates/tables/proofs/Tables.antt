@@ -1,11 +1,12 @@
 -- A table at an offset of the words: one entry more, entries elsewhere, and what stays. Assumes nothing.
 use mathlib.Core.Path.{_≡_, refl, sym, ap, _∙_}
-use mathlib.Core.List.{List, [], _∷_, _++_}
+use mathlib.Core.List.{List, [], _∷_, _++_, map}
 use Prim.Native.Nat.{ℕ, zero, suc, _+_, _-_, _≤_, _<_}
 use native.Mathlib.Omega.{arith}
 use native.Mathlib.Numerals.{add-one}
-use lib.ListN.{length, getD, take, drop, set, length-set, length-drop}
+use lib.ListN.{length, getD, take, drop, set, length-set, length-drop, List·getD-map}
 use lib.Seq.{length-take-le, take-suc-set, take-set-le, drop-set-lt, drop-set-add, getD-take, getD-drop}
+use Rattle.laws.proofs.Elements.{getD-map}
 use Rattle.tables.specs.Layout.{tab, Kept}
 
 module _ (off n : ℕ) (w : List ℕ) where
@@ -27,6 +28,22 @@ module _ (off n : ℕ) (w : List ℕ) where
   tab-after i x h =
       let e : off + (i - off) ≡ i = omega arith in
       ap (λ j. tab off n (set w j x)) (sym e) ∙ ap (take n) (drop-set-add off w (i - off) x) ∙ take-set-le n (drop off w) (i - off) x (omega arith)
+
+-- ---- an entry of a whole table
+
+-- a table of what f says of each element
+pub entry-of : {A : Type 0} (f : A → ℕ) (off : ℕ) (w : List ℕ) (xs : List A) (d : A) → tab off (length xs) w ≡ map f xs
+    → (i : ℕ) → i < length xs → getD w (off + i) 0 ≡ f (getD xs i d)
+entry-of f off w xs d e i h = sym (tab-at off (length xs) w i h) ∙ ap (λ (l : List ℕ). getD l i 0) e ∙ getD-map f xs i d 0 h
+
+-- a table whose words stand for what f says of each element
+pub entry-by : {A B : Type 0} (read : ℕ → B) (f : A → B) (off : ℕ) (w : List ℕ) (xs : List A) (d : A) → map read (tab off (length xs) w) ≡ map f xs
+    → (i : ℕ) → i < length xs → read (getD w (off + i) 0) ≡ f (getD xs i d)
+entry-by {B = B} read f off w xs d e i h =
+    ap read (sym (tab-at off (length xs) w i h))
+    ∙ sym (List·getD-map read (tab off (length xs) w) i 0)
+    ∙ ap (λ (l : List B). getD l i (read 0)) e
+    ∙ getD-map f xs i d (read 0) h
 
 -- ---- the words from 8,192 on
 

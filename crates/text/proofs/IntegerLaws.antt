@@ -6,46 +6,24 @@ use mathlib.Core.Option.{Option, none, some}
 use mathlib.Core.List.{[], _∷_}
 use native.Mathlib.Omega.{arith}
 use native.Mathlib.Decide.{decLt}
-use borrow.Author.Tests.{eq-eqb, ne-eqb, lt-ltb, le-ltb, ltb-true, eqb-true}
-use lib.Dec.{eqb, ltb}
-use lib.IntN.{ℤ, pos, negsuc}
+use borrow.Author.Tests.{eq-eqb, ne-eqb, lt-ltb, le-ltb, eqb-true}
+use lib.Dec.{eqb}
+use lib.IntN.{ℤ, pos}
 use lib.ListN.{length, getD, take, drop, drop-of-length-le, length-drop}
 use lib.Seq.{drop-drop}
 use Rattle.laws.specs.Choice.{if_then_else_, mapSome, onSome, orElse}
 use Rattle.laws.proofs.Tests.{Any?, any-some}
+use Rattle.laws.proofs.Options.{orElse-none}
 use Rattle.laws.proofs.Parts.{at-next}
 use Rattle.ocl.specs.Evaluation.{inRange}
+pub use Rattle.ocl.proofs.Ranges.{unbias-bias, bias-unbias, unbias-ranged, bias-small}
 use Rattle.sheet.specs.Text.{Bytes, bytes, after, behind, _or_, _then_, given, isDigit, digits, afterDigits, plain, valueOfDigits, number, minus, integer}
 use Rattle.sheet.specs.Lines.{anInteger}
 use Rattle.laws.specs.Integers.{bias, unbias}
-use Rattle.text.specs.Numbers.{leading, DigitsEnd, IntegerEnd, ranged, wholeOf, minusAt, signed, leadingInteger}
+use Rattle.text.specs.Numbers.{leading, DigitsEnd, DigitsRead, IntegerEnd, IntegerRead, ranged, wholeOf, minusAt, signed, leadingInteger}
+use Rattle.text.specs.declared.numbers.Digits.{Digits}
 use Rattle.text.specs.declared.numbers.Whole.the-variants.{Bad, Out, Is}
 use Rattle.text.proofs.NumberLaws.{number-leading, digits-after, leading-some, leading-none, whole-read, whole-left}
-
--- ---- an Integer as a natural number
-
-pub unbias-bias : (z : ℤ) → inRange z ≡ true → unbias (bias z) ≡ z
-unfolding bias unbias inRange
-unbias-bias (pos n) h = rw (le-ltb (2147483648 + n) 2147483648 (omega arith)) (ap pos (omega arith))
-unbias-bias (negsuc n) h =
-    let l : n < 2147483648 = ltb-true n 2147483648 h in
-    rw (lt-ltb (2147483648 - suc n) 2147483648 (omega arith)) (ap negsuc (omega arith))
-
-pub bias-unbias : (p : ℕ) → bias (unbias p) ≡ p
-unfolding bias unbias
-bias-unbias p = go (decLt p 2147483648)
-  where
-    go : Dec (p < 2147483648) → bias (if ltb p 2147483648 then negsuc (2147483647 - p) else pos (p - 2147483648)) ≡ p
-    go (yes l) = rw (lt-ltb p 2147483648 l) (omega arith)
-    go (no l) = rw (le-ltb p 2147483648 (omega arith)) (omega arith)
-
-pub unbias-ranged : (p : ℕ) → p < 4294967296 → inRange (unbias p) ≡ true
-unfolding unbias inRange
-unbias-ranged p h = go (decLt p 2147483648)
-  where
-    go : Dec (p < 2147483648) → inRange (if ltb p 2147483648 then negsuc (2147483647 - p) else pos (p - 2147483648)) ≡ true
-    go (yes l) = rw (lt-ltb p 2147483648 l) (lt-ltb (2147483647 - p) 2147483648 (omega arith))
-    go (no l) = rw (le-ltb p 2147483648 (omega arith)) (lt-ltb (p - 2147483648) 2147483648 (omega arith))
 
 -- ---- the sign: what `by_sign` answers
 
@@ -116,14 +94,9 @@ minus-room s {at} {m} h e = omega (arith, simp length-drop at (minus-within (dro
 
 -- ---- what is read is told by `leadingInteger`, and what is left by the digits
 
-or-none : {A : Type 0} (o : Option A) → orElse o none ≡ o
-unfolding orElse
-or-none none = refl
-or-none (some x) = refl
-
 minus-leading : (s : Bytes) → integer (45 ∷ s) ≡ mapSome (λ z. (z, afterDigits s)) (onSome (leading s) (signed 1))
 unfolding integer _or_ behind _then_ given after bytes onSome mapSome number plain digits isDigit minus signed
-minus-leading s = or-none ((number then minus) s) ∙ rw (number-leading s) (go (leading s))
+minus-leading s = orElse-none ((number then minus) s) ∙ rw (number-leading s) (go (leading s))
   where
     go : (o : Option ℕ) → onSome {A = ℕ × Bytes} (mapSome (λ n. (n, afterDigits s)) o) (λ x. minus (x .0) (x .1)) ≡ mapSome (λ z. (z, afterDigits s)) (onSome o (signed 1))
     go none = refl
@@ -153,8 +126,8 @@ integer-leading (b ∷ s) = go (eqb 45 b) refl
 
 -- ---- an Integer in a field
 
-pub integer-ends : {s : Bytes} {at m e : ℕ} → m ≡ minusAt (drop at s) → DigitsEnd s (at + m) e → IntegerEnd s at e
-integer-ends q to = record { digits = rw q at to }
+pub digits-behind : {s : Bytes} {at m : ℕ} {d : Digits} → m ≡ minusAt (drop at s) → DigitsRead s (at + m) d → IntegerRead s at d
+digits-behind q to = record { ends = record { digits = rw q at (to .ends) }; value = rw q at (to .value) }
 
 module _ {s : Bytes} {at e : ℕ} (to : IntegerEnd s at e) where
   -- the Integer that begins at `at`, and what stands after it
@@ -169,9 +142,9 @@ module _ {s : Bytes} {at e : ℕ} (to : IntegerEnd s at e) where
     unfolding leadingInteger
     by-leading = rw (← sign, drop-drop m at s)
 
-    pub integer-read : {n : ℕ} → t ≡ true → n ≡ min (valueOfDigits 0 (take (e - (at + m)) (drop (at + m) s))) 10000000000 → wholeOf (signed m n) ≡ wholeOf (leadingInteger (drop at s))
+    pub integer-read : {n : ℕ} → t ≡ true → n ≡ min (valueOfDigits 0 (digits (drop (at + minusAt (drop at s)) s))) 10000000000 → wholeOf (signed m n) ≡ wholeOf (leadingInteger (drop at s))
     unfolding onSome
-    integer-read h p = rw (p, by-leading, leading-some digits-to told h) (cut-whole m _)
+    integer-read h p = rw (p, ← sign, by-leading, leading-some digits-to told h) (cut-whole m _)
 
     pub integer-bad : t ≡ false → Bad ≡ wholeOf (leadingInteger (drop at s))
     unfolding onSome wholeOf
@@ -214,9 +187,3 @@ whole-is {p} (some z) h = any-some (go (inRange z) h)
     go : (t : Bool) → Is p ≡ (if t then Is (bias z) else Out) → (t ≡ true) × (p ≡ bias z)
     go true h = (refl, cc)
     go false h = absurd (let z : _≡_ {A = ℕ} 0 1 = cc in omega arith)
-
--- an Integer of the range fits 32 bits
-pub bias-small : (z : ℤ) → inRange z ≡ true → bias z < 4294967296
-unfolding bias inRange
-bias-small (pos n) h = omega (arith, ltb-true n 2147483648 h)
-bias-small (negsuc n) h = omega arith

@@ -9,12 +9,13 @@ use native.Mathlib.Omega.{arith}
 use borrow.Author.Tests.{eq-eqb, ne-eqb}
 use lib.Dec.{eqb}
 use lib.ListN.{length, getD, take, drop, drop-of-length-le}
-use lib.Seq.{drop-drop}
+use lib.Seq.{take-at, drop-at, drop-drop}
 use Rattle.laws.specs.Choice.{if_then_else_, mapSome, onSome}
 use Rattle.laws.proofs.Tests.{Any?, any-some}
 use Rattle.laws.proofs.Parts.{at-next, part-next, part-none}
 use Rattle.sheet.specs.Text.{Bytes, Parser, isDigit, digits, afterDigits, plain, valueOfDigits, number, whole, atEnd}
 use Rattle.sheet.specs.Lines.{aNumber}
+use Rattle.sheet.proofs.Numbers.{digits-split}
 use Rattle.text.specs.Words.{byteKind}
 use Rattle.text.specs.Numbers.{numOf, leading, DigitsEnd}
 use Rattle.text.specs.declared.numbers.Num.the-variants.{Bad, Is}
@@ -31,7 +32,7 @@ cut-digits c (b ∷ s) n =
     ∙ ap (λ (m : ℕ). min (valueOfDigits m s) c) (omega arith)
     ∙ cut-digits c s (n * 10 + (b - 48))
 
--- ---- where digits end: the turns of `digits_end`
+-- ---- where digits end, and what they stand for: the turns of `digits_at`
 
 pub no-digit : {r : ℕ} (b : ℕ) → r ≡ byteKind b → (r ≡ 7 → ⊥) → isDigit b ≡ false
 no-digit b e h = sym (digit-by-kind b) ∙ ne-eqb (byteKind b) 7 (λ q. h (e ∙ q))
@@ -54,23 +55,24 @@ module _ (s : Bytes) (i : ℕ) {x : ℕ} (inv : i + length (digits (drop i s)) �
       let e : length (digits (drop i s)) ≡ suc (length (digits (drop (i + 1) s))) = rw (at-next 0 s i h, q) in
       omega arith
 
-digits-front : (s : Bytes) → take (length (digits s)) s ≡ digits s
-unfolding digits
-digits-front [] = refl
-digits-front (b ∷ s) = go (isDigit b) (digits-front s)
-  where
-    go : (t : Bool) → take (length (digits s)) s ≡ digits s → take (length (if t then b ∷ digits s else [])) (b ∷ s) ≡ (if t then b ∷ digits s else [])
-    go true ih = ap (λ (l : Bytes). b ∷ l) ih
-    go false ih = refl
+module _ (s : Bytes) (n i c : ℕ) {x : ℕ} (inv : min (valueOfDigits n (digits (drop i s))) c ≡ x) where
+  pub value-none : n ≤ c → length s ≤ i → n ≡ x
+  unfolding digits valueOfDigits
+  value-none l h = omega (arith, rw (drop-of-length-le s h) at inv)
 
-digits-rest : (s : Bytes) → afterDigits s ≡ drop (length (digits s)) s
-unfolding digits afterDigits
-digits-rest [] = refl
-digits-rest (b ∷ s) = go (isDigit b) (digits-rest s)
-  where
-    go : (t : Bool) → afterDigits s ≡ drop (length (digits s)) s → (if t then afterDigits s else b ∷ s) ≡ drop (length (if t then b ∷ digits s else [])) (b ∷ s)
-    go true ih = ih
-    go false ih = refl
+  pub value-here : n ≤ c → i < length s → isDigit (getD s i 0) ≡ false → n ≡ x
+  unfolding digits valueOfDigits
+  value-here l h q = omega (arith, rw (at-next 0 s i h, q) at inv)
+
+  pub value-next : {m d : ℕ} → i < length s → isDigit (getD s i 0) ≡ true → d ≡ getD s i 0 - 48 → m ≡ min (n * 10 + d) c → min (valueOfDigits m (digits (drop (i + 1) s))) c ≡ x
+  unfolding digits valueOfDigits
+  value-next h q p e = rw (e, p) (cut-digits c (digits (drop (i + 1) s)) (n * 10 + (getD s i 0 - 48)) ∙ (rw (at-next 0 s i h, q) at inv))
+
+digits-front : (s : Bytes) → take (length (digits s)) s ≡ digits s
+digits-front s = ap (take (length (digits s))) (digits-split s) ∙ take-at (digits s) (afterDigits s) (length (digits s)) refl
+
+pub digits-rest : (s : Bytes) → afterDigits s ≡ drop (length (digits s)) s
+digits-rest s = sym (ap (drop (length (digits s))) (digits-split s) ∙ drop-at (digits s) (afterDigits s) (length (digits s)) refl)
 
 -- what is read is told by `leading`, and what is left by the digits
 pub number-leading : (s : Bytes) → number s ≡ mapSome (λ n. (n, afterDigits s)) (leading s)
@@ -119,32 +121,21 @@ module _ (s : Bytes) (a e : ℕ) (within : e ≤ length s) where
   pub plain-other : a ≤ e → (a ≡ e → ⊥) → (a + 1 ≡ e → ⊥) → (getD s a 0 ≡ 48 → ⊥) → true ≡ plain (take (e - a) (drop a s))
   plain-other o p q z = sym (plain-more (omega arith) ∙ ap not (ne-eqb _ _ z))
 
--- ---- the number that digits stand for: the turns of `magnitude`
-
-module _ (s : Bytes) (n i e c : ℕ) (within : e ≤ length s) {x : ℕ} (inv : min (valueOfDigits n (take (e - i) (drop i s))) c ≡ x) where
-  pub value-next : {m d : ℕ} → i < e → d ≡ getD s i 0 - 48 → m ≡ min (n * 10 + d) c → min (valueOfDigits m (take (e - (i + 1)) (drop (i + 1) s))) c ≡ x
-  unfolding valueOfDigits
-  value-next h p q = rw (q, p) (cut-digits c (take (e - (i + 1)) (drop (i + 1) s)) (n * 10 + (getD s i 0 - 48)) ∙ (rw (part-next 0 s i e h within) at inv))
-
-  pub value-end : n ≤ c → e ≤ i → n ≡ x
-  unfolding valueOfDigits
-  value-end l h = omega (arith, rw (part-none s i e h) at inv)
-
 -- ---- a number in a field
 
 module _ {s : Bytes} {at e : ℕ} (to : DigitsEnd s at e) {t : Bool} (told : t ≡ plain (take (e - at) (drop at s))) where
   plain-told : plain (digits (drop at s)) ≡ t
   plain-told = sym (rw (digits-part to) at told)
 
-  pub leading-some : t ≡ true → leading (drop at s) ≡ some (valueOfDigits 0 (take (e - at) (drop at s)))
+  pub leading-some : t ≡ true → leading (drop at s) ≡ some (valueOfDigits 0 (digits (drop at s)))
   unfolding leading
-  leading-some h = rw (plain-told, h, digits-part to)
+  leading-some h = rw (plain-told, h)
 
   pub leading-none : t ≡ false → leading (drop at s) ≡ none
   unfolding leading
   leading-none h = rw (plain-told, h)
 
-  pub number-read : {m r : ℕ} → t ≡ true → m ≡ min (valueOfDigits 0 (take (e - at) (drop at s))) 10000000000 → r ≡ min m 1000000 → Is r ≡ numOf (leading (drop at s))
+  pub number-read : {m r : ℕ} → t ≡ true → m ≡ min (valueOfDigits 0 (digits (drop at s))) 10000000000 → r ≡ min m 1000000 → Is r ≡ numOf (leading (drop at s))
   unfolding numOf
   number-read h p q = rw (leading-some h) (ap Is (omega arith))
 

@@ -1,17 +1,14 @@
 -- Laws of bytes written at a position, and of spelled numbers digit by digit. Assumes nothing.
-use Prim.Native.Nat.{ℕ, zero, suc, _+_, _-_, _/_, _%_, _^_, _<_, _≤_}
+use Prim.Native.Nat.{ℕ, suc, _+_, _-_, _<_, _≤_}
 use mathlib.Core.Path.{_≡_, refl, sym, ap, _∙_}
-use mathlib.Core.List.{[], _∷_, _++_, append-assoc}
-use native.Mathlib.Nat.{pow-suc}
+use mathlib.Core.List.{[], _∷_, _++_, append-assoc, append-nil}
 use native.Mathlib.Numerals.{add-one}
 use native.Mathlib.Omega.{arith}
-use native.Mathlib.Decide.{decLt}
 use borrow.Author.Tests.{lt-ltb, le-ltb}
-use lib.Dec.{ltb}
-use lib.ListN.{length, getD, take, drop, set, length-append, length-take, length-drop, length-set}
+use lib.ListN.{length, getD, take, drop, set, length-append, length-take, length-drop, length-set, take-append-drop}
 use lib.Seq.{append-snoc, set-split, take-at, drop-append-add, drop-drop, take-length, paste-zero, paste-suc, paste}
-use Rattle.laws.specs.Choice.{if_then_else_}
-use Rattle.sheet.specs.Text.{Bytes, spellDigits, spellNumber, spellInteger}
+use Rattle.sheet.specs.Text.{Bytes, spellNumber, spellInteger}
+use Rattle.sheet.proofs.Numbers.{spell-one, spell-more}
 use Rattle.laws.specs.Integers.{unbias}
 use Rattle.text.specs.Written.{Puts, LastOf}
 use Rattle.text.specs.declared.spelling.Tail.{Tail}
@@ -21,6 +18,16 @@ use Rattle.text.specs.declared.spelling.Tail.{Tail}
 module _ {at r : ℕ} {w before after : Bytes} (puts : Puts at w before after r) (room : at + length w ≤ length before) where
   pub puts-length : length after ≡ length before
   puts-length = ap length (puts .is) ∙ simp (length-append, length-take, length-drop) (omega arith)
+
+-- the room that is left behind it
+pub puts-room : {at r : ℕ} {v a b : Bytes} (w : Bytes) → Puts at v a b r → at + length (v ++ w) ≤ length a → r + length w ≤ length b
+puts-room {v} w p room = omega (arith, length-append v w, puts-length p (omega (arith, length-append v w)), p .end)
+
+pub puts-as : {at r : ℕ} {v w a b : Bytes} → Puts at v a b r → v ≡ w → Puts at w a b r
+puts-as p e = rw e at p
+
+pub puts-nothing : (at : ℕ) (l : Bytes) → Puts at [] l l at
+puts-nothing at l = record { is = sym (rw (append-nil (take at l)) (let z : at + 0 ≡ at = omega arith in rw z (take-append-drop at l))); end = omega arith }
 
 -- one thing behind another
 pub puts-then : {at r q : ℕ} {v w a b c : Bytes} → Puts at v a b r → Puts r w b c q → at + length v + length w ≤ length a → Puts at (v ++ w) a c q
@@ -64,26 +71,6 @@ module _ (at : ℕ) (w before : Bytes) (room : at + length w ≤ length before) 
 
 -- ---- digits
 
--- one digit more than are needed does no harm
-enough : (f g n : ℕ) → n < f → n < g → spellDigits f n ≡ spellDigits g n
-unfolding spellDigits
-enough zero g n p q = absurd (omega arith)
-enough (suc f) zero n p q = absurd (omega arith)
-enough (suc f) (suc g) n p q = go (decLt n 10) (enough f g (n / 10))
-  where
-    go : Dec (n < 10) → (n / 10 < f → n / 10 < g → spellDigits f (n / 10) ≡ spellDigits g (n / 10))
-        → (if ltb n 10 then (48 + n) ∷ [] else spellDigits f (n / 10) ++ ((48 + n % 10) ∷ [])) ≡ (if ltb n 10 then (48 + n) ∷ [] else spellDigits g (n / 10) ++ ((48 + n % 10) ∷ []))
-    go (yes l) ih = rw (lt-ltb n 10 l)
-    go (no l) ih = rw (ih (omega arith) (omega arith))
-
-spell-one : (n : ℕ) → n < 10 → spellNumber n ≡ (48 + n) ∷ []
-unfolding spellNumber spellDigits
-spell-one n h = rw (lt-ltb n 10 h)
-
-spell-more : (n : ℕ) → 10 ≤ n → spellNumber n ≡ spellNumber (n / 10) ++ ((48 + n % 10) ∷ [])
-unfolding spellNumber spellDigits
-spell-more n h = rw (le-ltb n 10 h) (ap (λ (l : Bytes). l ++ ((48 + n % 10) ∷ [])) (enough n (suc (n / 10)) (n / 10) (omega arith) (omega arith)))
-
 module _ {n : ℕ} {t : Tail} (last : LastOf n t) where
   pub last-only : t .rest ≡ 0 → (t .digit ∷ []) ≡ spellNumber n
   last-only h = sym (spell-one n (omega (arith, last .rest)) ∙ ap (λ (d : ℕ). d ∷ []) (omega (arith, last .rest, last .digit)))
@@ -114,15 +101,6 @@ module _ {n : ℕ} {t : Tail} (last : LastOf n t) where
 
       pub puts-back : {c : Bytes} {r : ℕ} → Puts e (t .digit ∷ []) b c r → Puts at (spellNumber n) a c r
       puts-back p = rw (last-more h) at (puts-then front p (omega (arith, last-room h)))
-
--- a number below a power of ten has no more digits
-pub spell-short : (k n : ℕ) → n < 10 ^ suc k → length (spellNumber n) ≤ suc k
-spell-short zero n h = rw (spell-one n h) (omega arith)
-spell-short (suc k) n h = go (decLt n 10) (spell-short k (n / 10) (omega (arith, rw (pow-suc 10 (suc k)) at h)))
-  where
-    go : Dec (n < 10) → length (spellNumber (n / 10)) ≤ suc k → length (spellNumber n) ≤ suc (suc k)
-    go (yes l) ih = rw (spell-one n l) (omega arith)
-    go (no l) ih = rw (spell-more n (omega arith), length-append (spellNumber (n / 10)) ((48 + n % 10) ∷ [])) (omega arith)
 
 -- ---- Integers
 

@@ -13,6 +13,7 @@ use Rattle.ocl.specs.Evaluation.{inRange}
 use Rattle.sheet.specs.Text.{Bytes, byte, digits, plain, valueOfDigits}
 use Rattle.text.specs.declared.numbers.Num.{Num}
 use Rattle.text.specs.declared.numbers.Num.the-variants.{Bad, Is}
+use Rattle.text.specs.declared.numbers.Digits.{Digits}
 use Rattle.text.specs.declared.numbers.Whole.{Whole}
 use Rattle.text.specs.declared.numbers.Whole.the-variants.{Bad as BadWhole, Out, Is as IsWhole}
 
@@ -31,6 +32,11 @@ leading s = if plain (digits s) then some (valueOfDigits 0 (digits s)) else none
 pub record DigitsEnd (s : Bytes) (at r : ℕ) : Type 0 where
   pub is : r ≡ at + length (digits (drop at s))
   pub within : r ≤ length s
+
+-- the digits from `at` on, and what they stand for, cut at a bound above every Integer of the range
+pub record DigitsRead (s : Bytes) (at : ℕ) (r : Digits) : Type 0 where
+  pub ends : DigitsEnd s at (r .end)
+  pub value : r .value ≡ min (valueOfDigits 0 (digits (drop at s))) 10000000000
 
 -- ---- Integers
 
@@ -59,3 +65,8 @@ leadingInteger s = onSome (leading (drop (minusAt s) s)) (signed (minusAt s))
 -- the Integer from `at` on ends at r
 pub record IntegerEnd (s : Bytes) (at r : ℕ) : Type 0 where
   pub digits : DigitsEnd s (at + minusAt (drop at s)) r
+
+-- its digits, and what they stand for
+pub record IntegerRead (s : Bytes) (at : ℕ) (r : Digits) : Type 0 where
+  pub ends : IntegerEnd s at (r .end)
+  pub value : r .value ≡ min (valueOfDigits 0 (digits (drop (at + minusAt (drop at s)) s))) 10000000000

@@ -1,11 +1,11 @@
 // Decimal numbers and Integers: of any length, without a leading zero and without `-0`. A number's value is cut at a bound
 // on the way, so that it fits a word; no limit of document 01 lies above the bound.
 ghost use mathlib.Core.Path.{_≡_};
-ghost use Prim.Native.Nat.{_+_, _-_, _≤_, min};
+ghost use Prim.Native.Nat.{_-_, _≤_, min};
 ghost use lib.ListN.{length, take, drop};
-ghost use Rattle.sheet.specs.Text.{plain as plainOf, valueOfDigits};
+ghost use Rattle.sheet.specs.Text.{plain as plainOf};
 ghost use Rattle.sheet.specs.Lines.{aNumber, anInteger};
-ghost use Rattle.text.specs.Numbers.{numOf, leading, DigitsEnd, wholeOf, minusAt, signed, leadingInteger, IntegerEnd};
+ghost use Rattle.text.specs.Numbers.{numOf, leading, DigitsRead, wholeOf, minusAt, signed, leadingInteger, IntegerRead};
 use crate::words::byte_kind;
 
 // A number as far as a million; one above it reads as a million.
@@ -21,19 +21,11 @@ pub enum Whole {
     Is(u64),
 }
 
-// The position after the digits that begin at `at`.
-pub fn digits_end(s: &[u8], at: usize) -> usize
-    requires { ⌜ at ≤ length (now s) ⌝ }
-    ensures { λ r. ⌜ DigitsEnd (now (s .entry)) at r ⌝ }
-{
-    let mut i = at;
-    while i < s.len() {
-        if byte_kind(s[i]) != 7 {
-            return i;
-        }
-        i += 1;
-    }
-    i
+// Digits in a row: the position after them, and the number that they stand for, cut at a bound above every Integer of the
+// range.
+pub struct Digits {
+    pub end: usize,
+    pub value: u64,
 }
 
 // Are the bytes from a up to e digits of a number without a leading zero, given that they are digits.
@@ -66,27 +58,31 @@ fn at_most(n: u64, bound: u64) -> u64
     if n < bound { n } else { bound }
 }
 
-// The number that the digits from a up to e stand for, cut at a bound above every Integer of the range.
-fn magnitude(s: &[u8], a: usize, e: usize) -> u64
-    requires { ⌜ (a ≤ e) × (e ≤ length (now s)) ⌝ }
-    ensures { λ r. ⌜ r ≡ min (valueOfDigits 0 (take (e - a) (drop a (now (s .entry))))) 10000000000 ⌝ }
+// The digits that begin at `at`, each looked at once.
+pub fn digits_at(s: &[u8], at: usize) -> Digits
+    requires { ⌜ at ≤ length (now s) ⌝ }
+    ensures { λ r. ⌜ DigitsRead (now (s .entry)) at r ⌝ }
 {
     let mut n: u64 = 0;
-    let mut i = a;
-    while i < e {
-        n = at_most(n * 10 + digit(s[i]), 10000000000);
+    let mut i = at;
+    while i < s.len() {
+        let b = s[i];
+        if byte_kind(b) != 7 {
+            return Digits { end: i, value: n };
+        }
+        n = at_most(n * 10 + digit(b), 10000000000);
         i += 1;
     }
-    n
+    Digits { end: i, value: n }
 }
 
-// The number that begins at `at`, whose digits end at `end`.
-pub fn number_at(s: &[u8], at: usize, end: usize) -> Num
-    requires { ⌜ DigitsEnd (now s) at end ⌝ }
+// The number that begins at `at`, which has these digits.
+pub fn number_at(s: &[u8], at: usize, d: Digits) -> Num
+    requires { ⌜ DigitsRead (now s) at d ⌝ }
     ensures { λ r. ⌜ r ≡ numOf (leading (drop at (now (s .entry)))) ⌝ }
 {
-    if plain(s, at, end) {
-        return Num::Is(at_most(magnitude(s, at, end), 1000000));
+    if plain(s, at, d.end) {
+        return Num::Is(at_most(d.value, 1000000));
     }
     Num::Bad
 }
@@ -95,9 +91,9 @@ pub fn number_at(s: &[u8], at: usize, end: usize) -> Num
 pub fn number(f: &[u8]) -> Num
     ensures { λ r. ⌜ r ≡ numOf (aNumber (now (f .entry))) ⌝ }
 {
-    let end = digits_end(f, 0);
-    if end == f.len() {
-        return number_at(f, 0, end);
+    let d = digits_at(f, 0);
+    if d.end == f.len() {
+        return number_at(f, 0, d);
     }
     Num::Bad
 }
@@ -133,24 +129,24 @@ fn by_sign(minuses: usize, n: u64) -> Whole
     Whole::Out
 }
 
-// The position after the Integer that begins at `at`, or after what could have been one.
-pub fn integer_end(s: &[u8], at: usize) -> usize
+// The digits of the Integer that begins at `at`, or of what could have been one.
+pub fn integer_digits(s: &[u8], at: usize) -> Digits
     requires { ⌜ at ≤ length (now s) ⌝ }
-    ensures { λ r. ⌜ IntegerEnd (now (s .entry)) at r ⌝ }
+    ensures { λ r. ⌜ IntegerRead (now (s .entry)) at r ⌝ }
 {
     let from = at + minus_at(s, at);
-    digits_end(s, from)
+    digits_at(s, from)
 }
 
-// The Integer that begins at `at`, which ends at `end`.
-pub fn integer_at(s: &[u8], at: usize, end: usize) -> Whole
-    requires { ⌜ IntegerEnd (now s) at end ⌝ }
+// The Integer that begins at `at`, which has these digits.
+pub fn integer_at(s: &[u8], at: usize, d: Digits) -> Whole
+    requires { ⌜ IntegerRead (now s) at d ⌝ }
     ensures { λ r. ⌜ r ≡ wholeOf (leadingInteger (drop at (now (s .entry)))) ⌝ }
 {
     let minuses = minus_at(s, at);
     let from = at + minuses;
-    if plain(s, from, end) {
-        return by_sign(minuses, magnitude(s, from, end));
+    if plain(s, from, d.end) {
+        return by_sign(minuses, d.value);
     }
     Whole::Bad
 }
@@ -159,9 +155,9 @@ pub fn integer_at(s: &[u8], at: usize, end: usize) -> Whole
 pub fn integer(f: &[u8]) -> Whole
     ensures { λ r. ⌜ r ≡ wholeOf (anInteger (now (f .entry))) ⌝ }
 {
-    let end = integer_end(f, 0);
-    if end == f.len() {
-        return integer_at(f, 0, end);
+    let d = integer_digits(f, 0);
+    if d.end == f.len() {
+        return integer_at(f, 0, d);
     }
     Whole::Bad
 }

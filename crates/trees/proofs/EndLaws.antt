@@ -5,12 +5,12 @@ use mathlib.Core.Option.{Option, none, some}
 use mathlib.Core.List.{List, [], _∷_, _++_, map, map-append}
 use Prim.Native.Nat.{ℕ, zero, suc, _+_, _-_, _*_, _/_, _%_, _<_, _≤_}
 use native.Mathlib.Omega.{arith}
-use native.Mathlib.Numerals.{add-one, sub-one}
+use native.Mathlib.Numerals.{add-one}
 use borrow.Author.Tests.{eq-eqb, ne-eqb, le-leb, lt-leb, not-true, not-false}
 use lib.Dec.{eqb, leb}
 use lib.ListN.{length, getD, set, length-append, length-set}
 use Rattle.laws.specs.Choice.{if_then_else_, onSome}
-use Rattle.laws.specs.Lists.{member, Each, each-nil, each-cons}
+use Rattle.laws.specs.Lists.{member, each-nil, each-cons}
 use Rattle.laws.proofs.Lists.{each-append}
 use Rattle.ocl.specs.Forms.{Expr, levels}
 use Rattle.sheet.specs.Sheet.{Current, Sheet, Rule, treeOf, lastTree, allUsed, endOf, endFor, endRule}
@@ -18,12 +18,12 @@ use Rattle.sheet.specs.Sheet.{withRule as ruleDown}
 use Rattle.sheet.specs.Refusals.{totalSize}
 use Rattle.types.specs.Word.{typeIn}
 use Rattle.nodes.specs.Nodes.{treeAt}
-use Rattle.tables.specs.Layout.{tab, usedBit, HoldsTables, HoldsRules, HoldsCurrent, HoldsOpen, closed, opened, Counted, Holds, Fine, Kept}
+use Rattle.tables.specs.Layout.{tab, usedBit, HoldsCurrent, HoldsOpen, closed, opened, Holds, Fine}
 use Rattle.tables.specs.declared.Counts.{Counts}
 use Rattle.tables.specs.declared.Step.the-variants as code
 use Rattle.tables.proofs.Tables.{tab-more, tab-before, tab-after, kept-refl, kept-set, kept-then}
 use Rattle.trees.specs.Operands.{depthAt}
-use Rattle.trees.specs.Rules.{RuleRoom, StepRoom, next-room, stop-room, usedIn, withRule, EndMoved, ended, refused, Ended}
+use Rattle.trees.specs.Rules.{RuleRoom, next-room, stop-room, usedIn, withRule, EndMoved, ended, refused, Ended}
 use Rattle.trees.proofs.NodeLaws.{OpenRule, open-rule}
 
 -- ---- the turns of `all_used`

@@ -5,10 +5,11 @@ use mathlib.Core.Option.{Option, none, some, Option·none-ne-some, Option·some-
 use mathlib.Core.List.{List, [], _∷_}
 use Prim.Native.Nat.{ℕ, zero, suc}
 use native.Mathlib.Omega.{arith}
-use borrow.Author.Tests.{eq-eqb, ne-eqb, eqb-true, eqb-false}
+use borrow.Author.Tests.{ne-eqb, eqb-true}
 use lib.Dec.{eqb}
 use lib.ListN.{length}
 use Rattle.laws.specs.Choice.{if_then_else_, onSome, mapSome}
+use Rattle.laws.proofs.Cases.{eqb-suc}
 use Rattle.laws.proofs.Options.{onSome-some, mapSome-some}
 use Rattle.sheet.specs.Text.{Bytes}
 use Rattle.sheet.specs.Lines.{Shape, next, done, each, aNumber}
@@ -37,13 +38,6 @@ exact-length m fs l e = go (eqb (length fs) m) refl e
 unfoldable pub chain : ℕ → (List ℕ → Shape) → List Bytes → Option Shape
 chain zero k = done (k [])
 chain (suc m) k = next aNumber (λ x. chain m (λ l. k (x ∷ l)))
-
-eqb-suc : (a b : ℕ) → eqb (suc a) (suc b) ≡ eqb a b
-eqb-suc a b = go (eqb a b) refl
-  where
-    go : (t : Bool) → eqb a b ≡ t → eqb (suc a) (suc b) ≡ t
-    go true e = eq-eqb (suc a) (suc b) (ap suc (eqb-true a b e))
-    go false e = ne-eqb (suc a) (suc b) (λ q. eqb-false a b e (omega arith))
 
 onto : (k : List ℕ → Shape) (x : ℕ) (o : Option (List ℕ)) → mapSome (λ l. k (x ∷ l)) o ≡ mapSome k (mapSome (λ l. x ∷ l) o)
 unfolding mapSome

@@ -1,14 +1,13 @@
 -- Laws of fields that are numbers, read one after the other. Assumes nothing.
 use mathlib.Core.Path.{_≡_, refl, sym, ap, _∙_}
-use mathlib.Core.Bool.{Bool, true, false}
+use mathlib.Core.Bool.{true, false}
 use mathlib.Core.Option.{Option, none, some}
 use mathlib.Core.List.{List, [], _∷_, _++_, map, append-assoc, append-nil}
-use Prim.Native.Nat.{ℕ, zero, suc, _+_, _-_, _≤_, _<_, min}
+use Prim.Native.Nat.{ℕ, zero, suc, _+_, _-_, _≤_, _<_}
 use native.Mathlib.Omega.{arith}
 use borrow.Author.Tests.{eq-eqb, ne-eqb}
-use lib.Dec.{eqb}
 use lib.ListN.{length, getD, take, drop, set, length-append, length-drop}
-use Rattle.laws.specs.Choice.{if_then_else_, onSome, mapSome}
+use Rattle.laws.specs.Choice.{onSome, mapSome}
 use lib.Seq.{getD-drop}
 use Rattle.laws.proofs.Parts.{at-next, part-next, part-none, part-all}
 use Rattle.laws.proofs.Tests.{Any?, any-some}
@@ -20,7 +19,7 @@ use Rattle.text.specs.declared.numbers.Num.the-variants as num
 use Rattle.text.specs.declared.parts.Fields.{Fields}
 use Rattle.text.proofs.NumberLaws.{num-bad, num-is}
 use Rattle.trees.specs.declared.numbers.Numbers.{Numbers}
-use Rattle.trees.specs.Fields.{cut, four, exact, Read, unread, read, NumbersRead}
+use Rattle.trees.specs.Fields.{cut, four, exact, unread, read, NumbersRead}
 
 -- the fields of a line that was cut are as many as it says
 pub field-count : {line : Bytes} {f : Fields} {to : ℕ} → Cut line f → to ≤ f .count → to ≤ length (fieldsOf line)

@@ -1,51 +1,32 @@
 -- The form that fields spell, from code to code: what the code's words stand for. Assumes nothing.
 use mathlib.Core.Path.{_≡_, refl, sym, ap, _∙_}
-use mathlib.Core.Bool.{Bool, true, false, not, _&&_, true≢false}
+use mathlib.Core.Bool.{Bool, true, false, _&&_, true≢false}
 use mathlib.Core.Option.{Option, none, some}
 use mathlib.Core.List.{List, [], _∷_, map}
-use Prim.Native.Nat.{ℕ, zero, suc, _+_, _-_, _<_, _≤_, min}
+use Prim.Native.Nat.{ℕ, _+_, _<_, _≤_}
 use native.Mathlib.Nat.{zero-add}
 use native.Mathlib.Omega.{arith}
 use native.Mathlib.Decide.{decLt}
-use borrow.Author.Tests.{eq-eqb, ne-eqb, eqb-true, eqb-false, lt-leb, le-leb, ltb-true, lt-ltb, le-ltb, leb-true}
-use lib.Dec.{eqb, ltb, leb}
-use lib.ListN.{length, getD, take, drop}
-use Rattle.laws.specs.Choice.{if_then_else_, onSome, mapSome}
+use borrow.Author.Tests.{lt-leb, le-leb, ltb-true, lt-ltb, le-ltb}
+use lib.Dec.{ltb, leb}
+use lib.ListN.{length, getD, take}
+use Rattle.laws.specs.Choice.{mapSome}
 use Rattle.laws.specs.Lists.{allOf}
-use Rattle.laws.proofs.Bounds.{cut-lt}
-use Rattle.ocl.specs.Types.{set, sequence, bag, Ty}
-use Rattle.ocl.specs.Forms.{plus, minus, times, div, modulo, Connective, and, or, Quantifier, forAll, exists, Leaf, truth, undef, self, var, all, Unary, negation, sizeOf, convert, castTo, Binary, equal, less, arith as calculation, includes, including, union}
+use Rattle.laws.proofs.Cases.{AllBelow, all-below, from-below, zero-least}
+use Rattle.ocl.specs.Types.{set, sequence, bag}
+use Rattle.ocl.specs.Forms.{plus, minus, times, div, modulo, Connective, and, or, Leaf, truth, undef, self, Unary, negation, sizeOf, convert, Binary, equal, less, arith as calculation, includes, including, union}
 use Rattle.sheet.specs.Text.{Bytes}
-use Rattle.sheet.specs.Lines.{Shape, leaf, unary, binary, connective, isUndef, conditional, letIn, attribute, quantified, iterate, collect, next, done, aNumber, oneOperand, twoOperands, threeNumbers}
+use Rattle.sheet.specs.Lines.{Shape, leaf, unary, binary, connective, isUndef, conditional, letIn, attribute, quantified, iterate, collect, done, oneOperand, twoOperands, threeNumbers}
 use Rattle.sheet.specs.Sheet.{operandsOf}
-use Rattle.sheet.specs.Refusals.{isNode, isClass, isVariable, leafWithin, unaryWithin, formWithin, twoVariables, leafKnown, unaryKnown, formKnown}
+use Rattle.sheet.specs.Refusals.{isNode, isVariable, leafWithin, unaryWithin, formWithin, twoVariables, leafKnown, unaryKnown, formKnown}
 use Rattle.text.specs.Forms.{shapeBy}
-use Rattle.nodes.specs.Nodes.{leafWords, unaryWords, binaryCode, arithCode, connectiveCode, quantifierCode, shapeWords}
+use Rattle.nodes.specs.Nodes.{leafWords, unaryWords, binaryCode, arithCode, connectiveCode, shapeWords}
 use Rattle.nodes.proofs.Shapes.{TypeSaid}
 use Rattle.trees.specs.declared.Parsed.{Parsed}
 use Rattle.trees.specs.declared.numbers.Numbers.{Numbers}
 use Rattle.trees.specs.Fields.{cut, four, exact, Read, unread, read, NumbersRead}
-use Rattle.trees.specs.Forms.{operandsAt, Stands, Spelled, misspelled, spelled, FormRead, PlainCode, constant, itself, one, two, undefTest, conditional as conditionalCode, QuantifierCode}
+use Rattle.trees.specs.Forms.{Stands, Spelled, misspelled, spelled, FormRead, PlainCode, constant, itself, one, two, undefTest, conditional as conditionalCode}
 use Rattle.trees.proofs.ExactLaws.{chain, chain-exact, exact-length}
-
--- ---- a number below a bound by cases
-
-unfoldable pub AllBelow : (ℕ → Type 0) → ℕ → Type 0
-AllBelow P zero = Unit
-AllBelow P (suc n) = AllBelow P n × P n
-
-pub all-below : (P : ℕ → Type 0) (n : ℕ) → AllBelow P n → (k : ℕ) → k < n → P k
-unfolding AllBelow
-all-below P zero h k l = absurd (omega arith)
-all-below P (suc n) h k l = go (eqb k n) refl (all-below P n (h .0) k)
-  where
-    go : (b : Bool) → eqb k n ≡ b → (k < n → P k) → P k
-    go true e ih = rw (eqb-true k n e) (h .1)
-    go false e ih = ih (let q = eqb-false k n e in omega arith)
-
--- from a to a + n
-pub from-below : (P : ℕ → Type 0) (a n : ℕ) → AllBelow (λ k. P (a + k)) n → (k : ℕ) → a ≤ k → k < a + n → P k
-from-below P a n h k l m = let e : a + (k - a) ≡ k = omega arith in rw e at (all-below (λ j. P (a + j)) n h (k - a) (omega arith))
 
 -- ---- tests that do not see the cut
 
@@ -129,7 +110,7 @@ plain-stands : {code line m : ℕ} {g : Bool} {at : List ℕ} (l : List ℕ) {x 
 plain-stands {code} {line} {m} l {x} is n few e = record {
   within = sym (is .within);
   apart = λ h. sym (is .apart);
-  known = λ h n l. le-leb 0 n (omega arith) ∙ sym (is .known n);
+  known = λ h n l. zero-least n ∙ sym (is .known n);
   counted = sym n ∙ ap length (sym (is .operands));
   operands = rw (← n, e, is .operands) (plain-operands l line (omega arith));
   type = 0;

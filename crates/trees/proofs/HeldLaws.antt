@@ -1,18 +1,18 @@
 -- Forms that hold a number besides their operands: a variable, a class, a name. Assumes nothing.
-use mathlib.Core.Path.{_≡_, refl, sym, ap, _∙_}
-use mathlib.Core.Bool.{Bool, true, false}
+use mathlib.Core.Path.{_≡_, refl, ap, _∙_}
+use mathlib.Core.Bool.{Bool, true}
 use mathlib.Core.List.{List, [], _∷_, map}
-use Prim.Native.Nat.{ℕ, zero, suc, _+_, _<_, _≤_}
+use Prim.Native.Nat.{ℕ, _+_}
 use native.Mathlib.Nat.{zero-add}
 use native.Mathlib.Omega.{arith}
-use borrow.Author.Tests.{le-leb}
-use lib.Dec.{ltb, leb}
-use lib.ListN.{length, getD, List·getD-map}
+use lib.Dec.{ltb}
+use lib.ListN.{getD, List·getD-map}
 use Rattle.laws.specs.Lists.{allOf}
 use Rattle.laws.proofs.Bounds.{cut-lt}
+use Rattle.laws.proofs.Cases.{AllBelow, from-below, zero-least}
 use Rattle.ocl.specs.Forms.{Quantifier, forAll, exists, var, all, castTo}
 use Rattle.sheet.specs.Text.{Bytes}
-use Rattle.sheet.specs.Lines.{Shape, leaf, unary, letIn, attribute, quantified, oneOperand, twoOperands, threeNumbers}
+use Rattle.sheet.specs.Lines.{leaf, unary, letIn, attribute, quantified, twoOperands, threeNumbers}
 use Rattle.sheet.specs.Sheet.{operandsOf}
 use Rattle.sheet.specs.Refusals.{isNode, isClass, isVariable, leafWithin, unaryWithin, formWithin, twoVariables, leafKnown, unaryKnown, formKnown}
 use Rattle.text.specs.Forms.{shapeBy}
@@ -21,7 +21,7 @@ use Rattle.trees.specs.declared.numbers.Numbers.{Numbers}
 use Rattle.trees.specs.Fields.{cut, four, exact, NumbersRead}
 use Rattle.trees.specs.Forms.{Stands, FormRead, QuantifierCode}
 use Rattle.trees.proofs.ExactLaws.{chain}
-use Rattle.trees.proofs.FormLaws.{AllBelow, from-below, cut-variable, variable-small, below-small, cut-class, nodes-small, numbers-form, isIterate, no-type}
+use Rattle.trees.proofs.FormLaws.{cut-variable, variable-small, below-small, cut-class, nodes-small, numbers-form, isIterate, no-type}
 
 -- ---- the numbers that were read
 
@@ -51,7 +51,7 @@ module _ (at l : List ℕ) (e : at ≡ four (map cut l)) where
   variable-stands v = record {
     within = v ∙ ap isVariable first ∙ cut-variable (getD l 0 0);
     apart = λ h. refl;
-    known = λ h n q. le-leb 0 n (omega arith);
+    known = λ h n q. zero-least n;
     counted = refl;
     operands = refl;
     type = 0;
@@ -90,7 +90,7 @@ module _ (at l : List ℕ) (e : at ≡ four (map cut l)) where
   attribute-stands = record {
     within = ap (λ (c : ℕ). ltb c 256) second ∙ cut-lt (getD l 1 0) 1000000 256 (omega arith);
     apart = λ h. refl;
-    known = λ h n q. le-leb 0 n (omega arith);
+    known = λ h n q. zero-least n;
     counted = refl;
     operands = rw first;
     type = 0;
@@ -104,7 +104,7 @@ module _ (at l : List ℕ) (e : at ≡ four (map cut l)) where
   let-stands v = record {
     within = v ∙ ap isVariable first ∙ cut-variable (getD l 0 0);
     apart = λ h. refl;
-    known = λ h n q. le-leb 0 n (omega arith);
+    known = λ h n q. zero-least n;
     counted = refl;
     operands = rw (second, third);
     type = 0;
@@ -118,7 +118,7 @@ module _ (at l : List ℕ) (e : at ≡ four (map cut l)) where
   quantifier-stands q c v = record {
     within = v ∙ ap isVariable second ∙ cut-variable (getD l 1 0);
     apart = λ h. refl;
-    known = λ h n q. le-leb 0 n (omega arith);
+    known = λ h n q. zero-least n;
     counted = refl;
     operands = rw (first, third);
     type = 0;

@@ -3,25 +3,28 @@ use mathlib.Core.Path.{_≡_, refl, sym, ap, _∙_}
 use mathlib.Core.Bool.{Bool, true, false, not, _&&_, true≢false}
 use mathlib.Core.Option.{Option, none, some}
 use mathlib.Core.List.{List, [], _∷_, map}
-use Prim.Native.Nat.{ℕ, zero, suc, _+_, _-_, _^_, _<_, _≤_}
+use Prim.Native.Nat.{ℕ, _+_, _-_, _<_}
 use native.Mathlib.Nat.{zero-add}
 use native.Mathlib.Omega.{arith}
-use borrow.Author.Tests.{le-leb, lt-leb, lt-ltb, le-ltb, ltb-true}
+use borrow.Author.Tests.{le-leb, lt-leb, lt-ltb, le-ltb}
 use native.Mathlib.Decide.{decLt}
 use lib.Dec.{eqb, ltb, leb}
 use lib.ListN.{length, getD, take, drop}
 use lib.Seq.{drop-drop, getD-drop}
-use Rattle.laws.specs.Choice.{if_then_else_, onSome, mapSome}
-use Rattle.laws.specs.Lists.{allOf}
-use Rattle.ocl.specs.Types.{Simple, any, boolean, integer, class, Ty, void, simple, around, depth}
+use Rattle.laws.specs.Choice.{onSome, mapSome}
+use Rattle.laws.proofs.Cases.{zero-least}
+use Rattle.laws.proofs.Options.{nowhere}
+use Rattle.laws.proofs.Tests.{and-true}
+use Rattle.ocl.specs.Types.{Ty}
 use Rattle.sheet.specs.Text.{Bytes, fieldsOf}
 use Rattle.sheet.specs.Spelling.{readType}
-use Rattle.sheet.specs.Lines.{Shape, iterate, next, done, each, aNumber, iterateFields}
+use Rattle.sheet.specs.Lines.{iterate, next, done, each, aNumber, iterateFields}
 use Rattle.sheet.specs.Sheet.{operandsOf}
-use Rattle.sheet.specs.Refusals.{isNode, isVariable, simpleClassBelow, classBelow, typeWithin, formWithin, twoVariables, formKnown}
-use Rattle.types.specs.Flat.{baseType, baseClass, layer, tyOf}
+use Rattle.sheet.specs.Refusals.{isVariable, simpleClassBelow, classBelow, typeWithin, formWithin, twoVariables, formKnown}
+use Rattle.types.specs.Flat.{baseType, baseClass, tyOf}
 use Rattle.types.specs.Word.{typeIn}
-use Rattle.types.specs.Reading.{TypeField, bad, big, is, typeField, held}
+use Rattle.types.specs.Reading.{is, typeField, held}
+use Rattle.types.proofs.Within.{read-bad, read-big, read-is, type-class, within-class}
 use Rattle.types.specs.declared.Base.{Base}
 use Rattle.types.specs.declared.Base.the-variants as b
 use Rattle.types.specs.declared.FlatType.{FlatType}
@@ -31,7 +34,6 @@ use Rattle.text.specs.Forms.{shapeBy}
 use Rattle.text.specs.Parts.{Cut}
 use Rattle.text.specs.declared.parts.Fields.{Fields}
 use Rattle.nodes.specs.Nodes.{shapeWords}
-use Rattle.nodes.proofs.Shapes.{TypeSaid}
 use Rattle.trees.specs.declared.Parsed.{Parsed}
 use Rattle.trees.specs.declared.numbers.Numbers.{Numbers}
 use Rattle.trees.specs.declared.iterate.TypeRead.{TypeRead}
@@ -40,107 +42,42 @@ use Rattle.trees.specs.Forms.{Stands, Spelled, misspelled, spelled, Form
 use Rattle.trees.specs.Iterate.{classesIn, Typed, TypeSpelled, no-type, a-type}
 use Rattle.trees.proofs.FieldLaws.{rest-exact}
 use Rattle.trees.proofs.FormLaws.{cut-variable, variable-small, nodes-small}
-use Rattle.trees.proofs.HeldLaws.{cut-at}
 
 -- ---- the class in a type
 
-layer-class : (n k : ℕ) (base under : Ty) → classBelow n under ≡ classBelow n base → classBelow n (layer k base under) ≡ classBelow n base
-unfolding layer classBelow
-layer-class n zero base under h = refl
-layer-class n (suc k) base under h = h
-
-type-class : (n : ℕ) (t : FlatType) → classBelow n (tyOf t) ≡ classBelow n (baseType (t .base))
-type-class n t =
-    layer-class n (t .outer) (baseType (t .base)) _
-    (layer-class n (t .middle) (baseType (t .base)) _ (layer-class n (t .inner) (baseType (t .base)) (baseType (t .base)) refl))
-
 base-known : (n : ℕ) (a : Base) → leb (classesIn a) n ≡ classBelow n (baseType a)
 unfolding classesIn classBelow simpleClassBelow
-base-known n b.Void = le-leb 0 n (omega arith)
-base-known n b.Bool = le-leb 0 n (omega arith)
-base-known n b.Int = le-leb 0 n (omega arith)
-base-known n b.Any = le-leb 0 n (omega arith)
+base-known n b.Void = zero-least n
+base-known n b.Bool = zero-least n
+base-known n b.Int = zero-least n
+base-known n b.Any = zero-least n
 base-known n (b.Class c) = go (decLt c n)
   where
     go : Dec (c < n) → leb (c + 1) n ≡ ltb c n
     go (yes l) = le-leb (c + 1) n (omega arith) ∙ sym (lt-ltb c n l)
     go (no l) = lt-leb (c + 1) n (omega arith) ∙ sym (le-ltb c n (omega arith))
 
-base-small : (a : Base) → classBelow 64 (baseType a) ≡ true → baseClass a < 64
-unfolding classBelow simpleClassBelow
-base-small b.Void h = omega arith
-base-small b.Bool h = omega arith
-base-small b.Int h = omega arith
-base-small b.Any h = omega arith
-base-small (b.Class c) h = ltb-true c 64 h
-
 -- ---- what a field of a type tells
-
-data Held (t : FlatType) : Option Ty → Type 0 where
-  held-as : typeWithin (tyOf t) ≡ true → Held t (some (tyOf t))
-
-type-held : (t : FlatType) (o : Option Ty) → is (tyOf t) ≡ held o → Held t o
-unfolding held
-type-held t none e = absurd (let z : _≡_ {A = ℕ} 0 1 = cc in omega arith)
-type-held t (some u) e = go (typeWithin u) refl e
-  where
-    go : (w : Bool) → typeWithin u ≡ w → is (tyOf t) ≡ (if w then is u else big) → Held t (some u)
-    go true h e = let q : tyOf t ≡ u = cc in rw (← q) (held-as (rw q h))
-    go false h e = absurd (let z : _≡_ {A = ℕ} 0 1 = cc in omega arith)
-
-and-second : (a b : Bool) → (a && b) ≡ true → b ≡ true
-and-second true b h = h
-and-second false b h = absurd (true≢false (sym h))
 
 module _ {r : GotType} (o : Option Ty) (told : typeField r ≡ held o) where
   pub type-bad : r ≡ g.Bad → TypeSpelled o (record { spelled = false; within = false; word = 0; classes = 0 })
-  unfolding typeField held
-  type-bad e = go o (rw e at told)
-    where
-      go : (o : Option Ty) → bad ≡ held o → TypeSpelled o (record { spelled = false; within = false; word = 0; classes = 0 })
-      go none q = no-type refl
-      go (some t) q = absurd (by (typeWithin t) q)
-        where
-          by : (w : Bool) → bad ≡ (if w then is t else big) → ⊥
-          by true q = let z : _≡_ {A = ℕ} 0 1 = cc in omega arith
-          by false q = let z : _≡_ {A = ℕ} 0 1 = cc in omega arith
+  type-bad e = rw (read-bad o told e) (no-type refl)
 
   pub type-big : r ≡ g.Big → TypeSpelled o (record { spelled = true; within = false; word = 0; classes = 0 })
-  unfolding typeField held
-  type-big e = go o (rw e at told)
-    where
-      over : (t : Ty) (w : Bool) → typeWithin t ≡ w → big ≡ (if w then is t else big) → TypeSpelled (some t) (record { spelled = true; within = false; word = 0; classes = 0 })
-      over t true h q = absurd (let z : _≡_ {A = ℕ} 0 1 = cc in omega arith)
-      over t false h q = a-type refl (record { within = sym h; word = λ k. absurd (true≢false (sym k ∙ h)); known = λ k. absurd (true≢false (sym k ∙ h)) })
-
-      go : (o : Option Ty) → big ≡ held o → TypeSpelled o (record { spelled = true; within = false; word = 0; classes = 0 })
-      go none q = absurd (let z : _≡_ {A = ℕ} 0 1 = cc in omega arith)
-      go (some t) q = over t (typeWithin t) refl q
+  type-big e =
+      let x = read-big o told e in
+      rw (x .1) (a-type refl (record { within = sym (x .2); word = λ k. absurd (true≢false (sym k ∙ x .2)); known = λ k. absurd (true≢false (sym k ∙ x .2)) }))
 
   module _ (t : FlatType) (e : r ≡ g.Is t) where
-    is-held : Held t o
-    unfolding typeField
-    is-held = type-held t o (rw e at told)
-
     pub type-small : baseClass (t .base) < 64
-    unfolding typeWithin
-    type-small = go is-held
-      where
-        go : {o : Option Ty} → Held t o → baseClass (t .base) < 64
-        go (held-as h) = base-small (t .base) (sym (type-class 64 t) ∙ and-second (leb (depth (tyOf t)) 3) (classBelow 64 (tyOf t)) h)
+    type-small = within-class t (read-is o told t e .1)
 
     pub type-is : {word classes : ℕ} → typeIn word ≡ tyOf t → classes ≡ classesIn (t .base) → TypeSpelled o (record { spelled = true; within = true; word = word; classes = classes })
-    type-is {word} {classes} p q = go is-held
-      where
-        go : {o : Option Ty} → Held t o → TypeSpelled o (record { spelled = true; within = true; word = word; classes = classes })
-        go (held-as h) = a-type {r = record { spelled = true; within = true; word = word; classes = classes }} refl (record { within = sym h; word = λ k. p; known = λ k n. rw (q, base-known n (t .base)) (sym (type-class n t)) })
+    type-is {word} {classes} p q =
+        let x = read-is o told t e in
+        rw (x .0) (a-type {r = record { spelled = true; within = true; word = word; classes = classes }} refl (record { within = sym (x .1); word = λ k. p; known = λ k n. rw (q, base-known n (t .base)) (sym (type-class n t)) }))
 
 -- ---- the six fields
-
-nowhere : {A B : Type 0} (o : Option A) (f : A → Option B) → ((x : A) → f x ≡ none) → onSome o f ≡ none
-unfolding onSome
-nowhere none f h = refl
-nowhere (some x) f h = h x
 
 pub iterate-not : (fs : List Bytes) → (length fs ≡ 6 → ⊥) → shapeBy 34 fs ≡ none
 unfolding shapeBy iterateFields next done
@@ -165,10 +102,6 @@ parsed good within apart h t y line = record {
   classes = y .classes;
 }
 
-and-first : (a b : Bool) → (a && b) ≡ true → a ≡ true
-and-first true b h = refl
-and-first false b h = h
-
 module _ (h t : Numbers) (y : TypeRead) {good within apart : Bool} (line : ℕ)
     (w : within ≡ (isVariable (getD (h .at) 1 0) && isVariable (getD (h .at) 2 0) && y .within)) (d : apart ≡ not (eqb (getD (h .at) 1 0) (getD (h .at) 2 0))) where
   iterate-stands : (s i j e b : ℕ) (u : Ty) → h .at ≡ four (map cut (s ∷ i ∷ j ∷ [])) → t .at ≡ four (map cut (e ∷ b ∷ [])) → Typed u y → Stands line (iterate i j u s e b) (parsed good within apart h t y line)
@@ -187,16 +120,16 @@ module _ (h t : Numbers) (y : TypeRead) {good within apart : Bool} (line : ℕ)
   }
     where
       both : (isVariable i && isVariable j && typeWithin u) ≡ true → (isVariable i && isVariable j) ≡ true
-      both k = and-first (isVariable i && isVariable j) (typeWithin u) k
+      both k = and-true (isVariable i && isVariable j) (typeWithin u) k .0
 
       member : (isVariable i && isVariable j && typeWithin u) ≡ true → isVariable i ≡ true
-      member k = and-first (isVariable i) (isVariable j) (both k)
+      member k = and-true (isVariable i) (isVariable j) (both k) .0
 
       accumulator : (isVariable i && isVariable j && typeWithin u) ≡ true → isVariable j ≡ true
-      accumulator k = and-second (isVariable i) (isVariable j) (both k)
+      accumulator k = and-true (isVariable i) (isVariable j) (both k) .1
 
       typed : (isVariable i && isVariable j && typeWithin u) ≡ true → typeWithin u ≡ true
-      typed k = and-second (isVariable i && isVariable j) (typeWithin u) k
+      typed k = and-true (isVariable i && isVariable j) (typeWithin u) k .1
 
   module _ (all : good ≡ (h .good && y .spelled && t .good)) where
     off-head : h .good ≡ false → good ≡ false

@@ -1,18 +1,17 @@
 -- A line whose first field is `N`: what its fields spell, and what the code makes of it. Assumes nothing.
-use mathlib.Core.Path.{_≡_, refl, sym, ap, _∙_}
-use mathlib.Core.Bool.{Bool, true, false, not, true≢false}
+use mathlib.Core.Path.{_≡_, refl, sym, _∙_}
+use mathlib.Core.Bool.{true, false, not, true≢false}
 use mathlib.Core.Option.{Option, none, some}
 use mathlib.Core.List.{List, [], _∷_}
-use Prim.Native.Nat.{ℕ, zero, suc, _<_, _≤_}
+use Prim.Native.Nat.{ℕ, _<_, _≤_}
 use native.Mathlib.Omega.{arith}
 use borrow.Author.Tests.{eqb-true, not-true, not-false}
-use lib.Dec.{eqb}
 use lib.ListN.{length, getD, drop}
-use Rattle.laws.specs.Choice.{if_then_else_, onSome, mapSome}
+use Rattle.laws.specs.Choice.{onSome, mapSome}
+use Rattle.laws.proofs.Options.{nowhere}
 use Rattle.laws.proofs.Tests.{Any?, any-some}
-use Rattle.sheet.specs.Text.{Bytes, bytes, fieldsOf}
-use Rattle.sheet.specs.Lines.{Shape, Line, nodeLine, is, next, aNumber, aWord, shapeOf, lineOf, firstIsN}
-use Rattle.sheet.specs.Sheet.{Sheet}
+use Rattle.sheet.specs.Text.{Bytes, fieldsOf}
+use Rattle.sheet.specs.Lines.{Shape, nodeLine, is, next, aNumber, aWord, shapeOf, lineOf, firstIsN}
 use Rattle.sheet.specs.Reading.{stepSpelled, step}
 use Rattle.text.specs.Forms.{shapeBy}
 use Rattle.text.specs.Numbers.{numOf}
@@ -23,7 +22,7 @@ use Rattle.text.specs.declared.parts.Fields.{Fields}
 use Rattle.text.proofs.NumberLaws.{num-bad, num-is}
 use Rattle.text.proofs.ShapeLaws.{shape-code}
 use Rattle.text.proofs.WordLaws.{is-class-line, is-row-line, is-object-line, is-value-line, is-rule-line, is-node-line}
-use Rattle.tables.specs.Layout.{Kept, Moved, moved-stop, Took}
+use Rattle.tables.specs.Layout.{moved-stop}
 use Rattle.tables.specs.declared.Counts.{Counts}
 use Rattle.tables.specs.declared.Step.{Step}
 use Rattle.tables.specs.declared.Step.the-variants as code
@@ -48,14 +47,10 @@ module _ (fs : List Bytes) (starts : firstIsN fs ≡ true) where
   unfolding onSome next
   few-fields h = node-fields fs starts ∙ go fs h
     where
-      end : (o : Option ℕ) → _≡_ {A = Option Line} (onSome o (λ n. none)) none
-      end none = refl
-      end (some n) = refl
-
       go : (fs : List Bytes) → length fs < 3 → next aNumber (λ n. next aWord (λ form gs. mapSome (nodeLine n) (shapeOf form gs))) (drop 1 fs) ≡ none
       go [] l = refl
       go (w ∷ []) l = refl
-      go (w ∷ a ∷ []) l = end (aNumber a)
+      go (w ∷ a ∷ []) l = nowhere (aNumber a) _ (λ n. refl)
       go (w ∷ a ∷ b ∷ fs) l = absurd (omega arith)
 
   line-of : 3 ≤ length fs → lineOf fs ≡ onSome (aNumber (getD fs 1 [])) (λ n. mapSome (nodeLine n) (shapeBy (formCode (getD fs 2 [])) (drop 3 fs)))
@@ -102,12 +97,8 @@ module _ {line : List ℕ} {f : Fields} (is : Cut line f) (starts : firstIsN (fi
       unfolding onSome mapSome
       line-form h = took-none (spelled-line ∙ rw (← coded) (go (aNumber (getD (fieldsOf line) 1 [])) (form .is)))
         where
-          end : (o : Option ℕ) → _≡_ {A = Option Line} (onSome o (λ n. none)) none
-          end none = refl
-          end (some n) = refl
-
           go : (o : Option ℕ) {q : Option Shape} → Spelled k q p → onSome o (λ n. mapSome (nodeLine n) q) ≡ none
-          go o (misspelled e) = end o
+          go o (misspelled e) = nowhere o _ (λ n. refl)
           go o (spelled e z) = absurd (true≢false (sym e ∙ not-true (p .spelled) h))
 
       pub line-placed : {st : Counts} {n : ℕ} {r : Step} {w v : List ℕ} → num.Is n ≡ numOf (aNumber (getD (fieldsOf line) 1 [])) → not (p .spelled) ≡ false → Placed st n p r w v → TookNode st k line r w v

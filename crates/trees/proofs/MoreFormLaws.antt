@@ -1,33 +1,30 @@
 -- `int` and `coll`, and codes of no form. Assumes nothing.
-use mathlib.Core.Path.{_≡_, refl, sym, ap, _∙_}
+use mathlib.Core.Path.{_≡_, refl, sym, _∙_}
 use mathlib.Core.Bool.{Bool, true, false, true≢false}
 use mathlib.Core.Option.{Option, none, some}
 use mathlib.Core.List.{List, [], _∷_, map}
-use Prim.Native.Nat.{ℕ, zero, suc, _+_, _-_, _<_, _≤_}
+use Prim.Native.Nat.{ℕ, _+_, _<_, _≤_}
 use native.Mathlib.Nat.{zero-add}
 use native.Mathlib.Omega.{arith}
 use borrow.Author.Tests.{eq-eqb, ne-eqb, eqb-true, eqb-false, le-leb, lt-leb}
-use lib.IntN.{ℤ, pos, negsuc}
-use lib.Dec.{eqb, ltb, leb}
-use lib.ListN.{length, getD, take, drop, length-drop}
+use lib.IntN.{ℤ}
+use lib.Dec.{eqb}
+use lib.ListN.{length, getD, take}
 use Rattle.laws.specs.Choice.{if_then_else_, orElse, onSome, mapSome}
-use Rattle.laws.specs.Integers as laws
-use Rattle.laws.specs.Lists.{allOf}
-use Rattle.laws.proofs.Parts.{at-next, part-all}
+use Rattle.laws.proofs.Cases.{AllBelow, from-below, zero-least}
+use Rattle.laws.proofs.Options.{nowhere}
 use Rattle.laws.proofs.Tests.{Any?, any-some}
 use Rattle.ocl.specs.Types.{Kind, set, sequence, bag}
 use Rattle.ocl.specs.Evaluation.{inRange}
 use Rattle.ocl.specs.Forms.{number}
-use Rattle.sheet.specs.Text.{Bytes, bytes, after, literal, _or_, whole, atEnd, fieldsOf}
-use Rattle.sheet.specs.Lines.{Shape, leaf, collect, next, done, each, aNumber, anInteger, aKind, atMostFour, collectFields}
+use Rattle.sheet.specs.Text.{Bytes, bytes, after, literal, _or_, whole, atEnd}
+use Rattle.sheet.specs.Lines.{leaf, collect, next, done, each, aNumber, anInteger, aKind, atMostFour, collectFields}
 use Rattle.sheet.specs.Sheet.{operandsOf}
-use Rattle.sheet.specs.Refusals.{isNode, leafWithin, formWithin, twoVariables, leafKnown, formKnown}
+use Rattle.sheet.specs.Refusals.{leafWithin, formWithin, twoVariables, leafKnown, formKnown}
 use Rattle.text.specs.Forms.{shapeBy}
 use Rattle.text.specs.Numbers.{bias, wholeOf}
-use Rattle.text.specs.Parts.{Cut}
 use Rattle.text.specs.Words.{letterOf}
 use Rattle.text.specs.declared.numbers.Whole.the-variants as integer
-use Rattle.text.specs.declared.parts.Fields.{Fields}
 use Rattle.text.proofs.IntegerLaws.{whole-bad, whole-out, whole-is}
 use Rattle.nodes.specs.Nodes.{leafWords, collectCode, operandWord, shapeWords}
 use Rattle.trees.specs.declared.Parsed.{Parsed}
@@ -35,13 +32,7 @@ use Rattle.trees.specs.declared.numbers.Numbers.{Numbers}
 use Rattle.trees.specs.Fields.{cut, four, Read, unread, read, NumbersRead}
 use Rattle.trees.specs.Forms.{Stands, Spelled, misspelled, spelled, FormRead, kindCode}
 use Rattle.trees.proofs.ExactLaws.{each-length}
-use Rattle.trees.proofs.FormLaws.{AllBelow, from-below, nodes-small, isIterate, no-type}
-
--- what leads nowhere
-nowhere : {A B : Type 0} (o : Option A) → _≡_ {A = Option B} (onSome o (λ x. none)) none
-unfolding onSome
-nowhere none = refl
-nowhere (some x) = refl
+use Rattle.trees.proofs.FormLaws.{nodes-small, isIterate, no-type}
 
 -- ---- `int`
 
@@ -49,7 +40,7 @@ pub integer-not : (fs : List Bytes) → (length fs ≡ 1 → ⊥) → shapeBy 3 
 unfolding shapeBy next done
 integer-not [] h = refl
 integer-not (f ∷ []) h = absurd (h refl)
-integer-not (f ∷ g ∷ fs) h = nowhere (anInteger f)
+integer-not (f ∷ g ∷ fs) h = nowhere (anInteger f) _ (λ z. refl)
 
 integer-one : (fs : List Bytes) → length fs ≡ 1 → shapeBy 3 fs ≡ onSome (anInteger (getD fs 0 [])) (λ z. some (leaf (number z)))
 unfolding shapeBy next done
@@ -98,7 +89,7 @@ module _ (fs : List Bytes) (many : length fs ≡ 1) where
           (record {
             within = sym (e .0);
             apart = λ h. refl;
-            known = λ h n q. le-leb 0 n (omega arith);
+            known = λ h n q. zero-least n;
             counted = refl;
             operands = refl;
             type = 0;
@@ -185,7 +176,7 @@ unfolding formWithin twoVariables formKnown operandsOf isIterate
 collect-stands {line} k es c n few e = record {
   within = refl;
   apart = λ h. refl;
-  known = λ h n q. le-leb 0 n (omega arith);
+  known = λ h n q. zero-least n;
   counted = sym n;
   operands = rw (e, ← n) (collect-operands es (length es) 0 line (omega arith));
   type = 0;

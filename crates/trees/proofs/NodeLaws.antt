@@ -1,38 +1,37 @@
 -- A node that is taken, or refused for its operands: the tables afterwards. Assumes nothing.
 use mathlib.Core.Path.{_≡_, refl, sym, ap, _∙_}
-use mathlib.Core.Bool.{Bool, true, false, _||_}
+use mathlib.Core.Bool.{true, false}
 use mathlib.Core.Option.{Option, none, some}
-use mathlib.Core.List.{List, [], _∷_, _++_, map}
-use Prim.Native.Nat.{ℕ, zero, suc, _+_, _-_, _*_, _<_, _≤_, max}
+use mathlib.Core.List.{List, [], _∷_, _++_}
+use Prim.Native.Nat.{ℕ, zero, suc, _+_, _*_, _<_, _≤_, max}
 use native.Mathlib.Omega.{arith}
 use native.Mathlib.Decide.{decLt}
-use borrow.Author.Tests.{ne-eqb, le-leb}
-use lib.Dec.{eqb, leb}
+use borrow.Author.Tests.{le-leb}
 use lib.ListN.{length, getD, set, length-append, List·getD-append}
 use lib.Seq.{getD-at, getD-set-same, getD-set-other}
 use Rattle.laws.specs.Choice.{onSome}
-use Rattle.laws.specs.Lists.{member, Each, each-nil, each-cons}
-use Rattle.laws.proofs.Lists.{each-imp, each-append}
-use Rattle.ocl.specs.Forms.{Expr, node, levels, levelsIn}
+use Rattle.laws.specs.Lists.{member, Each}
+use Rattle.laws.proofs.Lists.{member-none, each-imp, each-append, map-each}
+use Rattle.ocl.specs.Forms.{Expr, node, levels}
 use Rattle.sheet.specs.Lines.{Shape, nodeLine}
-use Rattle.sheet.specs.Sheet.{Current, Sheet, Rule, added, operandsOf, grow, treeOf}
+use Rattle.sheet.specs.Sheet.{Current, Sheet, added, operandsOf, grow, treeOf}
 use Rattle.sheet.specs.Sheet.{withNode as growRule}
 use Rattle.sheet.specs.Refusals.{formWithin, fresh, suits, operandsFresh, treeHolds}
 use Rattle.nodes.specs.Nodes.{word, shapeWords, treeAt}
 use Rattle.nodes.proofs.Keep.{tree-keep, tree-depth}
 use Rattle.nodes.proofs.Shapes.{shape-tree}
-use Rattle.tables.specs.Layout.{tab, linesIn, usedBit, HoldsTables, HoldsRules, HoldsCurrent, HoldsOpen, closed, opened, Counted, Holds, Fine, Kept, Moved, moved-next, moved-stop}
+use Rattle.tables.specs.Layout.{tab, linesIn, usedBit, HoldsCurrent, HoldsOpen, closed, opened, Holds, Fine, Kept, moved-next, moved-stop}
 use Rattle.tables.specs.declared.Counts.{Counts}
 use Rattle.tables.specs.declared.Step.the-variants as code
 use Rattle.tables.proofs.Tables.{kept-set, kept-then}
 use Rattle.trees.specs.declared.Parsed.{Parsed}
 use Rattle.trees.specs.Fields.{cut}
 use Rattle.trees.specs.Forms.{operandsAt, Stands}
-use Rattle.trees.specs.Operands.{Marking, broken, deepest, depthAt, marking, shifted, Wrote}
-use Rattle.trees.specs.Rules.{RuleRoom, StepRoom, next-room, stop-room, limits, order, withNode, Placed}
+use Rattle.trees.specs.Operands.{broken, deepest, depthAt, marking, shifted, Wrote}
+use Rattle.trees.specs.Rules.{next-room, stop-room, limits, order, withNode, Placed}
 use Rattle.trees.proofs.MarkLaws.{wordsOf, depthOf, Framed, mark-frame, mark-small, Depths, deepestOf, Marks, marks-law, fresh-low, broken-fresh, deepest-fresh}
 use Rattle.trees.proofs.ShapeLaws.{grow-same, grow-depth, shape-shifted, shape-line}
-use Rattle.trees.proofs.PlaceLaws.{node-low, nodes-low, is-open, is-next, stop-8, go-on, limits-same, form-within, operands-small, operands-are, order-same, known-same}
+use Rattle.trees.proofs.PlaceLaws.{nodes-low, is-open, is-next, stop-8, go-on, limits-same, form-within, operands-small, operands-are, order-same, known-same}
 
 -- ---- the rule that is open
 
@@ -55,16 +54,7 @@ rule-depth {st} {w1} {m} {c} k l a h = rw (k .trees a h) (let d = tree-depth w1 
 rule-depths : {st : Counts} {w1 : List ℕ} {m : ℕ} {c : Current} → HoldsCurrent st w1 m c → Depths (c .first) (length (c .trees)) (λ a. levels (treeOf (c .trees) a)) (c .used) w1
 rule-depths k = record { at = k .depths }
 
--- ---- small laws of lists
-
-not-member : (n : ℕ) (l : List ℕ) → Each (λ a. a < n) l → member n l ≡ false
-unfolding member
-not-member n [] each-nil = refl
-not-member n (a ∷ l) (each-cons p h) = rw (ne-eqb n a (λ e. omega arith), not-member n l h)
-
-pub map-same : {B : Type 0} (f g : ℕ → B) (l : List ℕ) → Each (λ a. f a ≡ g a) l → map f l ≡ map g l
-map-same f g [] each-nil = refl
-map-same f g (a ∷ l) (each-cons p h) = rw (p, map-same f g l h)
+-- ---- lines
 
 lines-keep : (w v : List ℕ) (n : ℕ) → ((i : ℕ) → i < 8 * n → getD v i 0 ≡ getD w i 0) → linesIn v n ≡ linesIn w n
 unfolding linesIn
@@ -110,7 +100,7 @@ module _ {st : Counts} {line : ℕ} {p : Parsed} {w0 w1 v1 : List ℕ} {s : Shee
   tree-last a e = getD-at (o .rule .trees) new [] _ a (sym e)
 
   unused : member (length (o .rule .trees)) (o .rule .used ++ operandsOf x) ≡ false
-  unused = not-member (length (o .rule .trees)) (o .rule .used ++ operandsOf x) (each-append (o .holds .used) smaller)
+  unused = member-none (length (o .rule .trees)) (o .rule .used ++ operandsOf x) (each-append (o .holds .used) smaller)
 
   new-depth : getD v1 (6912 + length (s .lines)) 0 ≡ 2 * levels new + usedBit (member (length (o .rule .trees)) (o .rule .used ++ operandsOf x))
   unfolding levels usedBit new
@@ -163,7 +153,7 @@ module _ {st : Counts} {line : ℕ} {p : Parsed} {w0 w1 v1 : List ℕ} {s : Shee
       contexts = h .tables .contexts;
     };
     rules = record {
-      bodies = sym (map-same (treeAt w1) (treeAt v1) (tab 4512 (length (s .rules)) w0) (each-imp (λ a l. kept-tree a l) (h .rules .roots))) ∙ h .rules .bodies;
+      bodies = sym (map-each (treeAt w1) (treeAt v1) (tab 4512 (length (s .rules)) w0) (each-imp (λ a l. kept-tree a l) (h .rules .roots))) ∙ h .rules .bodies;
       roots = each-imp (λ a l. let e = length-append (s .lines) (line ∷ []) in omega arith) (h .rules .roots);
       lines =
           let e : length (s .lines ++ (line ∷ [])) ≡ suc (length (s .lines)) = (let k = length-append (s .lines) (line ∷ []) in omega arith) in

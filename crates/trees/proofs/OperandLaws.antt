@@ -2,18 +2,16 @@
 use mathlib.Core.Path.{_≡_, refl, sym, ap, _∙_}
 use mathlib.Core.Bool.{Bool, true, false, _&&_, true≢false}
 use mathlib.Core.List.{List, [], _∷_}
-use Prim.Native.Nat.{ℕ, zero, suc, _+_, _-_, _*_, _/_, _%_, _<_, _≤_, min, max}
+use Prim.Native.Nat.{ℕ, zero, suc, _+_, _-_, _/_, _%_, _<_, _≤_, min, max}
 use native.Mathlib.Omega.{arith}
 use native.Mathlib.Decide.{decLt}
 use borrow.Author.Tests.{eq-eqb, ne-eqb, lt-ltb, le-ltb, le-leb, lt-leb, ltb-true}
-use lib.Dec.{eqb, ltb, leb}
-use lib.ListN.{length, getD, take, drop, set, length-drop, length-set, drop-of-length-le}
+use lib.Dec.{ltb}
+use lib.ListN.{length, getD, drop, set, length-drop, drop-of-length-le}
 use lib.Seq.{length-take-le, getD-take, getD-drop, getD-set-same, getD-set-other}
-use Rattle.laws.specs.Choice.{if_then_else_}
 use Rattle.laws.specs.Lists.{allOf}
 use Rattle.laws.proofs.Parts.{at-next}
 use Rattle.sheet.specs.Refusals.{isNode}
-use Rattle.tables.specs.Layout.{Kept}
 use Rattle.tables.proofs.Tables.{kept-refl, kept-set, kept-then}
 use Rattle.trees.specs.Forms.{operandsAt}
 use Rattle.trees.specs.Operands.{Marking, broken, deepest, depthAt, marking, shifted, Wrote}

@@ -1,37 +1,29 @@
 -- A node line's tests, the code's and the definition's, and its refusals. Assumes nothing.
 use mathlib.Core.Path.{_≡_, refl, sym, ap, _∙_}
-use mathlib.Core.Bool.{Bool, true, false, not, _&&_, true≢false}
+use mathlib.Core.Bool.{Bool, true, false, not, _&&_}
 use mathlib.Core.Option.{Option, none, some}
 use mathlib.Core.List.{List, [], _∷_, map}
-use Prim.Native.Nat.{ℕ, zero, suc, _+_, _-_, _<_, _≤_, min}
+use Prim.Native.Nat.{ℕ, _-_, _<_, _≤_}
 use native.Mathlib.Omega.{arith}
-use borrow.Author.Tests.{eq-eqb, ne-eqb, eqb-true, lt-ltb, le-ltb, ltb-true, le-leb, lt-leb, leb-true, not-true, not-false}
+use borrow.Author.Tests.{eq-eqb, ne-eqb, eqb-true, lt-ltb, le-ltb, ltb-true, le-leb, lt-leb, not-true, not-false}
 use lib.Dec.{eqb, leb, ltb}
 use lib.ListN.{length}
 use Rattle.laws.specs.Lists.{allOf}
 use Rattle.laws.proofs.Bounds.{cut-lt}
+use Rattle.laws.proofs.Tests.{and-true}
 use Rattle.sheet.specs.Lines.{Shape, Line, nodeLine}
 use Rattle.sheet.specs.Sheet.{Current, Sheet, added, operandsOf}
-use Rattle.sheet.specs.Refusals.{isNode, formWithin, twoVariables, formKnown, fresh, withinLimits, blockOf, nextNode, numbered, inOrder, partsKnown, suits, operandsFresh, treeHolds}
-use Rattle.sheet.specs.Reading.{Step, next, refuse, must, stepLine}
-use Rattle.tables.specs.Layout.{Holds, HoldsOpen, closed, opened, HoldsCurrent, Fine, Kept, Moved, moved-stop}
+use Rattle.sheet.specs.Refusals.{isNode, formWithin, twoVariables, formKnown, withinLimits, blockOf, nextNode, numbered, inOrder, partsKnown, suits, treeHolds}
+use Rattle.sheet.specs.Reading.{next, refuse, must, stepLine}
+use Rattle.tables.specs.Layout.{Holds, HoldsOpen, closed, opened, Fine, moved-stop}
 use Rattle.tables.specs.declared.Counts.{Counts}
-use Rattle.tables.specs.declared.Step.{Step as CodeStep}
 use Rattle.tables.specs.declared.Step.the-variants as code
 use Rattle.tables.proofs.Tables.{kept-refl}
 use Rattle.trees.specs.declared.Parsed.{Parsed}
 use Rattle.trees.specs.Fields.{cut}
 use Rattle.trees.specs.Forms.{operandsAt, Stands}
-use Rattle.trees.specs.Rules.{RuleRoom, StepRoom, stop-room, limits, order, Placed}
-use Rattle.trees.proofs.FormLaws.{below-small, nodes-small}
-
-pub and-first : (a b : Bool) → (a && b) ≡ true → a ≡ true
-and-first true b h = refl
-and-first false b h = h
-
-pub and-second : (a b : Bool) → (a && b) ≡ true → b ≡ true
-and-second true b h = h
-and-second false b h = absurd (true≢false (sym h))
+use Rattle.trees.specs.Rules.{stop-room, limits, order, Placed}
+use Rattle.trees.proofs.FormLaws.{nodes-small}
 
 -- ---- what the code's tests answer
 
@@ -74,32 +66,32 @@ module _ (st : Counts) (n : ℕ) (p : Parsed) where
   module _ (ok : limits st n p ≡ true) where
     front : (isNode n && p .within && allOf isNode (operandsAt (p .words) (p .count))) ≡ true
     unfolding limits
-    front = and-first _ (ltb (st .nodes) 768) ok
+    front = and-true _ (ltb (st .nodes) 768) ok .0
 
     pub node-low : n < 768
     unfolding isNode
-    node-low = ltb-true n 768 (and-first (isNode n) (p .within) (and-first (isNode n && p .within) _ front))
+    node-low = ltb-true n 768 (and-true (isNode n) (p .within) (and-true (isNode n && p .within) _ front .0) .0)
 
     pub form-fine : p .within ≡ true
-    form-fine = and-second (isNode n) (p .within) (and-first (isNode n && p .within) _ front)
+    form-fine = and-true (isNode n) (p .within) (and-true (isNode n && p .within) _ front .0) .1
 
     pub operands-fine : allOf isNode (operandsAt (p .words) (p .count)) ≡ true
-    operands-fine = and-second (isNode n && p .within) _ front
+    operands-fine = and-true (isNode n && p .within) _ front .1
 
     pub nodes-low : st .nodes < 768
     unfolding limits
-    nodes-low = ltb-true (st .nodes) 768 (and-second (isNode n && p .within && allOf isNode (operandsAt (p .words) (p .count))) (ltb (st .nodes) 768) ok)
+    nodes-low = ltb-true (st .nodes) 768 (and-true (isNode n && p .within && allOf isNode (operandsAt (p .words) (p .count))) (ltb (st .nodes) 768) ok .1)
 
   module _ (ok : order st n p ≡ true) where
     behind : (eqb (st .«open») 1 && eqb n (st .nodes - st .first) && p .apart) ≡ true
     unfolding order
-    behind = and-second (leb (st .block) 4) _ ok
+    behind = and-true (leb (st .block) 4) _ ok .1
 
     pub is-open : st .«open» ≡ 1
-    is-open = eqb-true (st .«open») 1 (and-first (eqb (st .«open») 1) _ (and-first (eqb (st .«open») 1 && eqb n (st .nodes - st .first)) (p .apart) behind))
+    is-open = eqb-true (st .«open») 1 (and-true (eqb (st .«open») 1) _ (and-true (eqb (st .«open») 1 && eqb n (st .nodes - st .first)) (p .apart) behind .0) .0)
 
     pub is-next : n ≡ st .nodes - st .first
-    is-next = eqb-true n (st .nodes - st .first) (and-second (eqb (st .«open») 1) _ (and-first (eqb (st .«open») 1 && eqb n (st .nodes - st .first)) (p .apart) behind))
+    is-next = eqb-true n (st .nodes - st .first) (and-true (eqb (st .«open») 1) _ (and-true (eqb (st .«open») 1 && eqb n (st .nodes - st .first)) (p .apart) behind .0) .1)
 
 -- ---- the definition's refusals
 

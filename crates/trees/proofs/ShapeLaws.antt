@@ -1,18 +1,18 @@
 -- A form over its operands' trees: equal trees, depth, and a node's words from the words of its line. Assumes nothing.
-use mathlib.Core.Path.{_≡_, refl, sym, ap, _∙_}
+use mathlib.Core.Path.{_≡_, refl, ap, _∙_}
 use mathlib.Core.List.{List, [], _∷_}
-use Prim.Native.Nat.{ℕ, zero, suc, _+_, _<_, _≤_, max}
+use Prim.Native.Nat.{ℕ, _<_, _≤_}
 use native.Mathlib.Nat.{zero-add}
 use native.Mathlib.Omega.{arith}
 use lib.ListN.{length, getD}
 use Rattle.laws.specs.Lists.{Each, each-nil, each-cons}
+use Rattle.laws.proofs.Cases.{AllBelow, all-below}
 use Rattle.ocl.specs.Types.{Kind}
-use Rattle.ocl.specs.Forms.{Leaf, Unary, Binary, Connective, Quantifier, Expr, Form, levels, levelsIn, levelsOf}
+use Rattle.ocl.specs.Forms.{Expr, levels, levelsIn, levelsOf}
 use Rattle.sheet.specs.Lines.{Shape, leaf, unary, binary, connective, isUndef, conditional, letIn, attribute, quantified, iterate, collect}
 use Rattle.sheet.specs.Sheet.{operandsOf, growAll, grow}
 use Rattle.nodes.specs.Nodes.{operandWord, shapeWords}
 use Rattle.trees.specs.Operands.{shifted}
-use Rattle.trees.proofs.FormLaws.{AllBelow, all-below}
 use Rattle.trees.proofs.MarkLaws.{deepestOf}
 
 -- ---- trees that agree on the operands

@@ -1,6 +1,6 @@
 -- The fields after a form's word as the code holds them. proofs/ ties them to crates/sheet's `shapeOf`.
 use mathlib.Core.Path.{_≡_}
-use mathlib.Core.Bool.{Bool, true, false}
+use mathlib.Core.Bool.{true, false}
 use mathlib.Core.Option.{Option, none, some}
 use mathlib.Core.List.{List, [], _∷_, map}
 use Prim.Native.Nat.{ℕ, _≤_, min}

@@ -1,9 +1,8 @@
 -- A node's operands in the tables: marked as used, and written into the node's words.
 use mathlib.Core.Path.{_≡_}
-use mathlib.Core.Bool.{Bool, true, false}
 use mathlib.Core.List.{List, [], _∷_}
 use Prim.Native.Nat.{ℕ, _+_, _/_, _%_, _≤_, _<_, min, max}
-use lib.ListN.{length, getD, set, drop}
+use lib.ListN.{getD, set}
 use lib.Dec.{eqb, leb, ltb}
 use Rattle.laws.specs.Choice.{if_then_else_}
 use Rattle.tables.specs.Layout.{Kept}

@@ -9,15 +9,16 @@ use borrow.Author.Tests.{eq-eqb, ne-eqb, eqb-true}
 use lib.Dec.{eqb}
 use lib.ListN.{length, getD, take, drop, drop-of-length-le, length-append, take-append-drop}
 use Rattle.laws.specs.Choice.{if_then_else_, onSome, mapSome}
+use Rattle.laws.proofs.Tests.{and-true, if-same}
 use Rattle.laws.proofs.Parts.{at-next, part-all}
-use Rattle.sheet.specs.Text.{Bytes, isDigit, digits, afterDigits, plain, valueOfDigits, number, atEnd, whole, after}
+use Rattle.sheet.specs.Text.{Bytes, isDigit, digits, afterDigits, number, whole, after}
+use Rattle.sheet.specs.Lines.{is}
+use Rattle.sheet.proofs.Numbers.{digits-split}
+use Rattle.text.specs.Numbers.{leading}
+use Rattle.text.proofs.NumberLaws.{digits-rest, number-leading, whole-read, whole-left}
 use Rattle.types.specs.Reading.{closes, closed, spells, numberBefore}
 
 -- ---- closing brackets
-
-and-true : (a b : Bool) → a && b ≡ true → (a ≡ true) × (b ≡ true)
-and-true true b e = (refl, e)
-and-true false b e = absurd (let z : _≡_ {A = Bool} false true = e in let k : _≡_ {A = ℕ} 0 1 = cc in omega arith)
 
 pub closes-length : (d : ℕ) (s : Bytes) → closes d s ≡ true → length s ≡ d
 unfolding closes
@@ -61,21 +62,23 @@ spells-short (p ∷ w) d (b ∷ s) h = go (eqb p b) (spells-short w d s (omega a
     go true e = e
     go false e = refl
 
--- one turn of `spells`, where i bytes of the word are passed
-module _ (w : Bytes) (d i : ℕ) (s : Bytes) (fits : length w ≤ length s) (inv : spells (drop i w) d (drop i s) ≡ spells w d s) where
-  spells-next : i < length w → spells (drop i w) d (drop i s) ≡ eqb (getD w i 0) (getD s i 0) && spells (drop (i + 1) w) d (drop (i + 1) s)
-  unfolding spells
-  spells-next h = rw (at-next 0 w i h, at-next 0 s i (omega arith))
+-- what `spells` answers by the word and by what follows it
+spells-at : (w : Bytes) (d : ℕ) (s : Bytes) → length w ≤ length s → spells w d s ≡ is w (take (length w) s) && closes d (drop (length w) s)
+unfolding spells is
+spells-at [] d s h = refl
+spells-at (p ∷ w) d [] h = absurd (omega arith)
+spells-at (p ∷ w) d (b ∷ s) h = go (eqb p b) (spells-at w d s (omega arith))
+  where
+    go : (t : Bool) → spells w d s ≡ is w (take (length w) s) && closes d (drop (length w) s) → t && spells w d s ≡ (t && is w (take (length w) s)) && closes d (drop (length w) s)
+    go true e = e
+    go false e = refl
 
-  pub spells-stop : i < length w → (getD w i 0 ≡ getD s i 0 → ⊥) → false ≡ spells w d s
-  spells-stop h q = sym (ap (λ (t : Bool). t && spells (drop (i + 1) w) d (drop (i + 1) s)) (ne-eqb _ _ q)) ∙ sym (spells-next h) ∙ inv
+module _ (w : Bytes) (d : ℕ) (s : Bytes) (fits : length w ≤ length s) where
+  pub spells-off : false ≡ is w (take (length w) s) → false ≡ spells w d s
+  spells-off e = sym (spells-at w d s fits ∙ rw (← e))
 
-  pub spells-more : i < length w → getD w i 0 ≡ getD s i 0 → spells (drop (i + 1) w) d (drop (i + 1) s) ≡ spells w d s
-  spells-more h q = sym (ap (λ (t : Bool). t && spells (drop (i + 1) w) d (drop (i + 1) s)) (eq-eqb _ _ q)) ∙ sym (spells-next h) ∙ inv
-
-  pub spells-end : i ≡ length w → closes d (take (length s - length w) (drop (length w) s)) ≡ spells w d s
-  unfolding spells
-  spells-end e = ap (closes d) (part-all s (length w)) ∙ (rw (e, drop-of-length-le w {i = length w} (omega arith)) at inv)
+  pub spells-on : true ≡ is w (take (length w) s) → closes d (take (length s - length w) (drop (length w) s)) ≡ spells w d s
+  spells-on e = ap (closes d) (part-all s (length w)) ∙ sym (spells-at w d s fits ∙ rw (← e))
 
 -- what a word's literal reads, before closing brackets
 pub literal-closed : {A : Type 0} (x : A) (w : Bytes) (d : ℕ) (s : Bytes) → onSome (mapSome (λ (r : Bytes). (x, r)) (after w s)) (closed d) ≡ (if spells w d s then some x else none)
@@ -92,41 +95,23 @@ literal-closed {A} x (p ∷ w) d (b ∷ s) = go (eqb p b) (literal-closed x w d 
 -- ---- a number, then closing brackets
 
 rest-le : (s : Bytes) → length (afterDigits s) ≤ length s
-unfolding afterDigits
-rest-le [] = omega arith
-rest-le (b ∷ s) = go (isDigit b) (rest-le s)
-  where
-    go : (t : Bool) → length (afterDigits s) ≤ length s → length (if t then afterDigits s else b ∷ s) ≤ suc (length s)
-    go true h = omega arith
-    go false h = omega arith
+rest-le s = omega (arith, ap length (digits-split s), length-append (digits s) (afterDigits s))
 
 rest-is : (s : Bytes) → afterDigits s ≡ drop (length s - length (afterDigits s)) s
-unfolding afterDigits
-rest-is [] = refl
-rest-is (b ∷ s) = go (isDigit b) (rest-is s) (rest-le s)
-  where
-    go : (t : Bool) → afterDigits s ≡ drop (length s - length (afterDigits s)) s → length (afterDigits s) ≤ length s
-        → (if t then afterDigits s else b ∷ s) ≡ drop (suc (length s) - length (if t then afterDigits s else b ∷ s)) (b ∷ s)
-    go true e h = let q : suc (length s) - length (afterDigits s) ≡ suc (length s - length (afterDigits s)) = omega arith in rw q e
-    go false e h = let q : suc (length s) - suc (length s) ≡ 0 = omega arith in rw q
+rest-is s =
+    let q : length s - length (afterDigits s) ≡ length (digits s) = omega (arith, ap length (digits-split s), length-append (digits s) (afterDigits s)) in
+    rw q (digits-rest s)
 
-number-by : (d : ℕ) (s : Bytes) → numberBefore d s ≡ (if plain (digits s) then (if closes d (afterDigits s) then some (valueOfDigits 0 (digits s)) else none) else none)
-unfolding numberBefore number onSome closed
-number-by d s = go (plain (digits s))
+number-by : (d : ℕ) (s : Bytes) → numberBefore d s ≡ (if closes d (afterDigits s) then leading s else none)
+unfolding numberBefore onSome mapSome closed
+number-by d s = rw (number-leading s) (go (leading s))
   where
-    read : Option (ℕ × Bytes)
-    read = some (valueOfDigits 0 (digits s), afterDigits s)
-
-    go : (t : Bool) → onSome (if t then read else none) (closed d) ≡ (if t then (if closes d (afterDigits s) then some (valueOfDigits 0 (digits s)) else none) else none)
-    go true = refl
-    go false = refl
+    go : (o : Option ℕ) → onSome {A = ℕ × Bytes} (mapSome (λ n. (n, afterDigits s)) o) (closed d) ≡ (if closes d (afterDigits s) then o else none)
+    go none = sym (if-same (closes d (afterDigits s)) none)
+    go (some n) = refl
 
 no-number : (d : ℕ) (s : Bytes) → closes d (afterDigits s) ≡ false → numberBefore d s ≡ none
-no-number d s e = number-by d s ∙ rw e (go (plain (digits s)))
-  where
-    go : (t : Bool) → _≡_ {A = Option ℕ} (if t then none else none) none
-    go true = refl
-    go false = refl
+no-number d s e = number-by d s ∙ rw e
 
 pub number-short : (d : ℕ) (s : Bytes) → length s < d → numberBefore d s ≡ none
 number-short d s h = no-number d s (closes-off d (afterDigits s) (λ e. omega (arith, rest-le s)))
@@ -162,21 +147,16 @@ module _ (d : ℕ) (q : Bytes) (e : closes d q ≡ true) where
       go true ih = ih
       go false ih = refl
 
-  at-end : {A : Type 0} (x : A) (r : Bytes) → (if closes d (r ++ q) then some x else none) ≡ atEnd x r
-  unfolding atEnd
-  at-end x [] = rw e
-  at-end x (b ∷ r) = rw (closes-off d (b ∷ r ++ q) (λ z. omega (arith, closes-length d q e, length-append r q)))
+  leading-before : (p : Bytes) → leading (p ++ q) ≡ leading p
+  unfolding leading
+  leading-before p = rw (digits-before p)
 
   number-whole : (p : Bytes) → numberBefore d (p ++ q) ≡ whole number p
-  unfolding whole number onSome
-  number-whole p = number-by d (p ++ q) ∙ rw (digits-before p, rest-before p, at-end (valueOfDigits 0 (digits p)) (afterDigits p)) (go (plain (digits p)))
+  number-whole p = number-by d (p ++ q) ∙ rw (rest-before p, leading-before p) (go (afterDigits p) refl)
     where
-      read : Option (ℕ × Bytes)
-      read = some (valueOfDigits 0 (digits p), afterDigits p)
-
-      go : (t : Bool) → (if t then atEnd (valueOfDigits 0 (digits p)) (afterDigits p) else none) ≡ onSome (if t then read else none) (λ x. atEnd (x .0) (x .1))
-      go true = refl
-      go false = refl
+      go : (r : Bytes) → afterDigits p ≡ r → (if closes d (r ++ q) then leading p else none) ≡ whole number p
+      go [] z = rw e (sym (whole-read number p (afterDigits p) (leading p) (number-leading p) z))
+      go (b ∷ r) z = rw (closes-off d (b ∷ r ++ q) (λ n. omega (arith, closes-length d q e, length-append r q))) (sym (whole-left number p (afterDigits p) (leading p) (number-leading p) z))
 
 pub number-closed : (d e : ℕ) (s : Bytes) → closes d (drop e s) ≡ true → numberBefore d s ≡ whole number (take e s)
 number-closed d e s h = ap (numberBefore d) (sym (take-append-drop e s)) ∙ number-whole d (drop e s) h (take e s)

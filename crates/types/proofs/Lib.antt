@@ -4,9 +4,9 @@ pub mod Levels
 pub mod Members
 pub mod Words
 pub mod RowLaws
-pub mod Digits
 pub mod Closing
 pub mod Spelled
 pub mod TypeFields
+pub mod Within
 pub mod WrittenLaws
 pub mod RowBounds

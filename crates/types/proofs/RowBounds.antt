@@ -1,13 +1,13 @@
 -- A row that is found is one of the rows. Assumes nothing.
-use mathlib.Core.Path.{_≡_, refl}
+use mathlib.Core.Path.{_≡_}
 use mathlib.Core.Bool.{Bool, true, false, _&&_}
-use mathlib.Core.Option.{Option, none, some, Option·none-ne-some, Option·some-injective}
+use mathlib.Core.Option.{Option, some, Option·none-ne-some, Option·some-injective}
 use mathlib.Core.List.{List}
 use Prim.Native.Nat.{ℕ, zero, suc, _<_}
 use native.Mathlib.Omega.{arith}
 use lib.ListN.{getD}
 use lib.Dec.{eqb}
-use Rattle.laws.specs.Choice.{if_then_else_, orElse, onSome}
+use Rattle.laws.specs.Choice.{if_then_else_}
 use Rattle.laws.proofs.Options.{orElse-some, onSome-some}
 use Rattle.ocl.specs.Types.{Parents}
 use Rattle.types.specs.Flat.{parentsIn}

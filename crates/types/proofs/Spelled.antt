@@ -1,5 +1,5 @@
 -- What `readType` of crates/sheet reads is letters with their brackets, a base, closing brackets. Assumes nothing.
-use Prim.Native.Nat.{ℕ, zero, suc, _-_, _≤_}
+use Prim.Native.Nat.{ℕ, zero, suc, _≤_}
 use mathlib.Core.Path.{_≡_, refl, sym, ap, _∙_}
 use mathlib.Core.Bool.{Bool, true, false, _&&_}
 use mathlib.Core.Option.{Option, none, some}
@@ -9,6 +9,8 @@ use native.Mathlib.Decide.{ℕ-discrete}
 use borrow.Author.Tests.{ne-eqb, eqb-true, eqb-false}
 use lib.Dec.{eqb}
 use lib.ListN.{length}
+use Rattle.laws.proofs.Tests.{if-same}
+use Rattle.laws.proofs.Options.{orElse-none, orElse-assoc}
 use Rattle.laws.specs.Choice.{if_then_else_, orElse, onSome, mapSome}
 use Rattle.ocl.specs.Types.{set, sequence, bag, Letter, collection, exactly, Ty, void, around, Any, Boolean, Integer, Class}
 use Rattle.sheet.specs.Text.{Bytes, bytes, Parser, nothing, after, literal, behind, _or_, _then_, given, atEnd, whole, isDigit, digits, plain, number}
@@ -16,22 +18,6 @@ use Rattle.sheet.specs.Spelling.{collectionType, typeWithin, readType}
 use Rattle.types.specs.Flat.{letterOf}
 use Rattle.types.specs.Reading.{closes, closed, spells, base, baseBefore, hashBefore, numberBefore, byteCode, lettered, typeBefore}
 use Rattle.types.proofs.Closing.{literal-closed}
-
--- ---- options and choices
-
-or-none : {A : Type 0} (o : Option A) → orElse o none ≡ o
-unfolding orElse
-or-none none = refl
-or-none (some x) = refl
-
-or-assoc : {A : Type 0} (a b c : Option A) → orElse (orElse a b) c ≡ orElse a (orElse b c)
-unfolding orElse
-or-assoc none b c = refl
-or-assoc (some x) b c = refl
-
-either-none : {A : Type 0} (t : Bool) → _≡_ {A = Option A} (if t then none else none) none
-either-none true = refl
-either-none false = refl
 
 -- ---- the letters
 
@@ -49,16 +35,16 @@ type-parts n s =
     let a = literal "Any" Any s in
     let h = behind "#" (given Class number) s in
     let c = collections (typeWithin n) s in
-    sym (or-assoc v (orElse b (orElse i (orElse a h))) c ∙ ap (orElse v) (or-assoc b (orElse i (orElse a h)) c ∙ ap (orElse b) (or-assoc i (orElse a h) c ∙ ap (orElse i) (or-assoc a h c))))
+    sym (orElse-assoc v (orElse b (orElse i (orElse a h))) c ∙ ap (orElse v) (orElse-assoc b (orElse i (orElse a h)) c ∙ ap (orElse b) (orElse-assoc i (orElse a h) c ∙ ap (orElse i) (orElse-assoc a h c))))
 
 -- no letter is read where no bracket is second
 pair-off : (k a b : ℕ) (s : Bytes) → (b ≡ 40 → ⊥) → after (k ∷ 40 ∷ []) (a ∷ b ∷ s) ≡ none
 unfolding after
-pair-off k a b s h = rw (ne-eqb 40 b (λ e. h (sym e))) (either-none (eqb k a))
+pair-off k a b s h = rw (ne-eqb 40 b (λ e. h (sym e))) (if-same (eqb k a) none)
 
 pair-end : (k a : ℕ) → after (k ∷ 40 ∷ []) (a ∷ []) ≡ none
 unfolding after
-pair-end k a = either-none (eqb k a)
+pair-end k a = if-same (eqb k a) none
 
 letters-off : (p : Parser Ty) (s : Bytes) → ((k : ℕ) → after (k ∷ 40 ∷ []) s ≡ none) → collections p s ≡ none
 unfolding collections collectionType behind _or_ bytes onSome orElse
@@ -67,11 +53,7 @@ letters-off p s h = rw (h 83, h 81, h 66, h 67)
 -- and no base where one is
 word-open : {A : Type 0} (k m a : ℕ) (w s : Bytes) (x : A) → eqb m 40 ≡ false → mapSome {B = A × Bytes} (λ r. (x, r)) (after (k ∷ m ∷ w) (a ∷ 40 ∷ s)) ≡ none
 unfolding after mapSome
-word-open {A} k m a w s x h = rw h (go (eqb k a))
-  where
-    go : (t : Bool) → mapSome {B = A × Bytes} (λ (r : Bytes). (x, r)) (if t then none else none) ≡ none
-    go true = refl
-    go false = refl
+word-open {A} k m a w s x h = rw h (ap (mapSome {B = A × Bytes} (λ (r : Bytes). (x, r))) (if-same (eqb k a) none))
 
 hash-open : (a : ℕ) (s : Bytes) → behind "#" (given Class number) (a ∷ 40 ∷ s) ≡ none
 unfolding behind bytes after given onSome mapSome number digits plain isDigit
@@ -102,7 +84,7 @@ member-closed l d (some (t, b ∷ s)) = go (eqb 41 b) refl
 
 module _ (p : Parser Ty) (d a : ℕ) (s : Bytes) where
   letter-read : (l : Letter) → onSome (orElse (onSome (p s) (λ x. literal ")" (around l (x .0)) (x .1))) none) (closed d) ≡ mapSome (around l) (onSome (p s) (closed (suc d)))
-  letter-read l = ap (λ (o : Option (Ty × Bytes)). onSome o (closed d)) (or-none (onSome (p s) (λ x. literal ")" (around l (x .0)) (x .1)))) ∙ member-closed l d (p s)
+  letter-read l = ap (λ (o : Option (Ty × Bytes)). onSome o (closed d)) (orElse-none (onSome (p s) (λ x. literal ")" (around l (x .0)) (x .1)))) ∙ member-closed l d (p s)
 
   letters-on : onSome (collections p (a ∷ 40 ∷ s)) (closed d) ≡ lettered a (onSome (p s) (closed (suc d)))
   unfolding collections collectionType behind bytes after onSome _or_ _then_ orElse lettered byteCode letterOf
@@ -118,7 +100,7 @@ module _ (p : Parser Ty) (d a : ℕ) (s : Bytes) where
 -- ---- the bases
 
 word-read : {A : Type 0} (x : A) (w : Bytes) (d : ℕ) (s : Bytes) → onSome (orElse (mapSome {B = A × Bytes} (λ r. (x, r)) (after w s)) none) (closed d) ≡ (if spells w d s then some x else none)
-word-read {A} x w d s = ap (λ (o : Option (A × Bytes)). onSome o (closed d)) (or-none (mapSome {B = A × Bytes} (λ r. (x, r)) (after w s))) ∙ literal-closed x w d s
+word-read {A} x w d s = ap (λ (o : Option (A × Bytes)). onSome o (closed d)) (orElse-none (mapSome {B = A × Bytes} (λ r. (x, r)) (after w s))) ∙ literal-closed x w d s
 
 -- the first byte tells which base can stand there
 pub base-law : (d : ℕ) (s : Bytes) → baseBefore d s ≡ (if spells (bytes "Void") d s then some void else if spells (bytes "Bool") d s then some Boolean else if spells (bytes "Int") d s then some Integer else if spells (bytes "Any") d s then some Any else hashBefore d s)
@@ -174,12 +156,12 @@ unfolding typeBefore baseBefore onSome orElse
 type-law zero d [] h = ap (λ (o : Option (Ty × Bytes)). onSome o (closed d)) (type-zero [])
 type-law zero d (b ∷ s) h = absurd (omega arith)
 type-law (suc n) d [] h = ap (λ (o : Option (Ty × Bytes)). onSome o (closed d)) (type-parts n []) ∙ rw (base-nil, letters-off (typeWithin n) [] after-nil)
-type-law (suc n) d (a ∷ []) h = ap (λ (o : Option (Ty × Bytes)). onSome o (closed d)) (type-parts n (a ∷ [])) ∙ rw (letters-off (typeWithin n) (a ∷ []) (λ k. pair-end k a), or-none (base (a ∷ [])))
+type-law (suc n) d (a ∷ []) h = ap (λ (o : Option (Ty × Bytes)). onSome o (closed d)) (type-parts n (a ∷ [])) ∙ rw (letters-off (typeWithin n) (a ∷ []) (λ k. pair-end k a), orElse-none (base (a ∷ [])))
 type-law (suc n) d (a ∷ b ∷ s) h = ap (λ (o : Option (Ty × Bytes)). onSome o (closed d)) (type-parts n (a ∷ b ∷ s)) ∙ by (ℕ-discrete b 40) (type-law n (suc d) s (omega arith))
   where
     by : Dec (b ≡ 40) → onSome (typeWithin n s) (closed (suc d)) ≡ typeBefore (suc d) s → onSome (orElse (base (a ∷ b ∷ s)) (collections (typeWithin n) (a ∷ b ∷ s))) (closed d) ≡ (if eqb b 40 then lettered a (typeBefore (suc d) s) else onSome (base (a ∷ b ∷ s)) (closed d))
     by (yes e) ih = rw (e, base-open a s) (letters-on (typeWithin n) d a s ∙ ap (lettered a) ih)
-    by (no k) ih = rw (ne-eqb b 40 k, letters-off (typeWithin n) (a ∷ b ∷ s) (λ m. pair-off m a b s k), or-none (base (a ∷ b ∷ s)))
+    by (no k) ih = rw (ne-eqb b 40 k, letters-off (typeWithin n) (a ∷ b ∷ s) (λ m. pair-off m a b s k), orElse-none (base (a ∷ b ∷ s)))
 
 end-closed : {A : Type 0} (o : Option (A × Bytes)) → onSome o (λ x. atEnd (x .0) (x .1)) ≡ onSome o (closed 0)
 unfolding onSome atEnd closed closes

@@ -7,25 +7,25 @@ use mathlib.Core.List.{[], _∷_}
 use native.Mathlib.Nat.{add-zero}
 use native.Mathlib.Omega.{arith}
 use native.Mathlib.Decide.{decLt}
-use borrow.Author.Tests.{eq-eqb, ne-eqb, lt-ltb, le-ltb, le-leb, lt-leb, ltb-true}
+use borrow.Author.Tests.{eq-eqb, ne-eqb, lt-ltb, le-ltb, le-leb, lt-leb}
 use lib.Dec.{eqb, leb, ltb}
 use lib.ListN.{length, getD, take, drop, length-drop, List·getD-eq-default}
 use lib.Seq.{getD-drop, drop-drop}
 use Rattle.laws.specs.Choice.{if_then_else_, onSome, mapSome}
 use Rattle.laws.proofs.Parts.{part-all}
 use Rattle.ocl.specs.Types.{Letter, Ty, void, around, Any, Boolean, Integer, Class, depth}
-use Rattle.sheet.specs.Text.{Bytes, bytes, whole, number}
+use Rattle.sheet.specs.Text.{Bytes, bytes}
+use Rattle.sheet.specs.Lines.{aNumber}
 use Rattle.sheet.specs.Refusals.{typeWithin, classBelow, simpleClassBelow}
 use Rattle.sheet.specs.Spelling.{readType}
+use Rattle.text.specs.declared.numbers.Num.{Num}
+use Rattle.text.specs.declared.numbers.Num.the-variants as n
+use Rattle.text.specs.Numbers.{numOf}
 use Rattle.types.specs.declared.GotType.{GotType}
 use Rattle.types.specs.declared.GotType.the-variants as g
-use Rattle.types.specs.declared.Base.{Base}
-use Rattle.types.specs.declared.Base.the-variants as b
 use Rattle.types.specs.declared.FlatType.{FlatType}
-use Rattle.types.specs.declared.reading.Num.{Num}
-use Rattle.types.specs.declared.reading.Num.the-variants as n
-use Rattle.types.specs.Flat.{baseType, baseClass, letterOf, layer, tyOf}
-use Rattle.types.specs.Reading.{TypeField, bad, big, is, typeField, held, closes, spells, baseBefore, hashBefore, numberBefore, byteCode, codeLetter, lettered, typeBefore, opensOf, Opens, deeper, letteredField, numOf, classField}
+use Rattle.types.specs.Flat.{letterOf, tyOf}
+use Rattle.types.specs.Reading.{TypeField, bad, big, is, typeField, held, closes, spells, baseBefore, hashBefore, numberBefore, byteCode, codeLetter, lettered, typeBefore, opensOf, Opens, deeper, letteredField, classField}
 use Rattle.types.proofs.Closing.{number-short, number-off, number-closed}
 use Rattle.types.proofs.Spelled.{base-law, hash-none, hash-off, hash-on, read-law}
 
@@ -205,14 +205,15 @@ module _ (d : ℕ) (s : Bytes) where
   unfolding mapSome
   class-off e = bad-field (ap (mapSome Class) (number-off d s (sym (ap (closes d) (part-all s (length s - d))) ∙ sym e)))
 
-  pub class-on : {m : Num} (r : GotType) → true ≡ closes d (take (length s - (length s - d)) (drop (length s - d) s)) → m ≡ numOf (whole number (take (length s - d) s)) → typeField r ≡ classField m → typeField r ≡ held (mapSome Class (numberBefore d s))
+  pub class-on : {m : Num} (r : GotType) → true ≡ closes d (take (length s - (length s - d)) (drop (length s - d) s)) → m ≡ numOf (aNumber (take (length s - d) s)) → typeField r ≡ classField m → typeField r ≡ held (mapSome Class (numberBefore d s))
+  unfolding aNumber
   class-on r e q h = h ∙ ap classField q ∙ class-held _ ∙ ap (λ (o : Option ℕ). held (mapSome Class o)) (sym (number-closed d (length s - d) s (sym (ap (closes d) (part-all s (length s - d))) ∙ sym e)))
 
-pub small-class : (m : Num) (c : ℕ) (t : FlatType) → m ≡ n.Value c → c < 64 → tyOf t ≡ Class c → typeField (g.Is t) ≡ classField m
+pub small-class : (m : Num) (c : ℕ) (t : FlatType) → m ≡ n.Is c → c < 64 → tyOf t ≡ Class c → typeField (g.Is t) ≡ classField m
 unfolding typeField classField
 small-class m c t e h q = rw (e, lt-ltb c 64 h, q)
 
-pub big-class : (m : Num) (c : ℕ) → m ≡ n.Value c → 64 ≤ c → typeField g.Big ≡ classField m
+pub big-class : (m : Num) (c : ℕ) → m ≡ n.Is c → 64 ≤ c → typeField g.Big ≡ classField m
 unfolding typeField classField
 big-class m c e h = rw (e, le-ltb c 64 h)
 
@@ -256,40 +257,3 @@ module _ (b k : ℕ) (x : GotType) (at : k ≡ byteCode b) where
     pub lettered-is : (t : FlatType) (r : GotType) → x ≡ g.Is t → typeField r ≡ letteredField k (is (tyOf t)) → typeField r ≡ letteredField (byteCode b) (typeField x)
     unfolding typeField
     lettered-is t r e h = h ∙ rw (at, e)
-
--- ---- what a caller learns of a type that was read: it is within the limits
-
-no-answer : (t : Ty) → is t ≡ bad → ⊥
-no-answer t e = let z : _≡_ {A = ℕ} 0 1 = cc in omega arith
-
-within-by : (t u : Ty) (x : Bool) → typeWithin u ≡ x → is t ≡ (if x then is u else big) → typeWithin t ≡ true
-within-by t u true e q = let z : t ≡ u = cc in ap typeWithin z ∙ e
-within-by t u false e q = absurd (let z : _≡_ {A = ℕ} 0 1 = cc in omega arith)
-
-pub read-within : (t : FlatType) (o : Option Ty) → typeField (g.Is t) ≡ held o → typeWithin (tyOf t) ≡ true
-unfolding typeField held
-read-within t none e = absurd (no-answer (tyOf t) e)
-read-within t (some u) e = within-by (tyOf t) u (typeWithin u) refl e
-
-base-class : (a : Base) → classBelow 64 (baseType a) ≡ true → baseClass a < 64
-unfolding classBelow simpleClassBelow
-base-class b.Void e = omega arith
-base-class b.Bool e = omega arith
-base-class b.Int e = omega arith
-base-class b.Any e = omega arith
-base-class (b.Class c) e = ltb-true c 64 e
-
-layer-class : (o m i : ℕ) (x : Ty) → classBelow 64 (layer o x (layer m x (layer i x x))) ≡ classBelow 64 x
-unfolding layer classBelow
-layer-class zero m i x = refl
-layer-class (suc o) zero i x = refl
-layer-class (suc o) (suc m) zero x = refl
-layer-class (suc o) (suc m) (suc i) x = refl
-
-and-second : (x y : Bool) → x && y ≡ true → y ≡ true
-and-second true y e = e
-and-second false y e = absurd (let z : _≡_ {A = ℕ} 0 1 = cc in omega arith)
-
-pub within-class : (t : FlatType) → typeWithin (tyOf t) ≡ true → baseClass (t .base) < 64
-unfolding typeWithin
-within-class t e = base-class (t .base) (sym (layer-class (t .outer) (t .middle) (t .inner) (baseType (t .base))) ∙ and-second (leb (depth (tyOf t)) 3) (classBelow 64 (tyOf t)) e)

@@ -1,88 +1,40 @@
--- Laws of bytes written at a position, and of a type's spelling part by part. Assumes nothing.
-use Prim.Native.Nat.{ℕ, zero, suc, _+_, _-_, _/_, _%_, _<_, _≤_}
+-- Laws of a type's spelling part by part, and what its writing asks and gives. Assumes nothing.
+use Prim.Native.Nat.{ℕ, zero, suc, _+_, _^_, _<_, _≤_}
 use mathlib.Core.Path.{_≡_, refl, sym, ap, _∙_}
 use mathlib.Core.List.{[], _∷_, _++_, append-assoc, append-nil}
-use native.Mathlib.Numerals.{add-one}
 use native.Mathlib.Omega.{arith}
-use native.Mathlib.Decide.{decLt}
-use borrow.Author.Tests.{lt-ltb, le-ltb}
-use lib.ListN.{length, getD, take, drop, set, length-append, length-take, length-drop, length-set, take-append-drop}
-use lib.Seq.{append-snoc, set-split, take-at, drop-append-add, drop-drop, take-length, paste-zero, paste-suc, paste}
+use lib.ListN.{length, length-append, length-take}
 use Rattle.ocl.specs.Types.{Ty, depth}
-use Rattle.sheet.specs.Text.{Bytes, bytes, spellDigits, spellNumber}
+use Rattle.sheet.specs.Text.{Bytes, bytes, spellNumber}
 use Rattle.sheet.specs.Spelling.{letterByte, spellSimple, spellType}
+use Rattle.sheet.proofs.Numbers.{digits-at-most}
+use Rattle.text.specs.Written.{Puts}
+use Rattle.text.proofs.WrittenLaws.{puts-length, puts-room, puts-as, puts-nothing, puts-then}
 use Rattle.types.specs.declared.Base.{Base}
 use Rattle.types.specs.declared.Base.the-variants as b
 use Rattle.types.specs.declared.FlatType.{FlatType}
-use Rattle.types.specs.Flat.{baseType, baseClass, letterOf, layer, tyOf}
-use Rattle.types.specs.Written.{Puts, opening, opened, letters, brackets}
+use Rattle.types.specs.Flat.{baseType, letterOf, layer, tyOf}
+use Rattle.types.specs.Written.{opening, opened, letters, brackets}
 use Rattle.types.proofs.Members.{base-depth}
 
--- ---- bytes at a position
+-- ---- a base
 
-pub puts-length : {at r : ℕ} {w before after : Bytes} → Puts at w before after r → at + length w ≤ length before → length after ≡ length before
-puts-length puts room = ap length (puts .is) ∙ simp (length-append, length-take, length-drop) (omega arith)
+pub puts-word : {x y : Base} {at r : ℕ} {a c : Bytes} → x ≡ y → Puts at (spellType (baseType y)) a c r → length (spellType (baseType y)) ≤ 21
+    → Puts at (spellType (baseType x)) a c r × (r ≤ at + 21)
+puts-word e p h = (rw e p, omega (arith, p .end))
 
-pub puts-nothing : (at : ℕ) (l : Bytes) → Puts at [] l l at
-puts-nothing at l = record { is = sym (rw (append-nil (take at l)) (let z : at + 0 ≡ at = omega arith in rw z (take-append-drop at l))); end = omega arith }
+-- what `put_base` asks of the calls in it for a class, and what they give
+module _ {c : ℕ} (word : c < 2 ^ 64) (at : ℕ) (a : Bytes) (room : at + 21 ≤ length a) {b' : Bytes} {e : ℕ} (sign : Puts at (35 ∷ []) a b' e) where
+  class-room : at + length ((35 ∷ []) ++ spellNumber c) ≤ length a
+  class-room = omega (arith, length-append (35 ∷ []) (spellNumber c), digits-at-most 20 c (omega arith) (omega arith))
 
--- one thing behind another
-pub puts-then : {at r q : ℕ} {v w a b c : Bytes} → Puts at v a b r → Puts r w b c q → at + length v + length w ≤ length a → Puts at (v ++ w) a c q
-puts-then {at} {r} {q} {v} {w} {a} {b} {c} p s room = record {
-  is = s .is ∙ rw (p .is, front, back) (ap (λ (l : Bytes). l ++ drop (at + length v + length w) a) (append-assoc (take at a) v w) ∙ ap (λ (k : ℕ). take at a ++ (v ++ w) ++ drop k a) behind);
-  end = s .end ∙ simp length-append (omega (arith, p .end));
-}
-  where
-    long : length (take at a ++ v) ≡ r
-    long = simp (length-append, length-take) (omega (arith, p .end))
+  pub room-number : e + length (spellNumber c) ≤ length b'
+  room-number = puts-room (spellNumber c) sign class-room
 
-    front : take r (take at a ++ v ++ drop (at + length v) a) ≡ take at a ++ v
-    front = take-at (take at a ++ v) (drop (at + length v) a) r long
-
-    back : drop (r + length w) (take at a ++ v ++ drop (at + length v) a) ≡ drop (at + length v + length w) a
-    back = rw (← long) (drop-append-add (take at a ++ v) (drop (at + length v) a) (length w)) ∙ drop-drop (length w) (at + length v) a
-
-    behind : at + length v + length w ≡ at + length (v ++ w)
-    behind = simp length-append (omega arith)
-
-pub puts-as : {at r : ℕ} {v w a c : Bytes} → Puts at v a c r → v ≡ w → Puts at w a c r
-puts-as p e = rw e at p
-
-pub byte-puts : (out : Bytes) (at b : ℕ) → at < length out → Puts at (b ∷ []) out (set out at b) (at + 1)
-byte-puts out at b h = record { is = set-split out at b h ∙ rw (add-one at) (sym (append-snoc (take at out) b (drop (suc at) out))); end = refl }
-
--- the turns of `put_bytes`: i bytes of w are written
-pub record PutTo (at : ℕ) (w before now : Bytes) (i : ℕ) : Type 0 where
-  pub is : now ≡ paste before at w i
-  pub long : length now ≡ length before
-
-module _ (at : ℕ) (w before : Bytes) (room : at + length w ≤ length before) where
-  pub put-none : PutTo at w before before 0
-  put-none = record { is = paste-zero before at w; long = refl }
-
-  pub put-next : {now : Bytes} {i : ℕ} → PutTo at w before now i → i < length w → PutTo at w before (set now (at + i) (getD w i 0)) (i + 1)
-  put-next {now} {i} so h = record {
-    is = rw (so .is, add-one i) (paste-suc before at w i 0 (omega arith) h);
-    long = length-set now (at + i) (getD w i 0) ∙ so .long;
-  }
-
-  pub put-all : {now : Bytes} {i : ℕ} → PutTo at w before now i → i ≡ length w → Puts at w before now (at + i)
-  put-all {now} {i} so h = record { is = so .is ∙ rw (h, take-length w); end = ap (λ (k : ℕ). at + k) h }
-
--- ---- numbers below 100
-
-pub spell-one : (n : ℕ) → n < 10 → spellNumber n ≡ (48 + n) ∷ []
-unfolding spellNumber spellDigits
-spell-one n h = rw (lt-ltb n 10 h)
-
-two-digits : (f n : ℕ) → 10 ≤ n → n < 100 → spellDigits (suc (suc f)) n ≡ (48 + n / 10) ∷ (48 + n % 10) ∷ []
-unfolding spellDigits
-two-digits f n h l = rw (le-ltb n 10 h, lt-ltb (n / 10) 10 (omega arith))
-
-pub spell-two : (n : ℕ) → 10 ≤ n → n < 100 → spellNumber n ≡ (48 + n / 10) ∷ (48 + n % 10) ∷ []
-unfolding spellNumber
-spell-two zero h l = absurd (omega arith)
-spell-two (suc n) h l = two-digits n (suc n) h l
+  pub puts-class : {x : Base} {z : Bytes} {r : ℕ} → x ≡ b.Class c → Puts e (spellNumber c) b' z r → Puts at (spellType (baseType x)) a z r × (r ≤ at + 21)
+  unfolding spellType spellSimple bytes
+  puts-class is p =
+      (rw is (puts-then sign p (omega (arith, class-room, length-append (35 ∷ []) (spellNumber c)))), omega (arith, sign .end, p .end, digits-at-most 20 c (omega arith) (omega arith)))
 
 -- ---- letters
 
@@ -105,66 +57,69 @@ unfolding opened
 opened-off zero w h = refl
 opened-off (suc k) w h = absurd (omega arith)
 
-pub opening-length : (k : ℕ) → length (opening k) ≡ 2
-unfolding opening
-opening-length k = refl
+-- one letter written, and what follows it
+module _ (k : ℕ) (w : Bytes) (at : ℕ) (a : Bytes) (room : at + length (opened k w) ≤ length a) where
+  opened-none : k ≡ 0 → Puts at (opened k w) a a at
+  opened-none e = puts-as (puts-nothing at a) (sym (opened-off k w e))
 
-module _ (t : FlatType) where
-  pub letters-none : t .outer ≡ 0 → [] ≡ letters t
+  module _ (on : k ≡ 0 → ⊥) where
+    both-room : at + length (opening k ++ w) ≤ length a
+    both-room = rw (opened-on k w on) at room
+
+    opened-room : at + 2 ≤ length a
+    unfolding opening
+    opened-room = omega (arith, both-room)
+
+    module _ {b' : Bytes} {e : ℕ} (p : Puts at (opening k) a b' e) where
+      opened-rest : e + length w ≤ length b'
+      opened-rest = puts-room w p both-room
+
+      opened-puts : {c : Bytes} {r : ℕ} → Puts e w b' c r → Puts at (opened k w) a c r
+      opened-puts q = rw (opened-on k w on) (puts-then p q (omega (arith, both-room, length-append (opening k) w)))
+
+-- what `put_letters` asks of the calls in it, and what they give
+module _ (t : FlatType) (at : ℕ) (a : Bytes) (room : at + length (letters t) ≤ length a) where
+  pub puts-none : t .outer ≡ 0 → Puts at (letters t) a a at
   unfolding letters
-  letters-none e = sym (opened-off (t .outer) _ e)
+  puts-none = opened-none (t .outer) _ at a room
 
   module _ (o : t .outer ≡ 0 → ⊥) where
-    pub letters-one : t .middle ≡ 0 → opening (t .outer) ≡ letters t
+    pub room-outer : at + 2 ≤ length a
     unfolding letters
-    letters-one e = sym (opened-on (t .outer) _ o ∙ ap (λ (w : Bytes). opening (t .outer) ++ w) (opened-off (t .middle) _ e) ∙ append-nil (opening (t .outer)))
+    room-outer = opened-room (t .outer) _ at a room o
 
-    module _ (m : t .middle ≡ 0 → ⊥) where
-      letters-on : letters t ≡ opening (t .outer) ++ opening (t .middle) ++ opened (t .inner) []
+    module _ {b' : Bytes} {e : ℕ} (outer : Puts at (opening (t .outer)) a b' e) where
+      rest-outer : e + length (opened (t .middle) (opened (t .inner) [])) ≤ length b'
       unfolding letters
-      letters-on = opened-on (t .outer) _ o ∙ ap (λ (w : Bytes). opening (t .outer) ++ w) (opened-on (t .middle) _ m) ∙ sym (append-assoc (opening (t .outer)) (opening (t .middle)) (opened (t .inner) []))
+      rest-outer = opened-rest (t .outer) _ at a room o outer
 
-      pub letters-two : t .inner ≡ 0 → opening (t .outer) ++ opening (t .middle) ≡ letters t
-      letters-two e = sym (letters-on ∙ ap (λ (w : Bytes). opening (t .outer) ++ opening (t .middle) ++ w) (opened-off (t .inner) [] e) ∙ append-nil (opening (t .outer) ++ opening (t .middle)))
+      puts-outer : {c : Bytes} {r : ℕ} → Puts e (opened (t .middle) (opened (t .inner) [])) b' c r → Puts at (letters t) a c r
+      unfolding letters
+      puts-outer = opened-puts (t .outer) _ at a room o outer
 
-      pub letters-three : (t .inner ≡ 0 → ⊥) → opening (t .outer) ++ opening (t .middle) ++ opening (t .inner) ≡ letters t
-      letters-three i = sym (letters-on ∙ ap (λ (w : Bytes). opening (t .outer) ++ opening (t .middle) ++ w) (opened-on (t .inner) [] i ∙ append-nil (opening (t .inner))))
+      pub puts-one : t .middle ≡ 0 → Puts at (letters t) a b' e
+      puts-one z = puts-outer (opened-none (t .middle) _ e b' rest-outer z)
 
-opened-le : (k n : ℕ) (w : Bytes) → length w ≤ n → length (opened k w) ≤ n + 2
-unfolding opened opening
-opened-le zero n w h = omega arith
-opened-le (suc k) n w h = omega arith
+      module _ (m : t .middle ≡ 0 → ⊥) where
+        pub room-middle : e + 2 ≤ length b'
+        room-middle = opened-room (t .middle) _ e b' rest-outer m
 
-pub letters-le : (t : FlatType) → length (letters t) ≤ 6
-unfolding letters
-letters-le t = opened-le (t .outer) 4 _ (opened-le (t .middle) 2 _ (opened-le (t .inner) 0 [] (omega arith)))
+        module _ {c : Bytes} {q : ℕ} (middle : Puts e (opening (t .middle)) b' c q) where
+          rest-middle : q + length (opened (t .inner) []) ≤ length c
+          rest-middle = opened-rest (t .middle) _ e b' rest-outer m middle
 
-pub brackets-le : (d : ℕ) → length (brackets d) ≤ 3
-unfolding brackets
-brackets-le d = simp length-take (omega arith)
+          puts-middle : {d : Bytes} {r : ℕ} → Puts q (opened (t .inner) []) c d r → Puts at (letters t) a d r
+          puts-middle p = puts-outer (opened-puts (t .middle) _ e b' rest-outer m middle p)
 
-pub brackets-many : (d : ℕ) → (d ≡ 0 → ⊥) → (d ≡ 1 → ⊥) → (d ≡ 2 → ⊥) → d ≤ 3 → (41 ∷ 41 ∷ 41 ∷ []) ≡ brackets d
-unfolding brackets
-brackets-many zero h k l m = absurd (h refl)
-brackets-many (suc zero) h k l m = absurd (k refl)
-brackets-many (suc (suc zero)) h k l m = absurd (l refl)
-brackets-many (suc (suc (suc zero))) h k l m = refl
-brackets-many (suc (suc (suc (suc d)))) h k l m = absurd (omega arith)
+          pub puts-two : t .inner ≡ 0 → Puts at (letters t) a c q
+          puts-two z = puts-middle (opened-none (t .inner) [] q c rest-middle z)
 
-number-by : (n : ℕ) → n < 100 → Dec (n < 10) → length (spellNumber n) ≤ 2
-number-by n h (yes l) = rw (spell-one n l) (omega arith)
-number-by n h (no l) = rw (spell-two n (omega arith) h) (omega arith)
+          module _ (i : t .inner ≡ 0 → ⊥) where
+            pub room-inner : q + 2 ≤ length c
+            room-inner = opened-room (t .inner) [] q c rest-middle i
 
-pub number-le : (n : ℕ) → n < 100 → length (spellNumber n) ≤ 2
-number-le n h = number-by n h (decLt n 10)
-
-pub base-le : (a : Base) → baseClass a < 100 → length (spellType (baseType a)) ≤ 4
-unfolding spellType spellSimple bytes
-base-le b.Void h = omega arith
-base-le b.Bool h = omega arith
-base-le b.Int h = omega arith
-base-le b.Any h = omega arith
-base-le (b.Class c) h = omega (arith, number-le c h)
+            pub puts-three : {d : Bytes} {r : ℕ} → Puts q (opening (t .inner)) c d r → Puts at (letters t) a d r
+            puts-three {d} {r} inner = puts-middle (puts-as inner (sym (opened-on (t .inner) [] i ∙ append-nil (opening (t .inner)))))
 
 -- ---- a type: its letters, its base, closing brackets
 
@@ -178,6 +133,39 @@ spell-by (suc o) (suc m) (suc i) x e =
     rw e (ap (λ (w : Bytes). opening (suc o) ++ (opening (suc m) ++ (opening (suc i) ++ w)))
     (append-assoc (spellType x ++ (41 ∷ [])) (41 ∷ []) (41 ∷ []) ∙ append-assoc (spellType x) (41 ∷ []) (41 ∷ 41 ∷ [])))
 
-pub spell-law : (t : FlatType) → spellType (tyOf t) ≡ letters t ++ spellType (baseType (t .base)) ++ brackets (depth (tyOf t))
+spell-law : (t : FlatType) → spellType (tyOf t) ≡ letters t ++ spellType (baseType (t .base)) ++ brackets (depth (tyOf t))
 unfolding letters
 spell-law t = spell-by (t .outer) (t .middle) (t .inner) (baseType (t .base)) (base-depth (t .base))
+
+-- ---- lengths
+
+opened-le : (k n : ℕ) (w : Bytes) → length w ≤ n → length (opened k w) ≤ n + 2
+unfolding opened opening
+opened-le zero n w h = omega arith
+opened-le (suc k) n w h = omega arith
+
+letters-le : (t : FlatType) → length (letters t) ≤ 6
+unfolding letters
+letters-le t = opened-le (t .outer) 4 _ (opened-le (t .middle) 2 _ (opened-le (t .inner) 0 [] (omega arith)))
+
+brackets-le : (d : ℕ) → length (brackets d) ≤ 3
+unfolding brackets
+brackets-le d = simp length-take (omega arith)
+
+-- what `put_type` asks of the calls in it, and what they give
+module _ (t : FlatType) (at : ℕ) (a : Bytes) (room : at + 40 ≤ length a) where
+  pub room-letters : at + length (letters t) ≤ length a
+  room-letters = omega (arith, letters-le t)
+
+  module _ {b' : Bytes} {e : ℕ} (front : Puts at (letters t) a b' e) where
+    pub room-base : e + 21 ≤ length b'
+    room-base = omega (arith, letters-le t, puts-length front room-letters, front .end)
+
+    module _ {c : Bytes} {q : ℕ} (middle : Puts e (spellType (baseType (t .base))) b' c q) (short : q ≤ e + 21) (d : ℕ) where
+      pub room-brackets : q + length (brackets d) ≤ length c
+      room-brackets = omega (arith, brackets-le d, letters-le t, front .end, middle .end, puts-length front room-letters, puts-length middle (omega (arith, room-base, middle .end)))
+
+      pub puts-type : {z : Bytes} {r : ℕ} → d ≡ depth (tyOf t) → Puts q (brackets d) c z r → Puts at (spellType (tyOf t)) a z r
+      puts-type is p =
+          let two = puts-then front middle (omega (arith, letters-le t, front .end, middle .end)) in
+          rw (spell-law t) (puts-then two (rw is at p) (omega (arith, letters-le t, brackets-le (depth (tyOf t)), front .end, middle .end, length-append (letters t) (spellType (baseType (t .base))))))

@@ -1,6 +1,6 @@
 -- A spelled type, as the code takes it apart: letters with their brackets, a base, closing brackets. proofs/Spelled.antt: this
 -- is what crates/sheet's `readType` reads. Any nesting may be spelled; document 01's limits make a type too big.
-use Prim.Native.Nat.{ℕ, zero, suc, _+_, _*_, _-_, _≤_, min}
+use Prim.Native.Nat.{ℕ, zero, suc, _+_, _≤_}
 use mathlib.Core.Path.{_≡_}
 use mathlib.Core.Bool.{Bool, true, false, _&&_}
 use mathlib.Core.Option.{Option, none, some}
@@ -9,12 +9,12 @@ use lib.ListN.{length}
 use lib.Dec.{eqb, ltb}
 use Rattle.laws.specs.Choice.{if_then_else_, onSome, mapSome}
 use Rattle.ocl.specs.Types.{Letter, Ty, void, around, Any, Boolean, Integer, Class, depth}
-use Rattle.sheet.specs.Text.{Bytes, byte, Parser, literal, behind, _or_, given, number, isDigit}
+use Rattle.sheet.specs.Text.{Bytes, byte, Parser, literal, behind, _or_, given, number}
 use Rattle.sheet.specs.Refusals.{typeWithin}
+use Rattle.text.specs.declared.numbers.Num.{Num}
+use Rattle.text.specs.declared.numbers.Num.the-variants as n
 use Rattle.types.specs.declared.GotType.{GotType}
 use Rattle.types.specs.declared.GotType.the-variants as g
-use Rattle.types.specs.declared.reading.Num.{Num}
-use Rattle.types.specs.declared.reading.Num.the-variants as n
 use Rattle.types.specs.Flat.{letterOf, tyOf}
 
 -- ---- what a field that should spell a type is: badly spelled, over the limits, or a type
@@ -105,17 +105,7 @@ unfoldable pub letteredField : ℕ → TypeField → TypeField
 letteredField zero x = bad
 letteredField (suc k) x = deeper (letterOf (suc k)) x
 
--- a number, cut at a million: no limit lies above it
-unfoldable pub numOf : Option ℕ → Num
-numOf none = n.Bad
-numOf (some m) = n.Value (min m 1000000)
-
--- the number that digits spell after digits that stood for m; none where a byte is no digit
-unfoldable pub digitsFrom : ℕ → Bytes → Option ℕ
-digitsFrom m [] = some m
-digitsFrom m (b ∷ s) = if isDigit b then digitsFrom (m * 10 + (b - 48)) s else none
-
--- a class by its number
+-- a class by its number, as crates/text reads it
 unfoldable pub classField : Num → TypeField
 classField n.Bad = bad
-classField (n.Value m) = if ltb m 64 then is (Class m) else big
+classField (n.Is m) = if ltb m 64 then is (Class m) else big

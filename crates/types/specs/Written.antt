@@ -1,20 +1,11 @@
--- Bytes written at a position, and a type's spelling in the order in which it is written.
-use Prim.Native.Nat.{ℕ, zero, suc, _+_}
-use mathlib.Core.Path.{_≡_}
+-- A type's spelling in the order in which it is written.
+use Prim.Native.Nat.{ℕ, zero, suc}
 use mathlib.Core.List.{[], _∷_, _++_}
-use lib.ListN.{length, take, drop}
+use lib.ListN.{take}
 use Rattle.sheet.specs.Text.{Bytes, byte}
 use Rattle.sheet.specs.Spelling.{letterByte}
 use Rattle.types.specs.declared.FlatType.{FlatType}
 use Rattle.types.specs.Flat.{letterOf}
-
--- w in the place of as many bytes from `at` on
-abbrev pub put : ℕ → Bytes → Bytes → Bytes
-put at w out = take at out ++ w ++ drop (at + length w) out
-
-pub record Puts (at : ℕ) (w before after : Bytes) (r : ℕ) : Type 0 where
-  pub is : after ≡ put at w before
-  pub end : r ≡ at + length w
 
 -- the letter of a code, and its bracket
 unfoldable pub opening : ℕ → Bytes

@@ -1,14 +1,12 @@
 // A field that spells a type. Letters with their brackets lead, a base follows, closing brackets end it: the letters are
 // counted first, so that any nesting is read without a stack.
 ghost use mathlib.Core.Path.{_≡_};
-ghost use Prim.Native.Nat.{_<_, min};
+ghost use Prim.Native.Nat.{_<_};
 ghost use Rattle.laws.specs.Choice.{mapSome};
 ghost use Rattle.ocl.specs.Types.{Class};
-ghost use Rattle.sheet.specs.Text.{whole};
-ghost use Rattle.sheet.specs.Text.{number as aNumber};
 ghost use Rattle.sheet.specs.Spelling.{readType};
 ghost use Rattle.types.specs.Flat.{tyOf};
-ghost use Rattle.types.specs.Reading.{typeField, held, baseBefore, numberBefore, byteCode, Opens, letteredField, classField, numOf, digitsFrom, is};
+ghost use Rattle.types.specs.Reading.{typeField, held, baseBefore, numberBefore, byteCode, Opens, letteredField, classField, is};
 ghost use Rattle.types.specs.Reading.{closes as closesBy};
 ghost use Rattle.types.specs.Reading.{spells as spellsBy};
 use super::Base;
@@ -17,60 +15,9 @@ use super::GotType;
 use super::parts::depth;
 use super::parts::plain;
 use super::parts::wrap;
-
-pub enum Num {
-    Bad,
-    Value(u64),
-}
-
-fn wide(b: u8) -> u64
-    ensures { λ r. ⌜ r ≡ b ⌝ }
-{
-    b as u64
-}
-
-// A million counts for every number above it, so that a number of any length fits a word.
-fn capped(n: u64) -> u64
-    ensures { λ r. ⌜ r ≡ min n 1000000 ⌝ }
-{
-    if n < 1000000 { n } else { 1000000 }
-}
-
-// The number that digits spell.
-fn digits(s: &[u8]) -> Num
-    ensures { λ r. ⌜ r ≡ numOf (digitsFrom 0 (now (s .entry))) ⌝ }
-{
-    let mut n: u64 = 0;
-    let mut i = 0;
-    while i < s.len() {
-        let b = wide(s[i]);
-        if b < 48 {
-            return Num::Bad;
-        }
-        if 57 < b {
-            return Num::Bad;
-        }
-        n = capped(n * 10 + (b - 48));
-        i += 1;
-    }
-    Num::Value(n)
-}
-
-// A decimal number without a leading zero.
-fn number(s: &[u8]) -> Num
-    ensures { λ r. ⌜ r ≡ numOf (whole aNumber (now (s .entry))) ⌝ }
-{
-    if s.len() == 0 {
-        return Num::Bad;
-    }
-    if s.len() == 1 {
-        return digits(s);
-    }
-    if s[0] == b'0' {
-        return Num::Bad;
-    }
-    digits(s)
-}
+use text::numbers::Num;
+use text::numbers::number;
+use text::words::same;
 
 // How many times a byte and an opening bracket lead.
 fn opens(s: &[u8]) -> usize
@@ -113,14 +60,10 @@ fn spells(s: &[u8], w: &[u8], d: usize) -> bool
     if s.len() < n {
         return false;
     }
-    let mut i: usize = 0;
-    while i < n {
-        if w[i] != s[i] {
-            return false;
-        }
-        i += 1;
+    if same(w, &s[..n]) {
+        return closes(&s[n..], d);
     }
-    closes(&s[n..], d)
+    false
 }
 
 // The class that a number spells.
@@ -129,7 +72,7 @@ fn class_of(n: Num) -> GotType
 {
     match n {
         Num::Bad => GotType::Bad,
-        Num::Value(c) => if c < 64 {
+        Num::Is(c) => if c < 64 {
             GotType::Is(plain(Base::Class(c)))
         } else {
             GotType::Big

@@ -1,55 +1,24 @@
 // Writing a type at a position: its letters with their brackets, its base, closing brackets. Each function answers the
 // position after what it wrote.
 ghost use mathlib.Core.Path.{_≡_};
-ghost use mathlib.Core.List.{[], _∷_};
-ghost use Prim.Native.Nat.{_+_, _<_, _≤_};
+ghost use Prim.Native.Nat.{_+_, _≤_};
 ghost use lib.ListN.{length};
-ghost use Rattle.sheet.specs.Text.{spellNumber};
 ghost use Rattle.sheet.specs.Spelling.{letterByte, spellType};
-ghost use Rattle.types.specs.Flat.{baseType, baseClass, letterOf, tyOf};
-ghost use Rattle.types.specs.Written.{Puts, opening, letters, brackets};
+ghost use Rattle.text.specs.Written.{Puts};
+ghost use Rattle.types.specs.Flat.{baseType, letterOf, tyOf};
+ghost use Rattle.types.specs.Written.{opening, letters, brackets};
 use super::Base;
 use super::FlatType;
 use super::parts::depth;
+use text::spelling::put_byte;
+use text::spelling::put_bytes;
+use text::spelling::put_number;
 
-fn put_byte(out: &mut [u8], at: usize, b: u8) -> usize
-    requires { ⌜ at < length (now out) ⌝ }
-    ensures { λ r. ⌜ Puts at (b ∷ []) (now (out .entry)) (now (out .exit)) r ⌝ }
-{
-    out[at] = b;
-    at + 1
-}
-
-fn put_bytes(out: &mut [u8], at: usize, w: &[u8]) -> usize
-    requires { ⌜ at + length (now w) ≤ length (now out) ⌝ }
-    ensures { λ r. ⌜ Puts at (now (w .entry)) (now (out .entry)) (now (out .exit)) r ⌝ }
-{
-    let mut i: usize = 0;
-    while i < w.len() {
-        out[at + i] = w[i];
-        i += 1;
-    }
-    at + i
-}
-
-// A number below 100.
-fn put_number(out: &mut [u8], at: usize, n: u64) -> usize
-    requires { ⌜ n < 100 ⌝ }
-    requires { ⌜ at + 2 ≤ length (now out) ⌝ }
-    ensures { λ r. ⌜ Puts at (spellNumber n) (now (out .entry)) (now (out .exit)) r ⌝ }
-{
-    if n < 10 {
-        return put_byte(out, at, 48 + n as u8);
-    }
-    let e = put_byte(out, at, 48 + (n / 10) as u8);
-    put_byte(out, e, 48 + (n % 10) as u8)
-}
-
-// A base, at most four bytes.
+// A base, at most 21 bytes: a class's number is a word, so it has at most twenty digits.
 fn put_base(out: &mut [u8], at: usize, b: Base) -> usize
-    requires { ⌜ baseClass b < 100 ⌝ }
-    requires { ⌜ at + 4 ≤ length (now out) ⌝ }
+    requires { ⌜ at + 21 ≤ length (now out) ⌝ }
     ensures { λ r. ⌜ Puts at (spellType (baseType b)) (now (out .entry)) (now (out .exit)) r ⌝ }
+    ensures { λ r. ⌜ r ≤ at + 21 ⌝ }
 {
     match b {
         Base::Void => put_bytes(out, at, b"Void"),
@@ -84,7 +53,7 @@ fn put_opening(out: &mut [u8], at: usize, k: u64) -> usize
 }
 
 fn put_letters(out: &mut [u8], at: usize, t: FlatType) -> usize
-    requires { ⌜ at + 6 ≤ length (now out) ⌝ }
+    requires { ⌜ at + length (letters t) ≤ length (now out) ⌝ }
     ensures { λ r. ⌜ Puts at (letters t) (now (out .entry)) (now (out .exit)) r ⌝ }
 {
     let o = t.outer;
@@ -106,21 +75,17 @@ fn put_letters(out: &mut [u8], at: usize, t: FlatType) -> usize
 
 fn put_brackets(out: &mut [u8], at: usize, d: u64) -> usize
     requires { ⌜ d ≤ 3 ⌝ }
-    requires { ⌜ at + 3 ≤ length (now out) ⌝ }
+    requires { ⌜ at + length (brackets d) ≤ length (now out) ⌝ }
     ensures { λ r. ⌜ Puts at (brackets d) (now (out .entry)) (now (out .exit)) r ⌝ }
 {
-    match d {
-        0 => at,
-        1 => put_bytes(out, at, b")"),
-        2 => put_bytes(out, at, b"))"),
-        _ => put_bytes(out, at, b")))"),
-    }
+    let all = [b')'; 3];
+    let n = d as usize;
+    put_bytes(out, at, &all[..n])
 }
 
-// A type, at most thirteen bytes.
+// A type, at most thirty bytes: six of letters and their brackets, the base, three closing brackets.
 pub fn put_type(out: &mut [u8], at: usize, t: FlatType) -> usize
-    requires { ⌜ baseClass (t .base) < 100 ⌝ }
-    requires { ⌜ at + 20 ≤ length (now out) ⌝ }
+    requires { ⌜ at + 40 ≤ length (now out) ⌝ }
     ensures { λ r. ⌜ Puts at (spellType (tyOf t)) (now (out .entry)) (now (out .exit)) r ⌝ }
 {
     let d = depth(t);

@@ -10,12 +10,12 @@ use Rattle.laws.proofs.Orders.{compare-lt, compare-gt, compare-eq}
 use lib.Dec.{T, eqb}
 use borrow.Author.Tests.{eq-eqb, ne-eqb}
 use Rattle.laws.proofs.Orders.{Three, less, same, over, three}
-use Rattle.ocl.specs.Values.{Value, thenOrder, order}
+use Rattle.ocl.specs.Values.{Value, thenOrder}
 use Rattle.ocl.specs.Values.{same as sameValue}
 use Rattle.ocl.proofs.Order.{same-is}
 use Rattle.values.specs.Cells.{lex, code, enc, Fits}
 use Rattle.values.specs.Contracts.{SameAt}
-use Rattle.values.proofs.Encoding.{order-law, same-cells}
+use Rattle.values.proofs.Encoding.{same-cells}
 
 -- ---- compare
 
@@ -110,9 +110,6 @@ lex-same (x ∷ xs) (y ∷ ys) e = by (three x y) e (lex-same xs ys)
     by (same l) e ih = let k = ih (rw (compare-eq x y l) at e) in cc
 
 -- the order calls exactly the same values alike
-pub order-same : {v w : Value} → Fits v → Fits w → order v w ≡ Ordering·eq → v ≡ w
-order-same {v} {w} f g e = same-cells f g (lex-same (enc v) (enc w) (order-law f g ∙ e))
-
 same-test : {v w : Value} → Fits v → Fits w → eqb (code (lex (enc v) (enc w))) 1 ≡ sameValue v w
 unfolding code
 same-test {v} {w} f g = by (sameValue v w) (λ t. same-is v w .0 t) (λ e. same-is v w .1 e)

@@ -2,20 +2,20 @@
 use mathlib.Core.Path.{_≡_, refl, sym, ap, _∙_}
 use mathlib.Core.Bool.{true, false}
 use mathlib.Core.List.{List, [], _∷_, _++_, append-assoc, append-nil}
-use Prim.Native.Nat.{ℕ, zero, suc, _+_, _-_, _/_, _%_, _<_, compare}
+use Prim.Native.Nat.{ℕ, zero, suc, _+_, _/_, _%_, _<_, compare}
 use native.Mathlib.Omega.{arith}
 use native.Mathlib.Nat.{add-zero}
 use lib.ListN.{length, length-append}
-use lib.IntN.{ℤ, pos, negsuc}
-use lib.Dec.{T, ltb}
-use borrow.Author.Tests.{lt-ltb, le-ltb}
-use Rattle.laws.specs.Choice.{if_then_else_}
-use Rattle.laws.proofs.Orders.{same, compare-same}
+use Rattle.laws.specs.Integers.{unbias}
+use Rattle.laws.proofs.Tests.{test-true}
+use Rattle.laws.proofs.Orders.{compare-same}
 use Rattle.ocl.specs.Types.{set, sequence, bag}
 use Rattle.ocl.specs.Values.{Value, bool, int, obj, coll, Values, nil, cons, count, size, sizes, thenOrder, sort, members, headOrder, order, orders}
 use Rattle.ocl.specs.Evaluation.{inRange}
-use Rattle.values.specs.Cells.{bit, bias, payload, head, enc, encs, Fits, fits-bool, fits-int, fits-obj, fits-coll, AllFit, fit-cons, kids, past, lex}
-use Rattle.values.proofs.Heads.{range-neg, members-fit, enc-parts, kids-head, then-eq, then-assoc, then-like, head-order, sort-back, payload-back}
+use Rattle.ocl.proofs.Order.{then-eq, order-is, by-members}
+use Rattle.ocl.proofs.Ranges.{unbias-bias}
+use Rattle.values.specs.Cells.{bit, payload, head, enc, encs, Fits, fits-bool, fits-int, fits-obj, fits-coll, AllFit, fit-cons, kids, past, lex}
+use Rattle.values.proofs.Heads.{members-fit, enc-parts, kids-head, then-assoc, then-like, head-order, sort-back, payload-back}
 
 -- ---- as many cells as the size says
 
@@ -37,13 +37,6 @@ some-cells v = rw (enc-parts v) (omega arith)
 
 -- ---- the order
 
-order-parts : (v w : Value) → order v w ≡ thenOrder (headOrder v w) (orders (members v) (members w))
-unfolding order members
-order-parts (bool b) w = sym (then-eq (headOrder (bool b) w))
-order-parts (int z) w = sym (then-eq (headOrder (int z) w))
-order-parts (obj o) w = sym (then-eq (headOrder (obj o) w))
-order-parts (coll k vs) w = refl
-
 same-count : {v w : Value} → Fits v → Fits w → head v ≡ head w → count (members v) ≡ count (members w)
 same-count f g e = sym (kids-head f) ∙ ap kids e ∙ kids-head g
 
@@ -56,7 +49,7 @@ Ordereds vs = AllFit vs → (ws : Values) → AllFit ws → count vs ≡ count w
 ordered-by : (v : Value) → Ordereds (members v) → Ordered v
 unfolding lex
 ordered-by v ih f w g y z =
-    rw (enc-parts v, enc-parts w, order-parts v w, then-assoc (headOrder v w) (orders (members v) (members w)) (lex y z), ← head-order f g)
+    rw (enc-parts v, enc-parts w, order-is v w, then-assoc (headOrder v w) (orders (members v) (members w)) (lex y z), ← head-order f g)
     (then-like (compare (head v) (head w)) _ _ (λ e. ih (members-fit f) (members w) (members-fit g) (same-count f g (compare-same (head v) (head w) e)) y z))
 
 ordered-nil : Ordereds nil
@@ -71,18 +64,8 @@ ordered-cons v vs p q (fit-cons f fs) (cons w ws) (fit-cons g gs) e y z =
     rw (append-assoc (enc v) (encs vs) y, append-assoc (enc w) (encs ws) z, then-assoc (order v w) (orders vs ws) (lex y z), ← q fs ws gs (omega arith) y z)
     (p f w g (encs vs ++ y) (encs ws ++ z))
 
-mutual
-  unfolding members
-
-  ordered : (v : Value) → Ordered v
-  ordered (bool b) = ordered-by (bool b) ordered-nil
-  ordered (int z) = ordered-by (int z) ordered-nil
-  ordered (obj o) = ordered-by (obj o) ordered-nil
-  ordered (coll k vs) = ordered-by (coll k vs) (ordereds vs)
-
-  ordereds : (vs : Values) → Ordereds vs
-  ordereds nil = ordered-nil
-  ordereds (cons v vs) = ordered-cons v vs (ordered v) (ordereds vs)
+ordered : (v : Value) → Ordered v
+ordered = by-members Ordered Ordereds ordered-by ordered-nil ordered-cons
 
 -- document 01's order is the order of the cells
 pub order-law : {v w : Value} → Fits v → Fits w → lex (enc v) (enc w) ≡ order v w
@@ -114,18 +97,8 @@ passed-cons v vs p q (fit-cons f fs) n y =
     let c = length-append (enc v) (encs vs) in
     rw (e, append-assoc (enc v) (encs vs) y) (omega arith)
 
-mutual
-  unfolding members
-
-  passed : (v : Value) → Passed v
-  passed (bool b) = passed-by (bool b) passed-nil
-  passed (int z) = passed-by (int z) passed-nil
-  passed (obj o) = passed-by (obj o) passed-nil
-  passed (coll k vs) = passed-by (coll k vs) (passeds vs)
-
-  passeds : (vs : Values) → Passeds vs
-  passeds nil = passed-nil
-  passeds (cons v vs) = passed-cons v vs (passed v) (passeds vs)
+passed : (v : Value) → Passed v
+passed = by-members Passed Passeds passed-by passed-nil passed-cons
 
 pub past-zero : (cs : List ℕ) → past cs 0 ≡ 0
 unfolding past
@@ -137,14 +110,6 @@ pub past-law : {v : Value} → Fits v → (y : List ℕ) → past (enc v ++ y) 1
 past-law {v} f y = let a = passed v f 0 y in let b = past-zero y in omega arith
 
 -- ---- the same cells are the same value
-
-unbias : ℕ → ℤ
-unbias n = if ltb n 2147483648 then negsuc (2147483647 - n) else pos (n - 2147483648)
-
-unbias-law : (z : ℤ) → T (inRange z) → unbias (bias z) ≡ z
-unfolding unbias bias
-unbias-law (pos n) h = rw (le-ltb (2147483648 + n) 2147483648 (omega arith)) (ap pos (omega arith))
-unbias-law (negsuc n) h = let l = range-neg n h in rw (lt-ltb (2147483648 - suc n) 2147483648 (omega arith)) (ap negsuc (omega arith))
 
 -- a value from its sort, payload and members
 make : ℕ → ℕ → Values → Value
@@ -160,7 +125,7 @@ make-law : {v : Value} → Fits v → make (sort v) (payload v) (members v) ≡ 
 unfolding make sort payload members bit
 make-law (fits-bool {b = true}) = refl
 make-law (fits-bool {b = false}) = refl
-make-law (fits-int {z} h) = ap int (unbias-law z h)
+make-law (fits-int {z} h) = ap int (unbias-bias z (test-true (inRange z) h))
 make-law (fits-obj h) = refl
 make-law (fits-coll {k = set} h f) = refl
 make-law (fits-coll {k = sequence} h f) = refl
@@ -197,18 +162,8 @@ told-cons v vs p q (fit-cons f fs) (cons w ws) (fit-cons g gs) e y z d =
     let i = a .0 in let j = b .0 in
     (cc, b .1)
 
-mutual
-  unfolding members
-
-  told : (v : Value) → Told v
-  told (bool b) = told-by (bool b) told-nil
-  told (int z) = told-by (int z) told-nil
-  told (obj o) = told-by (obj o) told-nil
-  told (coll k vs) = told-by (coll k vs) (tolds vs)
-
-  tolds : (vs : Values) → Tolds vs
-  tolds nil = told-nil
-  tolds (cons v vs) = told-cons v vs (told v) (tolds vs)
+told : (v : Value) → Told v
+told = by-members Told Tolds told-by told-nil told-cons
 
 -- no value's cells begin another's
 pub prefix-free : {v w : Value} {y z : List ℕ} → Fits v → Fits w → enc v ++ y ≡ enc w ++ z → (v ≡ w) × (y ≡ z)

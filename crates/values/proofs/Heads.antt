@@ -8,10 +8,12 @@ use native.Mathlib.Omega.{arith}
 use lib.IntN.{ℤ, pos, negsuc}
 use lib.Dec.{T, ltb→lt}
 use borrow.Author.Tests.{lt-ltb, le-ltb}
+use Rattle.laws.proofs.Tests.{test-true}
 use Rattle.laws.proofs.Orders.{compare-lt, compare-eq, compare-gt, Three, less, same, over, three, compare-same, compare-like}
 use Rattle.ocl.specs.Types.{Kind, set, sequence, bag, kindCode}
 use Rattle.ocl.specs.Values.{Value, bool, int, obj, coll, Values, count, thenOrder, sort, ofBool, rank, orderInt, members, headOrder}
 use Rattle.ocl.specs.Evaluation.{inRange}
+use Rattle.ocl.proofs.Ranges.{bias-small as ranged-small}
 use Rattle.values.specs.Cells.{bit, bias, payload, head, enc, encs, Fits, fits-bool, fits-int, fits-obj, fits-coll, AllFit, fit-nil, kids}
 
 -- ---- Integers
@@ -25,9 +27,7 @@ unfolding inRange
 range-neg n h = ltb→lt n 2147483648 h
 
 pub bias-small : (z : ℤ) → T (inRange z) → bias z < 4294967296
-unfolding bias
-bias-small (pos n) h = let l = range-pos n h in omega arith
-bias-small (negsuc n) h = let l = range-neg n h in omega arith
+bias-small z h = ranged-small z (test-true (inRange z) h)
 
 -- the order of biased Integers in range is the order of Integers
 pub bias-order : (x y : ℤ) → T (inRange x) → T (inRange y) → compare (bias x) (bias y) ≡ orderInt x y
@@ -126,12 +126,6 @@ kids-head (fits-coll {k = sequence} {vs = vs} f g) = high-kids 4 (count vs) (ome
 kids-head (fits-coll {k = bag} {vs = vs} f g) = high-kids 5 (count vs) (omega arith) f
 
 -- ---- the order of first cells
-
-pub then-eq : (a : Ordering) → thenOrder a Ordering·eq ≡ a
-unfolding thenOrder
-then-eq Ordering·lt = refl
-then-eq Ordering·eq = refl
-then-eq Ordering·gt = refl
 
 pub then-assoc : (a b c : Ordering) → thenOrder (thenOrder a b) c ≡ thenOrder a (thenOrder b c)
 unfolding thenOrder

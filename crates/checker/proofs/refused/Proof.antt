@@ -4,7 +4,6 @@ use Rattle.sheet.specs.Calls.{refusalAt}
 use Rattle.checker.proofs.refused.Statement.{statement}
 use Rattle.checker.proofs.refused.Tie as tie
 
--- src/lib.rt:181:1
 returns : tie.Need-returns
 unfolding refusalAt
 returns c = refl

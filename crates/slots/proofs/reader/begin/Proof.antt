@@ -1,5 +1,6 @@
 -- `slots::reader::begin` meets its contract. Assumes nothing.
-use Rattle.slots.proofs.TurnLaws.{wanted-depth, begin-simple, begin-wide, begin-bad, begin-opens, turn-later, simple-up, wide-up, opens-up}
+use Rattle.slots.proofs.BeginLaws.{wanted-depth, begin-simple, begin-wide, begin-bad, begin-opens, simple-up, wide-up, opens-up}
+use Rattle.slots.proofs.TurnLaws.{turn-later}
 use Rattle.slots.specs.Machine.{turn-on, turn-stop, read-bad}
 use native.Mathlib.Omega.{arith}
 use borrow.Author.Needs.{needs}

@@ -1,5 +1,5 @@
 -- `slots::reader::header` meets its contract. Assumes nothing.
-use Rattle.slots.proofs.CellLaws.{header-first, header-second, header-third}
+use Rattle.slots.proofs.CountLaws.{header-first, header-second, header-third}
 use Rattle.slots.proofs.reader.header.Statement.{statement}
 use Rattle.slots.proofs.reader.header.Tie as tie
 

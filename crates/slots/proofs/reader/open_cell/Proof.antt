@@ -11,20 +11,20 @@ add-cell-requires c κs = search needs
 add-t8 : tie.Need-add-t8
 add-t8 c = search needs
 
-either-requires : tie.Need-either-requires
-either-requires c κs = search needs
-
 pick-requires : tie.Need-pick-requires
 pick-requires c κs = search needs
 
 pick-requires-2 : tie.Need-pick-requires-2
 pick-requires-2 c κs = search needs
 
+pick-requires-3 : tie.Need-pick-requires-3
+pick-requires-3 c κs = search needs
+
 same-length : tie.Need-same-length
 same-length c = search needs
 
 returns : tie.Need-returns
-returns c = opened-cell (c .before .before .before .before .before .before .before .before .before .add-cell .ensures) (c .before .before .before .before .either .ensures) (c .before .before .pick .ensures) (c .pick2 .ensures) refl
+returns c = opened-cell (c .before .before .before .before .before .before .before .before .before .add-cell .ensures) (c .before .before .before .before .pick .ensures) (c .before .before .pick2 .ensures) (c .pick3 .ensures) refl
 
 pub open-cell-spec : {M : Type 1} → statement M
 open-cell-spec =
@@ -32,8 +32,8 @@ open-cell-spec =
     (tie.spec
     add-cell-requires
     add-t8
-    either-requires
     pick-requires
     pick-requires-2
+    pick-requires-3
     same-length
     returns)

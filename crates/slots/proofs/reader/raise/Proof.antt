@@ -1,5 +1,5 @@
 -- `slots::reader::raise` meets its contract. Assumes nothing.
-use Rattle.slots.proofs.CellLaws.{raised-over, raised}
+use Rattle.slots.proofs.CountLaws.{raised-over, raised}
 use lib.ListN.{getD}
 use Prim.Native.Nat.{ℕ}
 use mathlib.Core.Path.{ap}
@@ -9,28 +9,28 @@ use Rattle.slots.proofs.reader.raise.Statement.{statement}
 use Rattle.slots.proofs.reader.raise.Tie as tie
 
 returns : tie.Need-returns
-returns c = raised-over (c .if1 .taken)
+returns c = raised-over (omega arith)
 
 header-requires : tie.Need-header-requires
 header-requires c κs = search needs
 
 mul-cells : tie.Need-mul-cells
-mul-cells c = omega (arith, c .header .ensures, c .before .before .before .pre (c .before .if1 .left) .0)
+mul-cells c = omega (arith, c .header .ensures, c .before .before .before .before .pre (omega arith) .0)
 
 slice-read-cells : tie.Need-slice-read-cells
-slice-read-cells c = omega (arith, c .before .header .ensures, c .before .before .before .before .pre (c .before .before .if1 .left) .0)
+slice-read-cells c = omega (arith, c .before .header .ensures, c .before .before .before .before .before .pre (omega arith) .0)
 
 add-cells : tie.Need-add-cells
-add-cells c = omega (arith, ap (λ (n : ℕ). getD (c .before .before .before .before .args .cells .now) n 0) (c .before .header .ensures), c .before .before .before .before .pre (c .before .before .if1 .left) .1)
+add-cells c = omega (arith, ap (λ (n : ℕ). getD (c .before .before .before .before .before .args .cells .now) n 0) (c .before .header .ensures), c .before .before .before .before .before .pre (omega arith) .1)
 
 slice-write-cells : tie.Need-slice-write-cells
-slice-write-cells c = omega (arith, c .before .header .ensures, c .before .before .before .before .pre (c .before .before .if1 .left) .0)
+slice-write-cells c = omega (arith, c .before .header .ensures, c .before .before .before .before .before .pre (omega arith) .0)
 
 same-length : tie.Need-same-length
 same-length c = search needs
 
 returns-2 : tie.Need-returns-2
-returns-2 c = raised (c .before .before .if1 .left) (c .before .header .ensures)
+returns-2 c = raised (omega arith) (c .before .header .ensures)
 
 pub raise-spec : {M : Type 1} → statement M
 raise-spec =

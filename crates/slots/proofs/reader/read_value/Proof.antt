@@ -1,5 +1,6 @@
 -- `slots::reader::read_value` meets its contract. Assumes nothing.
-use Rattle.slots.proofs.TurnLaws.{begun, turn-up, turn-live, turn-read, live-within}
+use Rattle.slots.proofs.BeginLaws.{begun}
+use Rattle.slots.proofs.TurnLaws.{turn-up, turn-live, turn-read, live-within}
 use Rattle.slots.specs.Machine.{Live}
 use lib.ListN.{length}
 use Prim.Native.Nat.{_-_}

@@ -1,5 +1,5 @@
 -- `slots::suits::climbs` meets its contract. Assumes nothing.
-use Rattle.slots.proofs.SuitLaws.{Climbing, climb-start, climb-here, climb-top, climb-last, climb-again}
+use Rattle.slots.proofs.ClimbLaws.{Climbing, climb-start, climb-here, climb-top, climb-last, climb-again}
 use borrow.Author.Needs.{needs}
 use native.Mathlib.Omega.{arith}
 use Rattle.slots.proofs.suits.climbs.Statement.{statement}

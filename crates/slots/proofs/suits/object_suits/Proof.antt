@@ -1,5 +1,5 @@
 -- `slots::suits::object_suits` meets its contract. Assumes nothing.
-use Rattle.slots.proofs.SuitLaws.{object-there, object-gone}
+use Rattle.slots.proofs.ClimbLaws.{object-there, object-gone}
 use native.Mathlib.Omega.{arith}
 use borrow.Author.Needs.{needs}
 use Rattle.slots.proofs.suits.object_suits.Statement.{statement}

@@ -1,5 +1,5 @@
 -- `slots::suits::same_class` meets its contract. Assumes nothing.
-use Rattle.slots.proofs.SuitLaws.{class-one, class-two, class-three, class-other}
+use Rattle.slots.proofs.ClimbLaws.{class-one, class-two, class-three, class-other}
 use Rattle.slots.proofs.suits.same_class.Statement.{statement}
 use Rattle.slots.proofs.suits.same_class.Tie as tie
 

@@ -6,18 +6,18 @@ use borrow.Author.Needs.{needs}
 use Rattle.text.proofs.numbers.integer.Statement.{statement}
 use Rattle.text.proofs.numbers.integer.Tie as tie
 
-integer-end-requires : tie.Need-integer-end-requires
-integer-end-requires c κs = search needs
+integer-digits-requires : tie.Need-integer-digits-requires
+integer-digits-requires c κs = search needs
 
 integer-at-requires : tie.Need-integer-at-requires
 integer-at-requires c κs = search needs
 
 returns : tie.Need-returns
-returns c = c .integer-at .ensures ∙ ap wholeOf (sym (an-integer (c .before .before .integer-end .ensures) (c .before .if1 .taken)))
+returns c = c .integer-at .ensures ∙ ap wholeOf (sym (an-integer (c .before .before .before .integer-digits .ensures .ends) (c .before .if1 .taken)))
 
 returns-2 : tie.Need-returns-2
 unfolding wholeOf
-returns-2 c = sym (ap wholeOf (not-an-integer (c .before .integer-end .ensures) (c .if1 .left)))
+returns-2 c = sym (ap wholeOf (not-an-integer (c .before .before .integer-digits .ensures .ends) (c .if1 .left)))
 
 pub integer-spec : {M : Type 1} → statement M
-integer-spec = tie.close (tie.spec integer-end-requires integer-at-requires returns returns-2)
+integer-spec = tie.close (tie.spec integer-digits-requires integer-at-requires returns returns-2)

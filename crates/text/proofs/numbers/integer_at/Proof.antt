@@ -14,26 +14,16 @@ add-from c = search needs
 plain-requires : tie.Need-plain-requires
 plain-requires c κs = search needs
 
-magnitude-requires : tie.Need-magnitude-requires
-magnitude-requires c κs = search needs
-
 by-sign-requires : tie.Need-by-sign-requires
 by-sign-requires c κs = search needs
 
 returns : tie.Need-returns
-returns c = c .by-sign .ensures ∙ integer-read (c .before .before .before .before .before .before .pre) (c .before .before .before .before .minus-at .ensures) (c .before .before .before .plain .ensures) (c .before .before .if1 .taken) (c .before .magnitude .ensures)
+returns c = c .by-sign .ensures ∙ integer-read (c .before .before .before .before .before .pre .ends) (c .before .before .before .minus-at .ensures) (c .before .before .plain .ensures) (c .before .if1 .taken) (c .before .before .before .before .before .pre .value)
 
 returns-2 : tie.Need-returns-2
-returns-2 c = integer-bad (c .before .before .before .before .pre) (c .before .before .minus-at .ensures) (c .before .plain .ensures) (c .if1 .left)
+returns-2 c = integer-bad (c .before .before .before .before .pre .ends) (c .before .before .minus-at .ensures) (c .before .plain .ensures) (c .if1 .left)
 
 pub integer-at-spec : {M : Type 1} → statement M
 integer-at-spec =
     tie.close
-    (tie.spec
-    minus-at-requires
-    add-from
-    plain-requires
-    magnitude-requires
-    by-sign-requires
-    returns
-    returns-2)
+    (tie.spec minus-at-requires add-from plain-requires by-sign-requires returns returns-2)

@@ -6,18 +6,18 @@ use borrow.Author.Needs.{needs}
 use Rattle.text.proofs.numbers.number.Statement.{statement}
 use Rattle.text.proofs.numbers.number.Tie as tie
 
-digits-end-requires : tie.Need-digits-end-requires
-digits-end-requires c κs = search needs
+digits-at-requires : tie.Need-digits-at-requires
+digits-at-requires c κs = search needs
 
 number-at-requires : tie.Need-number-at-requires
 number-at-requires c κs = search needs
 
 returns : tie.Need-returns
-returns c = c .number-at .ensures ∙ ap numOf (sym (a-number (c .before .before .digits-end .ensures) (c .before .if1 .taken)))
+returns c = c .number-at .ensures ∙ ap numOf (sym (a-number (c .before .before .before .digits-at .ensures .ends) (c .before .if1 .taken)))
 
 returns-2 : tie.Need-returns-2
 unfolding numOf
-returns-2 c = sym (ap numOf (not-a-number (c .before .digits-end .ensures) (c .if1 .left)))
+returns-2 c = sym (ap numOf (not-a-number (c .before .before .digits-at .ensures .ends) (c .if1 .left)))
 
 pub number-spec : {M : Type 1} → statement M
-number-spec = tie.close (tie.spec digits-end-requires number-at-requires returns returns-2)
+number-spec = tie.close (tie.spec digits-at-requires number-at-requires returns returns-2)

@@ -7,18 +7,14 @@ use Rattle.text.proofs.numbers.number_at.Tie as tie
 plain-requires : tie.Need-plain-requires
 plain-requires c κs = search needs
 
-magnitude-requires : tie.Need-magnitude-requires
-magnitude-requires c κs = search needs
-
 at-most-requires : tie.Need-at-most-requires
 at-most-requires c κs = search needs
 
 returns : tie.Need-returns
-returns c = number-read (c .before .before .before .before .before .pre) (c .before .before .before .plain .ensures) (c .before .before .if1 .taken) (c .before .magnitude .ensures) (c .at-most .ensures)
+returns c = number-read (c .before .before .before .before .pre .ends) (c .before .before .plain .ensures) (c .before .if1 .taken) (c .before .before .before .before .pre .value) (c .at-most .ensures)
 
 returns-2 : tie.Need-returns-2
-returns-2 c = number-bad (c .before .before .before .pre) (c .before .plain .ensures) (c .if1 .left)
+returns-2 c = number-bad (c .before .before .before .pre .ends) (c .before .plain .ensures) (c .if1 .left)
 
 pub number-at-spec : {M : Type 1} → statement M
-number-at-spec =
-    tie.close (tie.spec plain-requires magnitude-requires at-most-requires returns returns-2)
+number-at-spec = tie.close (tie.spec plain-requires at-most-requires returns returns-2)

@@ -1,13 +1,11 @@
+-- `all_used` meets its contract.
 use Rattle.trees.proofs.EndLaws.{used-not, used-next, used-all}
 use Rattle.trees.specs.Rules.{usedIn}
 use mathlib.Core.Path.{_≡_, refl}
 use Prim.Native.Nat.{_≤_}
-use native.Mathlib.Omega.{arith}
 use borrow.Author.Needs.{needs}
 use Rattle.trees.proofs.ending.all_used.Statement.{statement}
 use Rattle.trees.proofs.ending.all_used.Tie as tie
-use Rattle.trees.proofs.ending.all_used.Reads as reads
-use Rattle.trees.proofs.ending.all_used.Lts as lts
 
 abbrev Inv-loop : tie.InvT-loop
 Inv-loop w1 first count n₀ n = (usedIn w1 first n ≡ usedIn w1 first count) × (n ≤ count)
@@ -15,43 +13,33 @@ Inv-loop w1 first count n₀ n = (usedIn w1 first n ≡ usedIn w1 first count) �
 abbrev μ-loop : tie.MeasureT-loop
 μ-loop w1 first count n₀ n = n
 
--- src/ending.rt:16:5
 loop-holds : tie.Need-loop-holds Inv-loop μ-loop
 loop-holds c = (refl, search needs)
 
--- src/ending.rt:17:9
 sub-n : tie.Need-sub-n Inv-loop μ-loop
 sub-n c = search needs
 
--- src/ending.rt:18:23
 add-if1 : tie.Need-add-if1 Inv-loop μ-loop
 add-if1 c = search needs
 
--- src/ending.rt:18:15
 add-if1-2 : tie.Need-add-if1-2 Inv-loop μ-loop
 add-if1-2 c = search needs
 
--- src/ending.rt:18:12
 mul-if1 : tie.Need-mul-if1 Inv-loop μ-loop
 mul-if1 c = search needs
 
--- src/ending.rt:18:12
 shared-slice-read-if1 : tie.Need-shared-slice-read-if1 Inv-loop μ-loop
 shared-slice-read-if1 c = search needs
 
--- src/ending.rt:19:13
 returns : tie.Need-returns Inv-loop μ-loop
 returns c = used-not _ _ _ (c .before .before .before .loop .inv .0) (c .before .before .loop-test .taken) (c .if1 .taken)
 
--- src/ending.rt:16:5
 loop-less : tie.Need-loop-less Inv-loop μ-loop
 loop-less c = search needs
 
--- src/ending.rt:16:5
 loop-again : tie.Need-loop-again Inv-loop μ-loop
 loop-again c = (used-next _ _ _ (c .before .before .before .loop .inv .0) (c .before .before .loop-test .taken) (c .if1 .left), search needs)
 
--- src/ending.rt:11:1
 returns-2 : tie.Need-returns-2 Inv-loop μ-loop
 returns-2 c = used-all _ _ _ (c .before .loop .inv .0) (c .loop-test .left)
 

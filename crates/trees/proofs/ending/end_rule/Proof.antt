@@ -1,87 +1,65 @@
+-- `end_rule` meets its contract.
 use Rattle.trees.proofs.EndLaws.{end-none, end-empty, end-unused, end-deep, end-down}
 use lib.ListN.{length-set}
 use native.Mathlib.Omega.{arith}
 use borrow.Author.Needs.{needs}
 use Rattle.trees.proofs.ending.end_rule.Statement.{statement}
 use Rattle.trees.proofs.ending.end_rule.Tie as tie
-use Rattle.trees.proofs.ending.end_rule.Reads as reads
-use Rattle.trees.proofs.ending.end_rule.Lts as lts
-use Rattle.trees.proofs.ending.all_used.Reads as all-used-reads
-use Rattle.trees.proofs.ending.with_rule.Reads as with-rule-reads
 
--- src/ending.rt:50:9
 returns : tie.Need-returns
 returns c = end-none _ (c .if1 .taken) (c .before .before .before .before .pre .2)
 
--- src/ending.rt:55:9
 returns-2 : tie.Need-returns-2
 returns-2 c = end-empty _ (c .before .if1 .left) (c .if2 .taken)
 
--- src/ending.rt:57:16
 sub-last : tie.Need-sub-last
 sub-last c = search needs
 
--- src/ending.rt:58:29
 sub-all-used : tie.Need-sub-all-used
 sub-all-used c = search needs
 
--- src/ending.rt:58:9
 all-used-requires : tie.Need-all-used-requires
 all-used-requires c κs = search needs
 
--- src/ending.rt:59:9
 returns-3 : tie.Need-returns-3
 returns-3 c = end-unused _ (c .before .before .before .if1 .left) (c .before .before .before .before .before .before .before .pre .2) (c .before .before .if2 .left) (c .before .all-used .ensures) (c .if3 .taken)
 
--- src/ending.rt:61:11
 add-if4 : tie.Need-add-if4
 add-if4 c = search needs
 
--- src/ending.rt:61:8
 mul-if4 : tie.Need-mul-if4
 mul-if4 c = search needs
 
--- src/ending.rt:61:8
 shared-slice-read-if4 : tie.Need-shared-slice-read-if4
 shared-slice-read-if4 c = search needs
 
--- src/ending.rt:62:9
 returns-4 : tie.Need-returns-4
 returns-4 c = end-deep _ (c .before .before .before .before .before .if1 .left) (c .before .before .before .before .before .before .before .before .before .pre .2) (c .before .before .before .before .if2 .left) (c .before .before .before .all-used .ensures) (c .before .before .if3 .left) (c .if4 .taken)
 
--- src/ending.rt:65:8
 add-w0 : tie.Need-add-w0
 add-w0 c = search needs
 
--- src/ending.rt:65:5
 mul-w0 : tie.Need-mul-w0
 mul-w0 c = search needs
 
--- src/ending.rt:65:5
 slice-write-w0 : tie.Need-slice-write-w0
 slice-write-w0 c = search needs
 
--- src/ending.rt:66:8
 add-w0-2 : tie.Need-add-w0-2
 add-w0-2 c = search needs
 
--- src/ending.rt:66:5
 mul-w0-2 : tie.Need-mul-w0-2
 mul-w0-2 c = search needs
 
--- src/ending.rt:66:5
 slice-write-w0-2 : tie.Need-slice-write-w0-2
 slice-write-w0-2 c = simp length-set (omega (arith, c .before .before .before .before .before .before .before .before .before .pre .2 .rules))
 
--- src/ending.rt:67:16
 with-rule-requires : tie.Need-with-rule-requires
 with-rule-requires c κs = search needs
 
--- src/ending.rt:45:1
 same-length : tie.Need-same-length
 same-length c = search needs
 
--- src/ending.rt:45:1
 returns-5 : tie.Need-returns-5
 returns-5 c = end-down _ (c .before .before .before .before .before .before .if1 .left) (c .before .before .before .before .before .before .before .before .before .before .pre .2) (c .before .before .before .before .before .if2 .left) (c .before .before .before .before .all-used .ensures) (c .before .before .before .if3 .left) (c .before .if4 .left) (c .before .before .before .before .before .before .before .before .before .before .pre .0) (c .before .before .before .before .before .before .before .before .before .before .pre .3) (c .with-rule .ensures)
 

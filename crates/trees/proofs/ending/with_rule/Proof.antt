@@ -1,16 +1,13 @@
+-- `with_rule` meets its contract.
 use Rattle.trees.specs.Rules.{withRule}
 use mathlib.Core.Path.{refl}
 use borrow.Author.Needs.{needs}
 use Rattle.trees.proofs.ending.with_rule.Statement.{statement}
 use Rattle.trees.proofs.ending.with_rule.Tie as tie
-use Rattle.trees.proofs.ending.with_rule.Reads as reads
-use Rattle.trees.proofs.ending.with_rule.Lts as lts
 
--- src/ending.rt:37:16
 add-t2 : tie.Need-add-t2
 add-t2 c = search needs
 
--- src/ending.rt:25:1
 returns : tie.Need-returns
 unfolding withRule
 returns c = refl

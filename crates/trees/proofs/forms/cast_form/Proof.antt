@@ -1,37 +1,28 @@
+-- `cast_form` meets its contract.
 use native.Mathlib.Omega.{arith}
 use Rattle.trees.proofs.HeldLaws.{cast-read}
 use borrow.Author.Needs.{needs}
 use Rattle.trees.proofs.forms.cast_form.Statement.{statement}
 use Rattle.trees.proofs.forms.cast_form.Tie as tie
-use Rattle.trees.proofs.forms.cast_form.Reads as reads
-use Rattle.trees.proofs.forms.cast_form.Lts as lts
-use Rattle.trees.proofs.numbers.exactly.Reads as exactly-reads
 
--- src/forms.rt:102:9
 exactly-requires : tie.Need-exactly-requires
 exactly-requires c κs = search needs
 
--- src/forms.rt:106:21
 array-read-t8 : tie.Need-array-read-t8
 array-read-t8 c = search needs
 
--- src/forms.rt:106:28
 array-read-t11 : tie.Need-array-read-t11
 array-read-t11 c = search needs
 
--- src/forms.rt:108:17
 array-read-t15 : tie.Need-array-read-t15
 array-read-t15 c = search needs
 
--- src/forms.rt:110:18
 array-read-t19 : tie.Need-array-read-t19
 array-read-t19 c = search needs
 
--- src/forms.rt:110:18
 add-t20 : tie.Need-add-t20
 add-t20 c = omega (arith, c .before .exactly .ensures .small 1)
 
--- src/forms.rt:98:1
 returns : tie.Need-returns
 returns c = cast-read _ _ _ (c .before .exactly .ensures)
 

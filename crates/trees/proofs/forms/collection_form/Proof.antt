@@ -1,72 +1,53 @@
+-- `collection_form` meets its contract.
 use Rattle.text.specs.Words.{letterOf}
 use Rattle.trees.specs.Forms.{kindCode}
 use native.Mathlib.Omega.{arith}
-use mathlib.Core.Path.{sym, ap, _∙_}
+use mathlib.Core.Path.{ap, _∙_}
 use Rattle.trees.proofs.MoreFormLaws.{collect-none, collect-over, collect-other, collect-read}
 use Rattle.trees.proofs.FieldLaws.{rest-cons, rest-short, rest-long, rest-length, rest-part}
 use borrow.Author.Needs.{needs}
 use Rattle.trees.proofs.forms.collection_form.Statement.{statement}
 use Rattle.trees.proofs.forms.collection_form.Tie as tie
-use Rattle.trees.proofs.forms.collection_form.Reads as reads
-use Rattle.trees.proofs.forms.collection_form.Lts as lts
-use Rattle.text.proofs.parts.field.Reads as field-reads
-use Rattle.trees.proofs.forms.kind_code.Reads as kind-code-reads
-use Rattle.trees.proofs.forms.misspelled.Reads as misspelled-reads
-use Rattle.trees.proofs.numbers.number_fields.Reads as number-fields-reads
 
--- src/forms.rt:220:9
 misspelled-requires : tie.Need-misspelled-requires
 misspelled-requires c κs = search needs
 
--- src/forms.rt:220:9
 returns : tie.Need-returns
 returns c = rw (collect-none _ (rest-short (c .before .before .before .pre .0) (c .before .before .before .pre .1) (c .before .if1 .taken))) (c .misspelled .ensures _)
 
--- src/forms.rt:223:9
 misspelled-requires-2 : tie.Need-misspelled-requires-2
 misspelled-requires-2 c κs = search needs
 
--- src/forms.rt:223:9
 returns-2 : tie.Need-returns-2
 returns-2 c = rw (collect-over _ (rest-long (c .before .before .before .before .pre .0) (c .before .if2 .taken))) (c .misspelled2 .ensures _)
 
--- src/forms.rt:225:26
 field-requires : tie.Need-field-requires
 field-requires c κs = search needs
 
--- src/forms.rt:225:9
 kind-code-requires : tie.Need-kind-code-requires
 kind-code-requires c κs = search needs
 
--- src/forms.rt:227:9
 misspelled-requires-3 : tie.Need-misspelled-requires-3
 misspelled-requires-3 c κs = search needs
 
--- src/forms.rt:227:9
 returns-3 : tie.Need-returns-3
 returns-3 c = rw (rest-cons (c .before .before .before .before .before .before .before .pre .0) (c .before .before .before .before .before .if1 .left), collect-other _ _ (c .before .before .kind-code .ensures ∙ ap (λ x. kindCode (letterOf x)) (c .before .before .before .field .ensures)) (c .before .if3 .taken)) (c .misspelled3 .ensures _)
 
--- src/forms.rt:229:9
 number-fields-requires : tie.Need-number-fields-requires
 number-fields-requires c κs = search needs
 
--- src/forms.rt:234:23
 array-read-t13 : tie.Need-array-read-t13
 array-read-t13 c = search needs
 
--- src/forms.rt:234:30
 array-read-t16 : tie.Need-array-read-t16
 array-read-t16 c = search needs
 
--- src/forms.rt:234:37
 array-read-t19 : tie.Need-array-read-t19
 array-read-t19 c = search needs
 
--- src/forms.rt:234:44
 array-read-t22 : tie.Need-array-read-t22
 array-read-t22 c = search needs
 
--- src/forms.rt:214:1
 returns-4 : tie.Need-returns-4
 returns-4 c = rw (rest-cons (c .before .before .before .before .before .before .before .before .pre .0) (c .before .before .before .before .before .before .if1 .left)) (collect-read _ _ (c .before .before .before .kind-code .ensures ∙ ap (λ x. kindCode (letterOf x)) (c .before .before .before .before .field .ensures)) (c .before .before .if3 .left) (rest-length (c .before .before .before .before .before .before .before .before .pre .0) (c .before .before .before .before .before .if2 .left)) (omega arith) (rest-part (c .before .before .before .before .before .before .before .before .pre .0) (c .before .before .before .before .before .if2 .left) (c .before .number-fields .ensures)))
 

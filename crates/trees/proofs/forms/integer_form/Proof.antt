@@ -1,3 +1,4 @@
+-- `integer_form` meets its contract.
 use Rattle.sheet.specs.Text.{fieldsOf}
 use Rattle.text.specs.Numbers.{wholeOf}
 use Rattle.sheet.specs.Lines.{anInteger}
@@ -8,34 +9,22 @@ use Rattle.trees.proofs.FieldLaws.{rest-first, rest-exact, rest-not}
 use borrow.Author.Needs.{needs}
 use Rattle.trees.proofs.forms.integer_form.Statement.{statement}
 use Rattle.trees.proofs.forms.integer_form.Tie as tie
-use Rattle.trees.proofs.forms.integer_form.Reads as reads
-use Rattle.trees.proofs.forms.integer_form.Lts as lts
-use Rattle.text.proofs.numbers.integer.Reads as integer-reads
-use Rattle.text.proofs.parts.field.Reads as field-reads
-use Rattle.trees.proofs.forms.misspelled.Reads as misspelled-reads
-use Rattle.trees.proofs.forms.whole_form.Reads as whole-form-reads
 
--- src/forms.rt:196:9
 misspelled-requires : tie.Need-misspelled-requires
 misspelled-requires c κs = search needs
 
--- src/forms.rt:196:9
 returns : tie.Need-returns
 returns c = rw (integer-not _ (rest-not (c .before .before .before .before .pre .0) 1 (omega arith) (c .before .before .before .before .pre .1) (c .before .if1 .taken))) (c .misspelled .ensures _)
 
--- src/forms.rt:198:24
 field-requires : tie.Need-field-requires
 field-requires c κs = search needs
 
--- src/forms.rt:198:16
 integer-requires : tie.Need-integer-requires
 integer-requires c κs = search needs
 
--- src/forms.rt:198:5
 whole-form-requires : tie.Need-whole-form-requires
 whole-form-requires c κs = search needs
 
--- src/forms.rt:191:1
 returns-2 : tie.Need-returns-2
 returns-2 c = c .whole-form .ensures _ (c .before .integer .ensures ∙ ap (λ x. wholeOf (anInteger x)) (c .before .before .field .ensures ∙ sym (rest-first (fieldsOf (c .before .before .before .before .before .before .args .line .now))))) (rest-exact (c .before .before .before .before .before .before .pre .0) 1 (omega arith) (c .before .before .before .if1 .left))
 

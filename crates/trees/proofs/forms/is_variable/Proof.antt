@@ -1,16 +1,13 @@
+-- `is_variable` meets its contract.
 use Rattle.sheet.specs.Refusals.{isVariable}
 use borrow.Author.Tests.{le-leb, lt-leb}
 use Rattle.trees.proofs.forms.is_variable.Statement.{statement}
 use Rattle.trees.proofs.forms.is_variable.Tie as tie
-use Rattle.trees.proofs.forms.is_variable.Reads as reads
-use Rattle.trees.proofs.forms.is_variable.Lts as lts
 
--- src/forms.rt:41:9
 returns : tie.Need-returns
 unfolding isVariable
 returns c = rw (lt-leb 1 _ (c .if1 .taken))
 
--- src/forms.rt:37:1
 returns-2 : tie.Need-returns-2
 unfolding isVariable
 returns-2 c = rw (le-leb 1 _ (c .if1 .left))

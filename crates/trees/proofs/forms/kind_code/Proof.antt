@@ -1,29 +1,22 @@
+-- `kind_code` meets its contract.
 use mathlib.Core.Path.{sym, _∙_}
 use Rattle.trees.proofs.MoreFormLaws.{kind-set, kind-sequence, kind-bag, kind-other}
 use borrow.Author.Needs.{needs}
 use Rattle.trees.proofs.forms.kind_code.Statement.{statement}
 use Rattle.trees.proofs.forms.kind_code.Tie as tie
-use Rattle.trees.proofs.forms.kind_code.Reads as reads
-use Rattle.trees.proofs.forms.kind_code.Lts as lts
-use Rattle.text.proofs.words.letter.Reads as letter-reads
 
--- src/forms.rt:205:11
 letter-requires : tie.Need-letter-requires
 letter-requires c κs = search needs
 
--- src/forms.rt:202:1
 returns : tie.Need-returns
 returns c = kind-set _ (sym (c .before .letter .ensures) ∙ c .match .keys1)
 
--- src/forms.rt:202:1
 returns-2 : tie.Need-returns-2
 returns-2 c = kind-sequence _ (sym (c .before .letter .ensures) ∙ c .match .keys2)
 
--- src/forms.rt:202:1
 returns-3 : tie.Need-returns-3
 returns-3 c = kind-bag _ (sym (c .before .letter .ensures) ∙ c .match .keys3)
 
--- src/forms.rt:202:1
 returns-4 : tie.Need-returns-4
 returns-4 c = kind-other _ (λ q. c .match .rest .0 .0 .1 (c .before .letter .ensures ∙ q)) (λ q. c .match .rest .0 .1 (c .before .letter .ensures ∙ q)) (λ q. c .match .rest .1 (c .before .letter .ensures ∙ q))
 

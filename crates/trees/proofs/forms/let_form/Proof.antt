@@ -1,37 +1,27 @@
+-- `let_form` meets its contract.
 use Rattle.trees.proofs.HeldLaws.{let-read}
 use borrow.Author.Needs.{needs}
 use Rattle.trees.proofs.forms.let_form.Statement.{statement}
 use Rattle.trees.proofs.forms.let_form.Tie as tie
-use Rattle.trees.proofs.forms.let_form.Reads as reads
-use Rattle.trees.proofs.forms.let_form.Lts as lts
-use Rattle.trees.proofs.forms.is_variable.Reads as is-variable-reads
-use Rattle.trees.proofs.numbers.exactly.Reads as exactly-reads
 
--- src/forms.rt:136:9
 exactly-requires : tie.Need-exactly-requires
 exactly-requires c κs = search needs
 
--- src/forms.rt:140:21
 array-read-t8 : tie.Need-array-read-t8
 array-read-t8 c = search needs
 
--- src/forms.rt:140:28
 array-read-t11 : tie.Need-array-read-t11
 array-read-t11 c = search needs
 
--- src/forms.rt:140:35
 array-read-t14 : tie.Need-array-read-t14
 array-read-t14 c = search needs
 
--- src/forms.rt:142:29
 array-read-is-variable : tie.Need-array-read-is-variable
 array-read-is-variable c = search needs
 
--- src/forms.rt:142:17
 is-variable-requires : tie.Need-is-variable-requires
 is-variable-requires c κs = search needs
 
--- src/forms.rt:132:1
 returns : tie.Need-returns
 returns c = let-read _ _ _ (c .before .before .exactly .ensures) (c .is-variable .ensures)
 

@@ -1,10 +1,8 @@
+-- `misspelled` meets its contract.
 use Rattle.trees.proofs.FormLaws as laws
 use Rattle.trees.proofs.forms.misspelled.Statement.{statement}
 use Rattle.trees.proofs.forms.misspelled.Tie as tie
-use Rattle.trees.proofs.forms.misspelled.Reads as reads
-use Rattle.trees.proofs.forms.misspelled.Lts as lts
 
--- src/forms.rt:24:1
 returns : tie.Need-returns
 returns c = λ n. laws.no-form n
 

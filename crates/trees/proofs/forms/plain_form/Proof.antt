@@ -1,29 +1,22 @@
+-- `plain_form` meets its contract.
 use native.Mathlib.Omega.{arith}
 use Rattle.trees.proofs.FormLaws.{plain-few, plain-read}
 use borrow.Author.Needs.{needs}
 use Rattle.trees.proofs.forms.plain_form.Statement.{statement}
 use Rattle.trees.proofs.forms.plain_form.Tie as tie
-use Rattle.trees.proofs.forms.plain_form.Reads as reads
-use Rattle.trees.proofs.forms.plain_form.Lts as lts
-use Rattle.trees.proofs.numbers.exactly.Reads as exactly-reads
 
--- src/forms.rt:51:9
 exactly-requires : tie.Need-exactly-requires
 exactly-requires c κs = (c .before .pre .0, c .before .pre .1, omega (arith, plain-few (c .before .pre .2)))
 
--- src/forms.rt:55:23
 array-read-t10 : tie.Need-array-read-t10
 array-read-t10 c = search needs
 
--- src/forms.rt:55:30
 array-read-t13 : tie.Need-array-read-t13
 array-read-t13 c = search needs
 
--- src/forms.rt:55:37
 array-read-t16 : tie.Need-array-read-t16
 array-read-t16 c = search needs
 
--- src/forms.rt:47:1
 returns : tie.Need-returns
 returns c = plain-read _ (c .before .before .before .pre .2) (c .before .exactly .ensures)
 

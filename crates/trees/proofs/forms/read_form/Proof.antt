@@ -1,156 +1,109 @@
+-- `read_form` meets its contract.
 use Rattle.trees.proofs.MoreFormLaws.{step, gap-code, last-code}
 use Rattle.trees.specs.Forms.{constant, itself, one, two, undefTest, conditional}
-use native.Mathlib.Omega.{arith}
 use borrow.Author.Needs.{needs}
 use Rattle.trees.proofs.forms.read_form.Statement.{statement}
 use Rattle.trees.proofs.forms.read_form.Tie as tie
-use Rattle.trees.proofs.forms.read_form.Reads as reads
-use Rattle.trees.proofs.forms.read_form.Lts as lts
-use Rattle.trees.proofs.forms.all_form.Reads as all-form-reads
-use Rattle.trees.proofs.forms.attribute_form.Reads as attribute-form-reads
-use Rattle.trees.proofs.forms.cast_form.Reads as cast-form-reads
-use Rattle.trees.proofs.forms.collection_form.Reads as collection-form-reads
-use Rattle.trees.proofs.forms.integer_form.Reads as integer-form-reads
-use Rattle.trees.proofs.forms.let_form.Reads as let-form-reads
-use Rattle.trees.proofs.forms.misspelled.Reads as misspelled-reads
-use Rattle.trees.proofs.forms.plain_form.Reads as plain-form-reads
-use Rattle.trees.proofs.forms.quantifier_form.Reads as quantifier-form-reads
-use Rattle.trees.proofs.forms.variable_form.Reads as variable-form-reads
-use Rattle.trees.proofs.iterate.iterate_form.Reads as iterate-form-reads
 
--- src/forms.rt:250:14
 integer-form-requires : tie.Need-integer-form-requires
 integer-form-requires c κs = search needs
 
--- src/forms.rt:251:14
 plain-form-requires : tie.Need-plain-form-requires
 plain-form-requires c κs = (c .before .before .pre .0, c .before .before .pre .1, itself)
 
--- src/forms.rt:252:14
 variable-form-requires : tie.Need-variable-form-requires
 variable-form-requires c κs = search needs
 
--- src/forms.rt:253:14
 all-form-requires : tie.Need-all-form-requires
 all-form-requires c κs = search needs
 
--- src/forms.rt:255:15
 cast-form-requires : tie.Need-cast-form-requires
 cast-form-requires c κs = search needs
 
--- src/forms.rt:258:15
 collection-form-requires : tie.Need-collection-form-requires
 collection-form-requires c κs = search needs
 
--- src/forms.rt:260:15
 plain-form-requires-2 : tie.Need-plain-form-requires-2
 plain-form-requires-2 c κs = (c .before .before .pre .0, c .before .before .pre .1, undefTest)
 
--- src/forms.rt:261:15
 plain-form-requires-3 : tie.Need-plain-form-requires-3
 plain-form-requires-3 c κs = (c .before .before .pre .0, c .before .before .pre .1, conditional)
 
--- src/forms.rt:262:15
 let-form-requires : tie.Need-let-form-requires
 let-form-requires c κs = search needs
 
--- src/forms.rt:263:15
 attribute-form-requires : tie.Need-attribute-form-requires
 attribute-form-requires c κs = search needs
 
--- src/forms.rt:264:15
 iterate-form-requires : tie.Need-iterate-form-requires
 iterate-form-requires c κs = search needs
 
--- src/forms.rt:249:18
 plain-form-requires-4 : tie.Need-plain-form-requires-4
 plain-form-requires-4 c κs = (c .before .before .before .pre .0, c .before .before .before .pre .1, constant {k = c .before .before .before .args .code} (c .if1 .taken))
 
--- src/forms.rt:254:19
 plain-form-requires-5 : tie.Need-plain-form-requires-5
 plain-form-requires-5 c κs = (c .before .before .before .before .pre .0, c .before .before .before .before .pre .1, one {k = c .before .before .before .before .args .code} (step (step (step (step (c .before .if1 .left) (c .before .before .match .rest .0 .0 .0 .0 .0 .0 .0 .0 .0 .0 .1)) (c .before .before .match .rest .0 .0 .0 .0 .0 .0 .0 .0 .0 .1)) (c .before .before .match .rest .0 .0 .0 .0 .0 .0 .0 .0 .1)) (c .before .before .match .rest .0 .0 .0 .0 .0 .0 .0 .1)) (c .if2 .taken))
 
--- src/forms.rt:256:20
 plain-form-requires-6 : tie.Need-plain-form-requires-6
 plain-form-requires-6 c κs = (c .before .before .before .before .before .pre .0, c .before .before .before .before .before .pre .1, two {k = c .before .before .before .before .before .args .code} (step (c .before .if2 .left) (c .before .before .before .match .rest .0 .0 .0 .0 .0 .0 .1)) (c .if3 .taken))
 
--- src/forms.rt:257:20
 quantifier-form-requires : tie.Need-quantifier-form-requires
 quantifier-form-requires c κs = search needs
 
--- src/forms.rt:259:20
 misspelled-requires : tie.Need-misspelled-requires
 misspelled-requires c κs = search needs
 
--- src/forms.rt:265:14
 misspelled-requires-2 : tie.Need-misspelled-requires-2
 misspelled-requires-2 c κs = search needs
 
--- src/forms.rt:244:1
 returns : tie.Need-returns
 returns c = rw (c .before .match .keys1) (c .integer-form .ensures)
 
--- src/forms.rt:244:1
 returns-2 : tie.Need-returns-2
 returns-2 c = rw (c .before .match .keys2) (c .plain-form .ensures)
 
--- src/forms.rt:244:1
 returns-3 : tie.Need-returns-3
 returns-3 c = rw (c .before .match .keys3) (c .variable-form .ensures)
 
--- src/forms.rt:244:1
 returns-4 : tie.Need-returns-4
 returns-4 c = rw (c .before .match .keys4) (c .all-form .ensures)
 
--- src/forms.rt:244:1
 returns-5 : tie.Need-returns-5
 returns-5 c = rw (c .before .match .keys5) (c .cast-form .ensures)
 
--- src/forms.rt:244:1
 returns-6 : tie.Need-returns-6
 returns-6 c = rw (c .before .match .keys6) (c .collection-form .ensures)
 
--- src/forms.rt:244:1
 returns-7 : tie.Need-returns-7
 returns-7 c = rw (c .before .match .keys7) (c .plain-form2 .ensures)
 
--- src/forms.rt:244:1
 returns-8 : tie.Need-returns-8
 returns-8 c = rw (c .before .match .keys8) (c .plain-form3 .ensures)
 
--- src/forms.rt:244:1
 returns-9 : tie.Need-returns-9
 returns-9 c = rw (c .before .match .keys9) (c .let-form .ensures)
 
--- src/forms.rt:244:1
 returns-10 : tie.Need-returns-10
 returns-10 c = rw (c .before .match .keys10) (c .attribute-form .ensures)
 
--- src/forms.rt:244:1
 returns-11 : tie.Need-returns-11
 returns-11 c = rw (c .before .match .keys11) (c .iterate-form .ensures)
 
--- src/forms.rt:244:1
 returns-12 : tie.Need-returns-12
 returns-12 c = search needs
 
--- src/forms.rt:244:1
 returns-13 : tie.Need-returns-13
 returns-13 c = search needs
 
--- src/forms.rt:244:1
 returns-14 : tie.Need-returns-14
 returns-14 c = search needs
 
--- src/forms.rt:244:1
 returns-15 : tie.Need-returns-15
 returns-15 c = search needs
 
--- src/forms.rt:244:1
 returns-16 : tie.Need-returns-16
 returns-16 c = rw (gap-code _ _ (step (c .before .before .if4 .left) (c .before .before .before .before .before .before .match .rest .0 .0 .0 .0 .0 .1)) (c .before .if5 .taken)) (c .misspelled .ensures _)
 
--- src/forms.rt:244:1
 returns-17 : tie.Need-returns-17
 returns-17 c = rw (last-code _ _ (c .before .if5 .left) (c .before .before .before .before .before .before .match .rest .0 .0 .0 .0 .1) (c .before .before .before .before .before .before .match .rest .0 .0 .0 .1) (c .before .before .before .before .before .before .match .rest .0 .0 .1) (c .before .before .before .before .before .before .match .rest .0 .1) (c .before .before .before .before .before .before .match .rest .1)) (c .misspelled2 .ensures _)
 

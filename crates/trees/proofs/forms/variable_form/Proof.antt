@@ -1,29 +1,21 @@
+-- `variable_form` meets its contract.
 use Rattle.trees.proofs.HeldLaws.{variable-read}
 use borrow.Author.Needs.{needs}
 use Rattle.trees.proofs.forms.variable_form.Statement.{statement}
 use Rattle.trees.proofs.forms.variable_form.Tie as tie
-use Rattle.trees.proofs.forms.variable_form.Reads as reads
-use Rattle.trees.proofs.forms.variable_form.Lts as lts
-use Rattle.trees.proofs.forms.is_variable.Reads as is-variable-reads
-use Rattle.trees.proofs.numbers.exactly.Reads as exactly-reads
 
--- src/forms.rt:68:9
 exactly-requires : tie.Need-exactly-requires
 exactly-requires c κs = search needs
 
--- src/forms.rt:72:20
 array-read-t8 : tie.Need-array-read-t8
 array-read-t8 c = search needs
 
--- src/forms.rt:74:29
 array-read-is-variable : tie.Need-array-read-is-variable
 array-read-is-variable c = search needs
 
--- src/forms.rt:74:17
 is-variable-requires : tie.Need-is-variable-requires
 is-variable-requires c κs = search needs
 
--- src/forms.rt:64:1
 returns : tie.Need-returns
 returns c = variable-read _ _ _ (c .before .before .exactly .ensures) (c .is-variable .ensures)
 

@@ -1,37 +1,28 @@
+-- `whole_form` meets its contract.
 use mathlib.Core.Path.{sym, _∙_}
 use Rattle.trees.proofs.MoreFormLaws.{integer-bad, integer-out, integer-is}
 use borrow.Author.Needs.{needs}
 use Rattle.trees.proofs.forms.whole_form.Statement.{statement}
 use Rattle.trees.proofs.forms.whole_form.Tie as tie
-use Rattle.trees.proofs.forms.whole_form.Reads as reads
-use Rattle.trees.proofs.forms.whole_form.Lts as lts
-use Rattle.trees.proofs.forms.misspelled.Reads as misspelled-reads
 
--- src/forms.rt:170:23
 enum-told : tie.Need-enum-told
 enum-told c = search needs
 
--- src/forms.rt:170:23
 misspelled-requires : tie.Need-misspelled-requires
 misspelled-requires c κs = search needs
 
--- src/forms.rt:173:20
 enum-told-2 : tie.Need-enum-told-2
 enum-told-2 c = search needs
 
--- src/forms.rt:179:19
 enum-known-z : tie.Need-enum-known-z
 enum-known-z c = search needs
 
--- src/forms.rt:166:1
 returns : tie.Need-returns
 returns c = λ fs e n. rw (integer-bad fs n (sym (c .before .enum-told .given .1) ∙ e)) (c .misspelled .ensures _)
 
--- src/forms.rt:166:1
 returns-2 : tie.Need-returns-2
 returns-2 c = λ fs e n. integer-out fs n (sym (c .enum-told2 .given .1) ∙ e)
 
--- src/forms.rt:166:1
 returns-3 : tie.Need-returns-3
 returns-3 c = λ fs e n. integer-is fs n (sym (c .before .z .given .1) ∙ e)
 

@@ -1,18 +1,14 @@
+-- `all_three` meets its contract.
 use borrow.Author.Tests.{not-true, not-false}
 use Rattle.trees.proofs.iterate.all_three.Statement.{statement}
 use Rattle.trees.proofs.iterate.all_three.Tie as tie
-use Rattle.trees.proofs.iterate.all_three.Reads as reads
-use Rattle.trees.proofs.iterate.all_three.Lts as lts
 
--- src/iterate.rt:78:9
 returns : tie.Need-returns
 returns c = rw (not-true (c .before .args .a) (c .if1 .taken))
 
--- src/iterate.rt:81:9
 returns-2 : tie.Need-returns-2
 returns-2 c = rw (not-false (c .before .before .args .a) (c .before .if1 .left), not-true (c .before .before .args .b) (c .if2 .taken))
 
--- src/iterate.rt:74:1
 returns-3 : tie.Need-returns-3
 returns-3 c = rw (not-false (c .before .before .args .a) (c .before .if1 .left), not-false (c .before .before .args .b) (c .if2 .left))
 

@@ -1,58 +1,46 @@
+-- `classes_in` meets its contract.
 use Rattle.trees.specs.Iterate.{classesIn}
 use Rattle.trees.proofs.IterateLaws.{classes-less}
 use native.Mathlib.Omega.{arith}
-use mathlib.Core.Path.{sym, ap, _∙_}
+use mathlib.Core.Path.{sym, ap}
 use borrow.Author.Needs.{needs}
 use Rattle.trees.proofs.iterate.classes_in.Statement.{statement}
 use Rattle.trees.proofs.iterate.classes_in.Tie as tie
-use Rattle.trees.proofs.iterate.classes_in.Reads as reads
-use Rattle.trees.proofs.iterate.classes_in.Lts as lts
 
--- src/iterate.rt:38:23
 enum-told : tie.Need-enum-told
 enum-told c = search needs
 
--- src/iterate.rt:39:23
 enum-told-2 : tie.Need-enum-told-2
 enum-told-2 c = search needs
 
--- src/iterate.rt:40:22
 enum-told-3 : tie.Need-enum-told-3
 enum-told-3 c = search needs
 
--- src/iterate.rt:41:22
 enum-told-4 : tie.Need-enum-told-4
 enum-told-4 c = search needs
 
--- src/iterate.rt:42:21
 enum-known-b : tie.Need-enum-known-b
 enum-known-b c = search needs
 
--- src/iterate.rt:42:27
 add-result : tie.Need-add-result
 add-result c = omega (arith, classes-less _ _ (c .before .before .before .pre) (c .before .b .given .1))
 
--- src/iterate.rt:33:1
 returns : tie.Need-returns
 unfolding classesIn
 returns c = sym (ap classesIn (c .enum-told .given .1))
 
--- src/iterate.rt:33:1
 returns-2 : tie.Need-returns-2
 unfolding classesIn
 returns-2 c = sym (ap classesIn (c .enum-told2 .given .1))
 
--- src/iterate.rt:33:1
 returns-3 : tie.Need-returns-3
 unfolding classesIn
 returns-3 c = sym (ap classesIn (c .enum-told3 .given .1))
 
--- src/iterate.rt:33:1
 returns-4 : tie.Need-returns-4
 unfolding classesIn
 returns-4 c = sym (ap classesIn (c .enum-told4 .given .1))
 
--- src/iterate.rt:33:1
 returns-5 : tie.Need-returns-5
 unfolding classesIn
 returns-5 c = sym (ap classesIn (c .before .b .given .1))

@@ -1,96 +1,69 @@
+-- `iterate_form` meets its contract.
 use Rattle.trees.proofs.IterateLaws.{iterate-not, iterate-read, both-variables, type-of-field}
 use Rattle.trees.proofs.FieldLaws.{rest-not}
 use native.Mathlib.Omega.{arith}
-use mathlib.Core.Path.{refl, sym, ap, _∙_}
+use mathlib.Core.Path.{refl}
 use borrow.Author.Needs.{needs}
 use Rattle.trees.proofs.iterate.iterate_form.Statement.{statement}
 use Rattle.trees.proofs.iterate.iterate_form.Tie as tie
-use Rattle.trees.proofs.iterate.iterate_form.Reads as reads
-use Rattle.trees.proofs.iterate.iterate_form.Lts as lts
-use Rattle.text.proofs.parts.field.Reads as field-reads
-use Rattle.trees.proofs.forms.is_variable.Reads as is-variable-reads
-use Rattle.trees.proofs.forms.misspelled.Reads as misspelled-reads
-use Rattle.trees.proofs.iterate.all_three.Reads as all-three-reads
-use Rattle.trees.proofs.iterate.type_field.Reads as type-field-reads
-use Rattle.trees.proofs.numbers.number_fields.Reads as number-fields-reads
 
--- src/iterate.rt:91:9
 misspelled-requires : tie.Need-misspelled-requires
 misspelled-requires c κs = search needs
 
--- src/iterate.rt:91:9
 returns : tie.Need-returns
 returns c = rw (iterate-not _ (rest-not (c .before .before .before .before .pre .0) 6 (omega arith) (c .before .before .before .before .pre .1) (c .before .if1 .taken))) (c .misspelled .ensures _)
 
--- src/iterate.rt:93:9
 number-fields-requires : tie.Need-number-fields-requires
 number-fields-requires c κs = search needs
 
--- src/iterate.rt:94:25
 field-requires : tie.Need-field-requires
 field-requires c κs = search needs
 
--- src/iterate.rt:94:9
 type-field-requires : tie.Need-type-field-requires
 type-field-requires c κs = search needs
 
--- src/iterate.rt:95:9
 number-fields-requires-2 : tie.Need-number-fields-requires-2
 number-fields-requires-2 c κs = search needs
 
--- src/iterate.rt:99:18
 all-three-requires : tie.Need-all-three-requires
 all-three-requires c κs = search needs
 
--- src/iterate.rt:100:21
 array-read-t13 : tie.Need-array-read-t13
 array-read-t13 c = search needs
 
--- src/iterate.rt:100:27
 array-read-t16 : tie.Need-array-read-t16
 array-read-t16 c = search needs
 
--- src/iterate.rt:100:33
 array-read-t19 : tie.Need-array-read-t19
 array-read-t19 c = search needs
 
--- src/iterate.rt:100:39
 array-read-t22 : tie.Need-array-read-t22
 array-read-t22 c = search needs
 
--- src/iterate.rt:100:45
 array-read-t25 : tie.Need-array-read-t25
 array-read-t25 c = search needs
 
--- src/iterate.rt:102:39
 array-read-is-variable : tie.Need-array-read-is-variable
 array-read-is-variable c = search needs
 
--- src/iterate.rt:102:27
 is-variable-requires : tie.Need-is-variable-requires
 is-variable-requires c κs = search needs
 
--- src/iterate.rt:102:58
 array-read-is-variable-2 : tie.Need-array-read-is-variable-2
 array-read-is-variable-2 c = search needs
 
--- src/iterate.rt:102:46
 is-variable-requires-2 : tie.Need-is-variable-requires-2
 is-variable-requires-2 c κs = search needs
 
--- src/iterate.rt:102:17
 all-three-requires-2 : tie.Need-all-three-requires-2
 all-three-requires-2 c κs = search needs
 
--- src/iterate.rt:103:16
 array-read-t38 : tie.Need-array-read-t38
 array-read-t38 c = search needs
 
--- src/iterate.rt:103:24
 array-read-t41 : tie.Need-array-read-t41
 array-read-t41 c = search needs
 
--- src/iterate.rt:86:1
 returns-2 : tie.Need-returns-2
 returns-2 c = iterate-read _ _ _ _ (both-variables _ _ _ (c .before .before .is-variable .ensures) (c .before .is-variable2 .ensures) (c .all-three2 .ensures)) refl (c .before .before .before .all-three .ensures) (c .before .before .before .before .before .before .before .before .before .before .before .before .before .pre .0) (c .before .before .before .before .before .before .before .before .before .before .if1 .left) (c .before .before .before .before .before .before .before .before .before .number-fields .ensures) (type-of-field (c .before .before .before .before .before .before .before .before .field .ensures) (c .before .before .before .before .before .before .before .type-field .ensures)) (c .before .before .before .before .before .before .number-fields2 .ensures)
 

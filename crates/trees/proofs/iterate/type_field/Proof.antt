@@ -1,47 +1,34 @@
+-- `type_field` meets its contract.
 use Rattle.trees.proofs.IterateLaws.{type-bad, type-big, type-is, type-small}
 use native.Mathlib.Omega.{arith}
 use borrow.Author.Needs.{needs}
 use Rattle.trees.proofs.iterate.type_field.Statement.{statement}
 use Rattle.trees.proofs.iterate.type_field.Tie as tie
-use Rattle.trees.proofs.iterate.type_field.Reads as reads
-use Rattle.trees.proofs.iterate.type_field.Lts as lts
-use Rattle.trees.proofs.iterate.classes_in.Reads as classes-in-reads
-use Rattle.types.proofs.reading.read_type.Reads as read-type-reads
-use Rattle.types.proofs.word.pack.Reads as pack-reads
 
--- src/iterate.rt:49:11
 read-type-requires : tie.Need-read-type-requires
 read-type-requires c κs = search needs
 
--- src/iterate.rt:50:25
 enum-told : tie.Need-enum-told
 enum-told c = search needs
 
--- src/iterate.rt:56:25
 enum-told-2 : tie.Need-enum-told-2
 enum-told-2 c = search needs
 
--- src/iterate.rt:62:21
 enum-known-t : tie.Need-enum-known-t
 enum-known-t c = search needs
 
--- src/iterate.rt:67:23
 pack-requires : tie.Need-pack-requires
 pack-requires c κs = omega (arith, type-small _ (c .before .before .before .read-type .ensures) _ (c .before .t .given .1))
 
--- src/iterate.rt:68:26
 classes-in-requires : tie.Need-classes-in-requires
 classes-in-requires c κs = type-small _ (c .before .before .before .before .read-type .ensures) _ (c .before .before .t .given .1)
 
--- src/iterate.rt:46:1
 returns : tie.Need-returns
 returns c = type-bad _ (c .before .before .read-type .ensures) (c .enum-told .given .1)
 
--- src/iterate.rt:46:1
 returns-2 : tie.Need-returns-2
 returns-2 c = type-big _ (c .before .before .read-type .ensures) (c .enum-told2 .given .1)
 
--- src/iterate.rt:46:1
 returns-3 : tie.Need-returns-3
 returns-3 c = type-is _ (c .before .before .before .before .before .read-type .ensures) _ (c .before .before .before .t .given .1) (c .before .pack .ensures) (c .classes-in .ensures)
 

@@ -1,27 +1,21 @@
+-- `in_order` meets its contract.
 use Rattle.trees.proofs.PlaceLaws.{order-block, order-open, order-number, order-apart}
 use borrow.Author.Needs.{needs}
 use Rattle.trees.proofs.node.in_order.Statement.{statement}
 use Rattle.trees.proofs.node.in_order.Tie as tie
-use Rattle.trees.proofs.node.in_order.Reads as reads
-use Rattle.trees.proofs.node.in_order.Lts as lts
 
--- src/node.rt:47:9
 returns : tie.Need-returns
 returns c = order-block _ _ _ (c .if1 .taken)
 
--- src/node.rt:50:9
 returns-2 : tie.Need-returns-2
 returns-2 c = order-open _ _ _ (c .before .before .if1 .left) (c .if2 .taken)
 
--- src/node.rt:52:13
 sub-if3 : tie.Need-sub-if3
 sub-if3 c = search needs
 
--- src/node.rt:53:9
 returns-3 : tie.Need-returns-3
 returns-3 c = order-number _ _ _ (c .before .before .before .before .if1 .left) (c .before .before .if2 .left) (c .if3 .taken)
 
--- src/node.rt:42:1
 returns-4 : tie.Need-returns-4
 returns-4 c = order-apart _ _ _ (c .before .before .before .before .if1 .left) (c .before .before .if2 .left) (c .if3 .left)
 

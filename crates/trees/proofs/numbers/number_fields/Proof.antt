@@ -1,4 +1,5 @@
-use Prim.Native.Nat.{_≤_, _<_, _-_}
+-- `number_fields` meets its contract.
+use Prim.Native.Nat.{_≤_, _-_}
 use mathlib.Core.Path.{_≡_, refl, sym, ap, _∙_}
 use native.Mathlib.Omega.{arith}
 use borrow.Author.Needs.{needs}
@@ -9,11 +10,6 @@ use Rattle.sheet.specs.Text.{fieldsOf}
 use Rattle.trees.proofs.FieldLaws.{ReadTo, read-none, read-all, read-bad, read-next, field-count}
 use Rattle.trees.proofs.numbers.number_fields.Statement.{statement}
 use Rattle.trees.proofs.numbers.number_fields.Tie as tie
-use Rattle.trees.proofs.numbers.number_fields.Reads as reads
-use Rattle.trees.proofs.numbers.number_fields.Lts as lts
-use Rattle.text.proofs.numbers.number.Reads as number-reads
-use Rattle.text.proofs.parts.field.Reads as field-reads
-use Rattle.trees.proofs.numbers.no_numbers.Reads as no-numbers-reads
 
 abbrev Inv-loop : tie.InvT-loop
 Inv-loop line f from to at₀ i₀ at i = ReadTo (fieldsOf line) from to i at × (from ≤ i) × (i ≤ to) × (length at ≡ 4)
@@ -21,59 +17,45 @@ Inv-loop line f from to at₀ i₀ at i = ReadTo (fieldsOf line) from to i at ×
 abbrev μ-loop : tie.MeasureT-loop
 μ-loop line f from to at₀ i₀ at i = to - i
 
--- src/numbers.rt:37:5
 loop-holds : tie.Need-loop-holds Inv-loop μ-loop
 loop-holds c = (read-none _ _ _, search needs, search needs, refl)
 
--- src/numbers.rt:38:33
 field-requires : tie.Need-field-requires Inv-loop μ-loop
 field-requires c κs = search needs
 
--- src/numbers.rt:38:26
 number-requires : tie.Need-number-requires Inv-loop μ-loop
 number-requires c κs = search needs
 
--- src/numbers.rt:38:21
 enum-known-n : tie.Need-enum-known-n Inv-loop μ-loop
 enum-known-n c = search needs
 
--- src/numbers.rt:39:13
 enum-told : tie.Need-enum-told Inv-loop μ-loop
 enum-told c = search needs
 
--- src/numbers.rt:39:13
 no-numbers-requires : tie.Need-no-numbers-requires Inv-loop μ-loop
 no-numbers-requires c κs = search needs
 
--- src/numbers.rt:39:13
 returns : tie.Need-returns Inv-loop μ-loop
 returns c = read-bad (c .before .before .before .before .before .before .loop .inv .0) (c .before .before .before .before .before .loop-test .taken) (field-count (c .before .before .before .before .before .before .before .before .pre .0) (c .before .before .before .before .before .before .before .before .pre .3)) (sym (c .before .enum-told .given .1) ∙ c .before .before .before .number .ensures ∙ ap (λ x. numOf (aNumber x)) (c .before .before .before .before .field .ensures)) (c .no-numbers .ensures)
 
--- src/numbers.rt:41:17
 sub-k : tie.Need-sub-k Inv-loop μ-loop
 sub-k c = search needs
 
--- src/numbers.rt:42:9
 mul-at : tie.Need-mul-at Inv-loop μ-loop
 mul-at c = search needs
 
--- src/numbers.rt:42:9
 array-write-at : tie.Need-array-write-at Inv-loop μ-loop
 array-write-at c = search needs
 
--- src/numbers.rt:43:9
 add-i : tie.Need-add-i Inv-loop μ-loop
 add-i c = search needs
 
--- src/numbers.rt:37:5
 loop-less : tie.Need-loop-less Inv-loop μ-loop
 loop-less c = search needs
 
--- src/numbers.rt:37:5
 loop-again : tie.Need-loop-again Inv-loop μ-loop
 loop-again c = (read-next (c .before .before .before .before .before .before .loop .inv .0) (c .before .before .before .before .before .loop-test .taken) (field-count (c .before .before .before .before .before .before .before .before .pre .0) (c .before .before .before .before .before .before .before .before .pre .3)) (sym (c .before .n .given .1) ∙ c .before .before .before .number .ensures ∙ ap (λ x. numOf (aNumber x)) (c .before .before .before .before .field .ensures)) (c .before .before .before .before .before .before .before .before .pre .2), search needs, search needs, simp length-set (c .before .before .before .before .before .before .loop .inv .3))
 
--- src/numbers.rt:31:1
 returns-2 : tie.Need-returns-2 Inv-loop μ-loop
 returns-2 c = read-all (c .before .loop .inv .0) (omega arith)
 

@@ -1,3 +1,4 @@
+-- `mark` meets its contract.
 use Rattle.trees.proofs.OperandLaws.{mark-late, mark-used, mark-next, mark-end}
 use Rattle.trees.specs.Operands.{marking, marked}
 use Rattle.trees.specs.Forms.{operandsAt}
@@ -8,9 +9,6 @@ use native.Mathlib.Omega.{arith}
 use borrow.Author.Needs.{needs}
 use Rattle.trees.proofs.operands.mark.Statement.{statement}
 use Rattle.trees.proofs.operands.mark.Tie as tie
-use Rattle.trees.proofs.operands.mark.Reads as reads
-use Rattle.trees.proofs.operands.mark.Lts as lts
-use Rattle.trees.proofs.operands.deeper.Reads as deeper-reads
 
 abbrev Inv-loop : tie.InvT-loop
 Inv-loop w1₀ count first n words deepest₀ i₀ w1 deepest i = (marking first n deepest (drop i (operandsAt words count)) w1 ≡ marking first n 0 (operandsAt words count) w1₀) × (i ≤ count) × (length w1 ≡ length w1₀)
@@ -18,89 +16,68 @@ Inv-loop w1₀ count first n words deepest₀ i₀ w1 deepest i = (marking first
 abbrev μ-loop : tie.MeasureT-loop
 μ-loop w1₀ count first n words deepest₀ i₀ w1 deepest i = count - i
 
--- src/operands.rt:57:5
 loop-holds : tie.Need-loop-holds Inv-loop μ-loop
 loop-holds c = (refl, search needs, refl)
 
--- src/operands.rt:58:23
 add-a : tie.Need-add-a Inv-loop μ-loop
 add-a c = search needs
 
--- src/operands.rt:58:17
 mul-a : tie.Need-mul-a Inv-loop μ-loop
 mul-a c = search needs
 
--- src/operands.rt:58:17
 array-read-a : tie.Need-array-read-a Inv-loop μ-loop
 array-read-a c = search needs
 
--- src/operands.rt:60:13
 same-length : tie.Need-same-length Inv-loop μ-loop
 same-length c = search needs
 
--- src/operands.rt:60:13
 returns : tie.Need-returns Inv-loop μ-loop
 unfolding marked
 returns c = mark-late (c .before .before .before .before .args .t2) _ _ (c .before .before .before .before .pre .1) (c .before .before .before .before .pre .2) _ _ _ _ (c .before .before .loop .inv .0) (c .before .loop-test .taken) (c .if1 .taken)
 
--- src/operands.rt:62:27
 add-at : tie.Need-add-at Inv-loop μ-loop
 add-at c = search needs
 
--- src/operands.rt:62:19
 add-at-2 : tie.Need-add-at-2 Inv-loop μ-loop
 add-at-2 c = search needs
 
--- src/operands.rt:63:17
 mul-d : tie.Need-mul-d Inv-loop μ-loop
 mul-d c = search needs
 
--- src/operands.rt:63:17
 slice-read-d : tie.Need-slice-read-d Inv-loop μ-loop
 slice-read-d c = search needs
 
--- src/operands.rt:65:13
 same-length-2 : tie.Need-same-length-2 Inv-loop μ-loop
 same-length-2 c = search needs
 
--- src/operands.rt:65:13
 returns-2 : tie.Need-returns-2 Inv-loop μ-loop
 unfolding marked
 returns-2 c = mark-used (c .before .before .before .before .before .before .args .t2) _ _ (c .before .before .before .before .before .before .pre .1) (c .before .before .before .before .before .before .pre .2) _ _ _ _ (c .before .before .before .before .loop .inv .0) (c .before .before .before .loop-test .taken) (c .before .before .if1 .left) (c .if2 .taken)
 
--- src/operands.rt:67:18
 add-w1 : tie.Need-add-w1 Inv-loop μ-loop
 add-w1 c = omega (arith, c .before .slice-known2 .given (6912 + (c .before .before .before .before .before .before .args .first + getD (c .before .before .before .before .before .before .args .t2) (1 + c .before .before .before .before .loop .i) 0)))
 
--- src/operands.rt:67:9
 mul-w1 : tie.Need-mul-w1 Inv-loop μ-loop
 mul-w1 c = search needs
 
--- src/operands.rt:67:9
 slice-write-w1 : tie.Need-slice-write-w1 Inv-loop μ-loop
 slice-write-w1 c = search needs
 
--- src/operands.rt:68:9
 deeper-requires : tie.Need-deeper-requires Inv-loop μ-loop
 deeper-requires c κs = search needs
 
--- src/operands.rt:69:9
 add-i : tie.Need-add-i Inv-loop μ-loop
 add-i c = search needs
 
--- src/operands.rt:57:5
 loop-less : tie.Need-loop-less Inv-loop μ-loop
 loop-less c = search needs
 
--- src/operands.rt:57:5
 loop-again : tie.Need-loop-again Inv-loop μ-loop
 loop-again c = (mark-next (c .before .before .before .before .before .before .before .args .t2) _ _ (c .before .before .before .before .before .before .before .pre .1) (c .before .before .before .before .before .before .before .pre .2) _ _ _ _ (c .before .before .before .before .before .loop .inv .0) (c .before .before .before .before .loop-test .taken) (c .before .before .before .if1 .left) (c .before .if2 .left) (c .deeper .ensures), search needs, simp length-set (c .before .before .before .before .before .loop .inv .2))
 
--- src/operands.rt:51:1
 same-length-3 : tie.Need-same-length-3 Inv-loop μ-loop
 same-length-3 c = search needs
 
--- src/operands.rt:51:1
 returns-3 : tie.Need-returns-3 Inv-loop μ-loop
 unfolding marked
 returns-3 c = mark-end (c .before .before .before .args .t2) _ _ (c .before .before .before .pre .1) (c .before .before .before .pre .2) _ _ _ _ (c .before .loop .inv .0) (c .loop-test .left)

@@ -1,3 +1,4 @@
+-- `operands_within` meets its contract.
 use Rattle.trees.proofs.OperandLaws.{within-not, within-next, within-end}
 use Rattle.trees.specs.Forms.{operandsAt}
 use Rattle.sheet.specs.Refusals.{isNode}
@@ -5,12 +6,9 @@ use Rattle.laws.specs.Lists.{allOf}
 use lib.ListN.{drop}
 use mathlib.Core.Path.{_≡_, refl}
 use Prim.Native.Nat.{_≤_, _-_}
-use native.Mathlib.Omega.{arith}
 use borrow.Author.Needs.{needs}
 use Rattle.trees.proofs.operands.operands_within.Statement.{statement}
 use Rattle.trees.proofs.operands.operands_within.Tie as tie
-use Rattle.trees.proofs.operands.operands_within.Reads as reads
-use Rattle.trees.proofs.operands.operands_within.Lts as lts
 
 abbrev Inv-loop : tie.InvT-loop
 Inv-loop count words i₀ i = (allOf isNode (drop i (operandsAt words count)) ≡ allOf isNode (operandsAt words count)) × (i ≤ count)
@@ -18,39 +16,30 @@ Inv-loop count words i₀ i = (allOf isNode (drop i (operandsAt words count)) �
 abbrev μ-loop : tie.MeasureT-loop
 μ-loop count words i₀ i = count - i
 
--- src/operands.rt:23:5
 loop-holds : tie.Need-loop-holds Inv-loop μ-loop
 loop-holds c = (refl, search needs)
 
--- src/operands.rt:24:18
 add-if1 : tie.Need-add-if1 Inv-loop μ-loop
 add-if1 c = search needs
 
--- src/operands.rt:24:12
 mul-if1 : tie.Need-mul-if1 Inv-loop μ-loop
 mul-if1 c = search needs
 
--- src/operands.rt:24:12
 array-read-if1 : tie.Need-array-read-if1 Inv-loop μ-loop
 array-read-if1 c = search needs
 
--- src/operands.rt:25:13
 returns : tie.Need-returns Inv-loop μ-loop
 returns c = within-not (c .before .before .before .args .t1) _ _ (c .before .before .before .pre .0) (c .before .before .before .pre .1) (c .before .before .loop .inv .0) (c .before .loop-test .taken) (c .if1 .taken)
 
--- src/operands.rt:27:9
 add-i : tie.Need-add-i Inv-loop μ-loop
 add-i c = search needs
 
--- src/operands.rt:23:5
 loop-less : tie.Need-loop-less Inv-loop μ-loop
 loop-less c = search needs
 
--- src/operands.rt:23:5
 loop-again : tie.Need-loop-again Inv-loop μ-loop
 loop-again c = (within-next (c .before .before .before .args .t1) _ _ (c .before .before .before .pre .0) (c .before .before .before .pre .1) (c .before .before .loop .inv .0) (c .before .loop-test .taken) (c .if1 .left), search needs)
 
--- src/operands.rt:18:1
 returns-2 : tie.Need-returns-2 Inv-loop μ-loop
 returns-2 c = within-end (c .before .before .args .t1) _ _ (c .before .before .pre .0) (c .before .before .pre .1) (c .before .loop .inv .0) (c .loop-test .left)
 

@@ -1,14 +1,11 @@
+-- `put_words` meets its contract.
 use Rattle.trees.proofs.OperandLaws.{wrote-none, wrote-next, wrote-all}
 use Rattle.trees.specs.Operands.{shifted, Wrote}
-use mathlib.Core.Path.{_≡_, refl}
 use Prim.Native.Nat.{_≤_, _-_, _*_}
 use native.Mathlib.Omega.{arith}
 use borrow.Author.Needs.{needs}
 use Rattle.trees.proofs.operands.put_words.Statement.{statement}
 use Rattle.trees.proofs.operands.put_words.Tie as tie
-use Rattle.trees.proofs.operands.put_words.Reads as reads
-use Rattle.trees.proofs.operands.put_words.Lts as lts
-use Rattle.trees.proofs.operands.shift.Reads as shift-reads
 
 abbrev Inv-loop : tie.InvT-loop
 Inv-loop w1₀ m words count first k₀ w1 k = Wrote (8 * m) k (shifted words count first) w1₀ w1 × (k ≤ 8)
@@ -16,47 +13,36 @@ Inv-loop w1₀ m words count first k₀ w1 k = Wrote (8 * m) k (shifted words co
 abbrev μ-loop : tie.MeasureT-loop
 μ-loop w1₀ m words count first k₀ w1 k = 8 - k
 
--- src/operands.rt:94:5
 loop-holds : tie.Need-loop-holds Inv-loop μ-loop
 loop-holds c = (wrote-none _ _ _, search needs)
 
--- src/operands.rt:95:25
 shift-requires : tie.Need-shift-requires Inv-loop μ-loop
 shift-requires c κs = search needs
 
--- src/operands.rt:95:12
 mul-w1 : tie.Need-mul-w1 Inv-loop μ-loop
 mul-w1 c = search needs
 
--- src/operands.rt:95:12
 add-w1 : tie.Need-add-w1 Inv-loop μ-loop
 add-w1 c = search needs
 
--- src/operands.rt:95:9
 mul-w1-2 : tie.Need-mul-w1-2 Inv-loop μ-loop
 mul-w1-2 c = search needs
 
--- src/operands.rt:95:9
 slice-write-w1 : tie.Need-slice-write-w1 Inv-loop μ-loop
 slice-write-w1 c = omega (arith, c .before .before .loop .inv .0 .kept .size)
 
--- src/operands.rt:96:9
 add-k : tie.Need-add-k Inv-loop μ-loop
 add-k c = search needs
 
--- src/operands.rt:94:5
 loop-less : tie.Need-loop-less Inv-loop μ-loop
 loop-less c = search needs
 
--- src/operands.rt:94:5
 loop-again : tie.Need-loop-again Inv-loop μ-loop
 loop-again c = (wrote-next (c .before .before .loop .inv .0) (omega arith) (omega (arith, c .before .before .loop .inv .0 .kept .size)) (c .shift .ensures), search needs)
 
--- src/operands.rt:89:1
 same-length : tie.Need-same-length Inv-loop μ-loop
 same-length c = search needs
 
--- src/operands.rt:89:1
 returns : tie.Need-returns Inv-loop μ-loop
 returns c = wrote-all (c .before .loop .inv .0) (omega arith)
 

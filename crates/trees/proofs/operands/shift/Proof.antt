@@ -1,48 +1,37 @@
+-- `shift` meets its contract.
 use Rattle.trees.proofs.OperandLaws.{shift-room, shift-code, shift-operand, shift-other}
 use native.Mathlib.Omega.{arith}
 use borrow.Author.Needs.{needs}
 use Rattle.trees.proofs.operands.shift.Statement.{statement}
 use Rattle.trees.proofs.operands.shift.Tie as tie
-use Rattle.trees.proofs.operands.shift.Reads as reads
-use Rattle.trees.proofs.operands.shift.Lts as lts
 
--- src/operands.rt:80:16
 mul-result : tie.Need-mul-result
 mul-result c = search needs
 
--- src/operands.rt:80:16
 array-read-result : tie.Need-array-read-result
 array-read-result c = search needs
 
--- src/operands.rt:80:9
 returns : tie.Need-returns
 returns c = shift-code _ _ _ _ (c .if1 .taken)
 
--- src/operands.rt:83:24
 mul-result-2 : tie.Need-mul-result-2
 mul-result-2 c = search needs
 
--- src/operands.rt:83:24
 array-read-result-2 : tie.Need-array-read-result-2
 array-read-result-2 c = search needs
 
--- src/operands.rt:83:16
 add-result : tie.Need-add-result
 add-result c = omega (arith, shift-room (c .before .before .args .t1) (c .before .before .args .count) 0 (c .before .before .args .k) (c .before .before .pre .2) (c .before .if1 .left) (c .if2 .taken))
 
--- src/operands.rt:83:9
 returns-2 : tie.Need-returns-2
 returns-2 c = shift-operand _ _ _ _ (c .before .if1 .left) (c .if2 .taken)
 
--- src/operands.rt:85:5
 mul-result-3 : tie.Need-mul-result-3
 mul-result-3 c = search needs
 
--- src/operands.rt:85:5
 array-read-result-3 : tie.Need-array-read-result-3
 array-read-result-3 c = search needs
 
--- src/operands.rt:75:1
 returns-3 : tie.Need-returns-3
 returns-3 c = shift-other _ _ _ _ (c .before .if1 .left) (c .if2 .left)
 

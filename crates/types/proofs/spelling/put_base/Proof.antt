@@ -1,11 +1,8 @@
 -- `put_base` meets its contract.
 use native.Mathlib.Omega.{arith}
-use mathlib.Core.Path.{sym, ap}
 use Rattle.sheet.specs.Text.{bytes}
 use Rattle.sheet.specs.Spelling.{spellType, spellSimple}
-use Rattle.types.specs.declared.Base.{Base}
-use Rattle.types.specs.Flat.{baseType}
-use Rattle.types.proofs.WrittenLaws.{puts-length, puts-then, puts-as, number-le}
+use Rattle.types.proofs.WrittenLaws.{room-number, puts-word, puts-class}
 use borrow.Author.Needs.{needs}
 use Rattle.types.proofs.spelling.put_base.Statement.{statement}
 use Rattle.types.proofs.spelling.put_base.Tie as tie
@@ -53,42 +50,41 @@ put-byte-requires : tie.Need-put-byte-requires
 put-byte-requires c κs = search needs
 
 put-number-requires : tie.Need-put-number-requires
-put-number-requires c κs = (rw (c .before .before .before .before .before .before .b .given .1) at (c .before .before .before .before .before .before .before .before .before .pre .0), omega (arith, c .before .before .before .before .before .before .before .before .before .pre .1, c .before .before .before .put-byte .ensures .end, puts-length (c .before .before .before .put-byte .ensures) (omega (arith, c .before .before .before .before .before .before .before .before .before .pre .1))))
+put-number-requires c κs = room-number (c .before .before .before .before .before .known-told .given .0 .1) _ (c .before .before .before .before .before .before .before .before .before .args .out .now) (c .before .before .before .before .before .before .before .before .before .pre) (c .before .before .before .put-byte .ensures)
 
 same-length : tie.Need-same-length
 same-length c = search needs
 
 returns : tie.Need-returns
 unfolding spellType bytes
-returns c = puts-as (c .before .before .put-bytes .ensures) (ap (λ (a : Base). spellType (baseType a)) (sym (c .before .before .before .before .before .enum-told .given .1)))
+returns c = puts-word (c .before .before .before .before .before .enum-told .given .1) (c .before .before .put-bytes .ensures) (omega arith)
 
 same-length-2 : tie.Need-same-length-2
 same-length-2 c = search needs
 
 returns-2 : tie.Need-returns-2
 unfolding spellType spellSimple bytes
-returns-2 c = puts-as (c .before .before .put-bytes2 .ensures) (ap (λ (a : Base). spellType (baseType a)) (sym (c .before .before .before .before .before .enum-told2 .given .1)))
+returns-2 c = puts-word (c .before .before .before .before .before .enum-told2 .given .1) (c .before .before .put-bytes2 .ensures) (omega arith)
 
 same-length-3 : tie.Need-same-length-3
 same-length-3 c = search needs
 
 returns-3 : tie.Need-returns-3
 unfolding spellType spellSimple bytes
-returns-3 c = puts-as (c .before .before .put-bytes3 .ensures) (ap (λ (a : Base). spellType (baseType a)) (sym (c .before .before .before .before .before .enum-told3 .given .1)))
+returns-3 c = puts-word (c .before .before .before .before .before .enum-told3 .given .1) (c .before .before .put-bytes3 .ensures) (omega arith)
 
 same-length-4 : tie.Need-same-length-4
 same-length-4 c = search needs
 
 returns-4 : tie.Need-returns-4
 unfolding spellType spellSimple bytes
-returns-4 c = puts-as (c .before .before .put-bytes4 .ensures) (ap (λ (a : Base). spellType (baseType a)) (sym (c .before .before .before .before .before .enum-told4 .given .1)))
+returns-4 c = puts-word (c .before .before .before .before .before .enum-told4 .given .1) (c .before .before .put-bytes4 .ensures) (omega arith)
 
 same-length-5 : tie.Need-same-length-5
 same-length-5 c = search needs
 
 returns-5 : tie.Need-returns-5
-unfolding spellType spellSimple
-returns-5 c = puts-as (puts-then (c .before .before .before .before .before .before .put-byte .ensures) (c .before .before .put-number .ensures) (omega (arith, c .before .before .before .before .before .before .before .before .before .before .before .before .pre .1, number-le _ (rw (c .before .before .before .before .before .before .before .before .before .b .given .1) at (c .before .before .before .before .before .before .before .before .before .before .before .before .pre .0))))) (ap (λ (a : Base). spellType (baseType a)) (sym (c .before .before .before .before .before .before .before .before .before .b .given .1)))
+returns-5 c = puts-class (c .before .before .before .before .before .before .before .before .known-told .given .0 .1) _ (c .before .before .before .before .before .before .before .before .before .before .before .before .args .out .now) (c .before .before .before .before .before .before .before .before .before .before .before .before .pre) (c .before .before .before .before .before .before .put-byte .ensures) (c .before .before .before .before .before .before .before .before .before .b .given .1) (c .before .before .put-number .ensures)
 
 pub put-base-spec : {M : Type 1} → statement M
 put-base-spec =

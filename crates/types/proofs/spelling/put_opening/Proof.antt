@@ -3,8 +3,8 @@ use native.Mathlib.Omega.{arith}
 use Prim.Native.Nat.{ℕ}
 use mathlib.Core.List.{[], _∷_}
 use mathlib.Core.Path.{ap}
+use Rattle.text.proofs.WrittenLaws.{puts-then, puts-as}
 use Rattle.types.specs.Written.{opening}
-use Rattle.types.proofs.WrittenLaws.{puts-then, puts-as}
 use borrow.Author.Needs.{needs}
 use Rattle.types.proofs.spelling.put_opening.Statement.{statement}
 use Rattle.types.proofs.spelling.put_opening.Tie as tie

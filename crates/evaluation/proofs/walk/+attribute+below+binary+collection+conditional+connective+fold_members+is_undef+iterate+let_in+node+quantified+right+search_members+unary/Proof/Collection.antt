@@ -2,7 +2,7 @@
 use mathlib.Core.Path.{_∙_}
 use Prim.Native.Nat.{_+_, _-_}
 use Rattle.nodes.specs.Nodes.{kindOf}
-use Rattle.evaluation.proofs.Levels.{some-level}
+use Rattle.nodes.proofs.Levels.{some-level}
 use Rattle.evaluation.specs.Evaluating.{Reads, operandAt}
 use Rattle.evaluation.proofs.Composition.{bounds}
 use Rattle.evaluation.proofs.CollectLaws.{Gathering, gather-starts, collect-done, collect-early, collect-again, collect-over, kind-number}

@@ -1,0 +1,52 @@
+-- Demand 3 of the call that evaluates: from demand 3 of its definition and the call's contract. Assumes nothing.
+use mathlib.Core.Path.{_≡_, refl, sym, ap, _∙_}
+use mathlib.Core.List.{List, [], _++_}
+use Prim.Native.Nat.{ℕ, _≤_}
+use lib.ListN.{length, take, drop}
+use lib.Seq.{take-append-seam}
+use Rattle.ocl.specs.Types.{Ty}
+use Rattle.ocl.specs.Model.{Model}
+use Rattle.sheet.specs.Text.{Bytes, bytes}
+use Rattle.sheet.specs.Spelling.{spellType, spellValue}
+use Rattle.sheet.specs.Reading.{Reading, accepted, refused, readText}
+use Rattle.sheet.specs.Calls.{Verdict, answer, refusalAt, outputAfter, onSheet, readCall, typeOn, typeCall, evaluateCall}
+use Rattle.sheet.specs.Soundness.{Lent, Ending, undefined-end, value-end, step-stop, size-stop, SoundCall}
+use Rattle.sheet.proofs.Soundness.{read-lent, type-lent, demand3}
+use Rattle.checker.specs.declared.Answer.{Answer}
+use Rattle.checker.specs.Answers.{answerOf, AnswersWith}
+use Rattle.checker.specs.Soundness.{Says, AnswerEnding, undefined-said, value-said, step-stopped, size-stopped, Demand3OfCall}
+
+-- a rule has a type only on a sheet that is accepted
+read-accepts : (text : Bytes) (w0 w1 w2 : List ℕ) (out : Bytes) → Lent w0 w1 w2 out → (r : ℕ) (t : Ty) → typeCall text r w0 w1 w2 out ≡ answer (spellType t)
+    → readCall text w0 w1 w2 .number ≡ 0
+unfolding onSheet answer refusalAt
+read-accepts text w0 w1 w2 out l r t e = rw (read-lent text w0 w1 w2 out l) (by (readText text) (sym (type-lent text w0 w1 w2 out l r) ∙ e))
+  where
+    by : (x : Reading) → onSheet x (λ s. typeOn s r) ≡ answer (spellType t) → onSheet x (λ s. answer []) .number ≡ 0
+    by (accepted s) q = refl
+    by (refused n k) q = ap (λ (v : Verdict). v .number) q
+
+module _ {a : Answer} {after : Bytes} (out : Bytes) where
+  answer-says : (w : Bytes) (n : ℕ) → a ≡ answerOf (record { number = 0; steps = n; place = 0; output = w }) → after ≡ w ++ drop (length w) out → Says w a after
+  answer-says w n e q = record {
+    number = ap (λ (b : Answer). b .number) e;
+    length-of = ap (λ (b : Answer). b .length) e;
+    begins = ap (take (length w)) q ∙ take-append-seam w (drop (length w) out);
+  }
+
+  answer-ending : {m : Model} {t : Ty} {v : Verdict} → Ending m t v → a ≡ answerOf v → after ≡ outputAfter v out → AnswerEnding m t a after
+  unfolding outputAfter
+  answer-ending (undefined-end {n}) e q = undefined-said (answer-says (bytes "u") n e q)
+  answer-ending (value-end {n} v b) e q = value-said v b (answer-says (spellValue v) n e q)
+  answer-ending step-stop e q = step-stopped (ap (λ (b : Answer). b .number) e)
+  answer-ending size-stop e q = size-stopped (ap (λ (b : Answer). b .number) e)
+
+pub demand3-of-call : Demand3OfCall
+demand3-of-call text w0 w1 w2 out l r o t e h a v0 v1 v2 after z =
+    let d = demand3 text w0 w1 w2 out l r o t (read-accepts text w0 w1 w2 out l r t e) e h in
+    let i = z .answers .is in
+    record {
+      ending = answer-ending out (d .ending) i (z .output);
+      in-reach = rw i (d .in-reach);
+      no-step-stop = λ k n. d .no-step-stop k (ap (λ (b : Answer). b .number) (sym i) ∙ n);
+    }

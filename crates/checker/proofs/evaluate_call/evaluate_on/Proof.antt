@@ -1,0 +1,75 @@
+use borrow.Author.Needs.{needs}
+use native.Mathlib.Omega.{arith}
+use Rattle.tables.proofs.Tables.{kept-refl}
+use Rattle.checker.proofs.EvaluateCalls.{evaluate-no-rule, no-object, other-class}
+use Rattle.checker.proofs.evaluate_call.evaluate_on.Statement.{statement}
+use Rattle.checker.proofs.evaluate_call.evaluate_on.Tie as tie
+
+refused-requires : tie.Need-refused-requires
+refused-requires c κs = search needs
+
+returns : tie.Need-returns
+returns c = (evaluate-no-rule _ _ _ (c .before .if1 .taken) (c .refused .ensures), kept-refl _, kept-refl _)
+
+refused-requires-2 : tie.Need-refused-requires-2
+refused-requires-2 c κs = search needs
+
+returns-2 : tie.Need-returns-2
+returns-2 c = (no-object _ (c .before .before .before .if1 .left) (c .before .if2 .taken) (c .refused2 .ensures), kept-refl _, kept-refl _)
+
+wide-requires : tie.Need-wide-requires
+wide-requires c κs = search needs
+
+add-context : tie.Need-add-context
+add-context c = search needs
+
+mul-context : tie.Need-mul-context
+mul-context c = search needs
+
+shared-slice-read-context : tie.Need-shared-slice-read-context
+shared-slice-read-context c = search needs
+
+is-a-requires : tie.Need-is-a-requires
+is-a-requires c κs = search needs
+
+evaluate-typed-requires : tie.Need-evaluate-typed-requires
+evaluate-typed-requires c κs = ((c .before .before .before .before .before .before .before .before .before .before .before .before .before .before .before .pre .0, c .before .before .before .before .before .before .before .before .before .before .before .before .before .before .before .pre .1), (omega (arith, c .before .before .before .before .before .before .wide .ensures, c .before .before .before .before .before .before .before .before .before .if1 .left), c .before .before .before .before .before .before .before .if2 .left, rw (c .before .before .before .if3 .taken) at (c .before .before .before .before .is-a .ensures)))
+
+same-length : tie.Need-same-length
+same-length c = search needs
+
+same-length-2 : tie.Need-same-length-2
+same-length-2 c = search needs
+
+same-length-3 : tie.Need-same-length-3
+same-length-3 c = search needs
+
+returns-3 : tie.Need-returns-3
+returns-3 c = rw (c .before .before .before .before .before .before .before .before .before .before .before .before .before .wide .ensures) at (c .before .before .before .before .before .before .evaluate-typed .ensures)
+
+refused-requires-3 : tie.Need-refused-requires-3
+refused-requires-3 c κs = search needs
+
+returns-4 : tie.Need-returns-4
+returns-4 c = (other-class _ (c .before .before .before .before .before .before .before .if1 .left) (c .before .before .before .before .before .if2 .left) (rw (c .before .if3 .left, c .before .before .before .before .wide .ensures) at (c .before .before .is-a .ensures)) (c .refused3 .ensures), kept-refl _, kept-refl _)
+
+pub evaluate-on-spec : {M : Type 1} → statement M
+evaluate-on-spec =
+    tie.close
+    (tie.spec
+    refused-requires
+    returns
+    refused-requires-2
+    returns-2
+    wide-requires
+    add-context
+    mul-context
+    shared-slice-read-context
+    is-a-requires
+    evaluate-typed-requires
+    same-length
+    same-length-2
+    same-length-3
+    returns-3
+    refused-requires-3
+    returns-4)

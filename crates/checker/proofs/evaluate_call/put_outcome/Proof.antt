@@ -1,0 +1,76 @@
+use borrow.Author.Needs.{needs}
+use mathlib.Core.Path.{refl}
+use native.Mathlib.Omega.{arith}
+use lib.ListN.{length}
+use Rattle.checker.proofs.OutcomeLaws.{value-fits, gives-value, gives-undefined, gives-stuck, gives-stopped}
+use Rattle.checker.proofs.evaluate_call.put_outcome.Statement.{statement}
+use Rattle.checker.proofs.evaluate_call.put_outcome.Tie as tie
+
+enum-known-e : tie.Need-enum-known-e
+enum-known-e c = search needs
+
+add-put-value : tie.Need-add-put-value
+add-put-value c = let f = value-fits (c .before .before .before .before .before .before .pre .2) (c .before .before .e .given .1) (length (c .before .before .before .before .before .before .args .out .now)) (c .before .before .before .before .before .before .pre .0) (c .before .before .before .before .before .before .pre .1) in omega (arith, f .0)
+
+put-value-requires : tie.Need-put-value-requires
+put-value-requires c κs = value-fits (c .before .before .before .before .before .before .pre .2) (c .before .before .e .given .1) _ (c .before .before .before .before .before .before .pre .0) (c .before .before .before .before .before .before .pre .1) .1
+
+written-requires : tie.Need-written-requires
+written-requires c κs = search needs
+
+enum-known-e-2 : tie.Need-enum-known-e-2
+enum-known-e-2 c = search needs
+
+put-byte-requires : tie.Need-put-byte-requires
+put-byte-requires c κs = search needs
+
+written-requires-2 : tie.Need-written-requires-2
+written-requires-2 c κs = search needs
+
+enum-told : tie.Need-enum-told
+enum-told c = search needs
+
+refused-requires : tie.Need-refused-requires
+refused-requires c κs = search needs
+
+enum-known-e-3 : tie.Need-enum-known-e-3
+enum-known-e-3 c = search needs
+
+same-length : tie.Need-same-length
+same-length c = search needs
+
+returns : tie.Need-returns
+returns c = gives-value (c .before .before .before .before .before .before .e .given .1) (c .before .before .before .put-value .ensures) (c .written .ensures)
+
+same-length-2 : tie.Need-same-length-2
+same-length-2 c = search needs
+
+returns-2 : tie.Need-returns-2
+returns-2 c = gives-undefined (c .before .before .before .before .before .before .e2 .given .1) (c .before .before .before .put-byte .ensures) (c .written2 .ensures)
+
+returns-3 : tie.Need-returns-3
+returns-3 c = gives-stuck _ (c .before .enum-told .given .1) (c .refused .ensures)
+
+returns-4 : tie.Need-returns-4
+returns-4 c = gives-stopped _ (c .before .e3 .given .1) refl
+
+pub put-outcome-spec : {M : Type 1} → statement M
+put-outcome-spec =
+    tie.close
+    (tie.spec
+    enum-known-e
+    add-put-value
+    put-value-requires
+    written-requires
+    enum-known-e-2
+    put-byte-requires
+    written-requires-2
+    enum-told
+    refused-requires
+    enum-known-e-3
+    same-length
+    returns
+    same-length-2
+    returns-2
+    returns-3
+    returns-4)

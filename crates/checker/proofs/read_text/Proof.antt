@@ -1,0 +1,23 @@
+use borrow.Author.Needs.{needs}
+use native.Mathlib.Omega.{arith}
+use Rattle.checker.proofs.Readings.{long-text, within-text}
+use Rattle.checker.proofs.read_text.Statement.{statement}
+use Rattle.checker.proofs.read_text.Tie as tie
+
+returns : tie.Need-returns
+returns c = long-text _ _ _ (c .if1 .taken)
+
+read-requires : tie.Need-read-requires
+read-requires c κs = search needs
+
+same-length : tie.Need-same-length
+same-length c = search needs
+
+same-length-2 : tie.Need-same-length-2
+same-length-2 c = search needs
+
+returns-2 : tie.Need-returns-2
+returns-2 c = within-text (c .before .before .before .before .before .before .before .before .before .before .before .args .text .now) (omega arith) (c .before .before .before .before .read .ensures)
+
+pub read-text-spec : {M : Type 1} → statement M
+read-text-spec = tie.close (tie.spec returns read-requires same-length same-length-2 returns-2)

@@ -1,0 +1,146 @@
+// The call that evaluates a rule for an object.
+ghost use mathlib.Core.Bool.{true};
+ghost use Prim.Native.Nat.{_+_, _≤_, _<_};
+ghost use lib.ListN.{length, getD};
+ghost use Rattle.sheet.specs.Calls.{onSheet, evaluateOn, evaluateCall};
+ghost use Rattle.sheet.specs.Reading.{readText};
+ghost use Rattle.sheet.specs.Soundness.{Lent};
+ghost use Rattle.tables.specs.Layout.{Kept};
+ghost use Rattle.evaluation.specs.Tables.{IsA};
+ghost use Rattle.rules.specs.Accepted.{Known};
+ghost use Rattle.checker.specs.Answers.{AnswersWith};
+ghost use Rattle.checker.specs.Parts.{Leaves, GivesFor};
+ghost use Rattle.checker.specs.Outcomes.{Fitting, GivesEnded};
+use super::Answer;
+use super::read_text;
+use super::refused;
+use super::short;
+use super::wipe_all;
+use super::written;
+use evaluation::Ended;
+use evaluation::lookup::is_a;
+use reader::SheetRead;
+use rules::evaluated::evaluate_numbered;
+use rules::evaluated::keep_marks;
+use rules::typed::node_line;
+use rules::typed::type_numbered;
+use spelling::put_value;
+use tables::Counts;
+use text::spelling::put_byte;
+use types::classes::wide;
+use typing::Reply;
+
+// How an evaluation ended, as an answer: a value, which lies in w2 from 1 on, or `u` is put into out.
+fn put_outcome(e: Ended, w2: &[u64], out: &mut [u8]) -> Answer
+    requires { ⌜ (8192 ≤ length (now w2)) × (2048 ≤ length (now out)) × Fitting (now w2) e ⌝ }
+    ensures { λ a. ⌜ GivesEnded (now (w2 .entry)) e a (now (out .entry)) (now (out .exit)) ⌝ }
+{
+    match e {
+        Ended::Value { len, steps } => written(put_value(out, 0, w2, 1, 1 + len), steps),
+        Ended::Undef { steps } => written(put_byte(out, 0, b'u'), steps),
+        Ended::Stuck => refused(100, 0),
+        Ended::Stop { number, steps } => {
+            Answer {
+                number: number,
+                steps: steps,
+                place: 0,
+                length: 0,
+            }
+        }
+    }
+}
+
+// Rule r for object o, which is of its context class or below: typing comes first, and leaves the marks that evaluation reads.
+fn evaluate_typed(
+    w0: &[u64],
+    st: Counts,
+    w1: &mut [u64],
+    w2: &mut [u64],
+    r: usize,
+    o: u64,
+    out: &mut [u8],
+) -> Answer
+    requires { ⌜ Lent (now w0) (now w1) (now w2) (now out) × Known st (now w0) (now w1) ⌝ }
+    requires { ⌜ (r < st .rules) × (o < st .objects) × IsA st (now w0) o (getD (now w0) (4448 + r) 0) true ⌝ }
+    ensures { λ a. ⌜ GivesFor st (now (w0 .entry)) (now (w1 .entry)) (λ s. evaluateOn s r o) a (now (out .entry)) (now (out .exit)) × Kept (now (w1 .entry)) (now (w1 .exit)) × Kept (now (w2 .entry)) (now (w2 .exit)) ⌝ }
+{
+    match type_numbered(w0, st, w1, w2, r) {
+        Reply::No(n, p) => refused(n, node_line(w1, p)),
+        Reply::Is(_) => {
+            keep_marks(w2, w1);
+            let e = evaluate_numbered(w0, st, w1, w2, r, o);
+            put_outcome(e, w2, out)
+        }
+    }
+}
+
+// Rule r of the sheet that lies in the words, for object o.
+fn evaluate_on(
+    w0: &[u64],
+    st: Counts,
+    w1: &mut [u64],
+    w2: &mut [u64],
+    r: u64,
+    o: u64,
+    out: &mut [u8],
+) -> Answer
+    requires { ⌜ Lent (now w0) (now w1) (now w2) (now out) × Known st (now w0) (now w1) ⌝ }
+    ensures { λ a. ⌜ GivesFor st (now (w0 .entry)) (now (w1 .entry)) (λ s. evaluateOn s r o) a (now (out .entry)) (now (out .exit)) × Kept (now (w1 .entry)) (now (w1 .exit)) × Kept (now (w2 .entry)) (now (w2 .exit)) ⌝ }
+{
+    if st.rules <= r {
+        return refused(14, 0);
+    }
+    if st.objects <= o {
+        return refused(14, 0);
+    }
+    let i = wide(r);
+    let context = w0[4448 + i];
+    if is_a(w0, st, o, context) {
+        return evaluate_typed(w0, st, w1, w2, i, o, out);
+    }
+    refused(15, 0)
+}
+
+// The text's own answer, whatever the words held; the words are not wiped yet.
+fn evaluate_answer(
+    text: &[u8],
+    r: u64,
+    o: u64,
+    w0: &mut [u64],
+    w1: &mut [u64],
+    w2: &mut [u64],
+    out: &mut [u8],
+) -> Answer
+    requires { ⌜ Lent (now w0) (now w1) (now w2) (now out) ⌝ }
+    ensures { λ a. ⌜ Leaves (onSheet (readText (now (text .entry))) (λ s. evaluateOn s r o)) a (now (w0 .entry)) (now (w1 .entry)) (now (w2 .entry)) (now (out .entry)) (now (w0 .exit)) (now (w1 .exit)) (now (w2 .exit)) (now (out .exit)) ⌝ }
+{
+    match read_text(text, w0, w1) {
+        SheetRead::Sheet(st) => evaluate_on(w0, st, w1, w2, r, o, out),
+        SheetRead::Refused(n, k) => refused(n, k),
+    }
+}
+
+// Evaluates a rule for an object: 0 with `u` or the value's spelling in out, and the steps; else a refusal or a stop. Each word
+// slice lends at least 8,192 words, out at least 2,048 bytes.
+#[no_mangle]
+pub extern "C" fn ocl_evaluate_rule(
+    text: &[u8],
+    rule: u64,
+    object: u64,
+    w0: &mut [u64],
+    w1: &mut [u64],
+    w2: &mut [u64],
+    out: &mut [u8],
+) -> Answer
+    ensures { λ a. ⌜ AnswersWith (evaluateCall (now (text .entry)) rule object (now (w0 .entry)) (now (w1 .entry)) (now (w2 .entry)) (now (out .entry))) a (now (w0 .entry)) (now (w1 .entry)) (now (w2 .entry)) (now (out .entry)) (now (w0 .exit)) (now (w1 .exit)) (now (w2 .exit)) (now (out .exit)) ⌝ }
+{
+    if short(w0, w1, w2) {
+        return refused(1, 0);
+    }
+    if out.len() < 2048 {
+        return refused(1, 0);
+    }
+    let a = evaluate_answer(text, rule, object, w0, w1, w2, out);
+    wipe_all(w0, w1, w2);
+    a
+}

@@ -1,0 +1,44 @@
+// The call that reads a sheet.
+ghost use mathlib.Core.Path.{_≡_};
+ghost use mathlib.Core.List.{[]};
+ghost use Prim.Native.Nat.{_≤_};
+ghost use lib.ListN.{length};
+ghost use Rattle.sheet.specs.Calls.{readCall, onSheet, answer as answerWith};
+ghost use Rattle.sheet.specs.Reading.{readText};
+ghost use Rattle.tables.specs.Layout.{Kept};
+ghost use Rattle.checker.specs.Answers.{Answers, answerOf};
+use super::Answer;
+use super::read_text;
+use super::refused;
+use super::short;
+use super::wipe_all;
+use reader::SheetRead;
+
+// The text's own answer, whatever the words held; the words are not wiped yet.
+fn read_answer(text: &[u8], w0: &mut [u64], w1: &mut [u64]) -> Answer
+    requires { ⌜ (8192 ≤ length (now w0)) × (8192 ≤ length (now w1)) ⌝ }
+    ensures { λ r. ⌜ (r ≡ answerOf (onSheet (readText (now (text .entry))) (λ s. answerWith []))) × Kept (now (w0 .entry)) (now (w0 .exit)) × Kept (now (w1 .entry)) (now (w1 .exit)) ⌝ }
+{
+    match read_text(text, w0, w1) {
+        SheetRead::Sheet(_) => refused(0, 0),
+        SheetRead::Refused(n, k) => refused(n, k),
+    }
+}
+
+// Reads a sheet: 0 where it is accepted, else a refusal with its line. Each word slice lends at least 8,192 words.
+#[no_mangle]
+pub extern "C" fn ocl_read_sheet(
+    text: &[u8],
+    w0: &mut [u64],
+    w1: &mut [u64],
+    w2: &mut [u64],
+) -> Answer
+    ensures { λ r. ⌜ Answers (readCall (now (text .entry)) (now (w0 .entry)) (now (w1 .entry)) (now (w2 .entry))) r (now (w0 .entry)) (now (w1 .entry)) (now (w2 .entry)) (now (w0 .exit)) (now (w1 .exit)) (now (w2 .exit)) ⌝ }
+{
+    if short(w0, w1, w2) {
+        return refused(1, 0);
+    }
+    let a = read_answer(text, w0, w1);
+    wipe_all(w0, w1, w2);
+    a
+}

@@ -1,0 +1,242 @@
+-- No run returns more than 1,000,000 steps, typed or not: a law for each piece that evaluation is written in, and one induction over
+-- the forms. Assumes nothing.
+use mathlib.Core.Bool.{Bool, true, false, Bool·beq}
+use mathlib.Core.Option.{Option, none, some}
+use Prim.Native.Nat.{ℕ, _+_, _≤_}
+use native.Mathlib.Omega.{arith as linear}
+use lib.IntN.{ℤ}
+use lib.Dec.{ltb, ltb→lt, leb}
+use Rattle.laws.specs.Choice.{if_then_else_}
+use Rattle.laws.proofs.Tests.{by-if}
+use Rattle.ocl.specs.Types.{class, Kind, sameKind}
+use Rattle.ocl.specs.Values.{Value, bool, int, obj, coll, Values, nil, cons, size, add}
+use Rattle.ocl.specs.Model.{Model, isA}
+use Rattle.ocl.specs.Environment.{Env, extend, start}
+use Rattle.ocl.specs.Forms.{Connective, Quantifier, Leaf, truth, undef, number, self, var, all, Unary, negation, sizeOf, convert, castTo, Binary, equal, less, arith, includes, including, union, Expr, node, Form, leaf, unary, binary, connective, isUndef, conditional, letIn, attribute, quantified, iterate, collect, Operands, noOperand, operand}
+use Rattle.ocl.specs.Evaluation.{Outcome, value, undefined, stuck, stop, Run, resume, bind, tick, form, given, bound, onBool, onInt, onObj, onColl, arithmetic, leafRun, cast, unaryApply, unaryRun, leftFits, binaryApply, binaryRun, decides, connectiveRun, isUndefRun, conditionalRun, letRun, attributeRun, endsAt, search, quantifiedRun, fold, iterateRun, Gather, noOperandRun, operandRun, collectRun, evaluation, formRun, operandsRun, evaluateRule}
+use Rattle.ocl.specs.Soundness.{stepsOf}
+
+data Limited : Outcome → Type 0 where
+  limited-value : {v : Value} {n : ℕ} → n ≤ 1000000 → Limited (value v n)
+  limited-undefined : {n : ℕ} → n ≤ 1000000 → Limited (undefined n)
+  limited-stuck : Limited stuck
+  limited-stop : {c n : ℕ} → n ≤ 1000000 → Limited (stop c n)
+
+-- what follows a value, or undefined, is limited if the steps so far are
+abbrev After : (Value → ℕ → Outcome) → Type 0
+After f = (v : Value) (n : ℕ) → n ≤ 1000000 → Limited (f v n)
+
+-- ---- the pieces of evaluation
+
+limited-resume : {o : Outcome} {f : Value → ℕ → Outcome} {g : ℕ → Outcome} → Limited o → After f → ((n : ℕ) → n ≤ 1000000 → Limited (g n)) → Limited (resume o f g)
+limited-resume (limited-value {v} {n} l) h k = h v n l
+limited-resume (limited-undefined {n} l) h k = k n l
+limited-resume limited-stuck h k = limited-stuck
+limited-resume (limited-stop l) h k = limited-stop l
+
+limited-bind : {o : Outcome} {f : Value → ℕ → Outcome} → Limited o → After f → Limited (bind o f)
+limited-bind (limited-value {v} {n} l) h = h v n l
+limited-bind (limited-undefined l) h = limited-undefined l
+limited-bind limited-stuck h = limited-stuck
+limited-bind (limited-stop l) h = limited-stop l
+
+limited-if : {x y : Outcome} (b : Bool) → Limited x → Limited y → Limited (if b then x else y)
+limited-if true h k = h
+limited-if false h k = k
+
+limited-form : (v : Value) {n : ℕ} → n ≤ 1000000 → Limited (form v n)
+unfolding form
+limited-form v l = limited-if (leb (size v) 128) (limited-value l) (limited-stop l)
+
+limited-given : (o : Option Value) {n : ℕ} → n ≤ 1000000 → Limited (given o n)
+limited-given none l = limited-undefined l
+limited-given (some v) l = limited-value l
+
+limited-bound : (o : Option Value) {n : ℕ} → n ≤ 1000000 → Limited (bound o n)
+limited-bound none l = limited-stuck
+limited-bound (some v) l = limited-value l
+
+limited-bool : {k : Bool → Outcome} (v : Value) → ((b : Bool) → Limited (k b)) → Limited (onBool v k)
+limited-bool (bool b) h = h b
+limited-bool (int z) h = limited-stuck
+limited-bool (obj o) h = limited-stuck
+limited-bool (coll c vs) h = limited-stuck
+
+limited-int : {k : ℤ → Outcome} (v : Value) → ((z : ℤ) → Limited (k z)) → Limited (onInt v k)
+limited-int (bool b) h = limited-stuck
+limited-int (int z) h = h z
+limited-int (obj o) h = limited-stuck
+limited-int (coll c vs) h = limited-stuck
+
+limited-obj : {k : ℕ → Outcome} (v : Value) → ((o : ℕ) → Limited (k o)) → Limited (onObj v k)
+limited-obj (bool b) h = limited-stuck
+limited-obj (int z) h = limited-stuck
+limited-obj (obj o) h = h o
+limited-obj (coll c vs) h = limited-stuck
+
+limited-coll : {k : Kind → Values → Outcome} (v : Value) → ((c : Kind) (vs : Values) → Limited (k c vs)) → Limited (onColl v k)
+limited-coll (bool b) h = limited-stuck
+limited-coll (int z) h = limited-stuck
+limited-coll (obj o) h = limited-stuck
+limited-coll (coll c vs) h = h c vs
+
+limited-search : (q : Quantifier) {body : Value → ℕ → Outcome} (vs : Values) {n : ℕ} → n ≤ 1000000 → After body → Limited (search q body vs n)
+unfolding search
+limited-search q nil l h = limited-value l
+limited-search q (cons v vs) {n} l h =
+    limited-bind (h v n l) (λ w m k. limited-bool w (λ b. limited-if (Bool·beq b (endsAt q)) (limited-value k) (limited-search q vs k h)))
+
+limited-fold : {body : Value → Value → ℕ → Outcome} (vs : Values) (a : Value) {n : ℕ} → n ≤ 1000000 → ((v : Value) → After (body v)) → Limited (fold body vs a n)
+unfolding fold
+limited-fold nil a l h = limited-value l
+limited-fold (cons v vs) a {n} l h = limited-bind (h v a n l) (λ b m k. limited-fold vs b k h)
+
+-- ---- each form
+
+record Stays (f : Run) : Type 0 where
+  run : (ρ : Env Value) (n : ℕ) → n ≤ 1000000 → Limited (f ρ n)
+
+record Gathers (g : Gather) : Type 0 where
+  runs : (k : Kind) (vs : Values) → Stays (g k vs)
+
+-- a step begins only where fewer have begun
+tick-stays : {f : Run} → Stays f → Stays (tick f)
+unfolding tick
+tick-stays {f} h = record {
+  run = λ ρ n l. by-if Limited (ltb n 1000000) (f ρ (n + 1)) (stop 16 n) (λ t. h .run ρ (n + 1) (let k = ltb→lt n 1000000 t in omega linear)) (λ t. limited-stop l);
+}
+
+module _ (s : Model) where
+  leaf-stays : (l : Leaf) → Stays (leafRun s l)
+  unfolding leafRun
+  leaf-stays (truth b) = record { run = λ ρ n l. limited-value l }
+  leaf-stays undef = record { run = λ ρ n l. limited-undefined l }
+  leaf-stays (number z) = record { run = λ ρ n l. limited-value l }
+  leaf-stays self = record { run = λ ρ n l. limited-bound (ρ 0) l }
+  leaf-stays (var i) = record { run = λ ρ n l. limited-bound (ρ i) l }
+  leaf-stays (all c) = record { run = λ ρ n l. limited-form _ l }
+
+  cast-limited : (c : ℕ) (v : Value) {n : ℕ} → n ≤ 1000000 → Limited (cast s c v n)
+  unfolding cast
+  cast-limited c (bool b) l = limited-undefined l
+  cast-limited c (int z) l = limited-undefined l
+  cast-limited c (obj o) l = limited-if (isA s o (class c)) (limited-value l) (limited-undefined l)
+  cast-limited c (coll k vs) l = limited-stuck
+
+  unary-limited : (op : Unary) → After (unaryApply s op)
+  unfolding unaryApply
+  unary-limited negation v n l = limited-bool v (λ b. limited-value l)
+  unary-limited sizeOf v n l = limited-coll v (λ k vs. limited-value l)
+  unary-limited (convert k) v n l = limited-coll v (λ j vs. limited-form _ l)
+  unary-limited (castTo c) v n l = cast-limited c v l
+
+  unary-stays : (op : Unary) {f : Run} → Stays f → Stays (unaryRun s op f)
+  unfolding unaryRun
+  unary-stays op h = record { run = λ ρ n l. limited-bind (h .run ρ n l) (unary-limited op) }
+
+  binary-limited : (op : Binary) (v : Value) → After (binaryApply op v)
+  unfolding binaryApply
+  binary-limited equal v w n l = limited-value l
+  binary-limited less v w n l = limited-int v (λ x. limited-int w (λ y. limited-value l))
+  binary-limited (arith o) v w n l = limited-int v (λ x. limited-int w (λ y. limited-given (arithmetic o x y) l))
+  binary-limited includes v w n l = limited-coll v (λ k vs. limited-value l)
+  binary-limited including v w n l = limited-coll v (λ k vs. limited-form _ l)
+  binary-limited union v w n l = limited-coll v (λ j vs. limited-coll w (λ k ws. limited-if (sameKind j k) (limited-form _ l) limited-stuck))
+
+  binary-stays : (op : Binary) {f g : Run} → Stays f → Stays g → Stays (binaryRun op f g)
+  unfolding binaryRun
+  binary-stays op hf hg = record {
+    run = λ ρ n l. limited-bind (hf .run ρ n l) (λ v m k. limited-if (leftFits op v) (limited-bind (hg .run ρ m k) (binary-limited op v)) limited-stuck);
+  }
+
+  connective-stays : (c : Connective) {f g : Run} → Stays f → Stays g → Stays (connectiveRun c f g)
+  unfolding connectiveRun
+  connective-stays c hf hg = record {
+    run = λ ρ n l. limited-resume (hf .run ρ n l)
+        (λ v m k. limited-bool v (λ a. limited-if (Bool·beq a (decides c)) (limited-value k) (limited-bind (hg .run ρ m k) (λ w i j. limited-bool w (λ b. limited-value j)))))
+        (λ m k. limited-bind (hg .run ρ m k) (λ w i j. limited-bool w (λ b. limited-if (Bool·beq b (decides c)) (limited-value j) (limited-undefined j))));
+  }
+
+  isUndef-stays : {f : Run} → Stays f → Stays (isUndefRun f)
+  unfolding isUndefRun
+  isUndef-stays h = record { run = λ ρ n l. limited-resume (h .run ρ n l) (λ v m k. limited-value k) (λ m k. limited-value k) }
+
+  conditional-stays : {f g h : Run} → Stays f → Stays g → Stays h → Stays (conditionalRun f g h)
+  unfolding conditionalRun
+  conditional-stays hf hg hh = record {
+    run = λ ρ n l. limited-bind (hf .run ρ n l) (λ v m k. limited-bool v (λ b. limited-if b (hg .run ρ m k) (hh .run ρ m k)));
+  }
+
+  let-stays : (i : ℕ) {f g : Run} → Stays f → Stays g → Stays (letRun i f g)
+  unfolding letRun
+  let-stays i hf hg = record { run = λ ρ n l. limited-bind (hf .run ρ n l) (λ v m k. hg .run (extend ρ i v) m k) }
+
+  attribute-stays : (i : ℕ) {f : Run} → Stays f → Stays (attributeRun s i f)
+  unfolding attributeRun
+  attribute-stays i h = record {
+    run = λ ρ n l. limited-bind (h .run ρ n l) (λ v m k. limited-obj v (λ o. limited-if (isA s o (class (s .row i .owner))) (limited-given (s .valueOf o i) k) limited-stuck));
+  }
+
+  quantified-stays : (q : Quantifier) (i : ℕ) {f g : Run} → Stays f → Stays g → Stays (quantifiedRun q i f g)
+  unfolding quantifiedRun
+  quantified-stays q i hf hg = record {
+    run = λ ρ n l. limited-bind (hf .run ρ n l) (λ v m k. limited-coll v (λ c vs. limited-search q vs k (λ x. hg .run (extend ρ i x))));
+  }
+
+  iterate-stays : (i j : ℕ) {f g h : Run} → Stays f → Stays g → Stays h → Stays (iterateRun i j f g h)
+  unfolding iterateRun
+  iterate-stays i j hf hg hh = record {
+    run = λ ρ n l. limited-bind (hf .run ρ n l) (λ v m k. limited-coll v (λ c vs. limited-bind (hg .run ρ m k) (λ a p r.
+        limited-fold vs a r (λ x y. hh .run (extend (extend ρ i x) j y)))));
+  }
+
+  no-operand-gathers : Gathers noOperandRun
+  unfolding noOperandRun
+  no-operand-gathers = record { runs = λ k vs. record { run = λ ρ n l. limited-form _ l } }
+
+  operand-gathers : {f : Run} {g : Gather} → Stays f → Gathers g → Gathers (operandRun f g)
+  unfolding operandRun
+  operand-gathers hf hg = record { runs = λ k vs. record { run = λ ρ n l. limited-bind (hf .run ρ n l) (λ v m i. hg .runs k (add k v vs) .run ρ m i) } }
+
+  collect-stays : (k : Kind) {g : Gather} → Gathers g → Stays (collectRun k g)
+  unfolding collectRun
+  collect-stays k h = record { run = λ ρ n l. h .runs k nil .run ρ n l }
+
+  -- ---- the induction
+
+  module _ (mark : ℕ → ℕ) where
+    mutual
+      unfolding evaluation
+
+      all-stay : (e : Expr) → Stays (evaluation s mark e)
+      all-stay (node p f) = tick-stays (form-stays p f)
+
+      form-stays : (p : ℕ) (f : Form) → Stays (formRun s mark p f)
+      form-stays p (leaf l) = leaf-stays l
+      form-stays p (unary op a) = unary-stays op (all-stay a)
+      form-stays p (binary op a b) = binary-stays op (all-stay a) (all-stay b)
+      form-stays p (connective c a b) = connective-stays c (all-stay a) (all-stay b)
+      form-stays p (isUndef a) = isUndef-stays (all-stay a)
+      form-stays p (conditional c a b) = conditional-stays (all-stay c) (all-stay a) (all-stay b)
+      form-stays p (letIn i a b) = let-stays i (all-stay a) (all-stay b)
+      form-stays p (attribute name a) = attribute-stays (mark p) (all-stay a)
+      form-stays p (quantified q i a b) = quantified-stays q i (all-stay a) (all-stay b)
+      form-stays p (iterate i j t a e b) = iterate-stays i j (all-stay a) (all-stay e) (all-stay b)
+      form-stays p (collect k es) = collect-stays k (operands-gather es)
+
+      operands-gather : (es : Operands) → Gathers (operandsRun s mark es)
+      operands-gather noOperand = no-operand-gathers
+      operands-gather (operand e es) = operand-gathers (all-stay e) (operands-gather es)
+
+-- ---- what Limited says, in the statement's words
+
+limited-steps : {o : Outcome} → Limited o → stepsOf o ≤ 1000000
+unfolding stepsOf
+limited-steps (limited-value l) = l
+limited-steps (limited-undefined l) = l
+limited-steps limited-stuck = omega linear
+limited-steps (limited-stop l) = l
+
+pub steps-limited : (s : Model) (mark : ℕ → ℕ) (e : Expr) (o : ℕ) → stepsOf (evaluateRule s mark e o) ≤ 1000000
+unfolding evaluateRule
+steps-limited s mark e o = limited-steps (all-stay s mark e .run (start (obj o)) 0 (omega linear))

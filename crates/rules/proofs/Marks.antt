@@ -1,0 +1,118 @@
+-- Marks kept in w1: the sheet still lies in the words, and the marks are the typing's. Assumes nothing.
+use mathlib.Core.Path.{_≡_, refl, sym, ap, _∙_}
+use mathlib.Core.Option.{Option, none, some}
+use mathlib.Core.List.{List, [], _∷_, _++_, map}
+use Prim.Native.Nat.{ℕ, zero, suc, _+_, _*_, _≤_, _<_}
+use native.Mathlib.Omega.{arith}
+use lib.ListN.{length, getD, getElem?, take, drop, set, length-set}
+use lib.Seq.{drop-drop, getD-take, getD-drop, take-set-le, drop-set-lt, getD-set-same, getD-set-other}
+use borrow.Author.Count.{below-more}
+use Rattle.laws.specs.Lists.{Each, each-nil, each-cons}
+use Rattle.sheet.specs.Sheet.{Rule, Current, Sheet}
+use Rattle.sheet.specs.Calls.{typingOf}
+use Rattle.nodes.specs.Nodes.{treeAt}
+use Rattle.nodes.proofs.Keep.{tree-keep}
+use Rattle.tables.specs.declared.Counts.{Counts}
+use Rattle.tables.specs.Layout.{tab, linesIn, HoldsCurrent, HoldsOpen, closed, opened, Kept}
+use Rattle.typing.specs.declared.Reply.{Reply}
+use Rattle.rules.specs.Accepted.{Accepted, Known, MarksIn}
+use Rattle.rules.specs.Numbered.{TypesNumbered, KeepsMarks}
+
+-- ---- copying, of which i words are done
+
+pub record Copying (w2 before : List ℕ) (i : ℕ) (now : List ℕ) : Type 0 where
+  pub within : i ≤ 768
+  pub at : (p : ℕ) → p < i → getD now (6144 + p) 0 ≡ getD w2 p 0
+  pub below : take 6144 now ≡ take 6144 before
+  pub above : drop 6912 now ≡ drop 6912 before
+  pub size : length now ≡ length before
+
+pub copy-none : (w2 before : List ℕ) → Copying w2 before 0 before
+copy-none w2 before = record { within = omega arith; at = λ p h. absurd (omega arith); below = refl; above = refl; size = refl }
+
+pub copy-more : {w2 before now : List ℕ} {i : ℕ} → 8192 ≤ length before → i < 768 → Copying w2 before i now
+    → Copying w2 before (i + 1) (set now (6144 + i) (getD w2 i 0))
+copy-more {w2} {before} {now} {i} room h c =
+    let x = getD w2 i 0 in
+    let v = set now (6144 + i) x in
+    record {
+      within = omega arith;
+      at = below-more (λ (p : ℕ). getD v (6144 + p) 0 ≡ getD w2 p 0) i
+          (λ p l. getD-set-other now (6144 + i) (6144 + p) x 0 (λ e. absurd (omega arith)) ∙ c .at p l)
+          (getD-set-same now (6144 + i) x 0 (omega (arith, c .size)));
+      below = take-set-le 6144 now (6144 + i) x (omega arith) ∙ c .below;
+      above = drop-set-lt 6912 now (6144 + i) x (omega arith) ∙ c .above;
+      size = length-set now (6144 + i) x ∙ c .size;
+    }
+
+pub copy-done : {w2 before now : List ℕ} {i : ℕ} → 768 ≤ i → Copying w2 before i now → KeepsMarks w2 before now
+copy-done h c = record { at = λ p l. c .at p (omega (arith, c .within)); below = c .below; above = c .above; size = c .size }
+
+-- ---- what does not change
+
+module _ {w2 w1 v1 : List ℕ} (k : KeepsMarks w2 w1 v1) where
+  node-words : (i : ℕ) → i < 8 * 768 → getD v1 i 0 ≡ getD w1 i 0
+  node-words i h = sym (getD-take 6144 v1 i 0 (omega arith)) ∙ ap (λ (l : List ℕ). getD l i 0) (k .below) ∙ getD-take 6144 w1 i 0 (omega arith)
+
+  depth-words : (i : ℕ) → getD v1 (6912 + i) 0 ≡ getD w1 (6912 + i) 0
+  depth-words i = sym (getD-drop 6912 v1 i 0) ∙ ap (λ (l : List ℕ). getD l i 0) (k .above) ∙ getD-drop 6912 w1 i 0
+
+  tree-same : (n : ℕ) → n < 768 → treeAt v1 n ≡ treeAt w1 n
+  tree-same = tree-keep v1 w1 768 node-words
+
+  trees-same : (b : ℕ) → b ≤ 768 → (ns : List ℕ) → Each (λ n. n < b) ns → map (treeAt v1) ns ≡ map (treeAt w1) ns
+  trees-same b h [] each-nil = refl
+  trees-same b h (n ∷ ns) (each-cons l ls) = rw (tree-same n (omega arith), trees-same b h ns ls)
+
+  pub lines-same : (n : ℕ) → n ≤ 768 → linesIn v1 n ≡ linesIn w1 n
+  unfolding linesIn
+  lines-same zero h = refl
+  lines-same (suc n) h = rw (lines-same n (omega arith), node-words (8 * n + 7) (omega arith))
+
+  module _ {st : Counts} {n : ℕ} (small : n ≤ 768) where
+    current-same : {c : Current} → HoldsCurrent st w1 n c → HoldsCurrent st v1 n c
+    current-same {c} h = record {
+      is-open = h .is-open;
+      context = h .context;
+      first = h .first;
+      count = h .count;
+      trees = λ a l. h .trees a l ∙ sym (tree-same (c .first + a) (omega (arith, h .count)));
+      depths = λ a l. depth-words (c .first + a) ∙ h .depths a l;
+      used = h .used;
+    }
+
+    open-same : {c : Option Current} → HoldsOpen st w1 n c → HoldsOpen st v1 n c
+    open-same (closed e) = closed e
+    open-same (opened h) = opened (current-same h)
+
+  pub accepted-same : {st : Counts} {w0 : List ℕ} {s : Sheet} → Accepted st w0 w1 s → Accepted st w0 v1 s
+  accepted-same {st} {w0} {s} a =
+      let small : length (s .lines) ≤ 768 = omega (arith, a .fine .nodes, a .holds .counted .nodes) in
+      let h = a .holds .rules in
+      record {
+        text = a .text;
+        was = a .was;
+        fine = a .fine;
+        holds = record {
+          counted = a .holds .counted;
+          tables = a .holds .tables;
+          rules = record {
+            bodies = trees-same (length (s .lines)) small (tab 4512 (length (s .rules)) w0) (h .roots) ∙ h .bodies;
+            roots = h .roots;
+            lines = lines-same (length (s .lines)) small ∙ h .lines;
+          };
+          current = open-same small (a .holds .current);
+        };
+      }
+
+  pub known-same : {st : Counts} {w0 : List ℕ} → Known st w0 w1 → Known st w0 v1
+  known-same g = record { sheet = g .sheet; accepted = accepted-same (g .accepted) }
+
+pub marks-kept : {w2 w1 v1 : List ℕ} → KeepsMarks w2 w1 v1 → Kept w1 v1
+marks-kept {w2} {w1} {v1} k = record { size = k .size; rest = sym (drop-drop 1280 6912 v1) ∙ ap (drop 1280) (k .above) ∙ drop-drop 1280 6912 w1 }
+
+-- ---- the marks that typing left
+
+pub marks-in : {st : Counts} {w0 w1 v1 before w2 : List ℕ} {r : ℕ} {a : Reply} → TypesNumbered st w0 w1 r before w2 a → KeepsMarks w2 w1 v1
+    → (s : Sheet) → Accepted st w0 w1 s → (x : Rule) → getElem? (s .rules) r ≡ some x → MarksIn v1 (typingOf s x)
+marks-in t k s g x q = record { at = λ p h. sym (k .at p h ∙ t .marked s g x q p h) }

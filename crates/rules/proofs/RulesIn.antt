@@ -1,0 +1,87 @@
+-- The rules of an accepted sheet that lies in the words: contexts, roots and trees, the lines of nodes, and marks. Assumes nothing.
+use mathlib.Core.Path.{_≡_, refl, sym, ap, _∙_}
+use mathlib.Core.Option.{none, some}
+use mathlib.Core.List.{List, [], _∷_, _++_}
+use Prim.Native.Nat.{ℕ, zero, suc, _+_, _≤_, _<_}
+use native.Mathlib.Omega.{arith}
+use native.Mathlib.Decide.{decLt}
+use lib.ListN.{length, getD, getElem?, length-append, length-map, List·getD-append}
+use lib.Seq.{getD-at}
+use Rattle.laws.proofs.Elements.{elem-some, elem-none, elem-at, each-elem}
+use Rattle.ocl.specs.Types.{Class}
+use Rattle.ocl.specs.Environment.{start}
+use Rattle.ocl.specs.Forms.{undef, node, Form}
+use Rattle.ocl.specs.Typing.{typeRule, markOf}
+use Rattle.ocl.proofs.Places.{mark-below}
+use Rattle.sheet.specs.Sheet.{Rule, Sheet, modelOf}
+use Rattle.sheet.specs.Calls.{typingOf}
+use Rattle.sheet.proofs.Good.{Good}
+use Rattle.nodes.specs.Nodes.{word, treeAt}
+use Rattle.tables.specs.declared.Counts.{Counts}
+use Rattle.tables.specs.Layout.{tab, linesIn, Holds, Fine}
+use Rattle.tables.proofs.Tables.{tab-at, entry-of, entry-by}
+use Rattle.rules.specs.Accepted.{RuleIn}
+
+-- ---- a node's line
+
+lines-length : (w1 : List ℕ) (n : ℕ) → length (linesIn w1 n) ≡ n
+unfolding linesIn
+lines-length w1 zero = refl
+lines-length w1 (suc n) = length-append (linesIn w1 n) (word w1 n 7 ∷ []) ∙ (let e = lines-length w1 n in omega arith)
+
+line-at : (w1 : List ℕ) (n p : ℕ) → p < n → getD (linesIn w1 n) p 0 ≡ word w1 p 7
+unfolding linesIn
+line-at w1 zero p h = absurd (omega arith)
+line-at w1 (suc n) p h = by (decLt p n) (line-at w1 n p)
+  where
+    by : Dec (p < n) → (p < n → getD (linesIn w1 n) p 0 ≡ word w1 p 7) → getD (linesIn w1 n ++ (word w1 n 7 ∷ [])) p 0 ≡ word w1 p 7
+    by (yes l) k = List·getD-append (linesIn w1 n) (word w1 n 7 ∷ []) 0 p (let e = lines-length w1 n in omega arith) ∙ k l
+    by (no l) k =
+        let z : n ≡ p = omega arith in
+        getD-at (linesIn w1 n) (word w1 n 7) [] 0 p (lines-length w1 n ∙ z) ∙ ap (λ (i : ℕ). word w1 i 7) z
+
+module _ {st : Counts} {w0 w1 : List ℕ} {s : Sheet} (fine : Fine st) (holds : Holds st w0 w1 s) where
+  pub node-line : (p : ℕ) → p < length (s .lines) → (p < 768) × (getD (s .lines) p 0 ≡ word w1 p 7)
+  node-line p h =
+      let c = holds .counted .nodes in
+      let f = fine .nodes in
+      (omega arith, ap (λ (l : List ℕ). getD l p 0) (sym (holds .rules .lines)) ∙ line-at w1 (length (s .lines)) p h)
+
+  -- ---- a rule by its number
+
+  root-below : (r : ℕ) → r < length (s .rules) → getD w0 (4512 + r) 0 < 768
+  root-below r h =
+      let roots = tab 4512 (length (s .rules)) w0 in
+      let n = sym (length-map roots (treeAt w1)) ∙ ap length (holds .rules .bodies) ∙ length-map (s .rules) (λ (x : Rule). x .body) in
+      let k = each-elem r (holds .rules .roots) (elem-some roots r 0 (omega arith)) in
+      let c = holds .counted .nodes in
+      let f = fine .nodes in
+      let e = tab-at 4512 (length (s .rules)) w0 r h in
+      omega arith
+
+  pub rule-in : Good s → (r : ℕ) (x : Rule) → getElem? (s .rules) r ≡ some x → RuleIn w0 w1 r x
+  rule-in good r x e =
+      let a = elem-at (s .rules) r x e in
+      record {
+        context = entry-of (λ (y : Rule). y .context) 4448 w0 (s .rules) x (holds .tables .contexts) r (a .0) ∙ ap (λ (y : Rule). y .context) (a .1);
+        body = entry-by (treeAt w1) (λ (y : Rule). y .body) 4512 w0 (s .rules) x (holds .rules .bodies) r (a .0) ∙ ap (λ (y : Rule). y .body) (a .1);
+        root = root-below r (a .0);
+        shallow = each-elem r (good .rules) e .shallow;
+      }
+
+  pub rule-there : (r : ℕ) → r < st .rules → (x : Rule) × (getElem? (s .rules) r ≡ some x)
+  rule-there r h =
+      let d : Rule = record { context = 0; body = node 0 (Form.leaf undef) } in
+      (getD (s .rules) r d, elem-some (s .rules) r d (let c = holds .counted .rules in omega arith))
+
+  pub rule-past : (r : ℕ) → st .rules ≤ r → getElem? (s .rules) r ≡ none
+  rule-past r h = elem-none (s .rules) r (let c = holds .counted .rules in omega arith)
+
+  -- ---- a rule's marks
+
+  pub mark-row : (x : Rule) (p : ℕ) → markOf (typingOf s x) p < 64
+  unfolding typingOf typeRule modelOf
+  mark-row x p =
+      let c = holds .counted .rows in
+      let f = fine .rows in
+      mark-below (modelOf s) (x .body) (start (Class (x .context))) 64 p (omega arith) (omega arith)

@@ -1,0 +1,64 @@
+-- An accepted sheet in the lent words, and what typing and evaluation find there (proofs/Ready.antt: the second follows from
+-- the first).
+use mathlib.Core.Path.{_≡_}
+use mathlib.Core.Option.{none, some}
+use mathlib.Core.List.{List}
+use Prim.Native.Nat.{ℕ, _+_, _≤_, _<_}
+use lib.ListN.{length, getD, getElem?, take}
+use Rattle.ocl.specs.Types.{Ty}
+use Rattle.ocl.specs.Values.{Value}
+use Rattle.ocl.specs.Forms.{levels}
+use Rattle.ocl.specs.Typing.{typed, refused as untyped, Typed, markOf}
+use Rattle.ocl.specs.Evaluation.{value}
+use Rattle.sheet.specs.Text.{Bytes}
+use Rattle.sheet.specs.Spelling.{spellValue}
+use Rattle.sheet.specs.Sheet.{Rule, Sheet, modelOf}
+use Rattle.sheet.specs.Reading.{accepted, readText}
+use Rattle.sheet.specs.Calls.{typingOf, outcomeOf}
+use Rattle.nodes.specs.Nodes.{word, treeAt}
+use Rattle.tables.specs.declared.Counts.{Counts}
+use Rattle.tables.specs.Layout.{Holds, Fine}
+use Rattle.tables.specs.Stored.{HoldsModel}
+use Rattle.typing.specs.Tables.{Reads as TypingReads}
+use Rattle.evaluation.specs.Tables.{Plain}
+
+-- the sheet of an accepted text lies in the words
+pub record Accepted (st : Counts) (w0 w1 : List ℕ) (s : Sheet) : Type 0 where
+  pub text : Bytes
+  pub was : readText text ≡ accepted s
+  pub fine : Fine st
+  pub holds : Holds st w0 w1 s
+
+-- some accepted sheet does
+pub record Known (st : Counts) (w0 w1 : List ℕ) : Type 0 where
+  pub sheet : Sheet
+  pub accepted : Accepted st w0 w1 sheet
+
+-- ---- what follows
+
+-- rule r's context class is at 4448 + r and its root at 4512 + r
+pub record RuleIn (w0 w1 : List ℕ) (r : ℕ) (x : Rule) : Type 0 where
+  pub context : getD w0 (4448 + r) 0 ≡ x .context
+  pub body : treeAt w1 (getD w0 (4512 + r) 0) ≡ x .body
+  pub root : getD w0 (4512 + r) 0 < 768
+  pub shallow : levels (x .body) ≤ 12
+
+pub record Ready (st : Counts) (w0 w1 : List ℕ) (s : Sheet) : Type 0 where
+  -- classes and rows, for typing
+  pub classes : TypingReads (take (st .classes) w0) w0 (st .rows) (modelOf s)
+  -- objects and values, for evaluation
+  pub model : HoldsModel st w0 (modelOf s)
+  pub plain : Plain st (modelOf s)
+  -- there are st .rules rules, each where it is looked for
+  pub rule : (r : ℕ) (x : Rule) → getElem? (s .rules) r ≡ some x → RuleIn w0 w1 r x
+  pub some-rule : (r : ℕ) → r < st .rules → (x : Rule) × (getElem? (s .rules) r ≡ some x)
+  pub no-rule : (r : ℕ) → st .rules ≤ r → getElem? (s .rules) r ≡ none
+  -- a refusal of typing is at a node, whose line is its word 7
+  pub place : (r : ℕ) (x : Rule) (n p : ℕ) → getElem? (s .rules) r ≡ some x → typingOf s x .answer ≡ untyped n p
+      → (p < 768) × (getD (s .lines) p 0 ≡ word w1 p 7)
+  -- each mark is a row
+  pub mark : (r : ℕ) (x : Rule) → getElem? (s .rules) r ≡ some x → (p : ℕ) → markOf (typingOf s x) p < 64
+
+-- the marks of a rule's typing in w1, from 6144 on
+pub record MarksIn (w1 : List ℕ) (t : Typed) : Type 0 where
+  pub at : (p : ℕ) → p < 768 → markOf t p ≡ getD w1 (6144 + p) 0

@@ -1,0 +1,12 @@
+-- How many bytes the outcome of a rule may take in a report line, by the rule's type (proofs/Lengths.antt: it takes no more).
+use Prim.Native.Nat.{ℕ}
+use Rattle.ocl.specs.Types.{any, boolean, integer, class, Ty, void, simple, around}
+
+-- `!16` and `!17` have three bytes, and an object three; an Integer has eleven, and a value of size 128 at most 1,536
+unfoldable pub width : Ty → ℕ
+width void = 3
+width (simple any) = 1536
+width (simple boolean) = 3
+width (simple integer) = 11
+width (simple (class c)) = 3
+width (around l t) = 1536

@@ -1,0 +1,33 @@
+// The typing of the rule with a number, and a node's line, which a refusal names.
+ghost use mathlib.Core.Path.{_≡_};
+ghost use Prim.Native.Nat.{_≤_, _<_};
+ghost use lib.ListN.{length};
+ghost use Rattle.nodes.specs.Nodes.{word};
+ghost use Rattle.rules.specs.Accepted.{Known};
+ghost use Rattle.rules.specs.Numbered.{TypesNumbered};
+use nodes::node_word;
+use tables::Counts;
+use types::classes::wide;
+use typing::Reply;
+use typing::rules::type_rule;
+
+// The type of rule r, or its refusal and the node. The marks of its nodes are left in the first 768 words of w2.
+pub fn type_numbered(w0: &[u64], st: Counts, w1: &[u64], w2: &mut [u64], r: usize) -> Reply
+    requires { ⌜ (8192 ≤ length (now w0)) × (8192 ≤ length (now w1)) × (8192 ≤ length (now w2)) ⌝ }
+    requires { ⌜ Known st (now w0) (now w1) × (r < st .rules) ⌝ }
+    ensures { λ a. ⌜ TypesNumbered st (now (w0 .entry)) (now (w1 .entry)) r (now (w2 .entry)) (now (w2 .exit)) a ⌝ }
+{
+    let classes = wide(st.classes);
+    let rows = wide(st.rows);
+    let context = w0[4448 + r];
+    let root = wide(w0[4512 + r]);
+    type_rule(w0, classes, rows, w1, w2, context, root)
+}
+
+// The line of node p.
+pub fn node_line(w1: &[u64], p: u64) -> u64
+    requires { ⌜ (p < 768) × (8192 ≤ length (now w1)) ⌝ }
+    ensures { λ k. ⌜ k ≡ word (now (w1 .entry)) p 7 ⌝ }
+{
+    node_word(w1, wide(p), 7)
+}
