@@ -1,7 +1,7 @@
 /*
  * stack SHEET..: how much stack the calls take. Each call runs on a stack of its own, painted before, on every sheet, rule and
- * object; the most bytes that each call came to stand on, its arguments among them, are printed with the sheet, and so are the
- * sheets whose report is refused.
+ * object; the most bytes that each call took, its arguments among them, are printed with the sheet, and so are the sheets whose
+ * report is refused.
  */
 #define _XOPEN_SOURCE 700
 #include <inttypes.h>
