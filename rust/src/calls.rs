@@ -14,7 +14,6 @@ pub const LEAST_OUTPUT: usize = 2_048;
 /// The output bytes the program lends.
 pub const PROGRAM_OUTPUT: usize = 65_536;
 
-#[repr(C)]
 #[derive(Clone, Copy, Default, PartialEq, Eq, Debug)]
 pub struct Answer {
     /// 0 for an answer, else the refusal's.

@@ -33,7 +33,7 @@ fn no_fault_is_no_difference_and_everything_is_reached() {
         let result = run::sheet(&standin, &text, seed, &asks, &mut tally);
         assert!(result.is_ok(), "{seed}");
     }
-    assert!(tally.missing(&standin).is_empty(), "{tally}");
+    assert!(tally.missing().is_empty(), "{tally}");
 }
 
 #[test]
@@ -49,7 +49,7 @@ fn what_was_never_compared_is_missing() {
     let mut tally = Tally::default();
     let asks = generate::asks(0, b"");
     assert!(run::sheet(&standin, b"", 0, &asks, &mut tally).is_ok());
-    let missing = tally.missing(&standin);
+    let missing = tally.missing();
     assert!(missing.contains(&"read 8".to_string()), "{missing:?}");
     assert!(!missing.contains(&"read 9".to_string()), "{missing:?}");
 }

@@ -58,25 +58,15 @@ impl Lent {
     }
 
     /// The best time of a job for a unit, the second evaluator's and the
-    /// product's, which is infinite where its call is not linked.
+    /// product's.
     fn best(&mut self, workload: &Workload, job: &[Vec<u8>], units: usize) -> [f64; 2] {
         let second = StandIn { fault: Fault::None };
         let mut best = [f64::INFINITY; 2];
         for _ in 0..ROUNDS {
             best[0] = best[0].min(self.time(&second, workload, job));
-            if Linked.has(workload.call) {
-                best[1] = best[1].min(self.time(&Linked, workload, job));
-            }
+            best[1] = best[1].min(self.time(&Linked, workload, job));
         }
         best.map(|time| time / units as f64)
-    }
-}
-
-/// The figure, or a dash where there is none.
-fn figure(figure: f64) -> String {
-    match figure.is_finite() {
-        true => format!("{figure:.2}"),
-        false => "-".to_string(),
     }
 }
 
@@ -90,22 +80,18 @@ fn run(lent: &mut Lent, workload: &Workload) -> bool {
         times[size] = lent.best(workload, job, units);
         let [ours, theirs] = times[size];
         println!(
-            "{:<24} {:>6} {units:>9} {:>6} {:>14} {:>14} {:>7}",
+            "{:<24} {:>6} {units:>9} {:>6} {ours:>14.2} {theirs:>14.2} {:>7.2}",
             workload.name,
             ["1x", "10x"][size],
             format!("{:?}", workload.unit).to_lowercase(),
-            figure(ours),
-            figure(theirs),
-            figure(theirs / ours),
+            theirs / ours,
         );
     }
     let [small, large] = times;
     let growth = [0, 1].map(|calls| large[calls] / small[calls]);
     println!(
-        "{:<48} {:>14} {:>14}",
-        "  growth per unit",
-        figure(growth[0]),
-        figure(growth[1])
+        "{:<48} {:>14.2} {:>14.2}",
+        "  growth per unit", growth[0], growth[1]
     );
     let ratios = times.map(|[ours, theirs]| theirs / ours);
     ratios.iter().all(|ratio| *ratio <= RATIO) && growth[1] <= GROWTH
@@ -125,10 +111,6 @@ fn main() -> ExitCode {
         .filter(|workload| !run(&mut lent, workload))
         .map(|workload| workload.name)
         .collect();
-    if all.iter().any(|workload| !Linked.has(workload.call)) {
-        println!("Nothing is judged: a dash stands for a call that is not linked.");
-        return ExitCode::FAILURE;
-    }
     let bounds = format!("a ratio of {RATIO:.1} and a growth of {GROWTH:.1}");
     if beyond.is_empty() {
         println!("Every workload is within {bounds}.");

@@ -3,8 +3,7 @@
 //! sheets of COUNT seeds from FIRST on. `--stand-in` compares the second
 //! evaluator with itself in place of the linked calls.
 
-use second_evaluator::generate::{asks, sheet, vector_asks, Ask, Call};
-use second_evaluator::harness::linked::Linked;
+use second_evaluator::generate::{asks, sheet, vector_asks, Ask};
 use second_evaluator::harness::program::long_texts;
 use second_evaluator::harness::run::{self, Difference, Vector};
 use second_evaluator::harness::standin::{Fault, StandIn};
@@ -18,8 +17,7 @@ use std::process::ExitCode;
 const DIFFERENCE: &str = "difference.sheet";
 
 struct Comparison {
-    calls: Box<dyn Calls>,
-    linked: bool,
+    calls: Option<Box<dyn Calls>>,
     program: Option<PathBuf>,
     tally: Tally,
 }
@@ -28,8 +26,8 @@ impl Comparison {
     /// Whether the sheet shows no difference; a difference is printed.
     fn sheet(&mut self, name: &str, seed: u64, text: &[u8], asks: &[Ask]) -> bool {
         let mut result = Ok(());
-        if self.linked {
-            result = run::sheet(&*self.calls, text, seed, asks, &mut self.tally);
+        if let Some(calls) = &self.calls {
+            result = run::sheet(&**calls, text, seed, asks, &mut self.tally);
         }
         if let (Ok(()), Some(program)) = (&result, &self.program) {
             result = run::program_sheet(program, text).expect("the program can be run");
@@ -50,6 +48,14 @@ impl Comparison {
     }
 }
 
+/// The linked calls, if the program was built with them.
+fn linked() -> Option<Box<dyn Calls>> {
+    #[cfg(feature = "linked")]
+    return Some(Box::new(second_evaluator::harness::linked::Linked));
+    #[cfg(not(feature = "linked"))]
+    None
+}
+
 fn main() -> ExitCode {
     let (options, numbers): (Vec<String>, Vec<String>) = std::env::args()
         .skip(1)
@@ -62,25 +68,17 @@ fn main() -> ExitCode {
         eprintln!("usage: compare [--stand-in] FIRST COUNT");
         return ExitCode::from(2);
     };
-    let calls: Box<dyn Calls> = if options.is_empty() {
-        Box::new(Linked)
-    } else {
-        Box::new(StandIn { fault: Fault::None })
-    };
-    let each = [
-        Call::Read,
-        Call::Type { rule: 0 },
-        Call::Evaluate { rule: 0, object: 0 },
-        Call::Report,
-    ];
     let mut comparison = Comparison {
-        linked: each.into_iter().any(|call| calls.has(call)),
-        calls,
+        calls: if options.is_empty() {
+            linked()
+        } else {
+            Some(Box::new(StandIn { fault: Fault::None }))
+        },
         program: std::env::var_os("CHECKER_PROGRAM").map(PathBuf::from),
         tally: Tally::default(),
     };
-    if !comparison.linked && comparison.program.is_none() {
-        eprintln!("No call is linked and CHECKER_PROGRAM is not set: nothing to compare.");
+    if comparison.calls.is_none() && comparison.program.is_none() {
+        eprintln!("The calls are not linked and CHECKER_PROGRAM is not set: nothing to compare.");
         return ExitCode::from(2);
     }
 
@@ -117,11 +115,11 @@ fn main() -> ExitCode {
         "No difference in {} vectors and {count} sheets.",
         vectors.len()
     );
-    if !comparison.linked {
+    if comparison.calls.is_none() {
         return ExitCode::SUCCESS;
     }
     println!("{}", comparison.tally);
-    let missing = comparison.tally.missing(&*comparison.calls);
+    let missing = comparison.tally.missing();
     if missing.is_empty() {
         return ExitCode::SUCCESS;
     }

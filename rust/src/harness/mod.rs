@@ -2,6 +2,7 @@
 
 pub mod clock;
 pub mod compare;
+#[cfg(feature = "linked")]
 pub mod linked;
 pub mod program;
 pub mod run;
@@ -14,9 +15,6 @@ use crate::generate::Call;
 
 /// An implementation of the four calls.
 pub trait Calls: Sync {
-    /// Whether the call is there to be compared.
-    fn has(&self, call: Call) -> bool;
-
     /// The stack the calls must do with.
     fn stack(&self) -> usize;
 

@@ -28,9 +28,6 @@ pub fn sheet(
     tally: &mut Tally,
 ) -> Result<(), Difference> {
     for ask in asks.iter().copied() {
-        if !calls.has(ask.call) {
-            continue;
-        }
         let compared = compare(calls, text, ask, seed);
         tally.add(ask.call, compared.answer);
         if compared.difference.is_some() {

@@ -71,10 +71,6 @@ pub struct StandIn {
 }
 
 impl Calls for StandIn {
-    fn has(&self, _: Call) -> bool {
-        true
-    }
-
     fn stack(&self) -> usize {
         2 * 1024 * 1024
     }

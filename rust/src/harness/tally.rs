@@ -1,6 +1,5 @@
 //! Which answers each call was compared in.
 
-use super::Calls;
 use crate::calls::Answer;
 use crate::generate::Call;
 use std::fmt;
@@ -46,10 +45,10 @@ impl Tally {
         self.0[position(call)][answer.number as usize] += 1;
     }
 
-    /// The numbers a call has, can answer with and never did.
-    pub fn missing(&self, calls: &dyn Calls) -> Vec<String> {
+    /// The numbers a call can answer with and never did.
+    pub fn missing(&self) -> Vec<String> {
         let mut missing = Vec::new();
-        for call in CALLS.into_iter().filter(|call| calls.has(*call)) {
+        for call in CALLS {
             let row = position(call);
             for (number, count) in self.0[row].iter().enumerate() {
                 if relevant(call, number) && *count == 0 {

@@ -1,0 +1,135 @@
+/*
+ * check SHEET: reads a job sheet from a file and prints each rule's type, what the rule comes to for each of its objects, and
+ * the report; or why the sheet is refused, in words. It shows the four calls of include/ocl_checker.h. All memory is static.
+ *
+ *     cc -std=c11 -Wall -Wextra -Werror -Iinclude examples/c/check.c target/staticlib/libchecker.a -o check
+ *     ./check examples/cap.sheet
+ *
+ * Its exit status is 0 after a report, 1 after a refusal and 2 where the file could not be read.
+ */
+#include <inttypes.h>
+#include <stdio.h>
+
+#include "ocl_checker.h"
+
+/* A byte more than a sheet may have, so that a longer file is refused and not cut short. */
+static uint8_t text[OCL_LONGEST_TEXT + 1];
+static size_t text_length;
+static uint64_t words[3][OCL_LEAST_WORDS];
+static uint8_t output[OCL_REPORT_OUTPUT];
+
+/* What every call is lent, and what those that write are lent besides. */
+#define TEXT text, text_length
+#define WORDS words[0], OCL_LEAST_WORDS, words[1], OCL_LEAST_WORDS, words[2], OCL_LEAST_WORDS
+#define OUTPUT output, sizeof output
+
+/* Every refusal's trade word and what it says. A call gives no other number. */
+static const char *const meanings[][2] = {
+    [OCL_SHORT_BENCH] = {"short bench", "a lent slice is too short"},
+    [OCL_LONG_SHEET] = {"long sheet", "the text is longer than a sheet may be"},
+    [OCL_BAD_LINE] = {"bad line", "the line is misspelled"},
+    [OCL_OVER_MEASURE] = {"over measure", "a number, count, size or nesting goes over its limit"},
+    [OCL_OUT_OF_ROW] = {"out of row", "something is out of order, or there twice"},
+    [OCL_UNKNOWN_PART] = {"unknown part", "the sheet has no such class, row or object"},
+    [OCL_WRONG_THREAD] = {"wrong thread", "the value does not suit its row, or the row its object"},
+    [OCL_BROKEN_TREE] = {"broken tree", "the rule's nodes make no tree, or one that is too deep"},
+    [OCL_LOOSE_END] = {"loose end", "nothing binds the variable"},
+    [OCL_NO_MATCH] = {"no match", "there is no common type, or the cast is between strangers"},
+    [OCL_WRONG_PIECE] = {"wrong piece", "the form does not take an operand of this type"},
+    [OCL_NO_SUCH_MARK] = {"no such mark", "the class has no attribute of this name"},
+    [OCL_TOO_MANY_LAYERS] = {"too many layers", "the type would be over three deep"},
+    [OCL_NOT_LISTED] = {"not listed", "the sheet has no such rule or object"},
+    [OCL_OTHER_CLASS] = {"other class", "the object is not of the rule's class or below"},
+    [OCL_STEP_STOP] = {"step stop", "more steps are due than an evaluation may take"},
+    [OCL_SIZE_STOP] = {"size stop", "a value of a size over 128 would be formed"},
+    [OCL_SLIP_TOO_LONG] = {"slip too long", "the report is longer than the output"},
+};
+
+static void print_refusal(ocl_answer answer)
+{
+    if (answer.place != 0) {
+        printf("line %" PRIu64 ": ", answer.place);
+    }
+    printf("%s (%" PRIu64 ")", meanings[answer.number][0], answer.number);
+    if (answer.steps != 0) {
+        printf(" after %" PRIu64 " steps", answer.steps);
+    }
+    printf(": %s\n", meanings[answer.number][1]);
+}
+
+/* Prints what the rule comes to for each object that it is for. */
+static void evaluate_for_all(uint64_t rule)
+{
+    for (uint64_t object = 0;; object++) {
+        ocl_answer answer = ocl_evaluate_rule(TEXT, rule, object, WORDS, OUTPUT);
+        if (answer.number == OCL_NOT_LISTED) {
+            return; /* the object before was the last */
+        }
+        if (answer.number == OCL_OTHER_CLASS) {
+            continue;
+        }
+        printf("  object %" PRIu64 ": ", object);
+        if (answer.number == OCL_ANSWERED) {
+            printf("%.*s, %" PRIu64 " steps\n", (int)answer.length, (const char *)output, answer.steps);
+        } else {
+            print_refusal(answer);
+        }
+    }
+}
+
+/* Prints what each rule is and comes to; whether all of them have a type. */
+static int print_rules(void)
+{
+    for (uint64_t rule = 0;; rule++) {
+        ocl_answer answer = ocl_type_rule(TEXT, rule, WORDS, OUTPUT);
+        if (answer.number == OCL_NOT_LISTED) {
+            return 1; /* the rule before was the last */
+        }
+        if (answer.number != OCL_ANSWERED) {
+            print_refusal(answer);
+            return 0;
+        }
+        printf("rule %" PRIu64 ": %.*s\n", rule, (int)answer.length, (const char *)output);
+        evaluate_for_all(rule);
+    }
+}
+
+static int load(const char *path)
+{
+    FILE *file = fopen(path, "rb");
+    if (file == NULL) {
+        return 0;
+    }
+    text_length = fread(text, 1, sizeof text, file);
+    int failed = ferror(file);
+    fclose(file);
+    return !failed;
+}
+
+int main(int argc, char **argv)
+{
+    if (argc != 2) {
+        fprintf(stderr, "usage: check SHEET\n");
+        return 2;
+    }
+    if (!load(argv[1])) {
+        perror(argv[1]);
+        return 2;
+    }
+    ocl_answer answer = ocl_read_sheet(TEXT, WORDS);
+    if (answer.number != OCL_ANSWERED) {
+        print_refusal(answer);
+        return 1;
+    }
+    if (!print_rules()) {
+        return 1;
+    }
+    answer = ocl_report(TEXT, WORDS, OUTPUT);
+    if (answer.number != OCL_ANSWERED) {
+        print_refusal(answer);
+        return 1;
+    }
+    printf("report:\n");
+    fwrite(output, 1, (size_t)answer.length, stdout);
+    return 0;
+}

@@ -1,0 +1,124 @@
+/*
+ * The rule checker's four calls, for C and C++. Link with libchecker.a; docs/USING.md says how, and what a call needs.
+ *
+ * A call is a function of the text, the numbers and the lengths that it is lent, and of nothing else. It keeps nothing
+ * between calls, calls nothing but the C library's memset, memcpy and memmove, and never fails in another way than by the
+ * number that it returns. So calls may run in several threads at a time, each with memory of its own; several may share
+ * a text.
+ *
+ * What is lent to each call:
+ *
+ *   text            a sheet (docs/SHEETS.md). It is only read.
+ *   words0 .. 2     working memory: three slices of 64-bit words, OCL_LEAST_WORDS or more each. What they hold before
+ *                   does not matter.
+ *   output          where the answer is written, OCL_LEAST_OUTPUT bytes or more. ocl_read_sheet has none.
+ *
+ * Each is a pointer and a length, counted in elements: bytes of the text and the output, words of the rest. A pointer leads
+ * to that many elements and is aligned for them. It may be null only where its length is 0. No slice overlaps another one,
+ * and nothing else reads or writes them while the call runs.
+ *
+ * What the memory holds afterwards:
+ *
+ *   number          words                                           output
+ *   0               the first OCL_LEAST_WORDS of each slice are 0,  the answer in front, `length` bytes; the rest
+ *                   the others as they were                         as it was
+ *   1               as they were                                    as it was
+ *   any other       as after 0                                      as it was
+ *
+ * What is written is ASCII and has no byte 0 at its end.
+ */
+#ifndef OCL_CHECKER_H
+#define OCL_CHECKER_H
+
+#include <stddef.h>
+#include <stdint.h>
+
+#ifdef __cplusplus
+extern "C" {
+#endif
+
+#define OCL_LEAST_WORDS 8192    /* the fewest words of each word slice */
+#define OCL_LEAST_OUTPUT 2048   /* the fewest bytes of an output: every type and every value fits */
+#define OCL_LONGEST_TEXT 49152  /* the most bytes of a sheet */
+#define OCL_REPORT_OUTPUT 65536 /* the bytes that the program ocl_report lends for a report */
+#define OCL_MOST_STEPS 1000000  /* the most steps of an evaluation */
+
+/* What a call returns. */
+typedef struct ocl_answer {
+    uint64_t number; /* OCL_ANSWERED, or why there is no answer: one of enum ocl_number */
+    uint64_t steps;  /* of an evaluation, stopped ones too; else 0 */
+    uint64_t place;  /* the line that is to blame, counted from 1; 0 where there is none */
+    uint64_t length; /* bytes written to the output; 0 unless the number is 0 */
+} ocl_answer;
+
+/* The numbers. In brackets: who gives it, R read, T type, E evaluate, P report; and whether with a place. */
+enum ocl_number {
+    OCL_ANSWERED = 0,         /* an answer (RTEP) */
+    OCL_SHORT_BENCH = 1,      /* a word slice or the output is too short; nothing was touched (RTEP) */
+    OCL_LONG_SHEET = 2,       /* the text is longer than a sheet may be (RTEP) */
+    OCL_BAD_LINE = 3,         /* a line is misspelled: fields, letter, form, number, line feed (RTEP, place) */
+    OCL_OVER_MEASURE = 4,     /* a number, count, size or nesting goes over its limit (RTEP, place) */
+    OCL_OUT_OF_ROW = 5,       /* lines, numbers or members out of order; a name or variable twice (RTEP, place) */
+    OCL_UNKNOWN_PART = 6,     /* a class, row or object that the sheet does not have by then (RTEP, place) */
+    OCL_WRONG_THREAD = 7,     /* a value that its row, or a row that its object, does not take (RTEP, place) */
+    OCL_BROKEN_TREE = 8,      /* the nodes of a rule make no tree, or one that is too deep (RTEP, place) */
+    OCL_LOOSE_END = 9,        /* a variable that nothing binds (TEP, place) */
+    OCL_NO_MATCH = 10,        /* two types without a common one; a cast between strangers (TEP, place) */
+    OCL_WRONG_PIECE = 11,     /* a form does not take an operand of this type (TEP, place) */
+    OCL_NO_SUCH_MARK = 12,    /* the class has no attribute of this name (TEP, place) */
+    OCL_TOO_MANY_LAYERS = 13, /* a type would be over three deep (TEP, place) */
+    OCL_NOT_LISTED = 14,      /* the sheet has no such rule (TE), or no such object (E) */
+    OCL_OTHER_CLASS = 15,     /* the rule is not for objects of this class (E) */
+    OCL_STEP_STOP = 16,       /* stopped: over OCL_MOST_STEPS steps are due (E, with the steps) */
+    OCL_SIZE_STOP = 17,       /* stopped: a value of a size over 128 would be formed (E, with the steps) */
+    OCL_SLIP_TOO_LONG = 18    /* the output is too short for the report (P) */
+};
+
+/* Reads a sheet: is it one? Writes nothing. The other three read the text themselves and refuse it with the same number. */
+ocl_answer ocl_read_sheet(
+    const uint8_t *text, size_t text_length,
+    uint64_t *words0, size_t words0_length,
+    uint64_t *words1, size_t words1_length,
+    uint64_t *words2, size_t words2_length);
+
+/* Types a rule, counted from 0 as on the sheet, and writes its type, as `Bool` or `S(#2)`. */
+ocl_answer ocl_type_rule(
+    const uint8_t *text, size_t text_length,
+    uint64_t rule,
+    uint64_t *words0, size_t words0_length,
+    uint64_t *words1, size_t words1_length,
+    uint64_t *words2, size_t words2_length,
+    uint8_t *output, size_t output_length);
+
+/* Types a rule and evaluates it for an object, and writes its value, as `t` or `S(@1,@4)`; `u` is undefined. */
+ocl_answer ocl_evaluate_rule(
+    const uint8_t *text, size_t text_length,
+    uint64_t rule, uint64_t object,
+    uint64_t *words0, size_t words0_length,
+    uint64_t *words1, size_t words1_length,
+    uint64_t *words2, size_t words2_length,
+    uint8_t *output, size_t output_length);
+
+/*
+ * Types all rules, evaluates each for every object of its class or below, and writes a line for each: rule, object, value and
+ * steps, with a space between two and a line feed at the end. A stop stands in its line as `!16` or `!17`.
+ */
+ocl_answer ocl_report(
+    const uint8_t *text, size_t text_length,
+    uint64_t *words0, size_t words0_length,
+    uint64_t *words1, size_t words1_length,
+    uint64_t *words2, size_t words2_length,
+    uint8_t *output, size_t output_length);
+
+#ifdef __cplusplus
+}
+#endif
+
+/* The library is compiled for 64-bit lengths and for an answer of four words. */
+#if defined(__cplusplus) && __cplusplus >= 201103L
+static_assert(sizeof(size_t) == 8 && sizeof(ocl_answer) == 32, "libchecker.a is for x86-64");
+#elif defined(__STDC_VERSION__) && __STDC_VERSION__ >= 201112L
+_Static_assert(sizeof(size_t) == 8 && sizeof(ocl_answer) == 32, "libchecker.a is for x86-64");
+#endif
+
+#endif

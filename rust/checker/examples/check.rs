@@ -1,0 +1,66 @@
+//! `check SHEET`: reads a job sheet from a file and prints each rule's type, what
+//! the rule comes to for each of its objects, and the report; or why the sheet is
+//! refused, in words. It does what `examples/c/check.c` does.
+//!
+//! Its exit status is 0 after a report, 1 after a refusal and 2 where the file
+//! could not be read.
+
+use ocl_checker::{evaluate_rule, read, report, type_rule};
+use ocl_checker::{Evaluated, Memory, Refusal, Refused, REPORT_OUTPUT};
+use std::path::PathBuf;
+use std::process::ExitCode;
+
+/// Prints what the rule comes to for each object that it is for.
+fn evaluate_for_all(text: &[u8], rule: u64, memory: &mut Memory, output: &mut [u8]) {
+    for object in 0.. {
+        match evaluate_rule(text, rule, object, memory, output) {
+            Ok(Evaluated { value, steps }) => println!("  object {object}: {value}, {steps} steps"),
+            Err(refused) => match refused.refusal() {
+                // The object before was the last.
+                Some(Refusal::NotListed) => return,
+                Some(Refusal::OtherClass) => {}
+                _ => println!("  object {object}: {refused}"),
+            },
+        }
+    }
+}
+
+/// Prints what each rule is and comes to, then the report.
+fn check(text: &[u8]) -> Result<(), Refused> {
+    let mut memory = Box::new(Memory::new());
+    let mut output = vec![0; REPORT_OUTPUT];
+    read(text, &mut memory)?;
+    for rule in 0.. {
+        match type_rule(text, rule, &mut memory, &mut output) {
+            Ok(ty) => println!("rule {rule}: {ty}"),
+            // The rule before was the last.
+            Err(refused) if refused.refusal() == Some(Refusal::NotListed) => break,
+            Err(refused) => return Err(refused),
+        }
+        evaluate_for_all(text, rule, &mut memory, &mut output);
+    }
+    let lines = report(text, &mut memory, &mut output)?;
+    print!("report:\n{lines}");
+    Ok(())
+}
+
+fn main() -> ExitCode {
+    let Some(path) = std::env::args_os().nth(1).map(PathBuf::from) else {
+        eprintln!("usage: check SHEET");
+        return ExitCode::from(2);
+    };
+    let text = match std::fs::read(&path) {
+        Ok(text) => text,
+        Err(error) => {
+            eprintln!("{}: {error}", path.display());
+            return ExitCode::from(2);
+        }
+    };
+    match check(&text) {
+        Ok(()) => ExitCode::SUCCESS,
+        Err(refused) => {
+            println!("{refused}");
+            ExitCode::FAILURE
+        }
+    }
+}

@@ -1,0 +1,129 @@
+//! The calls as they are exported, on slices of any length: the answer's four
+//! numbers, and no `Result`. The functions of the crate's root stand over these.
+
+#![allow(unsafe_code)]
+
+/// What a call returns.
+#[repr(C)]
+#[derive(Clone, Copy, PartialEq, Eq, Debug)]
+pub struct Answer {
+    /// 0 for an answer, else the number of a [`Refusal`](crate::Refusal).
+    pub number: u64,
+    /// The steps of an evaluation, of one that was stopped too; else 0.
+    pub steps: u64,
+    /// The line that is to blame, counted from 1; 0 where there is none.
+    pub place: u64,
+    /// The bytes written to the output; 0 for a refusal.
+    pub length: u64,
+}
+
+/// The three word slices that a call is lent. A slice below
+/// [`LEAST_WORDS`](crate::LEAST_WORDS) words is refused, and all is left as it
+/// was. Else the first so many words of each end as 0, the others as they were.
+pub type Words<'w> = [&'w mut [u64]; 3];
+
+// A slice is a pointer and a length in elements.
+extern "C" {
+    fn ocl_read_sheet(
+        text: *const u8,
+        text_length: usize,
+        words0: *mut u64,
+        words0_length: usize,
+        words1: *mut u64,
+        words1_length: usize,
+        words2: *mut u64,
+        words2_length: usize,
+    ) -> Answer;
+
+    fn ocl_type_rule(
+        text: *const u8,
+        text_length: usize,
+        rule: u64,
+        words0: *mut u64,
+        words0_length: usize,
+        words1: *mut u64,
+        words1_length: usize,
+        words2: *mut u64,
+        words2_length: usize,
+        output: *mut u8,
+        output_length: usize,
+    ) -> Answer;
+
+    fn ocl_evaluate_rule(
+        text: *const u8,
+        text_length: usize,
+        rule: u64,
+        object: u64,
+        words0: *mut u64,
+        words0_length: usize,
+        words1: *mut u64,
+        words1_length: usize,
+        words2: *mut u64,
+        words2_length: usize,
+        output: *mut u8,
+        output_length: usize,
+    ) -> Answer;
+
+    fn ocl_report(
+        text: *const u8,
+        text_length: usize,
+        words0: *mut u64,
+        words0_length: usize,
+        words1: *mut u64,
+        words1_length: usize,
+        words2: *mut u64,
+        words2_length: usize,
+        output: *mut u8,
+        output_length: usize,
+    ) -> Answer;
+}
+
+/// A call: its text, its numbers, the words and, where it has one, the output.
+macro_rules! call {
+    ($call:ident, $text:ident, [$($number:ident)*], $words:ident, [$($output:ident)?]) => {{
+        let [words0, words1, words2] = $words;
+        // SAFETY: each pointer and length are those of a slice that lives as long
+        // as the call, and no two of them overlap, since all but the text are
+        // mutable. The call asks nothing else of its caller.
+        unsafe {
+            $call(
+                $text.as_ptr(),
+                $text.len(),
+                $($number,)*
+                words0.as_mut_ptr(),
+                words0.len(),
+                words1.as_mut_ptr(),
+                words1.len(),
+                words2.as_mut_ptr(),
+                words2.len(),
+                $($output.as_mut_ptr(), $output.len(),)?
+            )
+        }
+    }};
+}
+
+/// Reads a sheet.
+pub fn read_sheet(text: &[u8], words: Words) -> Answer {
+    call!(ocl_read_sheet, text, [], words, [])
+}
+
+/// Types a rule and writes its type.
+pub fn type_rule(text: &[u8], rule: u64, words: Words, output: &mut [u8]) -> Answer {
+    call!(ocl_type_rule, text, [rule], words, [output])
+}
+
+/// Types a rule, evaluates it for an object and writes its value.
+pub fn evaluate_rule(
+    text: &[u8],
+    rule: u64,
+    object: u64,
+    words: Words,
+    output: &mut [u8],
+) -> Answer {
+    call!(ocl_evaluate_rule, text, [rule object], words, [output])
+}
+
+/// Types all rules, evaluates them and writes the report.
+pub fn report(text: &[u8], words: Words, output: &mut [u8]) -> Answer {
+    call!(ocl_report, text, [], words, [output])
+}

@@ -1,0 +1,152 @@
+//! What the crate adds to the calls: lent memory, results and words.
+
+use ocl_checker::calls::{self, Answer, Words};
+use ocl_checker::{evaluate_rule, read, report, type_rule};
+use ocl_checker::{Evaluated, Memory, Refusal, Refused, LEAST_OUTPUT, LEAST_WORDS};
+
+fn sheet(lines: &str) -> Vec<u8> {
+    let lines = lines.split('|').map(|line| line.replace(' ', "\t") + "\n");
+    lines.collect::<String>().into_bytes()
+}
+
+fn small() -> Vec<u8> {
+    sheet("C 0 -|C 1 0|O 0 0|O 1 1|R 0 1|N 0 self|N 1 coll Q 0|R 1 0|N 0 int 5")
+}
+
+fn refused(refusal: Refusal, steps: u64, place: u64) -> Refused {
+    Refused {
+        number: refusal.number(),
+        steps,
+        place,
+    }
+}
+
+#[test]
+fn answers_are_ok() {
+    let (text, mut memory) = (small(), Box::new(Memory::new()));
+    let mut output = [b'~'; LEAST_OUTPUT];
+    assert_eq!(read(&text, &mut memory), Ok(()));
+    assert_eq!(type_rule(&text, 0, &mut memory, &mut output), Ok("Q(#1)"));
+    let evaluated = evaluate_rule(&text, 0, 1, &mut memory, &mut output);
+    assert_eq!(
+        evaluated,
+        Ok(Evaluated {
+            value: "Q(@1)",
+            steps: 2
+        })
+    );
+    let lines = report(&text, &mut memory, &mut output);
+    assert_eq!(lines, Ok("0 1 Q(@1) 2\n1 0 5 1\n1 1 5 1\n"));
+    assert_eq!(output[35], b'~');
+    // One memory serves all calls; the empty sheet has an empty report.
+    assert_eq!(report(b"", &mut memory, &mut output), Ok(""));
+}
+
+#[test]
+fn refusals_are_errors() {
+    let (text, mut memory) = (small(), Box::new(Memory::default()));
+    let mut output = [0; LEAST_OUTPUT];
+    let off = type_rule(&text, 2, &mut memory, &mut output);
+    assert_eq!(off, Err(refused(Refusal::NotListed, 0, 0)));
+    let stranger = evaluate_rule(&text, 0, 0, &mut memory, &mut output);
+    assert_eq!(stranger, Err(refused(Refusal::OtherClass, 0, 0)));
+    let loose = sheet("C 0 -|R 0 0|N 0 var 1");
+    let loose = report(&loose, &mut memory, &mut output);
+    assert_eq!(loose, Err(refused(Refusal::LooseEnd, 0, 3)));
+    let short = report(&text, &mut memory, &mut output[1..]);
+    assert_eq!(short, Err(refused(Refusal::ShortBench, 0, 0)));
+}
+
+#[test]
+fn a_stop_has_its_steps() {
+    let members = vec!["7"; 127].join(",");
+    let text = sheet(&format!(
+        "C 0 -|A 0 0 0 Q(Int)|O 0 0|V 0 0 Q({members})|R 0 0|N 0 self|N 1 attr 0 0|N 2 coll Q 1"
+    ));
+    let mut memory = Box::new(Memory::new());
+    let stop = evaluate_rule(&text, 0, 0, &mut memory, &mut [0; LEAST_OUTPUT]).unwrap_err();
+    assert_eq!(stop, refused(Refusal::SizeStop, 3, 0));
+    assert_eq!(
+        stop.to_string(),
+        "size stop (17) after 3 steps: a value of a size over 128 would be formed"
+    );
+}
+
+#[test]
+fn refusals_have_numbers_and_words() {
+    for number in 1..=18 {
+        let refusal = Refusal::of(number).unwrap();
+        assert_eq!(refusal.number(), number);
+    }
+    for number in [0, 19, 100, u64::MAX] {
+        assert_eq!(Refusal::of(number), None);
+    }
+    assert_eq!(Refusal::BrokenTree.word(), "broken tree");
+    let line = refused(Refusal::BadLine, 0, 2).to_string();
+    assert_eq!(line, "line 2: bad line (3): the line is misspelled");
+}
+
+/// A call with short slices: 1, and nothing touched.
+fn misused(lengths: [usize; 3], room: usize, call: impl Fn(Words, &mut [u8]) -> Answer) {
+    let mut slices = lengths.map(|length| vec![7; length]);
+    let mut output = vec![b'~'; room];
+    let answer = call(slices.each_mut().map(Vec::as_mut_slice), &mut output);
+    let short = Answer {
+        number: 1,
+        steps: 0,
+        place: 0,
+        length: 0,
+    };
+    assert_eq!(answer, short);
+    assert!(slices.iter().flatten().all(|word| *word == 7));
+    assert!(output.iter().all(|byte| *byte == b'~'));
+}
+
+#[test]
+fn short_slices_are_left_alone() {
+    let text = small();
+    for (slice, length) in [(0, 0), (0, 8_191), (1, 8_191), (2, 0), (2, 8_191)] {
+        let mut lengths = [LEAST_WORDS; 3];
+        lengths[slice] = length;
+        misused(lengths, LEAST_OUTPUT, |words, _| {
+            calls::read_sheet(&text, words)
+        });
+        misused(lengths, LEAST_OUTPUT, |words, output| {
+            calls::type_rule(&text, 0, words, output)
+        });
+        misused(lengths, LEAST_OUTPUT, |words, output| {
+            calls::evaluate_rule(&text, 0, 1, words, output)
+        });
+        misused(lengths, LEAST_OUTPUT, |words, output| {
+            calls::report(&text, words, output)
+        });
+    }
+    for room in [0, LEAST_OUTPUT - 1] {
+        misused([LEAST_WORDS; 3], room, |words, output| {
+            calls::type_rule(&text, 0, words, output)
+        });
+        misused([LEAST_WORDS; 3], room, |words, output| {
+            calls::evaluate_rule(&text, 0, 1, words, output)
+        });
+        misused([LEAST_WORDS; 3], room, |words, output| {
+            calls::report(&text, words, output)
+        });
+    }
+}
+
+#[test]
+fn threads_share_a_text() {
+    let text = small();
+    std::thread::scope(|scope| {
+        for _ in 0..4 {
+            scope.spawn(|| {
+                let mut memory = Box::new(Memory::new());
+                let mut output = [0; LEAST_OUTPUT];
+                for _ in 0..200 {
+                    let lines = report(&text, &mut memory, &mut output);
+                    assert_eq!(lines, Ok("0 1 Q(@1) 2\n1 0 5 1\n1 1 5 1\n"));
+                }
+            });
+        }
+    });
+}

@@ -1,0 +1,130 @@
+/*
+ * Lends the calls too little, nothing at all, or just enough, and looks at all that they leave behind: 1 leaves everything as
+ * it was; else the first OCL_LEAST_WORDS words of each slice are 0, and nothing but an answer's own bytes is written.
+ */
+#include <inttypes.h>
+#include <stdio.h>
+#include <string.h>
+
+#include "ocl_checker.h"
+
+/* Words and bytes behind what is lent, which no call may touch. */
+#define MARGIN 16
+#define WORD UINT64_C(0x7e7e7e7e7e7e7e7e)
+#define BYTE 0x7e
+
+enum call { READ, TYPE, EVALUATE, REPORT };
+static const char *const names[] = {"read", "type", "evaluate", "report"};
+
+static uint64_t words[3][OCL_LEAST_WORDS + MARGIN];
+static uint8_t output[OCL_LEAST_OUTPUT + MARGIN];
+static size_t lengths[3];
+static size_t room;
+static int cases, failures;
+
+/* Lends slices of these lengths, by a null pointer where one is 0. */
+static ocl_answer call(enum call which, const void *text, size_t text_length)
+{
+    uint64_t *w[3];
+    uint8_t *out = room == 0 ? NULL : output;
+    memset(words, BYTE, sizeof words);
+    memset(output, BYTE, sizeof output);
+    for (int i = 0; i < 3; i++) {
+        w[i] = lengths[i] == 0 ? NULL : words[i];
+    }
+    switch (which) {
+    case READ:
+        return ocl_read_sheet(text, text_length, w[0], lengths[0], w[1], lengths[1], w[2], lengths[2]);
+    case TYPE:
+        return ocl_type_rule(text, text_length, 0, w[0], lengths[0], w[1], lengths[1], w[2], lengths[2], out, room);
+    case EVALUATE:
+        return ocl_evaluate_rule(
+            text, text_length, 0, 0, w[0], lengths[0], w[1], lengths[1], w[2], lengths[2], out, room);
+    default:
+        return ocl_report(text, text_length, w[0], lengths[0], w[1], lengths[1], w[2], lengths[2], out, room);
+    }
+}
+
+/* The first so many words of each slice are 0 and the others untouched; the output is untouched from so many bytes on. */
+static int left(size_t zeros, size_t written)
+{
+    for (int i = 0; i < 3; i++) {
+        for (size_t j = 0; j < OCL_LEAST_WORDS + MARGIN; j++) {
+            if (words[i][j] != (j < zeros ? 0 : WORD)) {
+                return 0;
+            }
+        }
+    }
+    for (size_t j = written; j < sizeof output; j++) {
+        if (output[j] != BYTE) {
+            return 0;
+        }
+    }
+    return 1;
+}
+
+static void expect(enum call which, const void *text, size_t text_length, uint64_t number, const char *written)
+{
+    ocl_answer answer = call(which, text, text_length);
+    size_t length = strlen(written);
+    int good = answer.number == number && answer.length == length && memcmp(output, written, length) == 0 &&
+               left(number == OCL_SHORT_BENCH ? 0 : OCL_LEAST_WORDS, length);
+    cases++;
+    if (!good) {
+        failures++;
+        printf("%s with %zu, %zu, %zu words and %zu bytes: %" PRIu64 " and not %" PRIu64 ", or the memory is wrong\n",
+            names[which], lengths[0], lengths[1], lengths[2], room, answer.number, number);
+    }
+}
+
+static void lend(size_t length0, size_t length1, size_t length2, size_t bytes)
+{
+    lengths[0] = length0;
+    lengths[1] = length1;
+    lengths[2] = length2;
+    room = bytes;
+}
+
+int main(void)
+{
+    static const char sheet[] = "C\t0\t-\nO\t0\t0\nR\t0\t0\nN\t0\ttrue\n";
+    static const char bad[] = "C\t0\t-\nC\t1\t1\n";
+    static const uint8_t longer[OCL_LONGEST_TEXT + 1];
+    static const size_t little[] = {0, 1, OCL_LEAST_WORDS - 1};
+    const size_t most = OCL_LEAST_WORDS, sheet_length = sizeof sheet - 1;
+
+    for (enum call which = READ; which <= REPORT; which++) {
+        for (size_t i = 0; i < 3; i++) {
+            lend(little[i], most, most, OCL_LEAST_OUTPUT);
+            expect(which, sheet, sheet_length, OCL_SHORT_BENCH, "");
+            lend(most, little[i], most, OCL_LEAST_OUTPUT);
+            expect(which, sheet, sheet_length, OCL_SHORT_BENCH, "");
+            lend(most, most, little[i], OCL_LEAST_OUTPUT);
+            expect(which, sheet, sheet_length, OCL_SHORT_BENCH, "");
+        }
+        lend(0, 0, 0, 0);
+        expect(which, NULL, 0, OCL_SHORT_BENCH, "");
+        /* a short bench comes before a long sheet */
+        lend(most, most, most - 1, OCL_LEAST_OUTPUT);
+        expect(which, longer, sizeof longer, OCL_SHORT_BENCH, "");
+    }
+    for (enum call which = TYPE; which <= REPORT; which++) {
+        lend(most, most, most, 0);
+        expect(which, sheet, sheet_length, OCL_SHORT_BENCH, "");
+        lend(most, most, most, OCL_LEAST_OUTPUT - 1);
+        expect(which, sheet, sheet_length, OCL_SHORT_BENCH, "");
+    }
+    for (enum call which = READ; which <= REPORT; which++) {
+        static const char *const written[] = {"", "Bool", "t", "0 0 t 1\n"};
+        lend(most, most, most, OCL_LEAST_OUTPUT);
+        expect(which, sheet, sheet_length, OCL_ANSWERED, written[which]);
+        expect(which, bad, sizeof bad - 1, OCL_UNKNOWN_PART, "");
+        expect(which, longer, sizeof longer, OCL_LONG_SHEET, "");
+        /* the text of no bytes is a sheet without rules */
+        expect(which, NULL, 0, which == TYPE || which == EVALUATE ? OCL_NOT_LISTED : OCL_ANSWERED, "");
+    }
+    if (failures == 0) {
+        printf("misuse: %d cases\n", cases);
+    }
+    return failures != 0;
+}

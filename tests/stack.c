@@ -1,0 +1,121 @@
+/*
+ * stack SHEET..: how much stack the calls take. Each call runs on a stack of its own, painted before, on every sheet, rule and
+ * object; the most bytes that each call took, its arguments among them, are printed with the sheet, and so are the sheets whose
+ * report is refused.
+ */
+#define _XOPEN_SOURCE 700
+#include <inttypes.h>
+#include <stdio.h>
+#include <ucontext.h>
+
+#include "ocl_checker.h"
+
+#define STACK_WORDS (512 * 1024 / 8)
+#define PAINT UINT64_C(0xa5c3a5c3a5c3a5c3)
+
+enum call { READ, TYPE, EVALUATE, REPORT };
+static const char *const names[] = {"read", "type", "evaluate", "report"};
+
+static uint64_t stack[STACK_WORDS];
+static uint8_t text[OCL_LONGEST_TEXT + 1];
+static uint64_t words[3][OCL_LEAST_WORDS];
+static uint8_t output[OCL_REPORT_OUTPUT];
+static size_t text_length;
+
+/* The call that is to be run, what it answers, and where its caller's frame is. */
+static enum call which;
+static uint64_t rule, object;
+static ocl_answer answer;
+static uintptr_t frame;
+
+static size_t most[4];
+static const char *most_in[4];
+static uint64_t runs;
+
+#define TEXT text, text_length
+#define WORDS words[0], OCL_LEAST_WORDS, words[1], OCL_LEAST_WORDS, words[2], OCL_LEAST_WORDS
+#define OUTPUT output, sizeof output
+
+static void run(void)
+{
+    frame = (uintptr_t)__builtin_frame_address(0);
+    switch (which) {
+    case READ:
+        answer = ocl_read_sheet(TEXT, WORDS);
+        break;
+    case TYPE:
+        answer = ocl_type_rule(TEXT, rule, WORDS, OUTPUT);
+        break;
+    case EVALUATE:
+        answer = ocl_evaluate_rule(TEXT, rule, object, WORDS, OUTPUT);
+        break;
+    case REPORT:
+        answer = ocl_report(TEXT, WORDS, OUTPUT);
+        break;
+    }
+}
+
+/* Runs a call on the painted stack; its number. */
+static uint64_t measure(enum call call, const char *sheet)
+{
+    static ucontext_t here, there;
+    which = call;
+    for (size_t i = 0; i < STACK_WORDS; i++) {
+        stack[i] = PAINT;
+    }
+    getcontext(&there);
+    there.uc_stack.ss_sp = stack;
+    there.uc_stack.ss_size = sizeof stack;
+    there.uc_link = &here;
+    makecontext(&there, run, 0);
+    swapcontext(&here, &there);
+    size_t lowest = 0;
+    while (stack[lowest] == PAINT) {
+        lowest++;
+    }
+    size_t used = frame - (uintptr_t)&stack[lowest];
+    if (used > most[call]) {
+        most[call] = used;
+        most_in[call] = sheet;
+    }
+    runs++;
+    return answer.number;
+}
+
+static void measure_sheet(const char *sheet)
+{
+    measure(READ, sheet);
+    if (measure(REPORT, sheet) != OCL_ANSWERED) {
+        printf("refused %s\n", sheet);
+    }
+    for (rule = 0;; rule++) {
+        uint64_t typed = measure(TYPE, sheet);
+        if (typed != OCL_ANSWERED && typed < OCL_LOOSE_END) {
+            return; /* the sheet is refused */
+        }
+        if (typed == OCL_NOT_LISTED) {
+            return;
+        }
+        for (object = 0; measure(EVALUATE, sheet) != OCL_NOT_LISTED; object++) {
+        }
+    }
+}
+
+int main(int argc, char **argv)
+{
+    for (int i = 1; i < argc; i++) {
+        FILE *file = fopen(argv[i], "rb");
+        if (file == NULL) {
+            perror(argv[i]);
+            return 2;
+        }
+        text_length = fread(text, 1, sizeof text, file);
+        fclose(file);
+        measure_sheet(argv[i]);
+    }
+    for (int i = READ; i <= REPORT; i++) {
+        printf("%s %zu %s\n", names[i], most[i], most_in[i] == NULL ? "-" : most_in[i]);
+    }
+    printf("runs %" PRIu64 "\n", runs);
+    return 0;
+}
