@@ -1,1 +1,4 @@
+pub mod Bound
 pub mod Lines
+pub mod Passes
+pub mod Reports

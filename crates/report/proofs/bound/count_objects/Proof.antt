@@ -1,0 +1,40 @@
+-- `count_objects` meets its contract. Assumes nothing.
+use mathlib.Core.Logic.{⊎-elim}
+use mathlib.Core.Path.{_∙_}
+use Prim.Native.Nat.{_-_}
+use native.Mathlib.Omega.{arith}
+use Rattle.report.proofs.BoundLaws.{Counting, count-none, count-next, count-all}
+use Rattle.report.proofs.bound.count_objects.Statement.{statement}
+use Rattle.report.proofs.bound.count_objects.Tie as tie
+
+abbrev Inv-loop : tie.InvT-loop
+Inv-loop w0 st c n₀ o₀ n o = Counting st w0 c n o
+
+abbrev μ-loop : tie.MeasureT-loop
+μ-loop w0 st c n₀ o₀ n o = st .objects - o
+
+loop-holds : tie.Need-loop-holds Inv-loop μ-loop
+loop-holds c = count-none
+
+is-a-requires : tie.Need-is-a-requires Inv-loop μ-loop
+is-a-requires c κs = c .before .before .before .before .pre
+
+add-n : tie.Need-add-n Inv-loop μ-loop
+add-n c = omega (arith, c .before .before .before .before .before .before .pre .fine .objects)
+
+add-o : tie.Need-add-o Inv-loop μ-loop
+add-o c = omega (arith, c .before .before .before .before .before .before .pre .fine .objects)
+
+loop-less : tie.Need-loop-less Inv-loop μ-loop
+loop-less c = omega (arith, c .before .before .before .before .before .before .pre .fine .objects)
+
+loop-again : tie.Need-loop-again Inv-loop μ-loop
+loop-again c = count-next (c .before .before .before .before .loop .inv) (c .before .is-a .ensures) (c .before .before .if1 .taken) (⊎-elim (λ w. rw (w .0 .taken) (w .1)) (λ w. rw (w .0 .left) (w .1 ∙ omega arith)) (c .if2 .came))
+
+returns : tie.Need-returns Inv-loop μ-loop
+returns c = count-all (c .before .before .loop .inv) (omega (arith, c .before .before .loop .inv .within, c .if1 .left)) (c .before .before .before .before .pre .fine .objects)
+
+pub count-objects-spec : {M : Type 1} → statement M
+count-objects-spec =
+    tie.close
+    (tie.spec Inv-loop μ-loop loop-holds is-a-requires add-n add-o loop-less loop-again returns)

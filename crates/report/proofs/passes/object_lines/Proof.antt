@@ -1,0 +1,52 @@
+-- `object_lines` meets its contract. Assumes nothing.
+use mathlib.Core.Path.{refl}
+use Prim.Native.Nat.{_-_}
+use native.Mathlib.Omega.{arith}
+use Rattle.report.proofs.PassLaws.{LinesTo, lines-none, lines-room, lines-next, lines-end}
+use Rattle.report.proofs.passes.object_lines.Statement.{statement}
+use Rattle.report.proofs.passes.object_lines.Tie as tie
+
+abbrev Inv-loop : tie.InvT-loop
+Inv-loop w0 st w1 w2₀ r out₀ total keep sum₀ o₀ w2 out sum o = LinesTo st w0 w1 r keep total w2₀ w2 out₀ out o sum
+
+abbrev μ-loop : tie.MeasureT-loop
+μ-loop w0 st w1 w2₀ r out₀ total keep sum₀ o₀ w2 out sum o = st .objects - o
+
+loop-holds : tie.Need-loop-holds Inv-loop μ-loop
+loop-holds c = lines-none _ _
+
+object-line-requires : tie.Need-object-line-requires Inv-loop μ-loop
+object-line-requires c κs = ((c .before .before .before .before .before .before .before .before .before .pre .0 .0, c .before .before .before .before .before .before .before .before .before .pre .0 .1, omega (arith, c .before .before .before .before .before .before .before .before .before .pre .0 .2, c .before .before .before .before .loop .inv .kept .size)), (lines-room (c .before .before .before .before .loop .inv) (c .before .before .if1 .taken) (c .before .before .before .before .before .before .before .before .before .pre .1) refl refl, c .before .before .if1 .taken))
+
+add-o : tie.Need-add-o Inv-loop μ-loop
+add-o c = omega (arith, c .before .before .before .before .before .before .before .if1 .taken, c .before .before .before .before .before .before .before .before .before .before .before .before .before .before .pre .1 .marked .accepted .fine .objects)
+
+loop-less : tie.Need-loop-less Inv-loop μ-loop
+loop-less c = omega (arith, c .before .before .before .before .before .before .before .if1 .taken)
+
+loop-again : tie.Need-loop-again Inv-loop μ-loop
+loop-again c = lines-next (c .before .before .before .before .before .before .before .before .before .loop .inv) (c .before .before .before .before .before .before .before .if1 .taken) (lines-room (c .before .before .before .before .before .before .before .before .before .loop .inv) (c .before .before .before .before .before .before .before .if1 .taken) (c .before .before .before .before .before .before .before .before .before .before .before .before .before .before .pre .1) refl refl) refl (c .before .before .before .before .object-line .ensures)
+
+same-length : tie.Need-same-length Inv-loop μ-loop
+same-length c = c .before .before .loop .inv .kept .size
+
+same-length-2 : tie.Need-same-length-2 Inv-loop μ-loop
+same-length-2 c = c .before .before .loop .inv .size
+
+returns : tie.Need-returns Inv-loop μ-loop
+returns c = lines-end (c .before .before .loop .inv) (omega (arith, c .before .before .loop .inv .within, c .if1 .left))
+
+pub object-lines-spec : {M : Type 1} → statement M
+object-lines-spec =
+    tie.close
+    (tie.spec
+    Inv-loop
+    μ-loop
+    loop-holds
+    object-line-requires
+    add-o
+    loop-less
+    loop-again
+    same-length
+    same-length-2
+    returns)

@@ -1,0 +1,24 @@
+-- `report_fits` meets its contract. Assumes nothing.
+use borrow.Author.Needs.{needs}
+use Rattle.report.proofs.SheetLaws.{tells-length, tells-bound}
+use Rattle.report.proofs.report_fits.Statement.{statement}
+use Rattle.report.proofs.report_fits.Tie as tie
+
+returns : tie.Need-returns
+returns c = tells-bound _ (c .if1 .taken)
+
+measured-requires : tie.Need-measured-requires
+measured-requires c κs = search needs
+
+same-length : tie.Need-same-length
+same-length c = search needs
+
+same-length-2 : tie.Need-same-length-2
+same-length-2 c = search needs
+
+returns-2 : tie.Need-returns-2
+returns-2 c = tells-length (c .before .before .before .before .measured .ensures)
+
+pub report-fits-spec : {M : Type 1} → statement M
+report-fits-spec =
+    tie.close (tie.spec returns measured-requires same-length same-length-2 returns-2)

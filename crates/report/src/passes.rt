@@ -1,0 +1,98 @@
+// The report's lines, rule by rule and object by object: each is put behind those before it where it is kept, else over the
+// one before it, so that one line's room is enough to count them. `total` is the number of bytes so far.
+ghost use Prim.Native.Nat.{_≤_, _<_};
+ghost use lib.ListN.{length};
+ghost use Rattle.tables.specs.Layout.{Kept};
+ghost use Rattle.rules.specs.Accepted.{Known};
+ghost use Rattle.report.specs.Passes.{MarksRule, objectLine, allObjects, lineBound, allBound, RoomFor, AddsLines, RoomForAll, AddsAll};
+use crate::lines::put_line;
+use evaluation::lookup::is_a;
+use rules::evaluated::evaluate_numbered;
+use rules::evaluated::keep_marks;
+use rules::typed::type_numbered;
+use tables::Counts;
+use types::classes::wide;
+
+// Types rule r once more, for its marks: evaluation reads them in w1.
+fn mark_rule(w0: &[u64], st: Counts, w1: &mut [u64], w2: &mut [u64], r: usize)
+    requires { ⌜ (8192 ≤ length (now w0)) × (8192 ≤ length (now w1)) × (8192 ≤ length (now w2)) ⌝ }
+    requires { ⌜ Known st (now w0) (now w1) × (r < st .rules) ⌝ }
+    ensures { λ _. ⌜ MarksRule st (now (w0 .entry)) (now (w1 .entry)) (now (w1 .exit)) r × Kept (now (w2 .entry)) (now (w2 .exit)) ⌝ }
+{
+    type_numbered(w0, st, w1, w2, r);
+    keep_marks(w2, w1);
+}
+
+// The line of rule r for object o, if it is of the rule's class or below.
+fn object_line(
+    w0: &[u64],
+    st: Counts,
+    w1: &[u64],
+    w2: &mut [u64],
+    r: usize,
+    o: u64,
+    out: &mut [u8],
+    total: usize,
+    keep: bool,
+) -> usize
+    requires { ⌜ (8192 ≤ length (now w0)) × (8192 ≤ length (now w1)) × (8192 ≤ length (now w2)) ⌝ }
+    requires { ⌜ RoomFor (objectLine r o) (lineBound o) st (now w0) (now w1) r keep total (length (now out)) × (o < st .objects) ⌝ }
+    ensures { λ n. ⌜ AddsLines (objectLine r o) (lineBound o) st (now (w0 .entry)) (now (w1 .entry)) r keep total (now (w2 .entry)) (now (w2 .exit)) (now (out .entry)) (now (out .exit)) n ⌝ }
+{
+    if is_a(w0, st, o, w0[4448 + r]) {
+        let e = evaluate_numbered(w0, st, w1, w2, r, o);
+        if keep {
+            return put_line(out, total, r as u64, o, w2, e);
+        }
+        return total + put_line(out, 0, r as u64, o, w2, e);
+    }
+    total
+}
+
+// The lines of rule r.
+fn object_lines(
+    w0: &[u64],
+    st: Counts,
+    w1: &[u64],
+    w2: &mut [u64],
+    r: usize,
+    out: &mut [u8],
+    total: usize,
+    keep: bool,
+) -> usize
+    requires { ⌜ (8192 ≤ length (now w0)) × (8192 ≤ length (now w1)) × (8192 ≤ length (now w2)) ⌝ }
+    requires { ⌜ RoomFor (allObjects r) allBound st (now w0) (now w1) r keep total (length (now out)) ⌝ }
+    ensures { λ n. ⌜ AddsLines (allObjects r) allBound st (now (w0 .entry)) (now (w1 .entry)) r keep total (now (w2 .entry)) (now (w2 .exit)) (now (out .entry)) (now (out .exit)) n ⌝ }
+{
+    let mut sum = total;
+    let mut o: u64 = 0;
+    while o < st.objects {
+        sum = object_line(w0, st, w1, w2, r, o, out, sum, keep);
+        o += 1;
+    }
+    sum
+}
+
+// The whole report.
+pub fn rule_lines(
+    w0: &[u64],
+    st: Counts,
+    w1: &mut [u64],
+    w2: &mut [u64],
+    out: &mut [u8],
+    keep: bool,
+) -> usize
+    requires { ⌜ (8192 ≤ length (now w0)) × (8192 ≤ length (now w1)) × (8192 ≤ length (now w2)) ⌝ }
+    requires { ⌜ RoomForAll st (now w0) (now w1) keep (length (now out)) ⌝ }
+    ensures { λ n. ⌜ AddsAll st (now (w0 .entry)) (now (w1 .entry)) (now (w2 .entry)) (now (w1 .exit)) (now (w2 .exit)) keep (now (out .entry)) (now (out .exit)) n ⌝ }
+{
+    let rules = wide(st.rules);
+    let mut total: usize = 0;
+    let mut r: usize = 0;
+    while r < rules {
+        mark_rule(w0, st, w1, w2, r);
+        total = object_lines(w0, st, w1, w2, r, out, total, keep);
+        r += 1;
+    }
+    total
+}
