@@ -12,13 +12,11 @@ use lib.Dec.{T}
 use Rattle.laws.specs.Choice.{if_then_else_}
 use Rattle.laws.proofs.Tests.{by-if}
 use Rattle.ocl.specs.Types.{class, Ty}
-use Rattle.ocl.specs.Values.{Value}
 use Rattle.ocl.specs.Model.{Model, isA}
 use Rattle.ocl.specs.Typing.{Answer as TypeAnswer, typed, refused as untyped}
 use Rattle.ocl.specs.Evaluation.{Outcome, value, undefined, stuck, stop}
 use Rattle.ocl.specs.Soundness.{Sound}
 use Rattle.sheet.specs.Text.{Bytes}
-use Rattle.sheet.specs.Spelling.{spellValue}
 use Rattle.sheet.specs.Sheet.{Rule, Sheet, modelOf}
 use Rattle.sheet.specs.Reading.{accepted, readText}
 use Rattle.sheet.specs.Calls.{Verdict, refusalAt, refusal, shortWords, onSheet, onRule, typingOf, onType, onObject, outcomeOf, ended, evaluateOn, evaluateCall}
@@ -27,7 +25,6 @@ use Rattle.sheet.proofs.Soundness.{sound-rule, type-refusals}
 use Rattle.sheet.proofs.Acceptance.{accepted-good}
 use Rattle.nodes.specs.Nodes.{word}
 use Rattle.types.specs.declared.FlatType.{FlatType}
-use Rattle.types.specs.Flat.{tyOf}
 use Rattle.tables.specs.declared.Counts.{Counts}
 use Rattle.typing.specs.declared.Reply.the-variants as reply
 use Rattle.evaluation.specs.declared.Ended.{Ended}

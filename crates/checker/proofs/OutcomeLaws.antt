@@ -1,16 +1,16 @@
 -- How an evaluation ended, as an answer. Assumes nothing.
-use mathlib.Core.Path.{_≡_, refl, sym, ap, _∙_}
+use mathlib.Core.Path.{_≡_, refl}
 use mathlib.Core.List.{List, [], _∷_}
 use Prim.Native.Nat.{ℕ, _+_, _≤_}
 use native.Mathlib.Omega.{arith}
 use native.Mathlib.Nat.{zero-add}
 use lib.ListN.{length}
 use lib.Seq.{slice}
-use Rattle.ocl.specs.Values.{Value, size}
-use Rattle.ocl.specs.Evaluation.{Outcome, value, undefined, stuck, stop}
+use Rattle.ocl.specs.Values.{Value}
+use Rattle.ocl.specs.Evaluation.{Outcome, value}
 use Rattle.sheet.specs.Text.{Bytes, bytes}
 use Rattle.sheet.specs.Spelling.{spellValue}
-use Rattle.sheet.specs.Calls.{Verdict, refusalAt, refusal, outputAfter, ended}
+use Rattle.sheet.specs.Calls.{refusalAt, refusal, outputAfter, ended}
 use Rattle.text.specs.Written.{Puts}
 use Rattle.values.specs.Cells.{enc, Fits}
 use Rattle.spelling.specs.Contracts.{ValueFits}

@@ -1,14 +1,14 @@
 -- The reading of a text of any length, and what follows it in a call. Assumes nothing.
-use mathlib.Core.Path.{_≡_, refl, sym, ap, _∙_}
+use mathlib.Core.Path.{_≡_, refl}
 use mathlib.Core.Logic.{_≢_}
 use mathlib.Core.List.{List, []}
 use Prim.Native.Nat.{ℕ, _≤_, _<_}
 use native.Mathlib.Omega.{arith}
 use borrow.Author.Tests.{lt-ltb, le-ltb}
 use lib.ListN.{length}
-use Rattle.sheet.specs.Text.{Bytes, linesOf}
-use Rattle.sheet.specs.Sheet.{Sheet, empty}
-use Rattle.sheet.specs.Reading.{Reading, accepted, refused, readLines, readText}
+use Rattle.sheet.specs.Text.{Bytes}
+use Rattle.sheet.specs.Sheet.{Sheet}
+use Rattle.sheet.specs.Reading.{Reading, accepted, refused, readText}
 use Rattle.sheet.specs.Calls.{Verdict, answer, refusalAt, onSheet}
 use Rattle.sheet.specs.Laws.{ReadRefusal, long-sheet, at-line}
 use Rattle.sheet.proofs.Listed.{read-refusals}
@@ -17,7 +17,7 @@ use Rattle.tables.proofs.Tables.{kept-refl}
 use Rattle.reader.specs.declared.SheetRead.{SheetRead}
 use Rattle.reader.specs.declared.SheetRead.the-variants as sheet
 use Rattle.reader.specs.Contracts.{EndsAs, a-sheet, a-refusal, ReadsTo}
-use Rattle.rules.specs.Accepted.{Accepted, Known}
+use Rattle.rules.specs.Accepted.{Known}
 use Rattle.checker.specs.declared.Answer.{Answer}
 use Rattle.checker.specs.Answers.{answerOf}
 use Rattle.checker.specs.Parts.{ReadsText, Gives, GivesFor}

@@ -1,7 +1,7 @@
 -- Demand 3 of the call that evaluates: from demand 3 of its definition and the call's contract. Assumes nothing.
 use mathlib.Core.Path.{_≡_, refl, sym, ap, _∙_}
 use mathlib.Core.List.{List, [], _++_}
-use Prim.Native.Nat.{ℕ, _≤_}
+use Prim.Native.Nat.{ℕ}
 use lib.ListN.{length, take, drop}
 use lib.Seq.{take-append-seam}
 use Rattle.ocl.specs.Types.{Ty}
@@ -9,11 +9,11 @@ use Rattle.ocl.specs.Model.{Model}
 use Rattle.sheet.specs.Text.{Bytes, bytes}
 use Rattle.sheet.specs.Spelling.{spellType, spellValue}
 use Rattle.sheet.specs.Reading.{Reading, accepted, refused, readText}
-use Rattle.sheet.specs.Calls.{Verdict, answer, refusalAt, outputAfter, onSheet, readCall, typeOn, typeCall, evaluateCall}
-use Rattle.sheet.specs.Soundness.{Lent, Ending, undefined-end, value-end, step-stop, size-stop, SoundCall}
+use Rattle.sheet.specs.Calls.{Verdict, answer, refusalAt, outputAfter, onSheet, readCall, typeOn, typeCall}
+use Rattle.sheet.specs.Soundness.{Lent, Ending, undefined-end, value-end, step-stop, size-stop}
 use Rattle.sheet.proofs.Soundness.{read-lent, type-lent, demand3}
 use Rattle.checker.specs.declared.Answer.{Answer}
-use Rattle.checker.specs.Answers.{answerOf, AnswersWith}
+use Rattle.checker.specs.Answers.{answerOf}
 use Rattle.checker.specs.Soundness.{Says, AnswerEnding, undefined-said, value-said, step-stopped, size-stopped, Demand3OfCall}
 
 -- a rule has a type only on a sheet that is accepted

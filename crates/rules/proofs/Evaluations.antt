@@ -1,11 +1,11 @@
 -- A rule's evaluation by its number. Assumes nothing.
-use mathlib.Core.Path.{_≡_, refl, sym, ap, _∙_}
+use mathlib.Core.Path.{_≡_, ap, _∙_}
 use mathlib.Core.Option.{some}
 use mathlib.Core.List.{List, _++_}
-use Prim.Native.Nat.{ℕ, _+_, _≤_, _<_}
+use Prim.Native.Nat.{ℕ, _+_, _≤_}
 use native.Mathlib.Omega.{arith}
 use lib.ListN.{length, getD, getElem?, take, drop, length-append, length-drop}
-use lib.Seq.{length-take-le, take-append-le, drop-at, slice}
+use lib.Seq.{length-take-le, take-append-le, drop-at}
 use Rattle.ocl.specs.Forms.{levels}
 use Rattle.ocl.specs.Typing.{markOf}
 use Rattle.ocl.specs.Evaluation.{Outcome, evaluateRule}
@@ -13,11 +13,10 @@ use Rattle.sheet.specs.Sheet.{Rule, Sheet, modelOf}
 use Rattle.sheet.specs.Calls.{typingOf, outcomeOf}
 use Rattle.nodes.specs.Nodes.{treeAt}
 use Rattle.tables.specs.declared.Counts.{Counts}
-use Rattle.tables.specs.Layout.{Kept}
 use Rattle.evaluation.specs.declared.Ended.{Ended}
-use Rattle.evaluation.specs.Answers.{Lies, Ends, ends-value, ends-undefined, ends-stuck, ends-stop}
-use Rattle.evaluation.specs.Evaluating.{World, Reads, Rules}
-use Rattle.rules.specs.Accepted.{Accepted, RuleIn, Ready, MarksIn}
+use Rattle.evaluation.specs.Answers.{Ends, ends-value, ends-undefined, ends-stuck, ends-stop}
+use Rattle.evaluation.specs.Evaluating.{Reads, Rules}
+use Rattle.rules.specs.Accepted.{Accepted, RuleIn, MarksIn}
 use Rattle.rules.specs.Numbered.{EvaluatesNumbered}
 use Rattle.rules.proofs.Ready.{ready}
 

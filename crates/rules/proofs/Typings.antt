@@ -1,12 +1,10 @@
 -- A rule's typing by its number, and where evaluation finds the rule. Assumes nothing.
-use mathlib.Core.Path.{_≡_, refl, sym, ap, _∙_}
+use mathlib.Core.Path.{_≡_, sym, ap, _∙_}
 use mathlib.Core.Option.{some}
 use mathlib.Core.List.{List}
-use Prim.Native.Nat.{ℕ, _+_, _≤_, _<_}
-use native.Mathlib.Omega.{arith}
-use lib.ListN.{length, getD, getElem?, take, drop}
+use Prim.Native.Nat.{ℕ, _+_, _<_}
+use lib.ListN.{getD, drop}
 use lib.Seq.{drop-drop}
-use Rattle.ocl.specs.Model.{Model}
 use Rattle.ocl.specs.Typing.{typeRule, Typed, markOf}
 use Rattle.sheet.specs.Sheet.{Rule, Sheet, modelOf}
 use Rattle.sheet.specs.Calls.{typingOf}
@@ -14,7 +12,6 @@ use Rattle.nodes.specs.Nodes.{treeAt}
 use Rattle.tables.specs.declared.Counts.{Counts}
 use Rattle.tables.specs.Layout.{Kept}
 use Rattle.typing.specs.declared.Reply.{Reply}
-use Rattle.typing.specs.Replies.{meaning}
 use Rattle.typing.specs.Rules.{Kept as KeptMarks, TypesRule}
 use Rattle.rules.specs.Accepted.{Known, RuleIn}
 use Rattle.rules.specs.Numbered.{TypesNumbered}

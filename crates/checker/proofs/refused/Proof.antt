@@ -1,4 +1,3 @@
-use borrow.Author.Needs.{needs}
 use mathlib.Core.Path.{refl}
 use Rattle.sheet.specs.Calls.{refusalAt}
 use Rattle.checker.proofs.refused.Statement.{statement}
