@@ -5,4 +5,5 @@ pub mod ReadCalls
 pub mod TypeCalls
 pub mod OutcomeLaws
 pub mod EvaluateCalls
+pub mod ReportCalls
 pub mod Soundness

@@ -1,5 +1,5 @@
 // The public calls. Each reads the text anew, uses the lent words as working memory and leaves their first 8,192 words zero.
-// Document 01, Calls. It depends on `reader` for the sheet and on `rules` for a rule of it.
+// Document 01, Calls. It depends on `reader` for the sheet, on `rules` for a rule of it and on `report` for the report.
 ghost use mathlib.Core.Path.{_≡_};
 ghost use Prim.Native.Nat.{_≤_};
 ghost use lib.ListN.{length};
@@ -11,6 +11,7 @@ use reader::read;
 
 pub mod evaluate_call; // ocl_evaluate_rule
 pub mod read_call; // ocl_read_sheet
+pub mod report_call; // ocl_report
 pub mod type_call; // ocl_type_rule
 
 // What a call returns: 0 or a refusal's number, the steps of an evaluation, a line number, and the bytes written.

@@ -1,0 +1,71 @@
+// The call that writes the report.
+ghost use lib.ListN.{length};
+ghost use Rattle.sheet.specs.Report.{reportOf, reportCall};
+ghost use Rattle.sheet.specs.Soundness.{Lent};
+ghost use Rattle.tables.specs.Layout.{Kept};
+ghost use Rattle.rules.specs.Accepted.{Known};
+ghost use Rattle.report.specs.Reports.{reportOn};
+ghost use Rattle.checker.specs.Answers.{AnswersWith};
+ghost use Rattle.checker.specs.Parts.{Leaves, GivesFor};
+use super::Answer;
+use super::read_text;
+use super::refused;
+use super::short;
+use super::wipe_all;
+use super::written;
+use reader::SheetRead;
+use report::Reported;
+use report::report_sheet;
+use tables::Counts;
+
+// The report of the sheet that lies in the words, put into out, or a refusal.
+fn report_on(w0: &[u64], st: Counts, w1: &mut [u64], w2: &mut [u64], out: &mut [u8]) -> Answer
+    requires { ⌜ Lent (now w0) (now w1) (now w2) (now out) × Known st (now w0) (now w1) ⌝ }
+    ensures { λ a. ⌜ GivesFor st (now (w0 .entry)) (now (w1 .entry)) (λ s. reportOn s (length (now (out .entry)))) a (now (out .entry)) (now (out .exit)) × Kept (now (w1 .entry)) (now (w1 .exit)) × Kept (now (w2 .entry)) (now (w2 .exit)) ⌝ }
+{
+    match report_sheet(w0, st, w1, w2, out) {
+        Reported::Written(end) => written(end, 0),
+        Reported::Short => refused(18, 0),
+        Reported::Refused(n, k) => refused(n, k),
+    }
+}
+
+// The text's own answer, whatever the words held; the words are not wiped yet.
+fn report_answer(
+    text: &[u8],
+    w0: &mut [u64],
+    w1: &mut [u64],
+    w2: &mut [u64],
+    out: &mut [u8],
+) -> Answer
+    requires { ⌜ Lent (now w0) (now w1) (now w2) (now out) ⌝ }
+    ensures { λ a. ⌜ Leaves (reportOf (now (text .entry)) (length (now (out .entry)))) a (now (w0 .entry)) (now (w1 .entry)) (now (w2 .entry)) (now (out .entry)) (now (w0 .exit)) (now (w1 .exit)) (now (w2 .exit)) (now (out .exit)) ⌝ }
+{
+    match read_text(text, w0, w1) {
+        SheetRead::Sheet(st) => report_on(w0, st, w1, w2, out),
+        SheetRead::Refused(n, k) => refused(n, k),
+    }
+}
+
+// Writes the report of a sheet: 0 with its lines in out, else a refusal, which leaves out as it is. Each word slice lends at
+// least 8,192 words, out at least 2,048 bytes.
+#[no_mangle]
+pub extern "C" fn ocl_report(
+    text: &[u8],
+    w0: &mut [u64],
+    w1: &mut [u64],
+    w2: &mut [u64],
+    out: &mut [u8],
+) -> Answer
+    ensures { λ a. ⌜ AnswersWith (reportCall (now (text .entry)) (now (w0 .entry)) (now (w1 .entry)) (now (w2 .entry)) (now (out .entry))) a (now (w0 .entry)) (now (w1 .entry)) (now (w2 .entry)) (now (out .entry)) (now (w0 .exit)) (now (w1 .exit)) (now (w2 .exit)) (now (out .exit)) ⌝ }
+{
+    if short(w0, w1, w2) {
+        return refused(1, 0);
+    }
+    if out.len() < 2048 {
+        return refused(1, 0);
+    }
+    let a = report_answer(text, w0, w1, w2, out);
+    wipe_all(w0, w1, w2);
+    a
+}
