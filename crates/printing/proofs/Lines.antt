@@ -9,8 +9,9 @@ use mir.Val.{Fits}
 use borrow.Author.Tests.{ne-eqb}
 use lib.Seq.{take-at}
 use Rattle.sheet.specs.Text.{Bytes, bytes, spellNumber}
+use Rattle.sheet.proofs.Numbers.{digits-at-most}
 use Rattle.text.specs.Written.{Puts}
-use Rattle.text.proofs.WrittenLaws.{puts-length, puts-then, spell-short}
+use Rattle.text.proofs.WrittenLaws.{puts-length, puts-then}
 use Rattle.sheet.specs.Calls.{refusalAt}
 use Rattle.sheet.specs.Report.{printed}
 use Rattle.printing.specs.Printed.{Front}
@@ -25,7 +26,7 @@ puts-front {w} {a} {b} {r} p h = record {
 
 -- a number of 64 bits has at most 20 digits
 number-short : (n : ℕ) → Fits w64 n → length (spellNumber n) ≤ 20
-number-short n h = spell-short 19 n (omega arith)
+number-short n h = digits-at-most 20 n (omega arith) (omega arith)
 
 module _ (n k : ℕ) (a : Bytes) (pre : (0 < n) × (64 ≤ length a)) (fn : Fits w64 n) (fk : Fits w64 k) where
   module _ {b : Bytes} {mark : ℕ} (p : Puts 0 (33 ∷ 32 ∷ []) a b mark) where
