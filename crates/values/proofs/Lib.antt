@@ -11,6 +11,9 @@ mod Finding
 mod Putting
 pub mod Adding
 mod Gathering
+mod Ascending
+mod Merging
+mod Finishing
 mod Moving
 pub mod Arithmetic
 mod Worked

@@ -9,7 +9,7 @@ use lib.Seq.{slice}
 use lib.Dec.{leb}
 use lib.IntN.{ℤ}
 use Rattle.laws.specs.Choice.{if_then_else_}
-use Rattle.ocl.specs.Types.{Kind, kindCode}
+use Rattle.ocl.specs.Types.{Kind, set, bag, kindCode}
 use Rattle.ocl.specs.Values.{Value, bool, int, obj, coll, Values, nil, count, size, sort, same, has, insert, append, add, addAll}
 use Rattle.values.specs.Cells.{bias, payload, head, enc, encs, Fits, AllFit, past}
 use Rattle.values.specs.declared.Simple.{Simple}
@@ -151,6 +151,35 @@ pub record Moves (sp from : ℕ) (f : Formed) (before after : List ℕ) (r : For
   pub same : r ≡ f
   pub low : take sp after ≡ take sp before
   pub lies : (n : ℕ) → f ≡ formed.Done n → take (sp + n) after ≡ take sp before ++ slice from (from + n) before
+
+-- the kinds whose members ascend: by how much each is above the one before it, at least
+pub data Apart : Kind → ℕ → Type 0 where
+  apart-set : Apart set 1
+  apart-bag : Apart bag 0
+
+-- the cell `first` at top, then those from top + 1 to w and those from i to mid; nothing where r is 0
+pub record Finishes (first i mid w top : ℕ) (before after : List ℕ) (r : ℕ) : Type 0 where
+  pub small : r ≤ 128
+  pub low : take top after ≡ take top before
+  pub size-is : 0 < r → r ≡ w - top + (mid - i)
+  pub lies : 0 < r → take (top + r) after ≡ take top before ++ (first ∷ (slice (top + 1) w before ++ slice i mid before))
+
+-- the members from `start` to top are added to those from `from` to mid, whose collection has the first cell h; nothing is
+-- said where r is 0
+pub record Merges (h from mid start top : ℕ) (before after : List ℕ) (r : ℕ) : Type 0 where
+  pub small : r ≤ 128
+  pub low : take top after ≡ take top before
+  pub is : 0 < r → (k : Kind) (us vs : Values) → h ≡ head (coll k us) → Fits (coll k us) → AllFit vs
+      → slice from mid before ≡ encs us → slice start top before ≡ encs vs
+      → Forms (coll k (addAll k vs us)) top (take top before) after (formed.Done r)
+
+-- the same for the kinds with this distance
+pub record MergesBy (apart h from mid start top : ℕ) (before after : List ℕ) (r : ℕ) : Type 0 where
+  pub small : r ≤ 128
+  pub low : take top after ≡ take top before
+  pub is : 0 < r → (k : Kind) (us vs : Values) → Apart k apart → h ≡ head (coll k us) → Fits (coll k us) → AllFit vs
+      → slice from mid before ≡ encs us → slice start top before ≡ encs vs
+      → Forms (coll k (addAll k vs us)) top (take top before) after (formed.Done r)
 
 -- the members from `from` to end, as a collection of the kind
 pub record Collects (kind sp from end : ℕ) (before after : List ℕ) (r : Formed) : Type 0 where

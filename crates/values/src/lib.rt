@@ -5,6 +5,7 @@
 pub mod arith;
 pub mod cells;
 pub mod collect;
+pub mod merge;
 pub mod order;
 
 // A value that is no collection. An Integer is counted from -2147483648.
