@@ -2,6 +2,7 @@
 // nodes from word 6144 on; a node; where the values of the variables start, each one more than its place, or 0; the stack and
 // its top sp; the levels that are left; and the steps begun.
 use crate::Ended;
+use crate::answers::anew;
 use crate::answers::formed;
 use crate::answers::put;
 use crate::answers::truth;
@@ -50,7 +51,7 @@ fn below(
 {
     let a = wide(node_word(nodes, n, k));
     if a < n {
-        return node(tables, st, nodes, a, env, stack, sp, left, steps);
+        return anew(node(tables, st, nodes, a, env, stack, sp, left, steps));
     }
     if LIMIT <= steps {
         return Ended::Stop { number: 16, steps };
