@@ -19,6 +19,7 @@ use values::cells::skip;
 use values::cells::slide;
 use values::cells::sort_of;
 use values::collect::collect;
+ghost use mathlib.Core.Path.{_≡_};
 ghost use Prim.Native.Nat.{_+_, _≤_, _<_};
 ghost use lib.ListN.{length};
 ghost use Rattle.ocl.specs.Forms.{levels};
@@ -441,7 +442,9 @@ fn iterate(
     let Ended::Value { len: lb, steps: sb } = second else {
         return second;
     };
-    fold_members(tables, st, nodes, n, env, stack, sp, la, lb, left, sb)
+    let i = wide(node_word(nodes, n, 4) % 16);
+    let j = wide(node_word(nodes, n, 5) % 16);
+    fold_members(tables, st, nodes, n, i, j, env, stack, sp, la, lb, left, sb)
 }
 
 // Members in their order; each body's value is moved down over the accumulator, and the last one over the source.
@@ -450,6 +453,8 @@ fn fold_members(
     st: Counts,
     nodes: &[u64],
     n: usize,
+    i: usize,
+    j: usize,
     env: [usize; 16],
     stack: &mut [u64],
     sp: usize,
@@ -460,10 +465,9 @@ fn fold_members(
 ) -> Ended
     requires { ⌜ Room st (length (now tables)) (length (now nodes)) (length (now stack)) n sp (left + 1) ⌝ }
     requires { ⌜ (levels (operandAt (now nodes) n 3) ≤ left) × (1 ≤ la) × (la ≤ 128) × (1 ≤ lb) × (lb ≤ 128) ⌝ }
+    requires { ⌜ (i ≡ variable (word (now nodes) n 4)) × (j ≡ variable (word (now nodes) n 5)) ⌝ }
     ensures { λ r. ⌜ Folds (Reads st (now (tables .entry)) (now (nodes .entry))) (variable (word (now (nodes .entry)) n 4)) (variable (word (now (nodes .entry)) n 5)) (operandFor (now (nodes .entry)) n 3) env sp la lb steps (now (stack .entry)) (now (stack .exit)) r ⌝ }
 {
-    let i = wide(node_word(nodes, n, 4) % 16);
-    let j = wide(node_word(nodes, n, 5) % 16);
     let mid = sp + la;
     let mut len = lb;
     let mut s = steps;
