@@ -87,7 +87,10 @@ pub fn node(
         7..=12 => unary(tables, st, nodes, n, form, env, stack, sp, deeper, s),
         13..=22 => binary(tables, st, nodes, n, form, env, stack, sp, deeper, s),
         23..=24 => connective(tables, st, nodes, n, form, env, stack, sp, deeper, s),
-        25..=26 => quantified(tables, st, nodes, n, form, env, stack, sp, deeper, s),
+        25..=26 => {
+            let i = wide(node_word(nodes, n, 3) % 16);
+            quantified(tables, st, nodes, n, form, i, env, stack, sp, deeper, s)
+        }
         27..=29 => collection(tables, st, nodes, n, form, env, stack, sp, deeper, s),
         30 => is_undef(tables, st, nodes, n, env, stack, sp, deeper, s),
         31 => conditional(tables, st, nodes, n, env, stack, sp, deeper, s),
@@ -353,6 +356,7 @@ fn quantified(
     nodes: &[u64],
     n: usize,
     form: u64,
+    i: usize,
     env: [usize; 16],
     stack: &mut [u64],
     sp: usize,
@@ -361,6 +365,7 @@ fn quantified(
 ) -> Ended
     requires { ⌜ Room st (length (now tables)) (length (now nodes)) (length (now stack)) n sp (left + 1) ⌝ }
     requires { ⌜ (25 ≤ form) × (form < 27) × (levels (operandAt (now nodes) n 1) ≤ left) × (levels (operandAt (now nodes) n 2) ≤ left) ⌝ }
+    requires { ⌜ i ≡ variable (word (now nodes) n 3) ⌝ }
     ensures { λ r. ⌜ Evals (Reads st (now (tables .entry)) (now (nodes .entry))) (quantifiedNode (now (nodes .entry)) n form) env sp steps (now (stack .entry)) (now (stack .exit)) r ⌝ }
 {
     let first = below(tables, st, nodes, n, 1, env, stack, sp, left, steps);
@@ -370,7 +375,7 @@ fn quantified(
     if sort_of(stack[sp]) < SET {
         return Ended::Stuck;
     }
-    search_members(tables, st, nodes, n, form, env, stack, sp, la, left, sa)
+    search_members(tables, st, nodes, n, form, i, env, stack, sp, la, left, sa)
 }
 
 // Members in their order, up to the first whose body ends it: `forAll` (25) at 0, `exists` (26) at 1.
@@ -380,6 +385,7 @@ fn search_members(
     nodes: &[u64],
     n: usize,
     form: u64,
+    i: usize,
     env: [usize; 16],
     stack: &mut [u64],
     sp: usize,
@@ -389,9 +395,9 @@ fn search_members(
 ) -> Ended
     requires { ⌜ Room st (length (now tables)) (length (now nodes)) (length (now stack)) n sp (left + 1) ⌝ }
     requires { ⌜ (25 ≤ form) × (form < 27) × (levels (operandAt (now nodes) n 2) ≤ left) × (1 ≤ la) × (la ≤ 128) ⌝ }
+    requires { ⌜ i ≡ variable (word (now nodes) n 3) ⌝ }
     ensures { λ r. ⌜ Searches (Reads st (now (tables .entry)) (now (nodes .entry))) (quantifierOf form) (variable (word (now (nodes .entry)) n 3)) (operandFor (now (nodes .entry)) n 2) env sp la steps (now (stack .entry)) (now (stack .exit)) r ⌝ }
 {
-    let i = wide(node_word(nodes, n, 3) % 16);
     let end = sp + la;
     let mut s = steps;
     let mut p = sp + 1;
