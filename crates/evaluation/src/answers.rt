@@ -1,4 +1,4 @@
-// A value that was formed at the top of the stack, as an answer; and a truth value read back.
+// A value that was formed at the top of the stack, as an answer; an answer made anew; and a truth value read back.
 use crate::Ended;
 use values::Formed;
 use values::Simple;
@@ -27,6 +27,19 @@ pub fn formed(f: Formed, steps: u64) -> Ended
     match f {
         Formed::Done { len } => Ended::Value { len, steps },
         Formed::Over => Ended::Stop { number: 17, steps },
+    }
+}
+
+// The same answer, made anew. To copy one that another call has just written takes longer: the bytes between its variant and
+// its fields, which nobody wrote, are copied too, and the processor waits for the write of the variant to end.
+pub fn anew(e: Ended) -> Ended
+    ensures { λ r. ⌜ r ≡ e ⌝ }
+{
+    match e {
+        Ended::Value { len, steps } => Ended::Value { len, steps },
+        Ended::Undef { steps } => Ended::Undef { steps },
+        Ended::Stuck => Ended::Stuck,
+        Ended::Stop { number, steps } => Ended::Stop { number, steps },
     }
 }
 

@@ -2,6 +2,7 @@
 // nodes from word 6144 on; a node; where the values of the variables start, each one more than its place, or 0; the stack and
 // its top sp; the levels that are left; and the steps begun.
 use crate::Ended;
+use crate::answers::anew;
 use crate::answers::formed;
 use crate::answers::put;
 use crate::answers::truth;
@@ -18,6 +19,7 @@ use values::cells::skip;
 use values::cells::slide;
 use values::cells::sort_of;
 use values::collect::collect;
+ghost use mathlib.Core.Path.{_≡_};
 ghost use Prim.Native.Nat.{_+_, _≤_, _<_};
 ghost use lib.ListN.{length};
 ghost use Rattle.ocl.specs.Forms.{levels};
@@ -50,7 +52,7 @@ fn below(
 {
     let a = wide(node_word(nodes, n, k));
     if a < n {
-        return node(tables, st, nodes, a, env, stack, sp, left, steps);
+        return anew(node(tables, st, nodes, a, env, stack, sp, left, steps));
     }
     if LIMIT <= steps {
         return Ended::Stop { number: 16, steps };
@@ -85,7 +87,10 @@ pub fn node(
         7..=12 => unary(tables, st, nodes, n, form, env, stack, sp, deeper, s),
         13..=22 => binary(tables, st, nodes, n, form, env, stack, sp, deeper, s),
         23..=24 => connective(tables, st, nodes, n, form, env, stack, sp, deeper, s),
-        25..=26 => quantified(tables, st, nodes, n, form, env, stack, sp, deeper, s),
+        25..=26 => {
+            let i = wide(node_word(nodes, n, 3) % 16);
+            quantified(tables, st, nodes, n, form, i, env, stack, sp, deeper, s)
+        }
         27..=29 => collection(tables, st, nodes, n, form, env, stack, sp, deeper, s),
         30 => is_undef(tables, st, nodes, n, env, stack, sp, deeper, s),
         31 => conditional(tables, st, nodes, n, env, stack, sp, deeper, s),
@@ -351,6 +356,7 @@ fn quantified(
     nodes: &[u64],
     n: usize,
     form: u64,
+    i: usize,
     env: [usize; 16],
     stack: &mut [u64],
     sp: usize,
@@ -359,6 +365,7 @@ fn quantified(
 ) -> Ended
     requires { ⌜ Room st (length (now tables)) (length (now nodes)) (length (now stack)) n sp (left + 1) ⌝ }
     requires { ⌜ (25 ≤ form) × (form < 27) × (levels (operandAt (now nodes) n 1) ≤ left) × (levels (operandAt (now nodes) n 2) ≤ left) ⌝ }
+    requires { ⌜ i ≡ variable (word (now nodes) n 3) ⌝ }
     ensures { λ r. ⌜ Evals (Reads st (now (tables .entry)) (now (nodes .entry))) (quantifiedNode (now (nodes .entry)) n form) env sp steps (now (stack .entry)) (now (stack .exit)) r ⌝ }
 {
     let first = below(tables, st, nodes, n, 1, env, stack, sp, left, steps);
@@ -368,7 +375,7 @@ fn quantified(
     if sort_of(stack[sp]) < SET {
         return Ended::Stuck;
     }
-    search_members(tables, st, nodes, n, form, env, stack, sp, la, left, sa)
+    search_members(tables, st, nodes, n, form, i, env, stack, sp, la, left, sa)
 }
 
 // Members in their order, up to the first whose body ends it: `forAll` (25) at 0, `exists` (26) at 1.
@@ -378,6 +385,7 @@ fn search_members(
     nodes: &[u64],
     n: usize,
     form: u64,
+    i: usize,
     env: [usize; 16],
     stack: &mut [u64],
     sp: usize,
@@ -387,9 +395,9 @@ fn search_members(
 ) -> Ended
     requires { ⌜ Room st (length (now tables)) (length (now nodes)) (length (now stack)) n sp (left + 1) ⌝ }
     requires { ⌜ (25 ≤ form) × (form < 27) × (levels (operandAt (now nodes) n 2) ≤ left) × (1 ≤ la) × (la ≤ 128) ⌝ }
+    requires { ⌜ i ≡ variable (word (now nodes) n 3) ⌝ }
     ensures { λ r. ⌜ Searches (Reads st (now (tables .entry)) (now (nodes .entry))) (quantifierOf form) (variable (word (now (nodes .entry)) n 3)) (operandFor (now (nodes .entry)) n 2) env sp la steps (now (stack .entry)) (now (stack .exit)) r ⌝ }
 {
-    let i = wide(node_word(nodes, n, 3) % 16);
     let end = sp + la;
     let mut s = steps;
     let mut p = sp + 1;
@@ -440,7 +448,9 @@ fn iterate(
     let Ended::Value { len: lb, steps: sb } = second else {
         return second;
     };
-    fold_members(tables, st, nodes, n, env, stack, sp, la, lb, left, sb)
+    let i = wide(node_word(nodes, n, 4) % 16);
+    let j = wide(node_word(nodes, n, 5) % 16);
+    fold_members(tables, st, nodes, n, i, j, env, stack, sp, la, lb, left, sb)
 }
 
 // Members in their order; each body's value is moved down over the accumulator, and the last one over the source.
@@ -449,6 +459,8 @@ fn fold_members(
     st: Counts,
     nodes: &[u64],
     n: usize,
+    i: usize,
+    j: usize,
     env: [usize; 16],
     stack: &mut [u64],
     sp: usize,
@@ -459,10 +471,9 @@ fn fold_members(
 ) -> Ended
     requires { ⌜ Room st (length (now tables)) (length (now nodes)) (length (now stack)) n sp (left + 1) ⌝ }
     requires { ⌜ (levels (operandAt (now nodes) n 3) ≤ left) × (1 ≤ la) × (la ≤ 128) × (1 ≤ lb) × (lb ≤ 128) ⌝ }
+    requires { ⌜ (i ≡ variable (word (now nodes) n 4)) × (j ≡ variable (word (now nodes) n 5)) ⌝ }
     ensures { λ r. ⌜ Folds (Reads st (now (tables .entry)) (now (nodes .entry))) (variable (word (now (nodes .entry)) n 4)) (variable (word (now (nodes .entry)) n 5)) (operandFor (now (nodes .entry)) n 3) env sp la lb steps (now (stack .entry)) (now (stack .exit)) r ⌝ }
 {
-    let i = wide(node_word(nodes, n, 4) % 16);
-    let j = wide(node_word(nodes, n, 5) % 16);
     let mid = sp + la;
     let mut len = lb;
     let mut s = steps;

@@ -7,13 +7,15 @@ use native.Mathlib.Omega.{arith}
 use Rattle.evaluation.proofs.walk.below.Reads as below
 use Rattle.evaluation.proofs.walk.fold_members.Reads as fold-members
 use Rattle.evaluation.proofs.walk.iterate.Reads as iterate
+use Rattle.nodes.proofs.node_word.Reads as node-word-reads
+use Rattle.types.proofs.classes.wide.Reads as wide-reads
 use Rattle.values.proofs.cells.sort_of.Reads as sort-of-reads
 use Rattle.evaluation.proofs.walk.+attribute+below+binary+collection+conditional+connective+fold_members+is_undef+iterate+let_in+node+quantified+right+search_members+unary.Lts-iterate as lts
 use Rattle.evaluation.proofs.walk.+attribute+below+binary+collection+conditional+connective+fold_members+is_undef+iterate+let_in+node+quantified+right+search_members+unary.Proof.Base.{below-below, fold-members-below, iterate-at}
 
 module _ (t : ℕ) where
   abbrev calls : lts.Claims
-  calls = (below-below t, below.Post, sort-of-reads.Asked, sort-of-reads.Learnt, fold-members-below t, fold-members.Post)
+  calls = (below-below t, below.Post, sort-of-reads.Asked, sort-of-reads.Learnt, node-word-reads.Asked, node-word-reads.Learnt, wide-reads.Asked, wide-reads.Learnt, fold-members-below t, fold-members.Post)
 
   below-requires : lts.Need-below-requires calls (iterate-at t) iterate.Post
   below-requires c κs = search needs
@@ -57,14 +59,26 @@ module _ (t : ℕ) where
   returns-3 : lts.Need-returns-3 calls (iterate-at t) iterate.Post
   returns-3 c = iterate-second _ _ (c .before .before .before .before .before .before .before .before .before .before .before .before .before .below .ensures) (c .before .before .before .before .before .before .before .before .before .first .given .1) (c .before .before .before .before .before .before .sort-of .ensures) (c .before .before .before .before .before .if1 .left) (omega (arith, bounds (c .before .before .before .before .before .before .before .before .before .before .before .before .before .below .ensures .small) (c .before .before .before .before .before .before .before .before .before .first .given .1), c .before .before .before .before .before .before .before .before .before .before .before .before .before .before .before .before .before .before .pre, c .before .before .before .before .before .before .before .before .before .before .before .before .before .below .kept)) (c .before .before .before .below2 .ensures) (c .match2 .keys2)
 
+  node-word-requires : lts.Need-node-word-requires calls (iterate-at t) iterate.Post
+  node-word-requires c κs = search needs
+
+  wide-requires : lts.Need-wide-requires calls (iterate-at t) iterate.Post
+  wide-requires c κs = search needs
+
+  node-word-requires-2 : lts.Need-node-word-requires-2 calls (iterate-at t) iterate.Post
+  node-word-requires-2 c κs = omega (arith, c .before .before .before .before .before .before .before .before .before .before .before .before .before .before .before .before .before .before .before .before .before .before .pre)
+
+  wide-requires-2 : lts.Need-wide-requires-2 calls (iterate-at t) iterate.Post
+  wide-requires-2 c κs = search needs
+
   fold-members-requires : lts.Need-fold-members-requires calls (iterate-at t) iterate.Post
-  fold-members-requires c κs = omega (arith, bounds (c .before .before .before .before .before .before .before .before .before .before .before .before .before .before .before .before .below .ensures .small) (c .before .before .before .before .before .before .before .before .before .before .before .before .first .given .1), bounds (c .before .before .before .before .before .before .below2 .ensures .small) (c .before .before .second .given .1), c .before .before .before .before .before .before .before .before .before .before .before .before .before .before .before .before .before .before .before .before .before .pre, c .before .before .before .before .before .before .before .before .before .before .before .before .before .before .before .before .below .kept, c .before .before .before .before .before .before .below2 .kept)
+  fold-members-requires c κs = omega (arith, bounds (c .before .before .before .before .before .before .before .before .before .before .before .before .before .before .before .before .before .before .before .before .below .ensures .small) (c .before .before .before .before .before .before .before .before .before .before .before .before .before .before .before .before .first .given .1), bounds (c .before .before .before .before .before .before .before .before .before .before .below2 .ensures .small) (c .before .before .before .before .before .before .second .given .1), c .before .before .before .before .before .before .before .before .before .before .before .before .before .before .before .before .before .before .before .before .before .before .before .before .before .pre, c .before .before .before .before .before .before .before .before .before .before .before .before .before .before .before .before .before .before .before .before .below .kept, c .before .before .before .before .before .before .before .before .before .before .below2 .kept, c .before .before .before .wide .ensures, c .before .before .before .before .node-word .ensures, c .before .wide2 .ensures, c .before .before .node-word2 .ensures)
 
   same-length-4 : lts.Need-same-length-4 calls (iterate-at t) iterate.Post
-  same-length-4 c = search needs
+  same-length-4 c = omega (arith, c .before .before .before .before .before .before .before .before .before .before .before .before .before .before .before .before .before .before .before .before .before .before .before .below .kept, c .before .before .before .before .before .before .before .before .before .before .before .before .before .below2 .kept, c .before .before .fold-members .kept)
 
   returns-4 : lts.Need-returns-4 calls (iterate-at t) iterate.Post
-  returns-4 c = iterate-done _ _ (c .before .before .before .before .before .before .before .before .before .before .before .before .before .before .before .before .before .before .before .below .ensures) (c .before .before .before .before .before .before .before .before .before .before .before .before .before .before .before .first .given .1) (c .before .before .before .before .before .before .before .before .before .before .before .before .sort-of .ensures) (c .before .before .before .before .before .before .before .before .before .before .before .if1 .left) (omega (arith, bounds (c .before .before .before .before .before .before .before .before .before .before .before .before .before .before .before .before .before .before .before .below .ensures .small) (c .before .before .before .before .before .before .before .before .before .before .before .before .before .before .before .first .given .1), c .before .before .before .before .before .before .before .before .before .before .before .before .before .before .before .before .before .before .before .before .before .before .before .before .pre, c .before .before .before .before .before .before .before .before .before .before .before .before .before .before .before .before .before .before .before .below .kept)) (c .before .before .before .before .before .before .before .before .before .below2 .ensures) (c .before .before .before .before .before .second .given .1) (c .before .before .fold-members .ensures)
+  returns-4 c = iterate-done _ _ (c .before .before .before .before .before .before .before .before .before .before .before .before .before .before .before .before .before .before .before .before .before .before .before .below .ensures) (c .before .before .before .before .before .before .before .before .before .before .before .before .before .before .before .before .before .before .before .first .given .1) (c .before .before .before .before .before .before .before .before .before .before .before .before .before .before .before .before .sort-of .ensures) (c .before .before .before .before .before .before .before .before .before .before .before .before .before .before .before .if1 .left) (omega (arith, bounds (c .before .before .before .before .before .before .before .before .before .before .before .before .before .before .before .before .before .before .before .before .before .before .before .below .ensures .small) (c .before .before .before .before .before .before .before .before .before .before .before .before .before .before .before .before .before .before .before .first .given .1), c .before .before .before .before .before .before .before .before .before .before .before .before .before .before .before .before .before .before .before .before .before .before .before .before .before .before .before .before .pre, c .before .before .before .before .before .before .before .before .before .before .before .before .before .before .before .before .before .before .before .before .before .before .before .below .kept)) (c .before .before .before .before .before .before .before .before .before .before .before .before .before .below2 .ensures) (c .before .before .before .before .before .before .before .before .before .second .given .1) (c .before .before .fold-members .ensures)
 
   pub closed : {M : Type 1} → lts.Closed calls (iterate-at t) iterate.Post M
-  closed = lts.spec calls (iterate-at t) iterate.Post below-requires enum-known-first same-length returns mul-sort-of slice-read-sort-of sort-of-requires same-length-2 returns-2 add-below below-requires-2 enum-known-second same-length-3 returns-3 fold-members-requires same-length-4 returns-4
+  closed = lts.spec calls (iterate-at t) iterate.Post below-requires enum-known-first same-length returns mul-sort-of slice-read-sort-of sort-of-requires same-length-2 returns-2 add-below below-requires-2 enum-known-second same-length-3 returns-3 node-word-requires wide-requires node-word-requires-2 wide-requires-2 fold-members-requires same-length-4 returns-4

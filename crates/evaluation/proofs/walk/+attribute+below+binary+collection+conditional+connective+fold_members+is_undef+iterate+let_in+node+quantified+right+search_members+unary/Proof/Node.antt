@@ -20,12 +20,13 @@ use Rattle.evaluation.proofs.walk.node.Reads as node
 use Rattle.nodes.proofs.node_word.Reads as node-word-reads
 use Rattle.evaluation.proofs.walk.quantified.Reads as quantified
 use Rattle.evaluation.proofs.walk.unary.Reads as unary
+use Rattle.types.proofs.classes.wide.Reads as wide-reads
 use Rattle.evaluation.proofs.walk.+attribute+below+binary+collection+conditional+connective+fold_members+is_undef+iterate+let_in+node+quantified+right+search_members+unary.Lts-node as lts
 use Rattle.evaluation.proofs.walk.+attribute+below+binary+collection+conditional+connective+fold_members+is_undef+iterate+let_in+node+quantified+right+search_members+unary.Proof.Base.{attribute-below, binary-below, collection-below, conditional-below, connective-below, is-undef-below, iterate-below, let-in-below, node-at, quantified-below, unary-below}
 
 module _ (t : ℕ) where
   abbrev calls : lts.Claims
-  calls = (node-word-reads.Asked, node-word-reads.Learnt, is-undef-below t, is-undef.Post, conditional-below t, conditional.Post, let-in-below t, let-in.Post, attribute-below t, attribute.Post, iterate-below t, iterate.Post, leaf-reads.Asked, leaf-reads.Learnt, unary-below t, unary.Post, binary-below t, binary.Post, connective-below t, connective.Post, quantified-below t, quantified.Post, collection-below t, collection.Post)
+  calls = (node-word-reads.Asked, node-word-reads.Learnt, is-undef-below t, is-undef.Post, conditional-below t, conditional.Post, let-in-below t, let-in.Post, attribute-below t, attribute.Post, iterate-below t, iterate.Post, leaf-reads.Asked, leaf-reads.Learnt, unary-below t, unary.Post, binary-below t, binary.Post, connective-below t, connective.Post, wide-reads.Asked, wide-reads.Learnt, quantified-below t, quantified.Post, collection-below t, collection.Post)
 
   returns : lts.Need-returns calls (node-at t) node.Post
   returns c = node-stop _ _ (c .if1 .taken)
@@ -69,8 +70,14 @@ module _ (t : ℕ) where
   connective-requires : lts.Need-connective-requires calls (node-at t) node.Post
   connective-requires c κs = omega (arith, c .before .before .before .before .before .before .before .before .before .before .before .pre, some-level (treeAt (c .before .before .before .before .before .before .before .before .before .before .before .args .nodes .now) (c .before .before .before .before .before .before .before .before .before .before .before .args .n)), c .before .before .if4 .left, c .before .if5 .taken, connective-levels (c .before .before .before .before .before .before .before .before .before .before .before .args .nodes .now) (c .before .before .before .before .before .before .before .before .before .before .before .args .n) (c .before .before .before .before .before .before .node-word .result) (c .before .before .before .before .before .before .node-word .ensures) (c .before .before .if4 .left) (omega (arith, c .before .if5 .taken)))
 
+  node-word-requires-3 : lts.Need-node-word-requires-3 calls (node-at t) node.Post
+  node-word-requires-3 c κs = omega (arith, c .before .before .before .before .before .before .before .before .before .before .before .pre)
+
+  wide-requires : lts.Need-wide-requires calls (node-at t) node.Post
+  wide-requires c κs = search needs
+
   quantified-requires : lts.Need-quantified-requires calls (node-at t) node.Post
-  quantified-requires c κs = omega (arith, c .before .before .before .before .before .before .before .before .before .before .before .before .pre, some-level (treeAt (c .before .before .before .before .before .before .before .before .before .before .before .before .args .nodes .now) (c .before .before .before .before .before .before .before .before .before .before .before .before .args .n)), c .before .before .if5 .left, c .before .if6 .taken, quantified-levels (c .before .before .before .before .before .before .before .before .before .before .before .before .args .nodes .now) (c .before .before .before .before .before .before .before .before .before .before .before .before .args .n) (c .before .before .before .before .before .before .before .node-word .result) (c .before .before .before .before .before .before .before .node-word .ensures) (c .before .before .if5 .left) (omega (arith, c .before .if6 .taken)))
+  quantified-requires c κs = omega (arith, c .before .wide .ensures, c .before .before .node-word3 .ensures, c .before .before .before .before .before .before .before .before .before .before .before .before .before .before .pre, some-level (treeAt (c .before .before .before .before .before .before .before .before .before .before .before .before .before .before .args .nodes .now) (c .before .before .before .before .before .before .before .before .before .before .before .before .before .before .args .n)), c .before .before .before .before .if5 .left, c .before .before .before .if6 .taken, quantified-levels (c .before .before .before .before .before .before .before .before .before .before .before .before .before .before .args .nodes .now) (c .before .before .before .before .before .before .before .before .before .before .before .before .before .before .args .n) (c .before .before .before .before .before .before .before .before .before .node-word .result) (c .before .before .before .before .before .before .before .before .before .node-word .ensures) (c .before .before .before .before .if5 .left) (omega (arith, c .before .before .before .if6 .taken)))
 
   collection-requires : lts.Need-collection-requires calls (node-at t) node.Post
   collection-requires c κs = (omega (arith, c .before .before .before .before .before .before .before .before .before .before .before .before .before .pre), (omega (arith, c .before .before .before .before .before .before .before .before .before .before .before .before .before .pre, some-level (treeAt (c .before .before .before .before .before .before .before .before .before .before .before .before .before .args .nodes .now) (c .before .before .before .before .before .before .before .before .before .before .before .before .before .args .n))), (c .before .before .if6 .left, omega (arith, c .before .if7 .taken), shallow (c .before .before .before .before .before .before .before .before .before .before .before .before .before .args .nodes .now) (c .before .before .before .before .before .before .before .before .before .before .before .before .before .args .n) (c .before .before .before .before .before .before .before .before .node-word .result) (c .before .before .before .before .before .before .before .before .before .before .before .before .before .args .left - 1) (c .before .before .before .before .before .before .before .before .node-word .ensures) (c .before .before .if6 .left) (omega (arith, c .before .if7 .taken)) (omega (arith, c .before .before .before .before .before .before .before .before .before .before .before .before .before .pre, some-level (treeAt (c .before .before .before .before .before .before .before .before .before .before .before .before .before .args .nodes .now) (c .before .before .before .before .before .before .before .before .before .before .before .before .before .args .n)))))))
@@ -133,7 +140,7 @@ module _ (t : ℕ) where
   same-length-10 c = search needs
 
   returns-11 : lts.Need-returns-11 calls (node-at t) node.Post
-  returns-11 c = node-quantified _ _ _ (c .before .before .before .before .before .before .before .before .before .before .node-word .ensures) (c .before .before .before .before .before .before .before .before .before .before .before .if1 .left) (c .before .before .before .before .before .if5 .left) (omega (arith, c .before .before .before .before .if6 .taken)) (c .before .before .quantified .ensures)
+  returns-11 c = node-quantified _ _ _ (c .before .before .before .before .before .before .before .before .before .before .before .before .node-word .ensures) (c .before .before .before .before .before .before .before .before .before .before .before .before .before .if1 .left) (c .before .before .before .before .before .before .before .if5 .left) (omega (arith, c .before .before .before .before .before .before .if6 .taken)) (c .before .before .quantified .ensures)
 
   same-length-11 : lts.Need-same-length-11 calls (node-at t) node.Post
   same-length-11 c = search needs
@@ -145,4 +152,4 @@ module _ (t : ℕ) where
   returns-13 c = node-none _ _ _ (c .before .before .before .before .before .before .before .node-word .ensures) (c .before .before .before .before .before .before .before .before .if1 .left) (over-34 _ (c .if7 .left) (c .before .before .before .before .before .before .match .rest .0 .0 .0 .0 .1) (c .before .before .before .before .before .before .match .rest .0 .0 .0 .1) (c .before .before .before .before .before .before .match .rest .0 .0 .1) (c .before .before .before .before .before .before .match .rest .0 .1) (c .before .before .before .before .before .before .match .rest .1))
 
   pub closed : {M : Type 1} → lts.Closed calls (node-at t) node.Post M
-  closed = lts.spec calls (node-at t) node.Post returns add-s sub-deeper node-word-requires is-undef-requires conditional-requires let-in-requires attribute-requires iterate-requires node-word-requires-2 leaf-requires unary-requires binary-requires connective-requires quantified-requires collection-requires same-length returns-2 same-length-2 returns-3 same-length-3 returns-4 same-length-4 returns-5 same-length-5 returns-6 same-length-6 returns-7 same-length-7 returns-8 same-length-8 returns-9 same-length-9 returns-10 same-length-10 returns-11 same-length-11 returns-12 returns-13
+  closed = lts.spec calls (node-at t) node.Post returns add-s sub-deeper node-word-requires is-undef-requires conditional-requires let-in-requires attribute-requires iterate-requires node-word-requires-2 leaf-requires unary-requires binary-requires connective-requires node-word-requires-3 wide-requires quantified-requires collection-requires same-length returns-2 same-length-2 returns-3 same-length-3 returns-4 same-length-4 returns-5 same-length-5 returns-6 same-length-6 returns-7 same-length-7 returns-8 same-length-8 returns-9 same-length-9 returns-10 same-length-10 returns-11 same-length-11 returns-12 returns-13

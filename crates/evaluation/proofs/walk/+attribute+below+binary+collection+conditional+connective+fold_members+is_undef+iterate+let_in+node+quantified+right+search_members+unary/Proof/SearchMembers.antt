@@ -8,30 +8,22 @@ use Prim.Native.Nat.{ℕ}
 use borrow.Author.Needs.{needs}
 use native.Mathlib.Omega.{arith}
 use Rattle.evaluation.proofs.walk.below.Reads as below
-use Rattle.nodes.proofs.node_word.Reads as node-word-reads
 use Rattle.evaluation.proofs.answers.put.Reads as put-reads
 use Rattle.evaluation.proofs.walk.search_members.Reads as search-members
 use Rattle.values.proofs.cells.skip.Reads as skip-reads
 use Rattle.evaluation.proofs.answers.truth.Reads as truth-reads
-use Rattle.types.proofs.classes.wide.Reads as wide-reads
 use Rattle.evaluation.proofs.walk.+attribute+below+binary+collection+conditional+connective+fold_members+is_undef+iterate+let_in+node+quantified+right+search_members+unary.Lts-search_members as lts
 use Rattle.evaluation.proofs.walk.+attribute+below+binary+collection+conditional+connective+fold_members+is_undef+iterate+let_in+node+quantified+right+search_members+unary.Proof.Base.{below-below, search-members-at}
 
 module _ (t : ℕ) where
   abbrev calls : lts.Claims
-  calls = (node-word-reads.Asked, node-word-reads.Learnt, wide-reads.Asked, wide-reads.Learnt, below-below t, below.Post, truth-reads.Asked, truth-reads.Learnt, put-reads.Asked, put-reads.Learnt, skip-reads.Asked, skip-reads.Learnt)
+  calls = (below-below t, below.Post, truth-reads.Asked, truth-reads.Learnt, put-reads.Asked, put-reads.Learnt, skip-reads.Asked, skip-reads.Learnt)
 
   abbrev Inv : lts.InvT-loop
-  Inv tables st nodes n form env stack₀ sp la left steps i end s₀ p₀ stack s p = Searching (Reads st tables nodes) (quantifierOf form) (variable (word nodes n 3)) (operandFor nodes n 2) env sp (sp + la) stack₀ stack s₀ s p
+  Inv tables st nodes n form i env stack₀ sp la left steps end s₀ p₀ stack s p = Searching (Reads st tables nodes) (quantifierOf form) (variable (word nodes n 3)) (operandFor nodes n 2) env sp (sp + la) stack₀ stack s₀ s p
 
   abbrev μ : lts.MeasureT-loop
-  μ tables st nodes n form env stack₀ sp la left steps i end s₀ p₀ stack s p = sp + la - p
-
-  node-word-requires : lts.Need-node-word-requires calls (search-members-at t) search-members.Post Inv μ
-  node-word-requires c κs = search needs
-
-  wide-requires : lts.Need-wide-requires calls (search-members-at t) search-members.Post Inv μ
-  wide-requires c κs = search needs
+  μ tables st nodes n form i env stack₀ sp la left steps end s₀ p₀ stack s p = sp + la - p
 
   add-end : lts.Need-add-end calls (search-members-at t) search-members.Post Inv μ
   add-end c = search needs
@@ -40,7 +32,7 @@ module _ (t : ℕ) where
   add-p c = search needs
 
   loop-holds : lts.Need-loop-holds calls (search-members-at t) search-members.Post Inv μ
-  loop-holds c = search-starts (omega (arith, c .before .before .before .before .before .pre))
+  loop-holds c = search-starts (omega (arith, c .before .before .before .pre))
 
   add-inner : lts.Need-add-inner calls (search-members-at t) search-members.Post Inv μ
   add-inner c = search needs
@@ -52,7 +44,7 @@ module _ (t : ℕ) where
   array-write-inner c = search needs
 
   below-requires : lts.Need-below-requires calls (search-members-at t) search-members.Post Inv μ
-  below-requires c κs = omega (arith, c .before .before .before .before .before .before .before .before .pre, c .before .before .loop .inv .long)
+  below-requires c κs = omega (arith, c .before .before .before .before .before .before .pre, c .before .before .loop .inv .long)
 
   enum-known-turn : lts.Need-enum-known-turn calls (search-members-at t) search-members.Post Inv μ
   enum-known-turn c = search needs
@@ -61,13 +53,13 @@ module _ (t : ℕ) where
   same-length c = (c .before .before .before .below .kept .1 .1 .1 .1 .1 .1 .0) ∙ c .before .before .before .before .before .before .loop .inv .long
 
   returns : lts.Need-returns calls (search-members-at t) search-members.Post Inv μ
-  returns c = search-early (c .before .before .before .before .before .before .loop .inv) (omega (arith, c .before .before .before .before .before .before .before .before .before .before .before .before .pre)) (c .before .before .before .before .before .before .before .wide .ensures ∙ ap (λ (x : ℕ). x % 16) (c .before .before .before .before .before .before .before .before .node-word .ensures)) (omega (arith, c .before .before .before .before .before .before .before .wide .ensures)) (omega (arith, c .before .before .before .before .before .before .before .before .before .before .before .before .pre)) (c .before .before .before .before .before .loop-test .taken) (c .before .before .before .below .ensures) (c .match .keys2)
+  returns c = search-early (c .before .before .before .before .before .before .loop .inv) (omega (arith, c .before .before .before .before .before .before .before .before .before .before .pre)) (c .before .before .before .before .before .before .before .before .before .before .pre .1 .1 .1) (omega (arith, c .before .before .before .before .before .before .before .before .before .before .pre .1 .1 .1)) (omega (arith, c .before .before .before .before .before .before .before .before .before .before .pre)) (c .before .before .before .before .before .loop-test .taken) (c .before .before .before .below .ensures) (c .match .keys2)
 
   mul-truth : lts.Need-mul-truth calls (search-members-at t) search-members.Post Inv μ
   mul-truth c = search needs
 
   slice-read-truth : lts.Need-slice-read-truth calls (search-members-at t) search-members.Post Inv μ
-  slice-read-truth c = omega (arith, c .before .before .before .before .before .before .before .before .before .before .before .before .before .before .before .pre, c .before .before .before .before .before .before .before .before .before .loop .inv .long, (c .before .before .before .before .before .before .below .kept .1 .1 .1 .1 .1 .1 .0))
+  slice-read-truth c = omega (arith, c .before .before .before .before .before .before .before .before .before .before .before .before .before .pre, c .before .before .before .before .before .before .before .before .before .loop .inv .long, (c .before .before .before .before .before .before .below .kept .1 .1 .1 .1 .1 .1 .0))
 
   truth-requires : lts.Need-truth-requires calls (search-members-at t) search-members.Post Inv μ
   truth-requires c κs = search needs
@@ -76,37 +68,37 @@ module _ (t : ℕ) where
   same-length-2 c = (c .before .before .before .before .before .before .before .before .below .kept .1 .1 .1 .1 .1 .1 .0) ∙ c .before .before .before .before .before .before .before .before .before .before .before .loop .inv .long
 
   returns-2 : lts.Need-returns-2 calls (search-members-at t) search-members.Post Inv μ
-  returns-2 c = search-stuck (c .before .before .before .before .before .before .before .before .before .before .before .loop .inv) (omega (arith, c .before .before .before .before .before .before .before .before .before .before .before .before .before .before .before .before .before .pre)) (c .before .before .before .before .before .before .before .before .before .before .before .before .wide .ensures ∙ ap (λ (x : ℕ). x % 16) (c .before .before .before .before .before .before .before .before .before .before .before .before .before .node-word .ensures)) (omega (arith, c .before .before .before .before .before .before .before .before .before .before .before .before .wide .ensures)) (omega (arith, c .before .before .before .before .before .before .before .before .before .before .before .before .before .before .before .before .before .pre)) (c .before .before .before .before .before .before .before .before .before .before .loop-test .taken) (c .before .before .before .before .before .before .before .before .below .ensures) (c .before .before .before .before .turn .given .1) (c .before .truth .ensures) (c .if1 .taken)
+  returns-2 c = search-stuck (c .before .before .before .before .before .before .before .before .before .before .before .loop .inv) (omega (arith, c .before .before .before .before .before .before .before .before .before .before .before .before .before .before .before .pre)) (c .before .before .before .before .before .before .before .before .before .before .before .before .before .before .before .pre .1 .1 .1) (omega (arith, c .before .before .before .before .before .before .before .before .before .before .before .before .before .before .before .pre .1 .1 .1)) (omega (arith, c .before .before .before .before .before .before .before .before .before .before .before .before .before .before .before .pre)) (c .before .before .before .before .before .before .before .before .before .before .loop-test .taken) (c .before .before .before .before .before .before .before .before .below .ensures) (c .before .before .before .before .turn .given .1) (c .before .truth .ensures) (c .if1 .taken)
 
   sub-if2 : lts.Need-sub-if2 calls (search-members-at t) search-members.Post Inv μ
   sub-if2 c = search needs
 
   put-requires : lts.Need-put-requires calls (search-members-at t) search-members.Post Inv μ
-  put-requires c κs = (tt, omega (arith, c .before .before .before .before .before .before .before .before .before .before .before .before .before .before .before .before .before .before .before .pre, c .before .before .before .before .before .before .before .before .before .before .before .before .before .loop .inv .long, (c .before .before .before .before .before .before .before .before .before .before .below .kept .1 .1 .1 .1 .1 .1 .0)))
+  put-requires c κs = (tt, omega (arith, c .before .before .before .before .before .before .before .before .before .before .before .before .before .before .before .before .before .pre, c .before .before .before .before .before .before .before .before .before .before .before .before .before .loop .inv .long, (c .before .before .before .before .before .before .before .before .before .before .below .kept .1 .1 .1 .1 .1 .1 .0)))
 
   same-length-3 : lts.Need-same-length-3 calls (search-members-at t) search-members.Post Inv μ
   same-length-3 c = c .before .before .put .kept .0 ∙ (c .before .before .before .before .before .before .before .before .before .before .before .before .before .below .kept .1 .1 .1 .1 .1 .1 .0) ∙ c .before .before .before .before .before .before .before .before .before .before .before .before .before .before .before .before .loop .inv .long
 
   returns-3 : lts.Need-returns-3 calls (search-members-at t) search-members.Post Inv μ
-  returns-3 c = search-ends (c .before .before .before .before .before .before .before .before .before .before .before .before .before .before .before .before .loop .inv) (omega (arith, c .before .before .before .before .before .before .before .before .before .before .before .before .before .before .before .before .before .before .before .before .before .before .pre)) (c .before .before .before .before .before .before .before .before .before .before .before .before .before .before .before .before .before .wide .ensures ∙ ap (λ (x : ℕ). x % 16) (c .before .before .before .before .before .before .before .before .before .before .before .before .before .before .before .before .before .before .node-word .ensures)) (omega (arith, c .before .before .before .before .before .before .before .before .before .before .before .before .before .before .before .before .before .wide .ensures)) (omega (arith, c .before .before .before .before .before .before .before .before .before .before .before .before .before .before .before .before .before .before .before .before .before .before .pre)) (c .before .before .before .before .before .before .before .before .before .before .before .before .before .before .before .loop-test .taken) (c .before .before .before .before .before .before .before .before .before .before .before .before .before .below .ensures) (c .before .before .before .before .before .before .before .before .before .turn .given .1) (c .before .before .before .before .before .before .truth .ensures) (c .before .before .before .before .before .if1 .left) (c .before .before .before .before .if2 .taken ∙ ends-code (c .before .before .before .before .before .before .before .before .before .before .before .before .before .before .before .before .before .before .before .before .before .before .args .form) (omega (arith, c .before .before .before .before .before .before .before .before .before .before .before .before .before .before .before .before .before .before .before .before .before .before .pre)) (omega (arith, c .before .before .before .before .before .before .before .before .before .before .before .before .before .before .before .before .before .before .before .before .before .before .pre))) (c .before .before .put .ensures)
+  returns-3 c = search-ends (c .before .before .before .before .before .before .before .before .before .before .before .before .before .before .before .before .loop .inv) (omega (arith, c .before .before .before .before .before .before .before .before .before .before .before .before .before .before .before .before .before .before .before .before .pre)) (c .before .before .before .before .before .before .before .before .before .before .before .before .before .before .before .before .before .before .before .before .pre .1 .1 .1) (omega (arith, c .before .before .before .before .before .before .before .before .before .before .before .before .before .before .before .before .before .before .before .before .pre .1 .1 .1)) (omega (arith, c .before .before .before .before .before .before .before .before .before .before .before .before .before .before .before .before .before .before .before .before .pre)) (c .before .before .before .before .before .before .before .before .before .before .before .before .before .before .before .loop-test .taken) (c .before .before .before .before .before .before .before .before .before .before .before .before .before .below .ensures) (c .before .before .before .before .before .before .before .before .before .turn .given .1) (c .before .before .before .before .before .before .truth .ensures) (c .before .before .before .before .before .if1 .left) (c .before .before .before .before .if2 .taken ∙ ends-code (c .before .before .before .before .before .before .before .before .before .before .before .before .before .before .before .before .before .before .before .before .args .form) (omega (arith, c .before .before .before .before .before .before .before .before .before .before .before .before .before .before .before .before .before .before .before .before .pre)) (omega (arith, c .before .before .before .before .before .before .before .before .before .before .before .before .before .before .before .before .before .before .before .before .pre))) (c .before .before .put .ensures)
 
   skip-requires : lts.Need-skip-requires calls (search-members-at t) search-members.Post Inv μ
-  skip-requires c κs = omega (arith, c .before .before .before .before .before .before .before .before .before .before .before .before .before .before .before .before .before .before .before .pre, c .before .before .before .before .before .before .before .before .before .before .before .before .before .loop .inv .long, (c .before .before .before .before .before .before .before .before .before .before .below .kept .1 .1 .1 .1 .1 .1 .0), c .before .before .before .before .before .before .before .before .before .before .before .before .loop-test .taken)
+  skip-requires c κs = omega (arith, c .before .before .before .before .before .before .before .before .before .before .before .before .before .before .before .before .before .pre, c .before .before .before .before .before .before .before .before .before .before .before .before .before .loop .inv .long, (c .before .before .before .before .before .before .before .before .before .before .below .kept .1 .1 .1 .1 .1 .1 .0), c .before .before .before .before .before .before .before .before .before .before .before .before .loop-test .taken)
 
   loop-less : lts.Need-loop-less calls (search-members-at t) search-members.Post Inv μ
   loop-less c = omega (arith, c .skip .ensures .up (c .before .before .before .before .before .before .before .before .before .before .before .before .before .loop-test .taken), c .skip .ensures .within, c .before .before .before .before .before .before .before .before .before .before .before .before .before .loop-test .taken)
 
   loop-again : lts.Need-loop-again calls (search-members-at t) search-members.Post Inv μ
-  loop-again c = search-again (c .before .before .before .before .before .before .before .before .before .before .before .before .before .before .loop .inv) (omega (arith, c .before .before .before .before .before .before .before .before .before .before .before .before .before .before .before .before .before .before .before .before .pre)) (c .before .before .before .before .before .before .before .before .before .before .before .before .before .before .before .wide .ensures ∙ ap (λ (x : ℕ). x % 16) (c .before .before .before .before .before .before .before .before .before .before .before .before .before .before .before .before .node-word .ensures)) (omega (arith, c .before .before .before .before .before .before .before .before .before .before .before .before .before .before .before .wide .ensures)) (omega (arith, c .before .before .before .before .before .before .before .before .before .before .before .before .before .before .before .before .before .before .before .before .pre)) (c .before .before .before .before .before .before .before .before .before .before .before .before .before .loop-test .taken) (c .before .before .before .before .before .before .before .before .before .before .before .below .ensures) (c .before .before .before .before .before .before .before .turn .given .1) (c .before .before .before .before .truth .ensures) (c .before .before .before .if1 .left) (λ e. c .before .before .if2 .left (e ∙ sym (ends-code (c .before .before .before .before .before .before .before .before .before .before .before .before .before .before .before .before .before .before .before .before .args .form) (omega (arith, c .before .before .before .before .before .before .before .before .before .before .before .before .before .before .before .before .before .before .before .before .pre)) (omega (arith, c .before .before .before .before .before .before .before .before .before .before .before .before .before .before .before .before .before .before .before .before .pre))))) (c .before .before .before .before .before .before .before .before .before .before .before .below .kept .1 .1 .1 .1 .1 .1 .0) (c .skip .ensures)
+  loop-again c = search-again (c .before .before .before .before .before .before .before .before .before .before .before .before .before .before .loop .inv) (omega (arith, c .before .before .before .before .before .before .before .before .before .before .before .before .before .before .before .before .before .before .pre)) (c .before .before .before .before .before .before .before .before .before .before .before .before .before .before .before .before .before .before .pre .1 .1 .1) (omega (arith, c .before .before .before .before .before .before .before .before .before .before .before .before .before .before .before .before .before .before .pre .1 .1 .1)) (omega (arith, c .before .before .before .before .before .before .before .before .before .before .before .before .before .before .before .before .before .before .pre)) (c .before .before .before .before .before .before .before .before .before .before .before .before .before .loop-test .taken) (c .before .before .before .before .before .before .before .before .before .before .before .below .ensures) (c .before .before .before .before .before .before .before .turn .given .1) (c .before .before .before .before .truth .ensures) (c .before .before .before .if1 .left) (λ e. c .before .before .if2 .left (e ∙ sym (ends-code (c .before .before .before .before .before .before .before .before .before .before .before .before .before .before .before .before .before .before .args .form) (omega (arith, c .before .before .before .before .before .before .before .before .before .before .before .before .before .before .before .before .before .before .pre)) (omega (arith, c .before .before .before .before .before .before .before .before .before .before .before .before .before .before .before .before .before .before .pre))))) (c .before .before .before .before .before .before .before .before .before .before .before .below .kept .1 .1 .1 .1 .1 .1 .0) (c .skip .ensures)
 
   put-requires-2 : lts.Need-put-requires-2 calls (search-members-at t) search-members.Post Inv μ
-  put-requires-2 c κs = (tt, omega (arith, c .before .before .before .before .before .before .before .before .pre, c .before .before .loop .inv .long))
+  put-requires-2 c κs = (tt, omega (arith, c .before .before .before .before .before .before .pre, c .before .before .loop .inv .long))
 
   same-length-4 : lts.Need-same-length-4 calls (search-members-at t) search-members.Post Inv μ
   same-length-4 c = c .before .before .put2 .kept .0 ∙ c .before .before .before .before .before .loop .inv .long
 
   returns-4 : lts.Need-returns-4 calls (search-members-at t) search-members.Post Inv μ
-  returns-4 c = search-none (c .before .before .before .before .before .loop .inv) (omega (arith, c .before .before .before .before .before .before .before .before .before .before .before .pre)) (c .before .before .before .before .loop-test .left) (none-code _) (c .before .before .put2 .ensures)
+  returns-4 c = search-none (c .before .before .before .before .before .loop .inv) (omega (arith, c .before .before .before .before .before .before .before .before .before .pre)) (c .before .before .before .before .loop-test .left) (none-code _) (c .before .before .put2 .ensures)
 
   pub closed : {M : Type 1} → lts.Closed calls (search-members-at t) search-members.Post M
-  closed = lts.spec calls (search-members-at t) search-members.Post Inv μ node-word-requires wide-requires add-end add-p loop-holds add-inner mul-inner array-write-inner below-requires enum-known-turn same-length returns mul-truth slice-read-truth truth-requires same-length-2 returns-2 sub-if2 put-requires same-length-3 returns-3 skip-requires loop-less loop-again put-requires-2 same-length-4 returns-4
+  closed = lts.spec calls (search-members-at t) search-members.Post Inv μ add-end add-p loop-holds add-inner mul-inner array-write-inner below-requires enum-known-turn same-length returns mul-truth slice-read-truth truth-requires same-length-2 returns-2 sub-if2 put-requires same-length-3 returns-3 skip-requires loop-less loop-again put-requires-2 same-length-4 returns-4
