@@ -20,6 +20,8 @@ use Rattle.rules.specs.Width.{width}
 use Rattle.report.specs.declared.bound.RulesTyped.{RulesTyped}
 use Rattle.report.specs.declared.bound.RulesTyped.the-variants as code
 
+-- ---- objects of a class, and rules with a type
+
 -- how many of the first n objects are of class c or below
 unfoldable pub objectsOf : Model → ℕ → ℕ → ℕ
 objectsOf m c zero = 0
@@ -29,6 +31,7 @@ pub record CountsObjects (st : Counts) (w0 : List ℕ) (c n : ℕ) : Type 0 wher
   pub is : (m : Model) → HoldsModel st w0 m → n ≡ objectsOf m c (st .objects)
   pub few : n ≤ 96
 
+-- n is the bound of the lines of a rule with context c and type t
 pub record BoundsLines (st : Counts) (w0 : List ℕ) (c : ℕ) (t : Ty) (n : ℕ) : Type 0 where
   pub is : (m : Model) → HoldsModel st w0 m → n ≡ objectsOf m c (st .objects) * (15 + width t)
   pub few : n ≤ 148896

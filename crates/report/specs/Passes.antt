@@ -25,8 +25,8 @@ pub record Adds (keep : Bool) (total : ℕ) (b before after : Bytes) (r : ℕ) :
   pub size : length after ≡ length before
   pub kept : keep ≡ true → after ≡ put total b before
 
--- n bytes, of which there are at most b, or the b themselves fit behind `total` where they are to be kept; and one line fits
--- in any case
+-- where bytes are to be kept, their bound b or their number n fits behind `total`; where they are counted, one line fits; and the
+-- numbers stay small
 pub record HasRoom (keep : Bool) (total n b room : ℕ) : Type 0 where
   pub all : keep ≡ true → (total + b ≤ room) ⊎ (total + n ≤ room)
   pub line : 2048 ≤ room

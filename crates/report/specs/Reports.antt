@@ -1,4 +1,4 @@
--- What the report comes to, and what the code answers.
+-- What the report of a sheet that lies in the words comes to, and what the code answers.
 use mathlib.Core.Path.{_≡_}
 use mathlib.Core.Bool.{Bool, true, false}
 use mathlib.Core.List.{List}

@@ -73,7 +73,7 @@ fn object_lines(
     sum
 }
 
-// The whole report.
+// The lines of all rules.
 pub fn rule_lines(
     w0: &[u64],
     st: Counts,
