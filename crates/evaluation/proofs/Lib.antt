@@ -9,4 +9,5 @@ pub mod ConnectiveLaws
 pub mod FormLaws
 pub mod LoopLaws
 pub mod CollectLaws
+pub mod Packing
 pub mod NodeLaws

@@ -1,4 +1,4 @@
--- A node by its form's code, an operand by its node, and a rule by its root. Assumes nothing.
+-- A node by its form's code, an operand by its node, an answer as a word, and a rule by its root. Assumes nothing.
 use mathlib.Core.Path.{_≡_, refl, ap, _∙_}
 use mathlib.Core.Bool.{Bool, true, false}
 use mathlib.Core.Option.{none}
@@ -11,36 +11,29 @@ use borrow.Author.Tests.{ltb-true, ltb-false}
 use Rattle.laws.specs.Choice.{if_then_else_}
 use Rattle.ocl.specs.Values.{obj, size}
 use Rattle.ocl.specs.Environment.{extend, start}
-use Rattle.ocl.specs.Forms.{undef, levels}
+use Rattle.ocl.specs.Forms.{Expr, node, undef, levels}
 use Rattle.ocl.specs.Evaluation.{tick, leafRun, evaluation, formRun, evaluateRule}
+use Rattle.ocl.proofs.Steps.{run-limited}
 use Rattle.values.specs.Cells.{fits-obj}
 use Rattle.values.specs.Contracts.{means-obj, Pushes}
 use Rattle.values.specs.declared.Simple.the-variants as simple
-use Rattle.nodes.specs.Nodes.{word, leafOf, formOf, treesBelow, treeAt}
+use Rattle.nodes.specs.Nodes.{word, leafOf, treeAt}
 use Rattle.nodes.proofs.Nodes.{tree-law, below-law}
 use Rattle.nodes.proofs.Levels.{collect-levels}
 use Rattle.nodes.proofs.Evaluation.{operandRun, leaf-run, unary-run, binary-run, connective-run, quantified-run, collect-run, over-run, isUndef-run, conditional-run, let-run, attribute-run, iterate-run, none-run, operand-run, late-run}
 use Rattle.tables.specs.declared.Counts.{Counts}
 use Rattle.evaluation.specs.declared.Ended.{Ended}
 use Rattle.evaluation.specs.declared.Ended.the-variants as ended
+use Rattle.evaluation.specs.Answers.{answerIn, Packs}
 use Rattle.evaluation.specs.Evaluating.{World, ModelIn, Reads, free, held, Rel, Meaning, Evals, Rules, leafFor, nodeFor, operandFor, unaryNode, binaryNode, connectiveNode, isUndefNode, conditionalNode, letNode, attributeNode, quantifiedNode, iterateNode, membersRun, collectNode, operandAt, Shallow}
 use Rattle.evaluation.proofs.Words.{under-refl, gives}
+use Rattle.evaluation.proofs.Packing.{ends-packed}
 use Rattle.evaluation.proofs.Composition.{rel-bind, valued, tick-on, tick-stop, ran-undefined-at}
 
 -- ---- the form
 
-unfoldable pub anyForm : List ℕ → ℕ → Meaning
-anyForm t n w = formRun (w .model) (w .mark) n (formOf (treesBelow t n) (word t n) (word t n 0))
-
 unfoldable pub undefNode : Meaning
 undefNode w = leafRun (w .model) undef
-
-any-node : (t : List ℕ) (n : ℕ) (w : World) → nodeFor t n w ≡ tick (anyForm t n w)
-unfolding nodeFor anyForm evaluation
-any-node t n w = ap (evaluation (w .model) (w .mark)) (tree-law t n)
-
-pub node-stop : {Ok : World → Type 0} (t : List ℕ) (n : ℕ) {env B : List ℕ} {sp s : ℕ} → 1000000 ≤ s → Evals Ok (nodeFor t n) env sp s B B (ended.Stop 16 s)
-node-stop t n h = tick-stop (anyForm t n) (any-node t n) h
 
 undef-done : {Ok : World → Type 0} {env B : List ℕ} {sp s : ℕ} → Evals Ok undefNode env sp s B B (ended.Undef s)
 unfolding undefNode leafRun
@@ -110,18 +103,36 @@ node-leaf t n k x e h a f y =
 
 -- ---- an operand
 
+-- every node begins with a step
+unfoldable formFor : Expr → Meaning
+formFor (node p f) w = formRun (w .model) (w .mark) p f
+
+begins : (e : Expr) (w : World) → evaluation (w .model) (w .mark) e ≡ tick (formFor e w)
+unfolding evaluation formFor
+begins (node p f) w = refl
+
+pub below-stop : {Ok : World → Type 0} (t : List ℕ) (n k : ℕ) {env B : List ℕ} {sp s : ℕ} → 1000000 ≤ s → Evals Ok (operandFor t n k) env sp s B B (ended.Stop 16 s)
+unfolding operandFor
+below-stop t n k h = tick-stop (formFor (operandAt t n k)) (begins (operandAt t n k)) h
+
 module _ {Ok : World → Type 0} (t : List ℕ) (n k a : ℕ) {env B : List ℕ} {sp s : ℕ} (e : a ≡ word t n k) where
   pub below-done : {A : List ℕ} {r : Ended} → a < n → Evals Ok (nodeFor t a) env sp s B A r → Evals Ok (operandFor t n k) env sp s B A r
   unfolding nodeFor operandFor operandRun
   below-done h x = record { small = x .small; ran = λ w ok ρ rel. rw (operand-run (w .model) (w .mark) t n k a e h) (x .ran w ok ρ rel) }
 
-  pub below-stop : n ≤ a → 1000000 ≤ s → Evals Ok (operandFor t n k) env sp s B B (ended.Stop 16 s)
-  unfolding operandFor undefNode operandRun
-  below-stop h l = tick-stop undefNode (λ w. late-run (w .model) (w .mark) t n k a e h) l
-
   pub below-late : n ≤ a → s < 1000000 → Evals Ok (operandFor t n k) env sp s B B (ended.Undef (s + 1))
   unfolding operandFor undefNode operandRun
   below-late h l = tick-on undefNode (λ w. late-run (w .model) (w .mark) t n k a e h) l undef-done
+
+-- ---- an answer as one word
+
+pub node-packed : {Ok : World → Type 0} (t : List ℕ) (n : ℕ) {env B A : List ℕ} {sp s w : ℕ} {r : Ended} → s < 1000000 → Evals Ok (nodeFor t n) env sp s B A r → Packs r w
+    → Evals Ok (nodeFor t n) env sp s B A (answerIn w)
+unfolding nodeFor
+node-packed t n {s = s} h x p = record {
+  small = p .small (x .small);
+  ran = λ w ok ρ rel. let y = x .ran w ok ρ rel in record { kept = y .kept; ends = ends-packed (y .ends) (run-limited (w .model) (w .mark) (treeAt t n) ρ (omega arith)) p };
+}
 
 -- ---- a rule
 

@@ -1,6 +1,7 @@
 // A rule for an object: the recursion from the rule's root, with nothing bound but `self`.
 use crate::Ended;
-use crate::walk::node;
+use crate::answers::unpack;
+use crate::walk::packed;
 use tables::Counts;
 use values::Simple;
 use values::cells::push;
@@ -26,5 +27,5 @@ pub fn evaluate_rule(
     push(stack, 0, Simple::Object { number: object });
     let mut env = [0usize; 16];
     env[0] = 1;
-    node(tables, st, nodes, root, env, stack, 1, 19, 0)
+    unpack(packed(tables, st, nodes, root, env, stack, 1, 19, 0))
 }

@@ -1,5 +1,5 @@
--- No run returns more than 1,000,000 steps, typed or not: a law for each piece that evaluation is written in, and one induction over
--- the forms. Assumes nothing.
+-- No run returns more than 1,000,000 steps, typed or not, and none stops with another number than 16 or 17: a law for each piece that
+-- evaluation is written in, and one induction over the forms. Assumes nothing.
 use mathlib.Core.Bool.{Bool, true, false, Bool·beq}
 use mathlib.Core.Option.{Option, none, some}
 use Prim.Native.Nat.{ℕ, _+_, _≤_}
@@ -16,11 +16,11 @@ use Rattle.ocl.specs.Forms.{Connective, Quantifier, Leaf, truth, undef, 
 use Rattle.ocl.specs.Evaluation.{Outcome, value, undefined, stuck, stop, Run, resume, bind, tick, form, given, bound, onBool, onInt, onObj, onColl, arithmetic, leafRun, cast, unaryApply, unaryRun, leftFits, binaryApply, binaryRun, decides, connectiveRun, isUndefRun, conditionalRun, letRun, attributeRun, endsAt, search, quantifiedRun, fold, iterateRun, Gather, noOperandRun, operandRun, collectRun, evaluation, formRun, operandsRun, evaluateRule}
 use Rattle.ocl.specs.Soundness.{stepsOf}
 
-data Limited : Outcome → Type 0 where
+pub data Limited : Outcome → Type 0 where
   limited-value : {v : Value} {n : ℕ} → n ≤ 1000000 → Limited (value v n)
   limited-undefined : {n : ℕ} → n ≤ 1000000 → Limited (undefined n)
   limited-stuck : Limited stuck
-  limited-stop : {c n : ℕ} → n ≤ 1000000 → Limited (stop c n)
+  limited-stop : {c n : ℕ} → c ≤ 17 → n ≤ 1000000 → Limited (stop c n)
 
 -- what follows a value, or undefined, is limited if the steps so far are
 abbrev After : (Value → ℕ → Outcome) → Type 0
@@ -32,13 +32,13 @@ limited-resume : {o : Outcome} {f : Value → ℕ → Outcome} {g : ℕ → Outc
 limited-resume (limited-value {v} {n} l) h k = h v n l
 limited-resume (limited-undefined {n} l) h k = k n l
 limited-resume limited-stuck h k = limited-stuck
-limited-resume (limited-stop l) h k = limited-stop l
+limited-resume (limited-stop b l) h k = limited-stop b l
 
 limited-bind : {o : Outcome} {f : Value → ℕ → Outcome} → Limited o → After f → Limited (bind o f)
 limited-bind (limited-value {v} {n} l) h = h v n l
 limited-bind (limited-undefined l) h = limited-undefined l
 limited-bind limited-stuck h = limited-stuck
-limited-bind (limited-stop l) h = limited-stop l
+limited-bind (limited-stop b l) h = limited-stop b l
 
 limited-if : {x y : Outcome} (b : Bool) → Limited x → Limited y → Limited (if b then x else y)
 limited-if true h k = h
@@ -46,7 +46,7 @@ limited-if false h k = k
 
 limited-form : (v : Value) {n : ℕ} → n ≤ 1000000 → Limited (form v n)
 unfolding form
-limited-form v l = limited-if (leb (size v) 128) (limited-value l) (limited-stop l)
+limited-form v l = limited-if (leb (size v) 128) (limited-value l) (limited-stop (omega linear) l)
 
 limited-given : (o : Option Value) {n : ℕ} → n ≤ 1000000 → Limited (given o n)
 limited-given none l = limited-undefined l
@@ -103,7 +103,7 @@ record Gathers (g : Gather) : Type 0 where
 tick-stays : {f : Run} → Stays f → Stays (tick f)
 unfolding tick
 tick-stays {f} h = record {
-  run = λ ρ n l. by-if Limited (ltb n 1000000) (f ρ (n + 1)) (stop 16 n) (λ t. h .run ρ (n + 1) (let k = ltb→lt n 1000000 t in omega linear)) (λ t. limited-stop l);
+  run = λ ρ n l. by-if Limited (ltb n 1000000) (f ρ (n + 1)) (stop 16 n) (λ t. h .run ρ (n + 1) (let k = ltb→lt n 1000000 t in omega linear)) (λ t. limited-stop (omega linear) l);
 }
 
 module _ (s : Model) where
@@ -235,8 +235,11 @@ unfolding stepsOf
 limited-steps (limited-value l) = l
 limited-steps (limited-undefined l) = l
 limited-steps limited-stuck = omega linear
-limited-steps (limited-stop l) = l
+limited-steps (limited-stop b l) = l
+
+pub run-limited : (s : Model) (mark : ℕ → ℕ) (e : Expr) (ρ : Env Value) {n : ℕ} → n ≤ 1000000 → Limited (evaluation s mark e ρ n)
+run-limited s mark e ρ {n} l = all-stay s mark e .run ρ n l
 
 pub steps-limited : (s : Model) (mark : ℕ → ℕ) (e : Expr) (o : ℕ) → stepsOf (evaluateRule s mark e o) ≤ 1000000
 unfolding evaluateRule
-steps-limited s mark e o = limited-steps (all-stay s mark e .run (start (obj o)) 0 (omega linear))
+steps-limited s mark e o = limited-steps (run-limited s mark e (start (obj o)) (omega linear))

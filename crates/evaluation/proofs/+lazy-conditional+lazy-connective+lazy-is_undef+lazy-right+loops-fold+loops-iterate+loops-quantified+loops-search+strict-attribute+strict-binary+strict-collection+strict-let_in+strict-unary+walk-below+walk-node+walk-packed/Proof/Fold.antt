@@ -1,4 +1,4 @@
--- The needs of `fold_members`.
+-- The needs of `fold`.
 use mathlib.Core.Logic.{inl}
 use mathlib.Core.Path.{ap, _∙_}
 use Prim.Native.Nat.{_+_, _-_, _%_}
@@ -10,11 +10,11 @@ use Prim.Native.Nat.{ℕ}
 use borrow.Author.Needs.{needs}
 use native.Mathlib.Omega.{arith}
 use Rattle.evaluation.proofs.walk.below.Reads as below
-use Rattle.evaluation.proofs.walk.fold_members.Reads as fold-members
+use Rattle.evaluation.proofs.loops.fold.Reads as fold
 use Rattle.values.proofs.cells.skip.Reads as skip-reads
 use Rattle.values.proofs.cells.slide.Reads as slide-reads
-use Rattle.evaluation.proofs.walk.+attribute+below+binary+collection+conditional+connective+fold_members+is_undef+iterate+let_in+node+quantified+right+search_members+unary.Lts-fold_members as lts
-use Rattle.evaluation.proofs.walk.+attribute+below+binary+collection+conditional+connective+fold_members+is_undef+iterate+let_in+node+quantified+right+search_members+unary.Proof.Base.{below-below, fold-members-at}
+use Rattle.evaluation.proofs.+lazy-conditional+lazy-connective+lazy-is_undef+lazy-right+loops-fold+loops-iterate+loops-quantified+loops-search+strict-attribute+strict-binary+strict-collection+strict-let_in+strict-unary+walk-below+walk-node+walk-packed.Lts-loops-fold as lts
+use Rattle.evaluation.proofs.+lazy-conditional+lazy-connective+lazy-is_undef+lazy-right+loops-fold+loops-iterate+loops-quantified+loops-search+strict-attribute+strict-binary+strict-collection+strict-let_in+strict-unary+walk-below+walk-node+walk-packed.Proof.Base.{below-below, fold-at}
 
 module _ (t : ℕ) where
   abbrev calls : lts.Claims
@@ -26,71 +26,71 @@ module _ (t : ℕ) where
   abbrev μ : lts.MeasureT-loop
   μ tables st nodes n i j env stack₀ sp la lb left steps mid len₀ s₀ p₀ stack len s p = sp + la - p
 
-  add-mid : lts.Need-add-mid calls (fold-members-at t) fold-members.Post Inv μ
+  add-mid : lts.Need-add-mid calls (fold-at t) fold.Post Inv μ
   add-mid c = search needs
 
-  add-p : lts.Need-add-p calls (fold-members-at t) fold-members.Post Inv μ
+  add-p : lts.Need-add-p calls (fold-at t) fold.Post Inv μ
   add-p c = search needs
 
-  loop-holds : lts.Need-loop-holds calls (fold-members-at t) fold-members.Post Inv μ
+  loop-holds : lts.Need-loop-holds calls (fold-at t) fold.Post Inv μ
   loop-holds c = fold-starts (omega (arith, c .before .before .before .pre)) (omega (arith, c .before .before .before .pre)) (omega (arith, c .before .before .before .pre))
 
-  add-inner : lts.Need-add-inner calls (fold-members-at t) fold-members.Post Inv μ
+  add-inner : lts.Need-add-inner calls (fold-at t) fold.Post Inv μ
   add-inner c = search needs
 
-  mul-inner : lts.Need-mul-inner calls (fold-members-at t) fold-members.Post Inv μ
+  mul-inner : lts.Need-mul-inner calls (fold-at t) fold.Post Inv μ
   mul-inner c = search needs
 
-  array-write-inner : lts.Need-array-write-inner calls (fold-members-at t) fold-members.Post Inv μ
+  array-write-inner : lts.Need-array-write-inner calls (fold-at t) fold.Post Inv μ
   array-write-inner c = search needs
 
-  add-inner-2 : lts.Need-add-inner-2 calls (fold-members-at t) fold-members.Post Inv μ
+  add-inner-2 : lts.Need-add-inner-2 calls (fold-at t) fold.Post Inv μ
   add-inner-2 c = search needs
 
-  mul-inner-2 : lts.Need-mul-inner-2 calls (fold-members-at t) fold-members.Post Inv μ
+  mul-inner-2 : lts.Need-mul-inner-2 calls (fold-at t) fold.Post Inv μ
   mul-inner-2 c = search needs
 
-  array-write-inner-2 : lts.Need-array-write-inner-2 calls (fold-members-at t) fold-members.Post Inv μ
+  array-write-inner-2 : lts.Need-array-write-inner-2 calls (fold-at t) fold.Post Inv μ
   array-write-inner-2 c = search needs
 
-  add-below : lts.Need-add-below calls (fold-members-at t) fold-members.Post Inv μ
+  add-below : lts.Need-add-below calls (fold-at t) fold.Post Inv μ
   add-below c = omega (arith, c .before .before .before .before .before .before .pre, c .before .before .loop .inv .small)
 
-  below-requires : lts.Need-below-requires calls (fold-members-at t) fold-members.Post Inv μ
+  below-requires : lts.Need-below-requires calls (fold-at t) fold.Post Inv μ
   below-requires c κs = omega (arith, c .before .before .before .before .before .before .pre, c .before .before .loop .inv .long, c .before .before .loop .inv .small)
 
-  enum-known-turn : lts.Need-enum-known-turn calls (fold-members-at t) fold-members.Post Inv μ
+  enum-known-turn : lts.Need-enum-known-turn calls (fold-at t) fold.Post Inv μ
   enum-known-turn c = search needs
 
-  same-length : lts.Need-same-length calls (fold-members-at t) fold-members.Post Inv μ
+  same-length : lts.Need-same-length calls (fold-at t) fold.Post Inv μ
   same-length c = (c .before .before .before .below .kept .1 .1 .1 .1 .1 .1 .0) ∙ c .before .before .before .before .before .before .loop .inv .long
 
-  returns : lts.Need-returns calls (fold-members-at t) fold-members.Post Inv μ
+  returns : lts.Need-returns calls (fold-at t) fold.Post Inv μ
   returns c = fold-early (c .before .before .before .before .before .before .loop .inv) (omega (arith, c .before .before .before .before .before .before .before .before .before .before .pre)) (c .before .before .before .before .before .before .before .before .before .before .pre .1 .1 .1 .0) (c .before .before .before .before .before .before .before .before .before .before .pre .1 .1 .1 .1) (omega (arith, c .before .before .before .before .before .before .before .before .before .before .pre .1 .1 .1 .0)) (omega (arith, c .before .before .before .before .before .before .before .before .before .before .pre .1 .1 .1 .1)) (omega (arith, c .before .before .before .before .before .before .before .before .before .before .pre)) (c .before .before .before .before .before .loop-test .taken) (c .before .before .before .below .ensures) (c .match .keys2)
 
-  add-slide : lts.Need-add-slide calls (fold-members-at t) fold-members.Post Inv μ
+  add-slide : lts.Need-add-slide calls (fold-at t) fold.Post Inv μ
   add-slide c = omega (arith, c .before .before .before .before .before .before .before .before .before .before .before .before .before .pre, c .before .before .before .before .before .before .before .before .before .loop .inv .small)
 
-  slide-requires : lts.Need-slide-requires calls (fold-members-at t) fold-members.Post Inv μ
+  slide-requires : lts.Need-slide-requires calls (fold-at t) fold.Post Inv μ
   slide-requires c κs = (omega (arith, c .before .before .before .before .before .before .before .before .before .before .before .before .before .pre, c .before .before .before .before .before .before .before .before .before .loop .inv .long, c .before .before .before .before .before .before .before .before .before .loop .inv .small, (c .before .before .before .before .before .before .below .kept .1 .1 .1 .1 .1 .1 .0), bounds (c .before .before .before .before .before .before .below .ensures .small) (c .before .before .turn .given .1)), inl (omega arith))
 
-  skip-requires : lts.Need-skip-requires calls (fold-members-at t) fold-members.Post Inv μ
+  skip-requires : lts.Need-skip-requires calls (fold-at t) fold.Post Inv μ
   skip-requires c κs = omega (arith, c .before .before .before .before .before .before .before .before .before .before .before .before .before .before .before .before .before .pre, c .before .before .before .before .before .before .before .before .before .before .before .before .before .loop .inv .long, (c .before .before .before .before .before .before .before .before .before .before .below .kept .1 .1 .1 .1 .1 .1 .0), c .before .before .before .slide .kept .0, c .before .before .before .before .before .before .before .before .before .before .before .before .loop-test .taken)
 
-  loop-less : lts.Need-loop-less calls (fold-members-at t) fold-members.Post Inv μ
+  loop-less : lts.Need-loop-less calls (fold-at t) fold.Post Inv μ
   loop-less c = omega (arith, c .skip .ensures .up (c .before .before .before .before .before .before .before .before .before .before .before .before .before .loop-test .taken), c .skip .ensures .within, c .before .before .before .before .before .before .before .before .before .before .before .before .before .loop-test .taken)
 
-  loop-again : lts.Need-loop-again calls (fold-members-at t) fold-members.Post Inv μ
+  loop-again : lts.Need-loop-again calls (fold-at t) fold.Post Inv μ
   loop-again c = fold-again (c .before .before .before .before .before .before .before .before .before .before .before .before .before .before .loop .inv) (omega (arith, c .before .before .before .before .before .before .before .before .before .before .before .before .before .before .before .before .before .before .pre)) (c .before .before .before .before .before .before .before .before .before .before .before .before .before .before .before .before .before .before .pre .1 .1 .1 .0) (c .before .before .before .before .before .before .before .before .before .before .before .before .before .before .before .before .before .before .pre .1 .1 .1 .1) (omega (arith, c .before .before .before .before .before .before .before .before .before .before .before .before .before .before .before .before .before .before .pre .1 .1 .1 .0)) (omega (arith, c .before .before .before .before .before .before .before .before .before .before .before .before .before .before .before .before .before .before .pre .1 .1 .1 .1)) (omega (arith, c .before .before .before .before .before .before .before .before .before .before .before .before .before .before .before .before .before .before .pre)) (c .before .before .before .before .before .before .before .before .before .before .before .before .before .loop-test .taken) (c .before .before .before .before .before .before .before .before .before .before .before .below .ensures) (c .before .before .before .before .before .before .before .turn .given .1) (c .before .before .before .before .before .before .before .before .before .before .before .below .kept .1 .1 .1 .1 .1 .1 .0) (c .before .before .before .before .slide .kept .0) (omega (arith, c .before .before .before .before .before .before .before .before .before .before .before .before .before .before .before .before .before .before .pre, c .before .before .before .before .before .before .before .before .before .before .before .before .before .before .loop .inv .long, c .before .before .before .before .before .before .before .before .before .before .before .before .before .before .loop .inv .small, (c .before .before .before .before .before .before .before .before .before .before .before .below .kept .1 .1 .1 .1 .1 .1 .0))) (c .before .before .before .before .slide .ensures) (c .skip .ensures)
 
-  slide-requires-2 : lts.Need-slide-requires-2 calls (fold-members-at t) fold-members.Post Inv μ
+  slide-requires-2 : lts.Need-slide-requires-2 calls (fold-at t) fold.Post Inv μ
   slide-requires-2 c κs = (omega (arith, c .before .before .before .before .before .before .pre, c .before .before .loop .inv .long, c .before .before .loop .inv .small), inl (omega arith))
 
-  same-length-2 : lts.Need-same-length-2 calls (fold-members-at t) fold-members.Post Inv μ
+  same-length-2 : lts.Need-same-length-2 calls (fold-at t) fold.Post Inv μ
   same-length-2 c = c .before .before .slide2 .kept .0 ∙ c .before .before .before .before .before .loop .inv .long
 
-  returns-2 : lts.Need-returns-2 calls (fold-members-at t) fold-members.Post Inv μ
+  returns-2 : lts.Need-returns-2 calls (fold-at t) fold.Post Inv μ
   returns-2 c = fold-none (c .before .before .before .before .before .loop .inv) (omega (arith, c .before .before .before .before .before .before .before .before .before .pre)) (c .before .before .before .before .loop-test .left) (c .before .before .slide2 .ensures)
 
-  pub closed : {M : Type 1} → lts.Closed calls (fold-members-at t) fold-members.Post M
-  closed = lts.spec calls (fold-members-at t) fold-members.Post Inv μ add-mid add-p loop-holds add-inner mul-inner array-write-inner add-inner-2 mul-inner-2 array-write-inner-2 add-below below-requires enum-known-turn same-length returns add-slide slide-requires skip-requires loop-less loop-again slide-requires-2 same-length-2 returns-2
+  pub closed : {M : Type 1} → lts.Closed calls (fold-at t) fold.Post M
+  closed = lts.spec calls (fold-at t) fold.Post Inv μ add-mid add-p loop-holds add-inner mul-inner array-write-inner add-inner-2 mul-inner-2 array-write-inner-2 add-below below-requires enum-known-turn same-length returns add-slide slide-requires skip-requires loop-less loop-again slide-requires-2 same-length-2 returns-2

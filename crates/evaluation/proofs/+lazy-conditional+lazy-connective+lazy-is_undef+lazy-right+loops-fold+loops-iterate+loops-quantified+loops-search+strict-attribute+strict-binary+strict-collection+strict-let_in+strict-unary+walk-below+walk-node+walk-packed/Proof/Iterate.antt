@@ -5,17 +5,17 @@ use Prim.Native.Nat.{ℕ}
 use borrow.Author.Needs.{needs}
 use native.Mathlib.Omega.{arith}
 use Rattle.evaluation.proofs.walk.below.Reads as below
-use Rattle.evaluation.proofs.walk.fold_members.Reads as fold-members
-use Rattle.evaluation.proofs.walk.iterate.Reads as iterate
+use Rattle.evaluation.proofs.loops.fold.Reads as fold
+use Rattle.evaluation.proofs.loops.iterate.Reads as iterate
 use Rattle.nodes.proofs.node_word.Reads as node-word-reads
 use Rattle.types.proofs.classes.wide.Reads as wide-reads
 use Rattle.values.proofs.cells.sort_of.Reads as sort-of-reads
-use Rattle.evaluation.proofs.walk.+attribute+below+binary+collection+conditional+connective+fold_members+is_undef+iterate+let_in+node+quantified+right+search_members+unary.Lts-iterate as lts
-use Rattle.evaluation.proofs.walk.+attribute+below+binary+collection+conditional+connective+fold_members+is_undef+iterate+let_in+node+quantified+right+search_members+unary.Proof.Base.{below-below, fold-members-below, iterate-at}
+use Rattle.evaluation.proofs.+lazy-conditional+lazy-connective+lazy-is_undef+lazy-right+loops-fold+loops-iterate+loops-quantified+loops-search+strict-attribute+strict-binary+strict-collection+strict-let_in+strict-unary+walk-below+walk-node+walk-packed.Lts-loops-iterate as lts
+use Rattle.evaluation.proofs.+lazy-conditional+lazy-connective+lazy-is_undef+lazy-right+loops-fold+loops-iterate+loops-quantified+loops-search+strict-attribute+strict-binary+strict-collection+strict-let_in+strict-unary+walk-below+walk-node+walk-packed.Proof.Base.{below-below, fold-below, iterate-at}
 
 module _ (t : ℕ) where
   abbrev calls : lts.Claims
-  calls = (below-below t, below.Post, sort-of-reads.Asked, sort-of-reads.Learnt, node-word-reads.Asked, node-word-reads.Learnt, wide-reads.Asked, wide-reads.Learnt, fold-members-below t, fold-members.Post)
+  calls = (below-below t, below.Post, sort-of-reads.Asked, sort-of-reads.Learnt, node-word-reads.Asked, node-word-reads.Learnt, wide-reads.Asked, wide-reads.Learnt, fold-below t, fold.Post)
 
   below-requires : lts.Need-below-requires calls (iterate-at t) iterate.Post
   below-requires c κs = search needs
@@ -71,14 +71,14 @@ module _ (t : ℕ) where
   wide-requires-2 : lts.Need-wide-requires-2 calls (iterate-at t) iterate.Post
   wide-requires-2 c κs = search needs
 
-  fold-members-requires : lts.Need-fold-members-requires calls (iterate-at t) iterate.Post
-  fold-members-requires c κs = omega (arith, bounds (c .before .before .before .before .before .before .before .before .before .before .before .before .before .before .before .before .before .before .before .before .below .ensures .small) (c .before .before .before .before .before .before .before .before .before .before .before .before .before .before .before .before .first .given .1), bounds (c .before .before .before .before .before .before .before .before .before .before .below2 .ensures .small) (c .before .before .before .before .before .before .second .given .1), c .before .before .before .before .before .before .before .before .before .before .before .before .before .before .before .before .before .before .before .before .before .before .before .before .before .pre, c .before .before .before .before .before .before .before .before .before .before .before .before .before .before .before .before .before .before .before .before .below .kept, c .before .before .before .before .before .before .before .before .before .before .below2 .kept, c .before .before .before .wide .ensures, c .before .before .before .before .node-word .ensures, c .before .wide2 .ensures, c .before .before .node-word2 .ensures)
+  fold-requires : lts.Need-fold-requires calls (iterate-at t) iterate.Post
+  fold-requires c κs = omega (arith, bounds (c .before .before .before .before .before .before .before .before .before .before .before .before .before .before .before .before .before .before .before .before .below .ensures .small) (c .before .before .before .before .before .before .before .before .before .before .before .before .before .before .before .before .first .given .1), bounds (c .before .before .before .before .before .before .before .before .before .before .below2 .ensures .small) (c .before .before .before .before .before .before .second .given .1), c .before .before .before .before .before .before .before .before .before .before .before .before .before .before .before .before .before .before .before .before .before .before .before .before .before .pre, c .before .before .before .before .before .before .before .before .before .before .before .before .before .before .before .before .before .before .before .before .below .kept, c .before .before .before .before .before .before .before .before .before .before .below2 .kept, c .before .before .before .wide .ensures, c .before .before .before .before .node-word .ensures, c .before .wide2 .ensures, c .before .before .node-word2 .ensures)
 
   same-length-4 : lts.Need-same-length-4 calls (iterate-at t) iterate.Post
-  same-length-4 c = omega (arith, c .before .before .before .before .before .before .before .before .before .before .before .before .before .before .before .before .before .before .before .before .before .before .before .below .kept, c .before .before .before .before .before .before .before .before .before .before .before .before .before .below2 .kept, c .before .before .fold-members .kept)
+  same-length-4 c = omega (arith, c .before .before .before .before .before .before .before .before .before .before .before .before .before .before .before .before .before .before .before .before .before .before .before .below .kept, c .before .before .before .before .before .before .before .before .before .before .before .before .before .below2 .kept, c .before .before .fold .kept)
 
   returns-4 : lts.Need-returns-4 calls (iterate-at t) iterate.Post
-  returns-4 c = iterate-done _ _ (c .before .before .before .before .before .before .before .before .before .before .before .before .before .before .before .before .before .before .before .before .before .before .before .below .ensures) (c .before .before .before .before .before .before .before .before .before .before .before .before .before .before .before .before .before .before .before .first .given .1) (c .before .before .before .before .before .before .before .before .before .before .before .before .before .before .before .before .sort-of .ensures) (c .before .before .before .before .before .before .before .before .before .before .before .before .before .before .before .if1 .left) (omega (arith, bounds (c .before .before .before .before .before .before .before .before .before .before .before .before .before .before .before .before .before .before .before .before .before .before .before .below .ensures .small) (c .before .before .before .before .before .before .before .before .before .before .before .before .before .before .before .before .before .before .before .first .given .1), c .before .before .before .before .before .before .before .before .before .before .before .before .before .before .before .before .before .before .before .before .before .before .before .before .before .before .before .before .pre, c .before .before .before .before .before .before .before .before .before .before .before .before .before .before .before .before .before .before .before .before .before .before .before .below .kept)) (c .before .before .before .before .before .before .before .before .before .before .before .before .before .below2 .ensures) (c .before .before .before .before .before .before .before .before .before .second .given .1) (c .before .before .fold-members .ensures)
+  returns-4 c = iterate-done _ _ (c .before .before .before .before .before .before .before .before .before .before .before .before .before .before .before .before .before .before .before .before .before .before .before .below .ensures) (c .before .before .before .before .before .before .before .before .before .before .before .before .before .before .before .before .before .before .before .first .given .1) (c .before .before .before .before .before .before .before .before .before .before .before .before .before .before .before .before .sort-of .ensures) (c .before .before .before .before .before .before .before .before .before .before .before .before .before .before .before .if1 .left) (omega (arith, bounds (c .before .before .before .before .before .before .before .before .before .before .before .before .before .before .before .before .before .before .before .before .before .before .before .below .ensures .small) (c .before .before .before .before .before .before .before .before .before .before .before .before .before .before .before .before .before .before .before .first .given .1), c .before .before .before .before .before .before .before .before .before .before .before .before .before .before .before .before .before .before .before .before .before .before .before .before .before .before .before .before .pre, c .before .before .before .before .before .before .before .before .before .before .before .before .before .before .before .before .before .before .before .before .before .before .before .below .kept)) (c .before .before .before .before .before .before .before .before .before .before .before .before .before .below2 .ensures) (c .before .before .before .before .before .before .before .before .before .second .given .1) (c .before .before .fold .ensures)
 
   pub closed : {M : Type 1} → lts.Closed calls (iterate-at t) iterate.Post M
-  closed = lts.spec calls (iterate-at t) iterate.Post below-requires enum-known-first same-length returns mul-sort-of slice-read-sort-of sort-of-requires same-length-2 returns-2 add-below below-requires-2 enum-known-second same-length-3 returns-3 node-word-requires wide-requires node-word-requires-2 wide-requires-2 fold-members-requires same-length-4 returns-4
+  closed = lts.spec calls (iterate-at t) iterate.Post below-requires enum-known-first same-length returns mul-sort-of slice-read-sort-of sort-of-requires same-length-2 returns-2 add-below below-requires-2 enum-known-second same-length-3 returns-3 node-word-requires wide-requires node-word-requires-2 wide-requires-2 fold-requires same-length-4 returns-4

@@ -3,10 +3,10 @@ use Rattle.evaluation.proofs.FormLaws.{isUndef-ends, isUndef-stops, isU
 use Prim.Native.Nat.{ℕ}
 use borrow.Author.Needs.{needs}
 use Rattle.evaluation.proofs.walk.below.Reads as below
-use Rattle.evaluation.proofs.walk.is_undef.Reads as is-undef
+use Rattle.evaluation.proofs.lazy.is_undef.Reads as is-undef
 use Rattle.evaluation.proofs.answers.put.Reads as put-reads
-use Rattle.evaluation.proofs.walk.+attribute+below+binary+collection+conditional+connective+fold_members+is_undef+iterate+let_in+node+quantified+right+search_members+unary.Lts-is_undef as lts
-use Rattle.evaluation.proofs.walk.+attribute+below+binary+collection+conditional+connective+fold_members+is_undef+iterate+let_in+node+quantified+right+search_members+unary.Proof.Base.{below-below, is-undef-at}
+use Rattle.evaluation.proofs.+lazy-conditional+lazy-connective+lazy-is_undef+lazy-right+loops-fold+loops-iterate+loops-quantified+loops-search+strict-attribute+strict-binary+strict-collection+strict-let_in+strict-unary+walk-below+walk-node+walk-packed.Lts-lazy-is_undef as lts
+use Rattle.evaluation.proofs.+lazy-conditional+lazy-connective+lazy-is_undef+lazy-right+loops-fold+loops-iterate+loops-quantified+loops-search+strict-attribute+strict-binary+strict-collection+strict-let_in+strict-unary+walk-below+walk-node+walk-packed.Proof.Base.{below-below, is-undef-at}
 
 module _ (t : ℕ) where
   abbrev calls : lts.Claims

@@ -11,12 +11,12 @@ use borrow.Author.Needs.{needs}
 use native.Mathlib.Omega.{arith}
 use Rattle.evaluation.proofs.walk.below.Reads as below
 use Rattle.values.proofs.collect.collect.Reads as collect-reads
-use Rattle.evaluation.proofs.walk.collection.Reads as collection
+use Rattle.evaluation.proofs.strict.collection.Reads as collection
 use Rattle.evaluation.proofs.answers.formed.Reads as formed-reads
 use Rattle.nodes.proofs.node_word.Reads as node-word-reads
 use Rattle.types.proofs.classes.wide.Reads as wide-reads
-use Rattle.evaluation.proofs.walk.+attribute+below+binary+collection+conditional+connective+fold_members+is_undef+iterate+let_in+node+quantified+right+search_members+unary.Lts-collection as lts
-use Rattle.evaluation.proofs.walk.+attribute+below+binary+collection+conditional+connective+fold_members+is_undef+iterate+let_in+node+quantified+right+search_members+unary.Proof.Base.{below-below, collection-at}
+use Rattle.evaluation.proofs.+lazy-conditional+lazy-connective+lazy-is_undef+lazy-right+loops-fold+loops-iterate+loops-quantified+loops-search+strict-attribute+strict-binary+strict-collection+strict-let_in+strict-unary+walk-below+walk-node+walk-packed.Lts-strict-collection as lts
+use Rattle.evaluation.proofs.+lazy-conditional+lazy-connective+lazy-is_undef+lazy-right+loops-fold+loops-iterate+loops-quantified+loops-search+strict-attribute+strict-binary+strict-collection+strict-let_in+strict-unary+walk-below+walk-node+walk-packed.Proof.Base.{below-below, collection-at}
 
 module _ (t : ℕ) where
   abbrev calls : lts.Claims

@@ -4,11 +4,11 @@ use Rattle.evaluation.proofs.FormLaws.{attribute-first, attribute-done}
 use Prim.Native.Nat.{ℕ}
 use borrow.Author.Needs.{needs}
 use native.Mathlib.Omega.{arith}
-use Rattle.evaluation.proofs.walk.attribute.Reads as attribute
+use Rattle.evaluation.proofs.strict.attribute.Reads as attribute
 use Rattle.evaluation.proofs.lookup.attribute_of.Reads as attribute-of-reads
 use Rattle.evaluation.proofs.walk.below.Reads as below
-use Rattle.evaluation.proofs.walk.+attribute+below+binary+collection+conditional+connective+fold_members+is_undef+iterate+let_in+node+quantified+right+search_members+unary.Lts-attribute as lts
-use Rattle.evaluation.proofs.walk.+attribute+below+binary+collection+conditional+connective+fold_members+is_undef+iterate+let_in+node+quantified+right+search_members+unary.Proof.Base.{attribute-at, below-below}
+use Rattle.evaluation.proofs.+lazy-conditional+lazy-connective+lazy-is_undef+lazy-right+loops-fold+loops-iterate+loops-quantified+loops-search+strict-attribute+strict-binary+strict-collection+strict-let_in+strict-unary+walk-below+walk-node+walk-packed.Lts-strict-attribute as lts
+use Rattle.evaluation.proofs.+lazy-conditional+lazy-connective+lazy-is_undef+lazy-right+loops-fold+loops-iterate+loops-quantified+loops-search+strict-attribute+strict-binary+strict-collection+strict-let_in+strict-unary+walk-below+walk-node+walk-packed.Proof.Base.{attribute-at, below-below}
 
 module _ (t : ℕ) where
   abbrev calls : lts.Claims

@@ -2,36 +2,38 @@
 use Prim.Native.Nat.{ℕ, _+_, _*_, _<_}
 use borrow.Fn.Kinds.{In}
 use borrow.Fn.PlainCycle.{Measures, is, falls, and}
-use Rattle.evaluation.proofs.walk.attribute.Reads as attribute
-use Rattle.evaluation.proofs.walk.attribute.Kinds as attribute-kinds
+use Rattle.evaluation.proofs.strict.attribute.Reads as attribute
+use Rattle.evaluation.proofs.strict.attribute.Kinds as attribute-kinds
 use Rattle.evaluation.proofs.walk.below.Reads as below
 use Rattle.evaluation.proofs.walk.below.Kinds as below-kinds
-use Rattle.evaluation.proofs.walk.binary.Reads as binary
-use Rattle.evaluation.proofs.walk.binary.Kinds as binary-kinds
-use Rattle.evaluation.proofs.walk.collection.Reads as collection
-use Rattle.evaluation.proofs.walk.collection.Kinds as collection-kinds
-use Rattle.evaluation.proofs.walk.conditional.Reads as conditional
-use Rattle.evaluation.proofs.walk.conditional.Kinds as conditional-kinds
-use Rattle.evaluation.proofs.walk.connective.Reads as connective
-use Rattle.evaluation.proofs.walk.connective.Kinds as connective-kinds
-use Rattle.evaluation.proofs.walk.fold_members.Reads as fold-members
-use Rattle.evaluation.proofs.walk.fold_members.Kinds as fold-members-kinds
-use Rattle.evaluation.proofs.walk.is_undef.Reads as is-undef
-use Rattle.evaluation.proofs.walk.is_undef.Kinds as is-undef-kinds
-use Rattle.evaluation.proofs.walk.iterate.Reads as iterate
-use Rattle.evaluation.proofs.walk.iterate.Kinds as iterate-kinds
-use Rattle.evaluation.proofs.walk.let_in.Reads as let-in
-use Rattle.evaluation.proofs.walk.let_in.Kinds as let-in-kinds
+use Rattle.evaluation.proofs.strict.binary.Reads as binary
+use Rattle.evaluation.proofs.strict.binary.Kinds as binary-kinds
+use Rattle.evaluation.proofs.strict.collection.Reads as collection
+use Rattle.evaluation.proofs.strict.collection.Kinds as collection-kinds
+use Rattle.evaluation.proofs.lazy.conditional.Reads as conditional
+use Rattle.evaluation.proofs.lazy.conditional.Kinds as conditional-kinds
+use Rattle.evaluation.proofs.lazy.connective.Reads as connective
+use Rattle.evaluation.proofs.lazy.connective.Kinds as connective-kinds
+use Rattle.evaluation.proofs.loops.fold.Reads as fold
+use Rattle.evaluation.proofs.loops.fold.Kinds as fold-kinds
+use Rattle.evaluation.proofs.lazy.is_undef.Reads as is-undef
+use Rattle.evaluation.proofs.lazy.is_undef.Kinds as is-undef-kinds
+use Rattle.evaluation.proofs.loops.iterate.Reads as iterate
+use Rattle.evaluation.proofs.loops.iterate.Kinds as iterate-kinds
+use Rattle.evaluation.proofs.strict.let_in.Reads as let-in
+use Rattle.evaluation.proofs.strict.let_in.Kinds as let-in-kinds
 use Rattle.evaluation.proofs.walk.node.Reads as node
 use Rattle.evaluation.proofs.walk.node.Kinds as node-kinds
-use Rattle.evaluation.proofs.walk.quantified.Reads as quantified
-use Rattle.evaluation.proofs.walk.quantified.Kinds as quantified-kinds
-use Rattle.evaluation.proofs.walk.right.Reads as right
-use Rattle.evaluation.proofs.walk.right.Kinds as right-kinds
-use Rattle.evaluation.proofs.walk.search_members.Reads as search-members
-use Rattle.evaluation.proofs.walk.search_members.Kinds as search-members-kinds
-use Rattle.evaluation.proofs.walk.unary.Reads as unary
-use Rattle.evaluation.proofs.walk.unary.Kinds as unary-kinds
+use Rattle.evaluation.proofs.walk.packed.Reads as packed
+use Rattle.evaluation.proofs.walk.packed.Kinds as packed-kinds
+use Rattle.evaluation.proofs.loops.quantified.Reads as quantified
+use Rattle.evaluation.proofs.loops.quantified.Kinds as quantified-kinds
+use Rattle.evaluation.proofs.lazy.right.Reads as right
+use Rattle.evaluation.proofs.lazy.right.Kinds as right-kinds
+use Rattle.evaluation.proofs.loops.search.Reads as searching
+use Rattle.evaluation.proofs.loops.search.Kinds as search-kinds
+use Rattle.evaluation.proofs.strict.unary.Reads as unary
+use Rattle.evaluation.proofs.strict.unary.Kinds as unary-kinds
 
 abbrev pub μ-attribute : Measures 3 attribute-kinds.ps ℕ
 μ-attribute κs a = 5 * a .1 .1 .1 .0 + 2
@@ -87,14 +89,14 @@ connective-at t = and 3 connective-kinds.ps (is 3 connective-kinds.ps μ-connect
 abbrev pub connective-below : ℕ → In 3 connective-kinds.ps
 connective-below t = and 3 connective-kinds.ps (falls 3 connective-kinds.ps _<_ μ-connective t) connective.Pre
 
-abbrev pub μ-fold-members : Measures 3 fold-members-kinds.ps ℕ
-μ-fold-members κs a = 5 * a .1 .1 .1 .0 + 1
+abbrev pub μ-fold : Measures 3 fold-kinds.ps ℕ
+μ-fold κs a = 5 * a .1 .1 .1 .0 + 1
 
-abbrev pub fold-members-at : ℕ → In 3 fold-members-kinds.ps
-fold-members-at t = and 3 fold-members-kinds.ps (is 3 fold-members-kinds.ps μ-fold-members t) fold-members.Pre
+abbrev pub fold-at : ℕ → In 3 fold-kinds.ps
+fold-at t = and 3 fold-kinds.ps (is 3 fold-kinds.ps μ-fold t) fold.Pre
 
-abbrev pub fold-members-below : ℕ → In 3 fold-members-kinds.ps
-fold-members-below t = and 3 fold-members-kinds.ps (falls 3 fold-members-kinds.ps _<_ μ-fold-members t) fold-members.Pre
+abbrev pub fold-below : ℕ → In 3 fold-kinds.ps
+fold-below t = and 3 fold-kinds.ps (falls 3 fold-kinds.ps _<_ μ-fold t) fold.Pre
 
 abbrev pub μ-is-undef : Measures 3 is-undef-kinds.ps ℕ
 μ-is-undef κs a = 5 * a .1 .1 .1 .0 + 2
@@ -132,6 +134,15 @@ node-at t = and 3 node-kinds.ps (is 3 node-kinds.ps μ-node t) node.Pre
 abbrev pub node-below : ℕ → In 3 node-kinds.ps
 node-below t = and 3 node-kinds.ps (falls 3 node-kinds.ps _<_ μ-node t) node.Pre
 
+abbrev pub μ-packed : Measures 3 packed-kinds.ps ℕ
+μ-packed κs a = 5 * a .1 .1 .1 .0 + 4
+
+abbrev pub packed-at : ℕ → In 3 packed-kinds.ps
+packed-at t = and 3 packed-kinds.ps (is 3 packed-kinds.ps μ-packed t) packed.Pre
+
+abbrev pub packed-below : ℕ → In 3 packed-kinds.ps
+packed-below t = and 3 packed-kinds.ps (falls 3 packed-kinds.ps _<_ μ-packed t) packed.Pre
+
 abbrev pub μ-quantified : Measures 3 quantified-kinds.ps ℕ
 μ-quantified κs a = 5 * a .1 .1 .1 .0 + 2
 
@@ -150,14 +161,14 @@ right-at t = and 3 right-kinds.ps (is 3 right-kinds.ps μ-right t) right.Pre
 abbrev pub right-below : ℕ → In 3 right-kinds.ps
 right-below t = and 3 right-kinds.ps (falls 3 right-kinds.ps _<_ μ-right t) right.Pre
 
-abbrev pub μ-search-members : Measures 3 search-members-kinds.ps ℕ
-μ-search-members κs a = 5 * a .1 .1 .1 .0 + 1
+abbrev pub μ-search : Measures 3 search-kinds.ps ℕ
+μ-search κs a = 5 * a .1 .1 .1 .0 + 1
 
-abbrev pub search-members-at : ℕ → In 3 search-members-kinds.ps
-search-members-at t = and 3 search-members-kinds.ps (is 3 search-members-kinds.ps μ-search-members t) search-members.Pre
+abbrev pub search-at : ℕ → In 3 search-kinds.ps
+search-at t = and 3 search-kinds.ps (is 3 search-kinds.ps μ-search t) searching.Pre
 
-abbrev pub search-members-below : ℕ → In 3 search-members-kinds.ps
-search-members-below t = and 3 search-members-kinds.ps (falls 3 search-members-kinds.ps _<_ μ-search-members t) search-members.Pre
+abbrev pub search-below : ℕ → In 3 search-kinds.ps
+search-below t = and 3 search-kinds.ps (falls 3 search-kinds.ps _<_ μ-search t) searching.Pre
 
 abbrev pub μ-unary : Measures 3 unary-kinds.ps ℕ
 μ-unary κs a = 5 * a .1 .1 .1 .0 + 2

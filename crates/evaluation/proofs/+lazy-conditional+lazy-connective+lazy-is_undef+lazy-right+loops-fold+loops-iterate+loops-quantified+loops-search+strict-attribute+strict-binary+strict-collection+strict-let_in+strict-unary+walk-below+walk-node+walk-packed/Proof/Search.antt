@@ -1,4 +1,4 @@
--- The needs of `search_members`.
+-- The needs of `search`.
 use mathlib.Core.Path.{sym, ap, _∙_}
 use Prim.Native.Nat.{_+_, _-_, _%_}
 use Rattle.nodes.specs.Nodes.{word, variable, quantifierOf}
@@ -9,11 +9,11 @@ use borrow.Author.Needs.{needs}
 use native.Mathlib.Omega.{arith}
 use Rattle.evaluation.proofs.walk.below.Reads as below
 use Rattle.evaluation.proofs.answers.put.Reads as put-reads
-use Rattle.evaluation.proofs.walk.search_members.Reads as search-members
+use Rattle.evaluation.proofs.loops.search.Reads as searching
 use Rattle.values.proofs.cells.skip.Reads as skip-reads
 use Rattle.evaluation.proofs.answers.truth.Reads as truth-reads
-use Rattle.evaluation.proofs.walk.+attribute+below+binary+collection+conditional+connective+fold_members+is_undef+iterate+let_in+node+quantified+right+search_members+unary.Lts-search_members as lts
-use Rattle.evaluation.proofs.walk.+attribute+below+binary+collection+conditional+connective+fold_members+is_undef+iterate+let_in+node+quantified+right+search_members+unary.Proof.Base.{below-below, search-members-at}
+use Rattle.evaluation.proofs.+lazy-conditional+lazy-connective+lazy-is_undef+lazy-right+loops-fold+loops-iterate+loops-quantified+loops-search+strict-attribute+strict-binary+strict-collection+strict-let_in+strict-unary+walk-below+walk-node+walk-packed.Lts-loops-search as lts
+use Rattle.evaluation.proofs.+lazy-conditional+lazy-connective+lazy-is_undef+lazy-right+loops-fold+loops-iterate+loops-quantified+loops-search+strict-attribute+strict-binary+strict-collection+strict-let_in+strict-unary+walk-below+walk-node+walk-packed.Proof.Base.{below-below, search-at}
 
 module _ (t : ℕ) where
   abbrev calls : lts.Claims
@@ -25,80 +25,80 @@ module _ (t : ℕ) where
   abbrev μ : lts.MeasureT-loop
   μ tables st nodes n form i env stack₀ sp la left steps end s₀ p₀ stack s p = sp + la - p
 
-  add-end : lts.Need-add-end calls (search-members-at t) search-members.Post Inv μ
+  add-end : lts.Need-add-end calls (search-at t) searching.Post Inv μ
   add-end c = search needs
 
-  add-p : lts.Need-add-p calls (search-members-at t) search-members.Post Inv μ
+  add-p : lts.Need-add-p calls (search-at t) searching.Post Inv μ
   add-p c = search needs
 
-  loop-holds : lts.Need-loop-holds calls (search-members-at t) search-members.Post Inv μ
+  loop-holds : lts.Need-loop-holds calls (search-at t) searching.Post Inv μ
   loop-holds c = search-starts (omega (arith, c .before .before .before .pre))
 
-  add-inner : lts.Need-add-inner calls (search-members-at t) search-members.Post Inv μ
+  add-inner : lts.Need-add-inner calls (search-at t) searching.Post Inv μ
   add-inner c = search needs
 
-  mul-inner : lts.Need-mul-inner calls (search-members-at t) search-members.Post Inv μ
+  mul-inner : lts.Need-mul-inner calls (search-at t) searching.Post Inv μ
   mul-inner c = search needs
 
-  array-write-inner : lts.Need-array-write-inner calls (search-members-at t) search-members.Post Inv μ
+  array-write-inner : lts.Need-array-write-inner calls (search-at t) searching.Post Inv μ
   array-write-inner c = search needs
 
-  below-requires : lts.Need-below-requires calls (search-members-at t) search-members.Post Inv μ
+  below-requires : lts.Need-below-requires calls (search-at t) searching.Post Inv μ
   below-requires c κs = omega (arith, c .before .before .before .before .before .before .pre, c .before .before .loop .inv .long)
 
-  enum-known-turn : lts.Need-enum-known-turn calls (search-members-at t) search-members.Post Inv μ
+  enum-known-turn : lts.Need-enum-known-turn calls (search-at t) searching.Post Inv μ
   enum-known-turn c = search needs
 
-  same-length : lts.Need-same-length calls (search-members-at t) search-members.Post Inv μ
+  same-length : lts.Need-same-length calls (search-at t) searching.Post Inv μ
   same-length c = (c .before .before .before .below .kept .1 .1 .1 .1 .1 .1 .0) ∙ c .before .before .before .before .before .before .loop .inv .long
 
-  returns : lts.Need-returns calls (search-members-at t) search-members.Post Inv μ
+  returns : lts.Need-returns calls (search-at t) searching.Post Inv μ
   returns c = search-early (c .before .before .before .before .before .before .loop .inv) (omega (arith, c .before .before .before .before .before .before .before .before .before .before .pre)) (c .before .before .before .before .before .before .before .before .before .before .pre .1 .1 .1) (omega (arith, c .before .before .before .before .before .before .before .before .before .before .pre .1 .1 .1)) (omega (arith, c .before .before .before .before .before .before .before .before .before .before .pre)) (c .before .before .before .before .before .loop-test .taken) (c .before .before .before .below .ensures) (c .match .keys2)
 
-  mul-truth : lts.Need-mul-truth calls (search-members-at t) search-members.Post Inv μ
+  mul-truth : lts.Need-mul-truth calls (search-at t) searching.Post Inv μ
   mul-truth c = search needs
 
-  slice-read-truth : lts.Need-slice-read-truth calls (search-members-at t) search-members.Post Inv μ
+  slice-read-truth : lts.Need-slice-read-truth calls (search-at t) searching.Post Inv μ
   slice-read-truth c = omega (arith, c .before .before .before .before .before .before .before .before .before .before .before .before .before .pre, c .before .before .before .before .before .before .before .before .before .loop .inv .long, (c .before .before .before .before .before .before .below .kept .1 .1 .1 .1 .1 .1 .0))
 
-  truth-requires : lts.Need-truth-requires calls (search-members-at t) search-members.Post Inv μ
+  truth-requires : lts.Need-truth-requires calls (search-at t) searching.Post Inv μ
   truth-requires c κs = search needs
 
-  same-length-2 : lts.Need-same-length-2 calls (search-members-at t) search-members.Post Inv μ
+  same-length-2 : lts.Need-same-length-2 calls (search-at t) searching.Post Inv μ
   same-length-2 c = (c .before .before .before .before .before .before .before .before .below .kept .1 .1 .1 .1 .1 .1 .0) ∙ c .before .before .before .before .before .before .before .before .before .before .before .loop .inv .long
 
-  returns-2 : lts.Need-returns-2 calls (search-members-at t) search-members.Post Inv μ
+  returns-2 : lts.Need-returns-2 calls (search-at t) searching.Post Inv μ
   returns-2 c = search-stuck (c .before .before .before .before .before .before .before .before .before .before .before .loop .inv) (omega (arith, c .before .before .before .before .before .before .before .before .before .before .before .before .before .before .before .pre)) (c .before .before .before .before .before .before .before .before .before .before .before .before .before .before .before .pre .1 .1 .1) (omega (arith, c .before .before .before .before .before .before .before .before .before .before .before .before .before .before .before .pre .1 .1 .1)) (omega (arith, c .before .before .before .before .before .before .before .before .before .before .before .before .before .before .before .pre)) (c .before .before .before .before .before .before .before .before .before .before .loop-test .taken) (c .before .before .before .before .before .before .before .before .below .ensures) (c .before .before .before .before .turn .given .1) (c .before .truth .ensures) (c .if1 .taken)
 
-  sub-if2 : lts.Need-sub-if2 calls (search-members-at t) search-members.Post Inv μ
+  sub-if2 : lts.Need-sub-if2 calls (search-at t) searching.Post Inv μ
   sub-if2 c = search needs
 
-  put-requires : lts.Need-put-requires calls (search-members-at t) search-members.Post Inv μ
+  put-requires : lts.Need-put-requires calls (search-at t) searching.Post Inv μ
   put-requires c κs = (tt, omega (arith, c .before .before .before .before .before .before .before .before .before .before .before .before .before .before .before .before .before .pre, c .before .before .before .before .before .before .before .before .before .before .before .before .before .loop .inv .long, (c .before .before .before .before .before .before .before .before .before .before .below .kept .1 .1 .1 .1 .1 .1 .0)))
 
-  same-length-3 : lts.Need-same-length-3 calls (search-members-at t) search-members.Post Inv μ
+  same-length-3 : lts.Need-same-length-3 calls (search-at t) searching.Post Inv μ
   same-length-3 c = c .before .before .put .kept .0 ∙ (c .before .before .before .before .before .before .before .before .before .before .before .before .before .below .kept .1 .1 .1 .1 .1 .1 .0) ∙ c .before .before .before .before .before .before .before .before .before .before .before .before .before .before .before .before .loop .inv .long
 
-  returns-3 : lts.Need-returns-3 calls (search-members-at t) search-members.Post Inv μ
+  returns-3 : lts.Need-returns-3 calls (search-at t) searching.Post Inv μ
   returns-3 c = search-ends (c .before .before .before .before .before .before .before .before .before .before .before .before .before .before .before .before .loop .inv) (omega (arith, c .before .before .before .before .before .before .before .before .before .before .before .before .before .before .before .before .before .before .before .before .pre)) (c .before .before .before .before .before .before .before .before .before .before .before .before .before .before .before .before .before .before .before .before .pre .1 .1 .1) (omega (arith, c .before .before .before .before .before .before .before .before .before .before .before .before .before .before .before .before .before .before .before .before .pre .1 .1 .1)) (omega (arith, c .before .before .before .before .before .before .before .before .before .before .before .before .before .before .before .before .before .before .before .before .pre)) (c .before .before .before .before .before .before .before .before .before .before .before .before .before .before .before .loop-test .taken) (c .before .before .before .before .before .before .before .before .before .before .before .before .before .below .ensures) (c .before .before .before .before .before .before .before .before .before .turn .given .1) (c .before .before .before .before .before .before .truth .ensures) (c .before .before .before .before .before .if1 .left) (c .before .before .before .before .if2 .taken ∙ ends-code (c .before .before .before .before .before .before .before .before .before .before .before .before .before .before .before .before .before .before .before .before .args .form) (omega (arith, c .before .before .before .before .before .before .before .before .before .before .before .before .before .before .before .before .before .before .before .before .pre)) (omega (arith, c .before .before .before .before .before .before .before .before .before .before .before .before .before .before .before .before .before .before .before .before .pre))) (c .before .before .put .ensures)
 
-  skip-requires : lts.Need-skip-requires calls (search-members-at t) search-members.Post Inv μ
+  skip-requires : lts.Need-skip-requires calls (search-at t) searching.Post Inv μ
   skip-requires c κs = omega (arith, c .before .before .before .before .before .before .before .before .before .before .before .before .before .before .before .before .before .pre, c .before .before .before .before .before .before .before .before .before .before .before .before .before .loop .inv .long, (c .before .before .before .before .before .before .before .before .before .before .below .kept .1 .1 .1 .1 .1 .1 .0), c .before .before .before .before .before .before .before .before .before .before .before .before .loop-test .taken)
 
-  loop-less : lts.Need-loop-less calls (search-members-at t) search-members.Post Inv μ
+  loop-less : lts.Need-loop-less calls (search-at t) searching.Post Inv μ
   loop-less c = omega (arith, c .skip .ensures .up (c .before .before .before .before .before .before .before .before .before .before .before .before .before .loop-test .taken), c .skip .ensures .within, c .before .before .before .before .before .before .before .before .before .before .before .before .before .loop-test .taken)
 
-  loop-again : lts.Need-loop-again calls (search-members-at t) search-members.Post Inv μ
+  loop-again : lts.Need-loop-again calls (search-at t) searching.Post Inv μ
   loop-again c = search-again (c .before .before .before .before .before .before .before .before .before .before .before .before .before .before .loop .inv) (omega (arith, c .before .before .before .before .before .before .before .before .before .before .before .before .before .before .before .before .before .before .pre)) (c .before .before .before .before .before .before .before .before .before .before .before .before .before .before .before .before .before .before .pre .1 .1 .1) (omega (arith, c .before .before .before .before .before .before .before .before .before .before .before .before .before .before .before .before .before .before .pre .1 .1 .1)) (omega (arith, c .before .before .before .before .before .before .before .before .before .before .before .before .before .before .before .before .before .before .pre)) (c .before .before .before .before .before .before .before .before .before .before .before .before .before .loop-test .taken) (c .before .before .before .before .before .before .before .before .before .before .before .below .ensures) (c .before .before .before .before .before .before .before .turn .given .1) (c .before .before .before .before .truth .ensures) (c .before .before .before .if1 .left) (λ e. c .before .before .if2 .left (e ∙ sym (ends-code (c .before .before .before .before .before .before .before .before .before .before .before .before .before .before .before .before .before .before .args .form) (omega (arith, c .before .before .before .before .before .before .before .before .before .before .before .before .before .before .before .before .before .before .pre)) (omega (arith, c .before .before .before .before .before .before .before .before .before .before .before .before .before .before .before .before .before .before .pre))))) (c .before .before .before .before .before .before .before .before .before .before .before .below .kept .1 .1 .1 .1 .1 .1 .0) (c .skip .ensures)
 
-  put-requires-2 : lts.Need-put-requires-2 calls (search-members-at t) search-members.Post Inv μ
+  put-requires-2 : lts.Need-put-requires-2 calls (search-at t) searching.Post Inv μ
   put-requires-2 c κs = (tt, omega (arith, c .before .before .before .before .before .before .pre, c .before .before .loop .inv .long))
 
-  same-length-4 : lts.Need-same-length-4 calls (search-members-at t) search-members.Post Inv μ
+  same-length-4 : lts.Need-same-length-4 calls (search-at t) searching.Post Inv μ
   same-length-4 c = c .before .before .put2 .kept .0 ∙ c .before .before .before .before .before .loop .inv .long
 
-  returns-4 : lts.Need-returns-4 calls (search-members-at t) search-members.Post Inv μ
+  returns-4 : lts.Need-returns-4 calls (search-at t) searching.Post Inv μ
   returns-4 c = search-none (c .before .before .before .before .before .loop .inv) (omega (arith, c .before .before .before .before .before .before .before .before .before .pre)) (c .before .before .before .before .loop-test .left) (none-code _) (c .before .before .put2 .ensures)
 
-  pub closed : {M : Type 1} → lts.Closed calls (search-members-at t) search-members.Post M
-  closed = lts.spec calls (search-members-at t) search-members.Post Inv μ add-end add-p loop-holds add-inner mul-inner array-write-inner below-requires enum-known-turn same-length returns mul-truth slice-read-truth truth-requires same-length-2 returns-2 sub-if2 put-requires same-length-3 returns-3 skip-requires loop-less loop-again put-requires-2 same-length-4 returns-4
+  pub closed : {M : Type 1} → lts.Closed calls (search-at t) searching.Post M
+  closed = lts.spec calls (search-at t) searching.Post Inv μ add-end add-p loop-holds add-inner mul-inner array-write-inner below-requires enum-known-turn same-length returns mul-truth slice-read-truth truth-requires same-length-2 returns-2 sub-if2 put-requires same-length-3 returns-3 skip-requires loop-less loop-again put-requires-2 same-length-4 returns-4

@@ -1,0 +1,149 @@
+// Forms that are not strict: `and`, `or`, `isUndef`, `if`.
+use crate::Ended;
+use crate::answers::put;
+use crate::answers::truth;
+use crate::walk::below;
+use tables::Counts;
+use values::Simple;
+ghost use Prim.Native.Nat.{_+_, _≤_, _<_};
+ghost use lib.ListN.{length};
+ghost use Rattle.ocl.specs.Forms.{levels};
+ghost use Rattle.nodes.specs.Nodes.{connectiveOf};
+ghost use Rattle.evaluation.specs.Evaluating.{Reads, Room, Evals, operandAt, operandFor, connectiveNode, rightSide, isUndefNode, conditionalNode};
+
+// `and` (23) and `or` (24): a left side that decides leaves the right one unrun. `and` is decided by 0, `or` by 1.
+pub fn connective(
+    tables: &[u64],
+    st: Counts,
+    nodes: &[u64],
+    n: usize,
+    form: u64,
+    env: [usize; 16],
+    stack: &mut [u64],
+    sp: usize,
+    left: usize,
+    steps: u64,
+) -> Ended
+    requires { ⌜ Room st (length (now tables)) (length (now nodes)) (length (now stack)) n sp (left + 1) ⌝ }
+    requires { ⌜ (23 ≤ form) × (form < 25) × (levels (operandAt (now nodes) n 1) ≤ left) × (levels (operandAt (now nodes) n 2) ≤ left) ⌝ }
+    ensures { λ r. ⌜ Evals (Reads st (now (tables .entry)) (now (nodes .entry))) (connectiveNode (now (nodes .entry)) n form) env sp steps (now (stack .entry)) (now (stack .exit)) r ⌝ }
+{
+    let first = below(tables, st, nodes, n, 1, env, stack, sp, left, steps);
+    match first {
+        Ended::Value { len, steps: s } => {
+            let t = truth(stack[sp]);
+            if 1 < t {
+                return Ended::Stuck;
+            }
+            if t == form - 23 {
+                return Ended::Value { len, steps: s };
+            }
+            right(tables, st, nodes, n, form, true, env, stack, sp, left, s)
+        }
+        Ended::Undef { steps: s } => right(
+            tables,
+            st,
+            nodes,
+            n,
+            form,
+            false,
+            env,
+            stack,
+            sp,
+            left,
+            s,
+        ),
+        Ended::Stuck => Ended::Stuck,
+        Ended::Stop { number, steps: s } => Ended::Stop { number, steps: s },
+    }
+}
+
+// The right side of `and` or `or`; after an undefined left side only a deciding one is the answer.
+fn right(
+    tables: &[u64],
+    st: Counts,
+    nodes: &[u64],
+    n: usize,
+    form: u64,
+    known: bool,
+    env: [usize; 16],
+    stack: &mut [u64],
+    sp: usize,
+    left: usize,
+    steps: u64,
+) -> Ended
+    requires { ⌜ Room st (length (now tables)) (length (now nodes)) (length (now stack)) n sp (left + 1) ⌝ }
+    requires { ⌜ (23 ≤ form) × (form < 25) × (levels (operandAt (now nodes) n 2) ≤ left) ⌝ }
+    ensures { λ r. ⌜ Evals (Reads st (now (tables .entry)) (now (nodes .entry))) (rightSide known (connectiveOf form) (operandFor (now (nodes .entry)) n 2)) env sp steps (now (stack .entry)) (now (stack .exit)) r ⌝ }
+{
+    let second = below(tables, st, nodes, n, 2, env, stack, sp, left, steps);
+    let Ended::Value { len, steps: s } = second else {
+        return second;
+    };
+    let t = truth(stack[sp]);
+    if 1 < t {
+        return Ended::Stuck;
+    }
+    if known {
+        return Ended::Value { len, steps: s };
+    }
+    if t == form - 23 {
+        return Ended::Value { len, steps: s };
+    }
+    Ended::Undef { steps: s }
+}
+
+// `isUndef`
+pub fn is_undef(
+    tables: &[u64],
+    st: Counts,
+    nodes: &[u64],
+    n: usize,
+    env: [usize; 16],
+    stack: &mut [u64],
+    sp: usize,
+    left: usize,
+    steps: u64,
+) -> Ended
+    requires { ⌜ Room st (length (now tables)) (length (now nodes)) (length (now stack)) n sp (left + 1) ⌝ }
+    requires { ⌜ levels (operandAt (now nodes) n 1) ≤ left ⌝ }
+    ensures { λ r. ⌜ Evals (Reads st (now (tables .entry)) (now (nodes .entry))) (isUndefNode (now (nodes .entry)) n) env sp steps (now (stack .entry)) (now (stack .exit)) r ⌝ }
+{
+    let first = below(tables, st, nodes, n, 1, env, stack, sp, left, steps);
+    match first {
+        Ended::Value { len: _, steps: s } => put(stack, sp, Simple::Bool { b: false }, s),
+        Ended::Undef { steps: s } => put(stack, sp, Simple::Bool { b: true }, s),
+        Ended::Stuck => Ended::Stuck,
+        Ended::Stop { number, steps: s } => Ended::Stop { number, steps: s },
+    }
+}
+
+// `if`: one branch runs.
+pub fn conditional(
+    tables: &[u64],
+    st: Counts,
+    nodes: &[u64],
+    n: usize,
+    env: [usize; 16],
+    stack: &mut [u64],
+    sp: usize,
+    left: usize,
+    steps: u64,
+) -> Ended
+    requires { ⌜ Room st (length (now tables)) (length (now nodes)) (length (now stack)) n sp (left + 1) ⌝ }
+    requires { ⌜ (levels (operandAt (now nodes) n 1) ≤ left) × (levels (operandAt (now nodes) n 2) ≤ left) × (levels (operandAt (now nodes) n 3) ≤ left) ⌝ }
+    ensures { λ r. ⌜ Evals (Reads st (now (tables .entry)) (now (nodes .entry))) (conditionalNode (now (nodes .entry)) n) env sp steps (now (stack .entry)) (now (stack .exit)) r ⌝ }
+{
+    let first = below(tables, st, nodes, n, 1, env, stack, sp, left, steps);
+    let Ended::Value { len: _, steps: s } = first else {
+        return first;
+    };
+    let t = truth(stack[sp]);
+    if t == 1 {
+        return below(tables, st, nodes, n, 2, env, stack, sp, left, s);
+    }
+    if t == 0 {
+        return below(tables, st, nodes, n, 3, env, stack, sp, left, s);
+    }
+    Ended::Stuck
+}

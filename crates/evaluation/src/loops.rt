@@ -1,0 +1,167 @@
+// Forms that run a body for each member: `forAll`, `exists`, `iter`.
+use crate::Ended;
+use crate::answers::put;
+use crate::answers::truth;
+use crate::walk::below;
+use nodes::node_word;
+use tables::Counts;
+use types::classes::wide;
+use values::Simple;
+use values::cells::skip;
+use values::cells::slide;
+use values::cells::sort_of;
+ghost use mathlib.Core.Path.{_≡_};
+ghost use Prim.Native.Nat.{_+_, _≤_, _<_};
+ghost use lib.ListN.{length};
+ghost use Rattle.ocl.specs.Forms.{levels};
+ghost use Rattle.nodes.specs.Nodes.{word, variable, quantifierOf};
+ghost use Rattle.evaluation.specs.Evaluating.{Reads, Room, Evals, operandAt, operandFor, quantifiedNode, iterateNode, Searches, Folds};
+
+// Collections' sorts start here.
+const SET: u64 = 3;
+
+// `forAll` and `exists`: the source, then its members.
+pub fn quantified(
+    tables: &[u64],
+    st: Counts,
+    nodes: &[u64],
+    n: usize,
+    form: u64,
+    i: usize,
+    env: [usize; 16],
+    stack: &mut [u64],
+    sp: usize,
+    left: usize,
+    steps: u64,
+) -> Ended
+    requires { ⌜ Room st (length (now tables)) (length (now nodes)) (length (now stack)) n sp (left + 1) ⌝ }
+    requires { ⌜ (25 ≤ form) × (form < 27) × (levels (operandAt (now nodes) n 1) ≤ left) × (levels (operandAt (now nodes) n 2) ≤ left) ⌝ }
+    requires { ⌜ i ≡ variable (word (now nodes) n 3) ⌝ }
+    ensures { λ r. ⌜ Evals (Reads st (now (tables .entry)) (now (nodes .entry))) (quantifiedNode (now (nodes .entry)) n form) env sp steps (now (stack .entry)) (now (stack .exit)) r ⌝ }
+{
+    let first = below(tables, st, nodes, n, 1, env, stack, sp, left, steps);
+    let Ended::Value { len: la, steps: sa } = first else {
+        return first;
+    };
+    if sort_of(stack[sp]) < SET {
+        return Ended::Stuck;
+    }
+    search(tables, st, nodes, n, form, i, env, stack, sp, la, left, sa)
+}
+
+// Members in their order, up to the first whose body ends it: `forAll` (25) at 0, `exists` (26) at 1.
+fn search(
+    tables: &[u64],
+    st: Counts,
+    nodes: &[u64],
+    n: usize,
+    form: u64,
+    i: usize,
+    env: [usize; 16],
+    stack: &mut [u64],
+    sp: usize,
+    la: usize,
+    left: usize,
+    steps: u64,
+) -> Ended
+    requires { ⌜ Room st (length (now tables)) (length (now nodes)) (length (now stack)) n sp (left + 1) ⌝ }
+    requires { ⌜ (25 ≤ form) × (form < 27) × (levels (operandAt (now nodes) n 2) ≤ left) × (1 ≤ la) × (la ≤ 128) ⌝ }
+    requires { ⌜ i ≡ variable (word (now nodes) n 3) ⌝ }
+    ensures { λ r. ⌜ Searches (Reads st (now (tables .entry)) (now (nodes .entry))) (quantifierOf form) (variable (word (now (nodes .entry)) n 3)) (operandFor (now (nodes .entry)) n 2) env sp la steps (now (stack .entry)) (now (stack .exit)) r ⌝ }
+{
+    let end = sp + la;
+    let mut s = steps;
+    let mut p = sp + 1;
+    while p < end {
+        let mut inner = env;
+        inner[i] = p + 1;
+        let turn = below(tables, st, nodes, n, 2, inner, stack, end, left, s);
+        let Ended::Value { len: _, steps: sb } = turn else {
+            return turn;
+        };
+        let t = truth(stack[end]);
+        if 1 < t {
+            return Ended::Stuck;
+        }
+        if t == form - 25 {
+            return put(stack, sp, Simple::Bool { b: t == 1 }, sb);
+        }
+        s = sb;
+        p = skip(stack, p, end);
+    }
+    put(stack, sp, Simple::Bool { b: form == 25 }, s)
+}
+
+// `iter`: the source, the accumulator's first value after it, then the members.
+pub fn iterate(
+    tables: &[u64],
+    st: Counts,
+    nodes: &[u64],
+    n: usize,
+    env: [usize; 16],
+    stack: &mut [u64],
+    sp: usize,
+    left: usize,
+    steps: u64,
+) -> Ended
+    requires { ⌜ Room st (length (now tables)) (length (now nodes)) (length (now stack)) n sp (left + 1) ⌝ }
+    requires { ⌜ (levels (operandAt (now nodes) n 1) ≤ left) × (levels (operandAt (now nodes) n 2) ≤ left) × (levels (operandAt (now nodes) n 3) ≤ left) ⌝ }
+    ensures { λ r. ⌜ Evals (Reads st (now (tables .entry)) (now (nodes .entry))) (iterateNode (now (nodes .entry)) n) env sp steps (now (stack .entry)) (now (stack .exit)) r ⌝ }
+{
+    let first = below(tables, st, nodes, n, 1, env, stack, sp, left, steps);
+    let Ended::Value { len: la, steps: sa } = first else {
+        return first;
+    };
+    if sort_of(stack[sp]) < SET {
+        return Ended::Stuck;
+    }
+    let second = below(tables, st, nodes, n, 2, env, stack, sp + la, left, sa);
+    let Ended::Value { len: lb, steps: sb } = second else {
+        return second;
+    };
+    let i = wide(node_word(nodes, n, 4) % 16);
+    let j = wide(node_word(nodes, n, 5) % 16);
+    fold(tables, st, nodes, n, i, j, env, stack, sp, la, lb, left, sb)
+}
+
+// Members in their order; each body's value is moved down over the accumulator, and the last one over the source.
+fn fold(
+    tables: &[u64],
+    st: Counts,
+    nodes: &[u64],
+    n: usize,
+    i: usize,
+    j: usize,
+    env: [usize; 16],
+    stack: &mut [u64],
+    sp: usize,
+    la: usize,
+    lb: usize,
+    left: usize,
+    steps: u64,
+) -> Ended
+    requires { ⌜ Room st (length (now tables)) (length (now nodes)) (length (now stack)) n sp (left + 1) ⌝ }
+    requires { ⌜ (levels (operandAt (now nodes) n 3) ≤ left) × (1 ≤ la) × (la ≤ 128) × (1 ≤ lb) × (lb ≤ 128) ⌝ }
+    requires { ⌜ (i ≡ variable (word (now nodes) n 4)) × (j ≡ variable (word (now nodes) n 5)) ⌝ }
+    ensures { λ r. ⌜ Folds (Reads st (now (tables .entry)) (now (nodes .entry))) (variable (word (now (nodes .entry)) n 4)) (variable (word (now (nodes .entry)) n 5)) (operandFor (now (nodes .entry)) n 3) env sp la lb steps (now (stack .entry)) (now (stack .exit)) r ⌝ }
+{
+    let mid = sp + la;
+    let mut len = lb;
+    let mut s = steps;
+    let mut p = sp + 1;
+    while p < mid {
+        let mut inner = env;
+        inner[i] = p + 1;
+        inner[j] = mid + 1;
+        let turn = below(tables, st, nodes, n, 3, inner, stack, mid + len, left, s);
+        let Ended::Value { len: lt, steps: sb } = turn else {
+            return turn;
+        };
+        slide(stack, mid + len, mid, lt);
+        len = lt;
+        s = sb;
+        p = skip(stack, p, mid);
+    }
+    slide(stack, mid, sp, len);
+    Ended::Value { len, steps: s }
+}
