@@ -27,9 +27,9 @@ use Rattle.nodes.specs.Nodes.{word}
 use Rattle.types.specs.declared.FlatType.{FlatType}
 use Rattle.tables.specs.declared.Counts.{Counts}
 use Rattle.typing.specs.declared.Reply.the-variants as reply
-use Rattle.evaluation.specs.declared.Ended.{Ended}
-use Rattle.evaluation.specs.Answers.{Ends}
-use Rattle.evaluation.specs.Tables.{IsA}
+use Rattle.operations.specs.declared.Ended.{Ended}
+use Rattle.operations.specs.Answers.{Ends}
+use Rattle.operations.specs.Tables.{IsA}
 use Rattle.rules.specs.Accepted.{Accepted, Known}
 use Rattle.rules.specs.Numbered.{TypesNumbered, KeepsMarks, EvaluatesNumbered}
 use Rattle.rules.proofs.Ready.{ready}

@@ -14,9 +14,9 @@ use Rattle.sheet.specs.Calls.{refusalAt, refusal, outputAfter, ended}
 use Rattle.text.specs.Written.{Puts}
 use Rattle.values.specs.Cells.{enc, Fits}
 use Rattle.spelling.specs.Contracts.{ValueFits}
-use Rattle.evaluation.specs.declared.Ended.{Ended}
-use Rattle.evaluation.specs.declared.Ended.the-variants as end
-use Rattle.evaluation.specs.Answers.{Ends, ends-value, ends-undefined, ends-stuck, ends-stop}
+use Rattle.operations.specs.declared.Ended.{Ended}
+use Rattle.operations.specs.declared.Ended.the-variants as end
+use Rattle.operations.specs.Answers.{Ends, ends-value, ends-undefined, ends-stuck, ends-stop}
 use Rattle.checker.specs.declared.Answer.{Answer}
 use Rattle.checker.specs.Answers.{answerOf}
 use Rattle.checker.specs.Parts.{Gives, writtenTo}

@@ -8,8 +8,8 @@ use Rattle.ocl.specs.Evaluation.{Outcome, value}
 use Rattle.sheet.specs.Text.{Bytes}
 use Rattle.sheet.specs.Spelling.{spellValue}
 use Rattle.sheet.specs.Calls.{ended}
-use Rattle.evaluation.specs.declared.Ended.{Ended}
-use Rattle.evaluation.specs.Answers.{Ends}
+use Rattle.operations.specs.declared.Ended.{Ended}
+use Rattle.operations.specs.Answers.{Ends}
 use Rattle.checker.specs.declared.Answer.{Answer}
 use Rattle.checker.specs.Parts.{Gives}
 

@@ -20,11 +20,12 @@ use Rattle.values.specs.Contracts.{Collects}
 use Rattle.values.specs.declared.Formed.{Formed}
 use Rattle.values.proofs.Growing.{append-cells}
 use Rattle.nodes.specs.Nodes.{word, kindOf, operandsIn, treesBelow}
-use Rattle.evaluation.specs.declared.Ended.{Ended}
-use Rattle.evaluation.specs.declared.Ended.the-variants as ended
-use Rattle.evaluation.specs.Answers.{Under, Ran, Small, formedAs}
-use Rattle.evaluation.specs.Evaluating.{World, Rel, Evals, operandFor, membersRun, collectNode}
-use Rattle.evaluation.proofs.Words.{under-refl, under-then, under-down, formed-small, formed-ran}
+use Rattle.operations.specs.declared.Ended.{Ended}
+use Rattle.operations.specs.declared.Ended.the-variants as ended
+use Rattle.operations.specs.Answers.{Under, Ran, Small, formedAs}
+use Rattle.operations.specs.Runs.{World, Rel, Evals}
+use Rattle.evaluation.specs.Evaluating.{operandFor, membersRun, collectNode}
+use Rattle.operations.proofs.Words.{under-refl, under-then, under-down, formed-small, formed-ran}
 use Rattle.evaluation.proofs.Composition.{rel-kept, Other, valued, falls, bounds, ran-from, ran-undefined-at}
 
 -- ---- one more value at the end

@@ -17,12 +17,12 @@ use Rattle.laws.specs.Choice.{if_then_else_}
 use Rattle.ocl.specs.Values.{Value}
 use Rattle.ocl.specs.Environment.{Env, extend}
 use Rattle.ocl.specs.Evaluation.{Outcome, value, undefined, stuck, stop, bind, tick}
-use Rattle.evaluation.proofs.Ended.{the-type}
-use Rattle.evaluation.specs.declared.Ended.{Ended}
-use Rattle.evaluation.specs.declared.Ended.the-variants as ended
-use Rattle.evaluation.specs.Answers.{Lies, Ends, ends-value, ends-undefined, ends-stuck, ends-stop, Under, Ran, Small}
-use Rattle.evaluation.specs.Evaluating.{World, Held, free, held, Rel, Meaning, Evals}
-use Rattle.evaluation.proofs.Words.{under-refl, under-then, under-down, lies-kept}
+use Rattle.operations.proofs.Ended.{the-type}
+use Rattle.operations.specs.declared.Ended.{Ended}
+use Rattle.operations.specs.declared.Ended.the-variants as ended
+use Rattle.operations.specs.Answers.{Lies, Ends, ends-value, ends-undefined, ends-stuck, ends-stop, Under, Ran, Small}
+use Rattle.operations.specs.Runs.{World, Held, free, held, Rel, Meaning, Evals}
+use Rattle.operations.proofs.Words.{under-refl, under-then, under-down, lies-kept}
 
 -- ---- environments
 

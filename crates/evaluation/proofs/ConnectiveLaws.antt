@@ -15,12 +15,13 @@ use Rattle.ocl.specs.Evaluation.{Outcome, value, undefined, stuck, bind, onBool
 use Rattle.values.specs.Cells.{bit}
 use Rattle.values.specs.declared.Simple.the-variants as simple
 use Rattle.nodes.specs.Nodes.{connectiveOf}
-use Rattle.evaluation.specs.declared.Ended.{Ended}
-use Rattle.evaluation.specs.declared.Ended.the-variants as ended
-use Rattle.evaluation.specs.Answers.{Lies, ends-stop, Under, Ran, Small, Truth}
-use Rattle.evaluation.specs.Evaluating.{World, Rel, Meaning, Evals, operandFor, connectiveNode, rightSide}
-use Rattle.evaluation.proofs.Words.{head-at}
-use Rattle.evaluation.proofs.Sorts.{no-bool, is-bool}
+use Rattle.operations.specs.declared.Ended.{Ended}
+use Rattle.operations.specs.declared.Ended.the-variants as ended
+use Rattle.operations.specs.Answers.{Lies, ends-stop, Under, Ran, Small, Truth}
+use Rattle.operations.specs.Runs.{World, Rel, Meaning, Evals}
+use Rattle.evaluation.specs.Evaluating.{operandFor, connectiveNode, rightSide}
+use Rattle.operations.proofs.Words.{head-at}
+use Rattle.operations.proofs.Sorts.{no-bool, is-bool}
 use Rattle.evaluation.proofs.Composition.{rel-kept, Other, valued, is-undefined, is-stuck, is-stop, bounds, early, after, ran-from, ran-value, ran-stuck-at, ran-undefined-at}
 
 -- ---- `and` and `or`

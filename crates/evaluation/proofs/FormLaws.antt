@@ -20,14 +20,15 @@ use Rattle.values.proofs.Adding.{header}
 use Rattle.nodes.specs.Nodes.{word, variable, unaryOf, binaryOf, quantifierOf}
 use Rattle.tables.specs.declared.Counts.{Counts}
 use Rattle.tables.specs.Stored.{HoldsModel}
-use Rattle.evaluation.specs.declared.Ended.{Ended}
-use Rattle.evaluation.specs.declared.Ended.the-variants as ended
-use Rattle.evaluation.specs.Answers.{Lies, ends-stop, Under, Gives, Truth}
-use Rattle.evaluation.specs.Tables.{Attribute, attributeIn}
-use Rattle.evaluation.specs.Operations.{OfOne, OfTwo, FitsLeft, unaryFor}
-use Rattle.evaluation.specs.Evaluating.{World, Reads, held, Rel, Evals, operandFor, unaryNode, binaryNode, isUndefNode, conditionalNode, letNode, attributeNode, quantifiedNode, iterateNode, Searches, Folds}
-use Rattle.evaluation.proofs.Words.{under-then, under-down, lies-kept, head-at, slid}
-use Rattle.evaluation.proofs.Sorts.{bit-one, no-coll, IsColl, is-coll}
+use Rattle.operations.specs.declared.Ended.{Ended}
+use Rattle.operations.specs.declared.Ended.the-variants as ended
+use Rattle.operations.specs.Answers.{Lies, ends-stop, Under, Gives, Truth}
+use Rattle.operations.specs.Tables.{Attribute, attributeIn}
+use Rattle.operations.specs.Operations.{OfOne, OfTwo, FitsLeft, unaryFor}
+use Rattle.operations.specs.Runs.{World, held, Rel, Evals}
+use Rattle.evaluation.specs.Evaluating.{Reads, operandFor, unaryNode, binaryNode, isUndefNode, conditionalNode, letNode, attributeNode, quantifiedNode, iterateNode, Searches, Folds}
+use Rattle.operations.proofs.Words.{under-then, under-down, lies-kept, head-at, slid}
+use Rattle.operations.proofs.Sorts.{bit-one, no-coll, IsColl, is-coll}
 use Rattle.evaluation.proofs.Composition.{rel-kept, rel-bind, Other, valued, is-undefined, is-stuck, is-stop, falls, bind-value, bounds, early, after, ran-from, ran-value, ran-stuck-at}
 use Rattle.evaluation.proofs.ConnectiveLaws.{bool-at, not-bool-at}
 

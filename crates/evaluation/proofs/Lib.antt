@@ -1,13 +1,6 @@
-pub mod Words
-pub mod Lookups
-pub mod Sorts
-pub mod OperationLaws
-pub mod BinaryLaws
-pub mod LeafLaws
 pub mod Composition
 pub mod ConnectiveLaws
 pub mod FormLaws
 pub mod LoopLaws
 pub mod CollectLaws
-pub mod Packing
 pub mod NodeLaws

@@ -20,12 +20,13 @@ use Rattle.values.specs.declared.Simple.the-variants as simple
 use Rattle.values.proofs.Encoding.{size-law}
 use Rattle.values.proofs.Members.{Left, next-member, none-left}
 use Rattle.nodes.specs.Nodes.{quantifierOf}
-use Rattle.evaluation.specs.declared.Ended.{Ended}
-use Rattle.evaluation.specs.declared.Ended.the-variants as ended
-use Rattle.evaluation.specs.Answers.{Lies, Under, Ran, Gives, Truth}
-use Rattle.evaluation.specs.Evaluating.{World, held, Rel, Meaning, Evals, Searches, Folds}
-use Rattle.evaluation.proofs.Words.{under-refl, under-then, under-down, slid}
-use Rattle.evaluation.proofs.Sorts.{bit-one}
+use Rattle.operations.specs.declared.Ended.{Ended}
+use Rattle.operations.specs.declared.Ended.the-variants as ended
+use Rattle.operations.specs.Answers.{Lies, Under, Ran, Gives, Truth}
+use Rattle.operations.specs.Runs.{World, held, Rel, Meaning, Evals}
+use Rattle.evaluation.specs.Evaluating.{Searches, Folds}
+use Rattle.operations.proofs.Words.{under-refl, under-then, under-down, slid}
+use Rattle.operations.proofs.Sorts.{bit-one}
 use Rattle.evaluation.proofs.Composition.{rel-kept, rel-bind, Other, valued, falls, bounds, ran-from, ran-value, ran-stuck-at}
 use Rattle.evaluation.proofs.ConnectiveLaws.{beq-yes, beq-no, bool-at, not-bool-at}
 

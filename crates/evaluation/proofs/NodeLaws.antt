@@ -22,12 +22,13 @@ use Rattle.nodes.proofs.Nodes.{tree-law, below-law}
 use Rattle.nodes.proofs.Levels.{collect-levels}
 use Rattle.nodes.proofs.Evaluation.{operandRun, leaf-run, unary-run, binary-run, connective-run, quantified-run, collect-run, over-run, isUndef-run, conditional-run, let-run, attribute-run, iterate-run, none-run, operand-run, late-run}
 use Rattle.tables.specs.declared.Counts.{Counts}
-use Rattle.evaluation.specs.declared.Ended.{Ended}
-use Rattle.evaluation.specs.declared.Ended.the-variants as ended
-use Rattle.evaluation.specs.Answers.{answerIn, Packs}
-use Rattle.evaluation.specs.Evaluating.{World, ModelIn, Reads, free, held, Rel, Meaning, Evals, Rules, leafFor, nodeFor, operandFor, unaryNode, binaryNode, connectiveNode, isUndefNode, conditionalNode, letNode, attributeNode, quantifiedNode, iterateNode, membersRun, collectNode, operandAt, Shallow}
-use Rattle.evaluation.proofs.Words.{under-refl, gives}
-use Rattle.evaluation.proofs.Packing.{ends-packed}
+use Rattle.operations.specs.declared.Ended.{Ended}
+use Rattle.operations.specs.declared.Ended.the-variants as ended
+use Rattle.operations.specs.Answers.{answerIn, Packs}
+use Rattle.operations.specs.Runs.{World, ModelIn, free, held, Rel, Meaning, Evals, leafFor}
+use Rattle.evaluation.specs.Evaluating.{Reads, Rules, nodeFor, operandFor, unaryNode, binaryNode, connectiveNode, isUndefNode, conditionalNode, letNode, attributeNode, quantifiedNode, iterateNode, membersRun, collectNode, operandAt, Shallow}
+use Rattle.operations.proofs.Words.{under-refl, gives}
+use Rattle.operations.proofs.Packing.{ends-packed}
 use Rattle.evaluation.proofs.Composition.{rel-bind, valued, tick-on, tick-stop, ran-undefined-at}
 
 -- ---- the form

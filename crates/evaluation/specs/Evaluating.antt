@@ -2,37 +2,28 @@
 -- below sp, the answer is the definition's outcome.
 use mathlib.Core.Path.{_≡_}
 use mathlib.Core.Bool.{Bool, _||_, Bool·beq}
-use mathlib.Core.Option.{Option, none, some}
 use mathlib.Core.List.{List}
 use Prim.Native.Nat.{ℕ, _+_, _*_, _≤_, _<_}
-use lib.ListN.{length, getD}
+use lib.ListN.{getD}
 use lib.Seq.{slice}
 use lib.Dec.{ltb}
 use Rattle.laws.specs.Choice.{if_then_else_}
 use Rattle.ocl.specs.Values.{Value, bool, Values}
 use Rattle.ocl.specs.Environment.{Env, extend}
-use Rattle.ocl.specs.Model.{Model}
 use Rattle.ocl.specs.Forms.{Expr, levels, Connective, Quantifier}
 use Rattle.ocl.specs.Forms.{undef}
-use Rattle.ocl.specs.Evaluation.{value, undefined, Run, bind, onBool, bound, leafRun, unaryRun, binaryRun, decides, connectiveRun, isUndefRun, conditionalRun, letRun, attributeRun, quantifiedRun, iterateRun, collectRun, evaluation, evaluateRule, operandsRun, search, fold}
+use Rattle.ocl.specs.Evaluation.{value, undefined, bind, onBool, leafRun, unaryRun, binaryRun, decides, connectiveRun, isUndefRun, conditionalRun, letRun, attributeRun, quantifiedRun, iterateRun, collectRun, evaluation, evaluateRule, operandsRun, search, fold}
 use Rattle.values.specs.Cells.{encs, AllFit}
-use Rattle.nodes.specs.Nodes.{word, variable, leafOf, unaryOf, binaryOf, connectiveOf, quantifierOf, kindOf, operandsIn, treesBelow, treeAt}
+use Rattle.nodes.specs.Nodes.{word, variable, unaryOf, binaryOf, connectiveOf, quantifierOf, kindOf, operandsIn, treesBelow, treeAt}
 use Rattle.tables.specs.declared.Counts.{Counts}
 use Rattle.tables.specs.Layout.{Fine}
 use Rattle.tables.specs.Stored.{HoldsModel}
-use Rattle.evaluation.specs.declared.Ended.{Ended}
-use Rattle.evaluation.specs.Answers.{Lies, Ends, Ran, Small}
-use Rattle.evaluation.specs.Tables.{Plain}
+use Rattle.operations.specs.declared.Ended.{Ended}
+use Rattle.operations.specs.Answers.{Lies, Ends, Ran, Small}
+use Rattle.operations.specs.Tables.{Plain}
+use Rattle.operations.specs.Runs.{World, Rel, Meaning}
 
 -- ---- what is evaluated over
-
--- a model, and the row that each `attr` node is marked with
-pub record World : Type 0 where
-  pub model : Model
-  pub mark : ℕ → ℕ
-
-pub record ModelIn (st : Counts) (w0 : List ℕ) (w : World) : Type 0 where
-  pub holds : HoldsModel st w0 (w .model)
 
 -- the tables hold the model, and w1 the marks, from 6144 on
 pub record Reads (st : Counts) (w0 w1 : List ℕ) (w : World) : Type 0 where
@@ -41,38 +32,10 @@ pub record Reads (st : Counts) (w0 w1 : List ℕ) (w : World) : Type 0 where
   pub mark : (p : ℕ) → p < 768 → w .mark p ≡ getD w1 (6144 + p) 0
   pub row : (p : ℕ) → p < 768 → w .mark p < 64
 
--- ---- environments: 0 for unbound, else one more than where the value's cells start, below sp
-
-pub data Held (S : List ℕ) (sp at : ℕ) : Option Value → Type 0 where
-  free : at ≡ 0 → Held S sp at none
-  held : (p : ℕ) {v : Value} {len : ℕ} → at ≡ p + 1 → Lies v p len S → len ≤ 128 → p + len ≤ sp → Held S sp at (some v)
-
-pub record Rel (env S : List ℕ) (sp : ℕ) (ρ : Env Value) : Type 0 where
-  pub slots : length env ≡ 16
-  pub at : (j : ℕ) → Held S sp (getD env j 0) (ρ j)
-
--- ---- what is evaluated
-
-abbrev pub Meaning : Type 0
-Meaning = World → Run
-
-pub record Evals (Ok : World → Type 0) (f : Meaning) (env : List ℕ) (sp s : ℕ) (B A : List ℕ) (r : Ended) : Type 0 where
-  pub small : Small r
-  pub ran : (w : World) → Ok w → (ρ : Env Value) → Rel env B sp ρ → Ran (f w ρ s) sp B A r
-
 -- a rule's outcome, its value at 1
 pub record Rules (Ok : World → Type 0) (e : Expr) (o : ℕ) (A : List ℕ) (r : Ended) : Type 0 where
   pub small : Small r
   pub ends : (w : World) → Ok w → Ends 1 A (evaluateRule (w .model) (w .mark) e o) r
-
--- a variable's value once more
-pub record Variable (i : ℕ) (env : List ℕ) (sp s : ℕ) (B A : List ℕ) (r : Ended) : Type 0 where
-  pub small : Small r
-  pub ran : (ρ : Env Value) → Rel env B sp ρ → Ran (bound (ρ i) s) sp B A r
-
--- the form with no operand that has this code, and this literal, variable or class
-unfoldable pub leafFor : ℕ → ℕ → Meaning
-leafFor k x w = leafRun (w .model) (leafOf k (λ _. x))
 
 -- ---- nodes and operands
 

@@ -1,4 +1,1 @@
-pub mod Answers
-pub mod Tables
 pub mod Evaluating
-pub mod Operations

@@ -1,15 +1,16 @@
 // Forms that are not strict: `and`, `or`, `isUndef`, `if`.
-use crate::Ended;
-use crate::answers::put;
-use crate::answers::truth;
 use crate::walk::below;
+use operations::Ended;
+use operations::answers::put;
+use operations::answers::truth;
 use tables::Counts;
 use values::Simple;
 ghost use Prim.Native.Nat.{_+_, _≤_, _<_};
 ghost use lib.ListN.{length};
 ghost use Rattle.ocl.specs.Forms.{levels};
 ghost use Rattle.nodes.specs.Nodes.{connectiveOf};
-ghost use Rattle.evaluation.specs.Evaluating.{Reads, Room, Evals, operandAt, operandFor, connectiveNode, rightSide, isUndefNode, conditionalNode};
+ghost use Rattle.operations.specs.Runs.{Evals};
+ghost use Rattle.evaluation.specs.Evaluating.{Reads, Room, operandAt, operandFor, connectiveNode, rightSide, isUndefNode, conditionalNode};
 
 // `and` (23) and `or` (24): a left side that decides leaves the right one unrun. `and` is decided by 0, `or` by 1.
 pub fn connective(

@@ -1,9 +1,9 @@
 // Forms that run a body for each member: `forAll`, `exists`, `iter`.
-use crate::Ended;
-use crate::answers::put;
-use crate::answers::truth;
 use crate::walk::below;
 use nodes::node_word;
+use operations::Ended;
+use operations::answers::put;
+use operations::answers::truth;
 use tables::Counts;
 use types::classes::wide;
 use values::Simple;
@@ -15,7 +15,8 @@ ghost use Prim.Native.Nat.{_+_, _≤_, _<_};
 ghost use lib.ListN.{length};
 ghost use Rattle.ocl.specs.Forms.{levels};
 ghost use Rattle.nodes.specs.Nodes.{word, variable, quantifierOf};
-ghost use Rattle.evaluation.specs.Evaluating.{Reads, Room, Evals, operandAt, operandFor, quantifiedNode, iterateNode, Searches, Folds};
+ghost use Rattle.operations.specs.Runs.{Evals};
+ghost use Rattle.evaluation.specs.Evaluating.{Reads, Room, operandAt, operandFor, quantifiedNode, iterateNode, Searches, Folds};
 
 // Collections' sorts start here.
 const SET: u64 = 3;

@@ -1,7 +1,7 @@
 // A rule for an object: the recursion from the rule's root, with nothing bound but `self`.
-use crate::Ended;
-use crate::answers::unpack;
 use crate::walk::packed;
+use operations::Ended;
+use operations::answers::unpack;
 use tables::Counts;
 use values::Simple;
 use values::cells::push;

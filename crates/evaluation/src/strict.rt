@@ -1,12 +1,12 @@
 // Forms that end undefined at their first undefined operand and run each operand once.
-use crate::Ended;
-use crate::answers::formed;
-use crate::lookup::attribute_of;
-use crate::operations::binary_apply;
-use crate::operations::left_fits;
-use crate::operations::unary_apply;
 use crate::walk::below;
 use nodes::node_word;
+use operations::Ended;
+use operations::answers::formed;
+use operations::apply::binary_apply;
+use operations::apply::left_fits;
+use operations::apply::unary_apply;
+use operations::lookup::attribute_of;
 use tables::Counts;
 use types::classes::wide;
 use values::cells::slide;
@@ -14,7 +14,8 @@ use values::collect::collect;
 ghost use Prim.Native.Nat.{_+_, _≤_, _<_};
 ghost use lib.ListN.{length};
 ghost use Rattle.ocl.specs.Forms.{levels};
-ghost use Rattle.evaluation.specs.Evaluating.{Reads, Room, Evals, operandAt, unaryNode, binaryNode, letNode, attributeNode, collectNode, Shallow};
+ghost use Rattle.operations.specs.Runs.{Evals};
+ghost use Rattle.evaluation.specs.Evaluating.{Reads, Room, operandAt, unaryNode, binaryNode, letNode, attributeNode, collectNode, Shallow};
 
 // Where the marks start.
 const MARKS: usize = 6144;

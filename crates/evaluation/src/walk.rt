@@ -1,13 +1,9 @@
 // The recursion over operand nodes: an operand, and a node by its form. Every function of the recursion takes the tables and their
 // counts; the nodes, with the marks of `attr` nodes from word 6144 on; a node; where the values of the variables start, each one more
 // than its place, or 0; the stack and its top sp; the levels that are left; and the steps begun.
-use crate::Ended;
-use crate::answers::pack;
-use crate::answers::unpack;
 use crate::lazy::conditional;
 use crate::lazy::connective;
 use crate::lazy::is_undef;
-use crate::leaves::leaf;
 use crate::loops::iterate;
 use crate::loops::quantified;
 use crate::strict::attribute;
@@ -16,14 +12,19 @@ use crate::strict::collection;
 use crate::strict::let_in;
 use crate::strict::unary;
 use nodes::node_word;
+use operations::Ended;
+use operations::answers::pack;
+use operations::answers::unpack;
+use operations::leaves::leaf;
 use tables::Counts;
 use types::classes::wide;
 ghost use Prim.Native.Nat.{_≤_, _<_};
 ghost use lib.ListN.{length};
 ghost use Rattle.ocl.specs.Forms.{levels};
 ghost use Rattle.nodes.specs.Nodes.{treeAt};
-ghost use Rattle.evaluation.specs.Answers.{answerIn};
-ghost use Rattle.evaluation.specs.Evaluating.{Reads, Room, Evals, operandAt, nodeFor, operandFor};
+ghost use Rattle.operations.specs.Answers.{answerIn};
+ghost use Rattle.operations.specs.Runs.{Evals};
+ghost use Rattle.evaluation.specs.Evaluating.{Reads, Room, operandAt, nodeFor, operandFor};
 
 // The step stop comes where this many steps have begun.
 const LIMIT: u64 = 1_000_000;

@@ -15,7 +15,7 @@ use Rattle.types.specs.Flat.{baseType, tyOf}
 use Rattle.types.proofs.Members.{ends, goes-on}
 use Rattle.tables.specs.declared.Counts.{Counts}
 use Rattle.tables.specs.Stored.{HoldsModel}
-use Rattle.evaluation.specs.Tables.{IsA}
+use Rattle.operations.specs.Tables.{IsA}
 use Rattle.rules.specs.Width.{width}
 use Rattle.report.specs.Bound.{objectsOf, CountsObjects, BoundsLines}
 

@@ -16,9 +16,9 @@ use Rattle.values.specs.Cells.{enc, Fits}
 use Rattle.values.proofs.Encoding.{some-cells, size-law}
 use Rattle.spelling.specs.Contracts.{ValueFits}
 use Rattle.spelling.proofs.PutLaws.{puts-behind}
-use Rattle.evaluation.specs.declared.Ended.{Ended}
-use Rattle.evaluation.specs.declared.Ended.the-variants as ended
-use Rattle.evaluation.specs.Answers.{Lies, Ends, ends-value, ends-undefined, ends-stuck, ends-stop}
+use Rattle.operations.specs.declared.Ended.{Ended}
+use Rattle.operations.specs.declared.Ended.the-variants as ended
+use Rattle.operations.specs.Answers.{Lies, Ends, ends-value, ends-undefined, ends-stuck, ends-stop}
 use Rattle.report.specs.Lines.{OutcomeFits, LineFits}
 
 -- ---- an outcome

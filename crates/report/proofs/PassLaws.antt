@@ -20,9 +20,9 @@ use Rattle.text.proofs.WrittenLaws.{puts-length, puts-then}
 use Rattle.tables.specs.declared.Counts.{Counts}
 use Rattle.tables.specs.Layout.{Kept}
 use Rattle.tables.proofs.Tables.{kept-refl, kept-then}
-use Rattle.evaluation.specs.declared.Ended.{Ended}
-use Rattle.evaluation.specs.Answers.{Ends}
-use Rattle.evaluation.specs.Tables.{IsA}
+use Rattle.operations.specs.declared.Ended.{Ended}
+use Rattle.operations.specs.Answers.{Ends}
+use Rattle.operations.specs.Tables.{IsA}
 use Rattle.rules.specs.Accepted.{Known}
 use Rattle.rules.specs.Numbered.{EvaluatesNumbered}
 use Rattle.rules.specs.Width.{width}

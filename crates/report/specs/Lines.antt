@@ -4,8 +4,8 @@ use Prim.Native.Nat.{ℕ, _+_, _≤_}
 use lib.ListN.{length}
 use Rattle.ocl.specs.Evaluation.{Outcome}
 use Rattle.sheet.specs.Report.{spellOutcome, reportLine}
-use Rattle.evaluation.specs.Answers.{Ends}
-use Rattle.evaluation.specs.declared.Ended.{Ended}
+use Rattle.operations.specs.Answers.{Ends}
+use Rattle.operations.specs.declared.Ended.{Ended}
 
 pub record OutcomeFits (at : ℕ) (stack : List ℕ) (e : Ended) (room : ℕ) : Type 0 where
   pub outcome : Outcome

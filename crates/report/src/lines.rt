@@ -1,5 +1,5 @@
 // One line of the report: rule, object, outcome, steps. A rule that ended with a value left its cells at 1 in the stack.
-use evaluation::Ended;
+use operations::Ended;
 use spelling::put_value;
 use text::spelling::put_byte;
 use text::spelling::put_bytes;
@@ -13,7 +13,7 @@ ghost use Rattle.ocl.specs.Soundness.{stepsOf};
 ghost use Rattle.sheet.specs.Text.{spellNumber};
 ghost use Rattle.sheet.specs.Report.{spellOutcome, reportLine};
 ghost use Rattle.text.specs.Written.{Puts};
-ghost use Rattle.evaluation.specs.Answers.{Ends};
+ghost use Rattle.operations.specs.Answers.{Ends};
 ghost use Rattle.report.specs.Lines.{OutcomeFits, LineFits};
 
 // The value, `u`, or a stop's number behind `!`.

@@ -6,7 +6,7 @@ ghost use Rattle.tables.specs.Layout.{Kept};
 ghost use Rattle.rules.specs.Accepted.{Known};
 ghost use Rattle.report.specs.Passes.{MarksRule, objectLine, allObjects, lineBound, allBound, RoomFor, AddsLines, RoomForAll, AddsAll};
 use crate::lines::put_line;
-use evaluation::lookup::is_a;
+use operations::lookup::is_a;
 use rules::evaluated::evaluate_numbered;
 use rules::evaluated::keep_marks;
 use rules::typed::type_numbered;

@@ -13,8 +13,8 @@ use Rattle.sheet.specs.Sheet.{Rule, Sheet, modelOf}
 use Rattle.sheet.specs.Calls.{typingOf, outcomeOf}
 use Rattle.nodes.specs.Nodes.{treeAt}
 use Rattle.tables.specs.declared.Counts.{Counts}
-use Rattle.evaluation.specs.declared.Ended.{Ended}
-use Rattle.evaluation.specs.Answers.{Ends, ends-value, ends-undefined, ends-stuck, ends-stop}
+use Rattle.operations.specs.declared.Ended.{Ended}
+use Rattle.operations.specs.Answers.{Ends, ends-value, ends-undefined, ends-stuck, ends-stop}
 use Rattle.evaluation.specs.Evaluating.{Reads, Rules}
 use Rattle.rules.specs.Accepted.{Accepted, RuleIn, MarksIn}
 use Rattle.rules.specs.Numbered.{EvaluatesNumbered}

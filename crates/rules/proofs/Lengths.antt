@@ -32,8 +32,8 @@ use Rattle.sheet.proofs.Soundness.{sound-rule}
 use Rattle.sheet.proofs.Lengths.{length-laws}
 use Rattle.values.specs.Cells.{Fits, fits-int, fits-coll, AllFit, fit-nil, fit-cons}
 use Rattle.tables.specs.declared.Counts.{Counts}
-use Rattle.evaluation.specs.declared.Ended.{Ended}
-use Rattle.evaluation.specs.Answers.{Ends, ends-value, ends-undefined, ends-stuck, ends-stop}
+use Rattle.operations.specs.declared.Ended.{Ended}
+use Rattle.operations.specs.Answers.{Ends, ends-value, ends-undefined, ends-stuck, ends-stop}
 use Rattle.rules.specs.Accepted.{Accepted}
 use Rattle.rules.specs.Width.{width}
 

@@ -20,7 +20,7 @@ use Rattle.tables.specs.declared.Counts.{Counts}
 use Rattle.tables.specs.Layout.{Holds, Fine}
 use Rattle.tables.specs.Stored.{HoldsModel}
 use Rattle.tables.proofs.Tables.{tab-at}
-use Rattle.evaluation.specs.Tables.{Plain}
+use Rattle.operations.specs.Tables.{Plain}
 use Rattle.rules.specs.Accepted.{Accepted, Ready}
 use Rattle.rules.proofs.Classes.{classes-held}
 use Rattle.rules.proofs.Slots.{LowRows, slots-ascend, slots-stored}

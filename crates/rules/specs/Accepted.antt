@@ -20,7 +20,7 @@ use Rattle.tables.specs.declared.Counts.{Counts}
 use Rattle.tables.specs.Layout.{Holds, Fine}
 use Rattle.tables.specs.Stored.{HoldsModel}
 use Rattle.typing.specs.Tables.{Reads as TypingReads}
-use Rattle.evaluation.specs.Tables.{Plain}
+use Rattle.operations.specs.Tables.{Plain}
 
 -- the sheet of an accepted text lies in the words
 pub record Accepted (st : Counts) (w0 w1 : List ℕ) (s : Sheet) : Type 0 where

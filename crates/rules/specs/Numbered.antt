@@ -11,8 +11,8 @@ use Rattle.tables.specs.declared.Counts.{Counts}
 use Rattle.tables.specs.Layout.{Kept}
 use Rattle.typing.specs.declared.Reply.{Reply}
 use Rattle.typing.specs.Replies.{meaning}
-use Rattle.evaluation.specs.declared.Ended.{Ended}
-use Rattle.evaluation.specs.Answers.{Ends, Small}
+use Rattle.operations.specs.declared.Ended.{Ended}
+use Rattle.operations.specs.Answers.{Ends, Small}
 use Rattle.rules.specs.Accepted.{Accepted, MarksIn}
 
 -- the typing of rule r, its marks in the first 768 words of w2

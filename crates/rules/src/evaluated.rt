@@ -4,8 +4,8 @@ ghost use Prim.Native.Nat.{_≤_, _<_};
 ghost use lib.ListN.{length};
 ghost use Rattle.rules.specs.Accepted.{Known};
 ghost use Rattle.rules.specs.Numbered.{KeepsMarks, EvaluatesNumbered};
-use evaluation::Ended;
 use evaluation::rule::evaluate_rule;
+use operations::Ended;
 use tables::Counts;
 use types::classes::wide;
 

@@ -6,8 +6,8 @@ use borrow.Author.Needs.{needs}
 use native.Mathlib.Omega.{arith}
 use Rattle.evaluation.proofs.walk.below.Reads as below
 use Rattle.evaluation.proofs.strict.binary.Reads as binary
-use Rattle.evaluation.proofs.operations.binary_apply.Reads as binary-apply-reads
-use Rattle.evaluation.proofs.operations.left_fits.Reads as left-fits-reads
+use Rattle.operations.proofs.apply.binary_apply.Reads as binary-apply-reads
+use Rattle.operations.proofs.apply.left_fits.Reads as left-fits-reads
 use Rattle.evaluation.proofs.+lazy-conditional+lazy-connective+lazy-is_undef+lazy-right+loops-fold+loops-iterate+loops-quantified+loops-search+strict-attribute+strict-binary+strict-collection+strict-let_in+strict-unary+walk-below+walk-node+walk-packed.Lts-strict-binary as lts
 use Rattle.evaluation.proofs.+lazy-conditional+lazy-connective+lazy-is_undef+lazy-right+loops-fold+loops-iterate+loops-quantified+loops-search+strict-attribute+strict-binary+strict-collection+strict-let_in+strict-unary+walk-below+walk-node+walk-packed.Proof.Base.{below-below, binary-at}
 

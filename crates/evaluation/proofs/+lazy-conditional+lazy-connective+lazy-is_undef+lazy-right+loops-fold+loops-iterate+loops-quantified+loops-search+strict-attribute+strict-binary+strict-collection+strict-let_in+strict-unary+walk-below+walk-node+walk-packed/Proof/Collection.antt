@@ -12,7 +12,7 @@ use native.Mathlib.Omega.{arith}
 use Rattle.evaluation.proofs.walk.below.Reads as below
 use Rattle.values.proofs.collect.collect.Reads as collect-reads
 use Rattle.evaluation.proofs.strict.collection.Reads as collection
-use Rattle.evaluation.proofs.answers.formed.Reads as formed-reads
+use Rattle.operations.proofs.answers.formed.Reads as formed-reads
 use Rattle.nodes.proofs.node_word.Reads as node-word-reads
 use Rattle.types.proofs.classes.wide.Reads as wide-reads
 use Rattle.evaluation.proofs.+lazy-conditional+lazy-connective+lazy-is_undef+lazy-right+loops-fold+loops-iterate+loops-quantified+loops-search+strict-attribute+strict-binary+strict-collection+strict-let_in+strict-unary+walk-below+walk-node+walk-packed.Lts-strict-collection as lts

@@ -4,7 +4,7 @@ use Prim.Native.Nat.{ℕ}
 use borrow.Author.Needs.{needs}
 use Rattle.evaluation.proofs.walk.below.Reads as below
 use Rattle.evaluation.proofs.lazy.conditional.Reads as conditional
-use Rattle.evaluation.proofs.answers.truth.Reads as truth-reads
+use Rattle.operations.proofs.answers.truth.Reads as truth-reads
 use Rattle.evaluation.proofs.+lazy-conditional+lazy-connective+lazy-is_undef+lazy-right+loops-fold+loops-iterate+loops-quantified+loops-search+strict-attribute+strict-binary+strict-collection+strict-let_in+strict-unary+walk-below+walk-node+walk-packed.Lts-lazy-conditional as lts
 use Rattle.evaluation.proofs.+lazy-conditional+lazy-connective+lazy-is_undef+lazy-right+loops-fold+loops-iterate+loops-quantified+loops-search+strict-attribute+strict-binary+strict-collection+strict-let_in+strict-unary+walk-below+walk-node+walk-packed.Proof.Base.{below-below, conditional-at}
 

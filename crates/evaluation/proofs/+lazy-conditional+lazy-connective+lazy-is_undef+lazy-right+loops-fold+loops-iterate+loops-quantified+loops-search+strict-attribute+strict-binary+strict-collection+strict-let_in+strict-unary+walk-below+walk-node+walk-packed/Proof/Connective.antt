@@ -6,7 +6,7 @@ use native.Mathlib.Omega.{arith}
 use Rattle.evaluation.proofs.walk.below.Reads as below
 use Rattle.evaluation.proofs.lazy.connective.Reads as connective
 use Rattle.evaluation.proofs.lazy.right.Reads as right
-use Rattle.evaluation.proofs.answers.truth.Reads as truth-reads
+use Rattle.operations.proofs.answers.truth.Reads as truth-reads
 use Rattle.evaluation.proofs.+lazy-conditional+lazy-connective+lazy-is_undef+lazy-right+loops-fold+loops-iterate+loops-quantified+loops-search+strict-attribute+strict-binary+strict-collection+strict-let_in+strict-unary+walk-below+walk-node+walk-packed.Lts-lazy-connective as lts
 use Rattle.evaluation.proofs.+lazy-conditional+lazy-connective+lazy-is_undef+lazy-right+loops-fold+loops-iterate+loops-quantified+loops-search+strict-attribute+strict-binary+strict-collection+strict-let_in+strict-unary+walk-below+walk-node+walk-packed.Proof.Base.{below-below, connective-at, right-below}
 

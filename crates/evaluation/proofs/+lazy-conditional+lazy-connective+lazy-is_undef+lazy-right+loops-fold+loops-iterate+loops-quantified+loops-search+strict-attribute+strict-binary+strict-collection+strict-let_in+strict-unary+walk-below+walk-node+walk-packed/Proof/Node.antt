@@ -14,7 +14,7 @@ use Rattle.evaluation.proofs.lazy.conditional.Reads as conditional
 use Rattle.evaluation.proofs.lazy.connective.Reads as connective
 use Rattle.evaluation.proofs.lazy.is_undef.Reads as is-undef
 use Rattle.evaluation.proofs.loops.iterate.Reads as iterate
-use Rattle.evaluation.proofs.leaves.leaf.Reads as leaf-reads
+use Rattle.operations.proofs.leaves.leaf.Reads as leaf-reads
 use Rattle.evaluation.proofs.strict.let_in.Reads as let-in
 use Rattle.evaluation.proofs.walk.node.Reads as node
 use Rattle.nodes.proofs.node_word.Reads as node-word-reads

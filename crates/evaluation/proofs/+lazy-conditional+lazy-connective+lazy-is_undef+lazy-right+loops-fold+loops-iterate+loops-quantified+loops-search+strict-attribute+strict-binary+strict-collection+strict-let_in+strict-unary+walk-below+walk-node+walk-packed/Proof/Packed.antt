@@ -3,7 +3,7 @@ use Rattle.evaluation.proofs.NodeLaws.{node-packed}
 use Prim.Native.Nat.{ℕ}
 use borrow.Author.Needs.{needs}
 use native.Mathlib.Omega.{arith}
-use Rattle.evaluation.proofs.answers.pack.Reads as pack-reads
+use Rattle.operations.proofs.answers.pack.Reads as pack-reads
 use Rattle.evaluation.proofs.walk.node.Reads as node
 use Rattle.evaluation.proofs.walk.packed.Reads as packed
 use Rattle.evaluation.proofs.+lazy-conditional+lazy-connective+lazy-is_undef+lazy-right+loops-fold+loops-iterate+loops-quantified+loops-search+strict-attribute+strict-binary+strict-collection+strict-let_in+strict-unary+walk-below+walk-node+walk-packed.Lts-walk-packed as lts

@@ -8,10 +8,10 @@ use Prim.Native.Nat.{ℕ}
 use borrow.Author.Needs.{needs}
 use native.Mathlib.Omega.{arith}
 use Rattle.evaluation.proofs.walk.below.Reads as below
-use Rattle.evaluation.proofs.answers.put.Reads as put-reads
+use Rattle.operations.proofs.answers.put.Reads as put-reads
 use Rattle.evaluation.proofs.loops.search.Reads as searching
 use Rattle.values.proofs.cells.skip.Reads as skip-reads
-use Rattle.evaluation.proofs.answers.truth.Reads as truth-reads
+use Rattle.operations.proofs.answers.truth.Reads as truth-reads
 use Rattle.evaluation.proofs.+lazy-conditional+lazy-connective+lazy-is_undef+lazy-right+loops-fold+loops-iterate+loops-quantified+loops-search+strict-attribute+strict-binary+strict-collection+strict-let_in+strict-unary+walk-below+walk-node+walk-packed.Lts-loops-search as lts
 use Rattle.evaluation.proofs.+lazy-conditional+lazy-connective+lazy-is_undef+lazy-right+loops-fold+loops-iterate+loops-quantified+loops-search+strict-attribute+strict-binary+strict-collection+strict-let_in+strict-unary+walk-below+walk-node+walk-packed.Proof.Base.{below-below, search-at}
 

@@ -7,7 +7,7 @@ use native.Mathlib.Omega.{arith}
 use Rattle.evaluation.proofs.walk.below.Reads as below
 use Rattle.nodes.proofs.node_word.Reads as node-word-reads
 use Rattle.evaluation.proofs.strict.unary.Reads as unary
-use Rattle.evaluation.proofs.operations.unary_apply.Reads as unary-apply-reads
+use Rattle.operations.proofs.apply.unary_apply.Reads as unary-apply-reads
 use Rattle.evaluation.proofs.+lazy-conditional+lazy-connective+lazy-is_undef+lazy-right+loops-fold+loops-iterate+loops-quantified+loops-search+strict-attribute+strict-binary+strict-collection+strict-let_in+strict-unary+walk-below+walk-node+walk-packed.Lts-strict-unary as lts
 use Rattle.evaluation.proofs.+lazy-conditional+lazy-connective+lazy-is_undef+lazy-right+loops-fold+loops-iterate+loops-quantified+loops-search+strict-attribute+strict-binary+strict-collection+strict-let_in+strict-unary+walk-below+walk-node+walk-packed.Proof.Base.{below-below, unary-at}
 

@@ -1,0 +1,247 @@
+-- The strict forms with two operands, over values that lie on the stack. Assumes nothing.
+use mathlib.Core.Path.{_≡_, refl, sym, ap, _∙_}
+use mathlib.Core.Bool.{Bool, true, false}
+use mathlib.Core.Option.{Option, none, some}
+use mathlib.Core.List.{List}
+use Prim.Native.Nat.{ℕ, zero, suc, _+_, _-_, _%_, _<_, _≤_}
+use native.Mathlib.Omega.{arith}
+use lib.ListN.{length, getD}
+use lib.IntN.{ℤ, pos, negsuc}
+use lib.Dec.{T, eqb, leb}
+use borrow.Author.Tests.{lt-ltb, le-ltb, eq-eqb, ne-eqb}
+use Rattle.laws.specs.Choice.{if_then_else_}
+use Rattle.laws.proofs.Tests.{by-if}
+use Rattle.ocl.specs.Types.{Kind, kindCode, sameKind}
+use Rattle.ocl.specs.Values.{Value, bool, int, coll, Values, same, has, add, addAll, orderInt}
+use Rattle.ocl.specs.Forms.{Arith, plus, minus, times, div, modulo, Binary, equal, less, arith as calculation, includes, including, union}
+use Rattle.ocl.specs.Evaluation.{value, stuck, onInt, onColl, given, inRange, isLess, ranged, unlessZero, arithmetic, form, leftFits, binaryApply, isInt, isColl}
+use Rattle.values.specs.Cells.{bias, payload, fits-bool, fits-int}
+use Rattle.values.specs.Contracts.{means-bool, means-int, SortOf, PayloadOf, SameAt, HasAt, Adds, Unites}
+use Rattle.values.specs.Integers.{numOf, Calculates, Lesser, arithOf}
+use Rattle.values.specs.declared.Simple.the-variants as simple
+use Rattle.values.specs.declared.Formed.{Formed}
+use Rattle.values.specs.declared.Num.{Num}
+use Rattle.values.specs.declared.Num.the-variants as num
+use Rattle.values.proofs.Heads.{shape, Shape, shape-bool, shape-int, shape-obj, shape-coll, bias-small}
+use Rattle.values.proofs.Adding.{header}
+use Rattle.nodes.specs.Nodes.{binaryOf}
+use Rattle.nodes.specs.Nodes.{arithOf as arithCodeOf}
+use Rattle.operations.specs.declared.Ended.{Ended}
+use Rattle.operations.specs.declared.Ended.the-variants as ended
+use Rattle.operations.specs.Answers.{Ran, Small, Gives, formedAs}
+use Rattle.operations.specs.Operations.{OfTwo, FitsLeft}
+use Rattle.operations.proofs.Words.{formed-small, formed-ran}
+use Rattle.operations.proofs.Sorts.{no-ints, no-int, no-coll, is-coll, is-int, sorted, int-test, coll-test, same-kind}
+use Rattle.operations.proofs.OperationLaws.{ran-stuck, ran-undefined}
+
+-- ---- the left operand's kind
+
+module _ {k cell : ℕ} where
+  pub left-any : k ≡ 13 → FitsLeft k cell true
+  unfolding binaryOf leftFits
+  left-any e = record { is = λ v f h. rw e }
+
+  pub left-int : {t : ℕ} → 14 ≤ k → k < 20 → SortOf cell t → FitsLeft k cell (eqb t 1)
+  unfolding binaryOf leftFits
+  left-int {t} l u S = record { is = λ v f h. int-test (shape f (S .is v f h) refl) ∙ by v (eqb k 14) refl }
+    where
+      by : (v : Value) (b : Bool) → eqb k 14 ≡ b → isInt v ≡ leftFits (binaryOf k) v
+      by v true e = rw (ne-eqb k 13 (λ x. omega arith), e)
+      by v false e = rw (ne-eqb k 13 (λ x. omega arith), e, lt-ltb k 20 u)
+
+  pub left-coll : {t : ℕ} → 20 ≤ k → SortOf cell t → FitsLeft k cell (leb 3 t)
+  unfolding binaryOf leftFits
+  left-coll {t} l S = record { is = λ v f h. coll-test (shape f (S .is v f h) refl) ∙ by v (eqb k 20) (eqb k 21) refl refl }
+    where
+      by : (v : Value) (a b : Bool) → eqb k 20 ≡ a → eqb k 21 ≡ b → isColl v ≡ leftFits (binaryOf k) v
+      by v true b e f = rw (ne-eqb k 13 (λ x. omega arith), ne-eqb k 14 (λ x. omega arith), le-ltb k 20 l, e)
+      by v false true e f = rw (ne-eqb k 13 (λ x. omega arith), ne-eqb k 14 (λ x. omega arith), le-ltb k 20 l, e, f)
+      by v false false e f = rw (ne-eqb k 13 (λ x. omega arith), ne-eqb k 14 (λ x. omega arith), le-ltb k 20 l, e, f)
+
+-- ---- two operands
+
+-- what arithmetic gives is an Integer in range, or nothing
+data IntOrNone : Option Value → Type 0 where
+  no-int-at-all : IntOrNone none
+  an-int : {z : ℤ} → T (inRange z) → IntOrNone (some (int z))
+
+ranged-int : (z : ℤ) → IntOrNone (ranged z)
+unfolding ranged
+ranged-int z = by-if IntOrNone (inRange z) (some (int z)) none (λ h. an-int h) (λ h. no-int-at-all)
+
+unless-int : (y : ℤ) (v : Option Value) → IntOrNone v → IntOrNone (unlessZero y v)
+unfolding unlessZero
+unless-int (pos zero) v h = no-int-at-all
+unless-int (pos (suc n)) v h = h
+unless-int (negsuc n) v h = h
+
+arith-int : (o : Arith) (x y : ℤ) → IntOrNone (arithmetic o x y)
+unfolding arithmetic
+arith-int plus x y = ranged-int _
+arith-int minus x y = ranged-int _
+arith-int times x y = ranged-int _
+arith-int div x y = unless-int y _ (ranged-int _)
+arith-int modulo x y = unless-int y _ (ranged-int _)
+
+module _ {sp la lb s : ℕ} {B : List ℕ} where
+  pub same-done : {b : Bool} {A : List ℕ} {r : Ended} → SameAt B sp la (sp + la) lb b → Gives (simple.Bool b) sp s B A r → OfTwo (binaryApply equal) sp la lb s B A r
+  unfolding binaryApply
+  same-done E G = record {
+    small = G .small;
+    ran = λ v w l k. G .is (bool (same v w)) fits-bool (rw (E .is v w (l .fits) (k .fits) (l .cells) (k .cells)) means-bool);
+  }
+
+  module _ {t : ℕ} (S : SortOf (getD B sp 0) t) where
+    pub less-left : (t ≡ 1 → ⊥) → OfTwo (binaryApply less) sp la lb s B B ended.Stuck
+    unfolding binaryApply
+    less-left n = record { small = tt; ran = λ v w l k. rw (no-int l S n (λ x. onInt w (λ y. value (bool (isLess (orderInt x y))) s))) ran-stuck }
+
+    pub arith-left : (o : Arith) → (t ≡ 1 → ⊥) → OfTwo (binaryApply (calculation o)) sp la lb s B B ended.Stuck
+    unfolding binaryApply
+    arith-left o n = record { small = tt; ran = λ v w l k. rw (no-int l S n (λ x. onInt w (λ y. given (arithmetic o x y) s))) ran-stuck }
+
+    module _ {u : ℕ} (R : SortOf (getD B (sp + la) 0) u) where
+      pub less-right : (u ≡ 1 → ⊥) → OfTwo (binaryApply less) sp la lb s B B ended.Stuck
+      unfolding binaryApply
+      less-right n = record { small = tt; ran = λ v w l k. rw (no-ints v w (λ x y. value (bool (isLess (orderInt x y))) s) (no-int k R n)) ran-stuck }
+
+      pub arith-right : (o : Arith) → (u ≡ 1 → ⊥) → OfTwo (binaryApply (calculation o)) sp la lb s B B ended.Stuck
+      unfolding binaryApply
+      arith-right o n = record { small = tt; ran = λ v w l k. rw (no-ints v w (λ x y. given (arithmetic o x y) s) (no-int k R n)) ran-stuck }
+
+      module _ {p q : ℕ} (e : t ≡ 1) (X : PayloadOf (getD B sp 0) p) (f : u ≡ 1) (Y : PayloadOf (getD B (sp + la) 0) q) where
+        pub less-done : {b : Bool} {A : List ℕ} {r : Ended} → Lesser p q b → Gives (simple.Bool b) sp s B A r → OfTwo (binaryApply less) sp la lb s B A r
+        unfolding binaryApply
+        less-done L G = record {
+          small = G .small;
+          ran = λ v w l k.
+              let i = is-int l S X e in let j = is-int k R Y f in
+              rw (i .is, j .is) (G .is (bool (isLess (orderInt (i .z) (j .z)))) fits-bool (rw (L .is (i .z) (j .z) (i .ranged) (j .ranged) (i .biased) (j .biased)) means-bool));
+        }
+
+        module _ {o : Arith} {x : Num} (C : Calculates o p q x) where
+          calc : {A : List ℕ} {r : Ended} → Small r → ((z y : ℤ) → x ≡ numOf (arithmetic o z y) → T (inRange z) → T (inRange y) → Ran (given (arithmetic o z y) s) sp B A r) → OfTwo (binaryApply (calculation o)) sp la lb s B A r
+          unfolding binaryApply
+          calc m g = record {
+            small = m;
+            ran = λ v w l k.
+                let i = is-int l S X e in let j = is-int k R Y f in
+                rw (i .is, j .is) (g (i .z) (j .z) (C .is (i .z) (j .z) (i .ranged) (j .ranged) (i .biased) (j .biased)) (i .ranged) (j .ranged));
+          }
+
+          pub arith-undef : x ≡ num.Undef → OfTwo (binaryApply (calculation o)) sp la lb s B B (ended.Undef s)
+          unfolding numOf
+          arith-undef d = calc tt (λ z y g a b. by (arithmetic o z y) (sym d ∙ g))
+            where
+              by : (v : Option Value) → num.Undef ≡ numOf v → Ran (given v s) sp B B (ended.Undef s)
+              by none g = ran-undefined
+              by (some v) g = absurd (let z : _≡_ {A = ℕ} 0 1 = cc in omega arith)
+
+          pub arith-done : {n : ℕ} {A : List ℕ} {r : Ended} → x ≡ num.Is n → Gives (simple.Integer (n % 4294967296)) sp s B A r → OfTwo (binaryApply (calculation o)) sp la lb s B A r
+          unfolding numOf payload
+          arith-done {n} {A} {r} d G = calc (G .small) (λ z y g a b. by (arithmetic o z y) (arith-int o z y) (sym d ∙ g))
+            where
+              by : (v : Option Value) → IntOrNone v → num.Is n ≡ numOf v → Ran (given v s) sp B A r
+              by none i g = absurd (let z : _≡_ {A = ℕ} 0 1 = cc in omega arith)
+              by (some v) (an-int {z} h) g =
+                  let m : n ≡ bias z = cc in
+                  let k = bias-small z h in
+                  G .is (int z) (fits-int h) (means-int (omega arith))
+
+  module _ {t : ℕ} (S : SortOf (getD B sp 0) t) where
+    pub includes-stuck : t < 3 → OfTwo (binaryApply includes) sp la lb s B B ended.Stuck
+    unfolding binaryApply
+    includes-stuck h = record { small = tt; ran = λ v w l k. rw (no-coll l S h (λ k vs. value (bool (has w vs)) s)) ran-stuck }
+
+    pub including-stuck : t < 3 → OfTwo (binaryApply including) sp la lb s B B ended.Stuck
+    unfolding binaryApply
+    including-stuck h = record { small = tt; ran = λ v w l k. rw (no-coll l S h (λ k vs. form (coll k (add k w vs)) s)) ran-stuck }
+
+    pub union-stuck : t < 3 → OfTwo (binaryApply union) sp la lb s B B ended.Stuck
+    unfolding binaryApply
+    union-stuck h = record { small = tt; ran = λ v w l k. rw (no-coll l S h (λ j vs. onColl w (λ k ws. if sameKind j k then form (coll j (addAll j ws vs)) s else stuck))) ran-stuck }
+
+    module _ (h : 3 ≤ t) where
+      pub includes-done : {b : Bool} {A : List ℕ} {r : Ended} → 1 ≤ la → sp + la ≤ length B → HasAt B (sp + 1) (sp + la) lb b → Gives (simple.Bool b) sp s B A r → OfTwo (binaryApply includes) sp la lb s B A r
+      unfolding binaryApply
+      includes-done one room E G = record {
+        small = G .small;
+        ran = λ v w l k.
+            let x = is-coll l S h in
+            let c = header B sp (sp + la) (x .kind) (x .members) (omega arith) room (rw (x .is) at (l .cells)) in
+            rw (x .is) (G .is (bool (has w (x .members))) fits-bool (rw (E .is w (x .members) (k .fits) (x .fits) (c .cells) (k .cells)) means-bool));
+      }
+
+      pub including-done : {A : List ℕ} (f : Formed) {r : Ended} → sp ≤ length B → Adds sp (sp + la) lb B A f → r ≡ formedAs f s → OfTwo (binaryApply including) sp la lb s B A r
+      unfolding binaryApply
+      including-done f room D q = rw q (record {
+        small = formed-small f s (D .small);
+        ran = λ v w l k.
+            let x = is-coll l S h in
+            rw (x .is) (formed-ran B s room (D .is (x .kind) (x .members) w (rw (x .is) at (l .fits)) (k .fits) (rw (x .is) at (l .cells)) (k .cells)));
+      })
+
+      module _ {u : ℕ} (R : SortOf (getD B (sp + la) 0) u) where
+        pub union-other : (u ≡ t → ⊥) → OfTwo (binaryApply union) sp la lb s B B ended.Stuck
+        unfolding binaryApply sameKind
+        union-other n = record { small = tt; ran = λ v w l k. let x = is-coll l S h in rw (x .is) (by (x .kind) (x .members) (x .sort) (sorted k R)) }
+          where
+            by : (j : Kind) (vs : Values) → t ≡ 3 + kindCode j → {p : ℕ} {w : Value} → Shape u p w → Ran (onColl w (λ k ws. if sameKind j k then form (coll j (addAll j ws vs)) s else stuck)) sp B B ended.Stuck
+            by j vs a (shape-bool c d) = ran-stuck
+            by j vs a (shape-int c d e) = ran-stuck
+            by j vs a (shape-obj c d e) = ran-stuck
+            by j vs a (shape-coll {k = k} c d e) = rw (ne-eqb (kindCode j) (kindCode k) (λ z. n (omega arith))) ran-stuck
+
+        pub union-done : {A : List ℕ} {end : ℕ} (f : Formed) {r : Ended} → u ≡ t → end ≡ sp + la + lb → sp ≤ length B → Unites sp (sp + la) end B A f → r ≡ formedAs f s → OfTwo (binaryApply union) sp la lb s B A r
+        unfolding binaryApply sameKind
+        union-done f e z room D q = rw q (record {
+          small = formed-small f s (D .small);
+          ran = λ v w l k.
+              let x = is-coll l S h in
+              let y = is-coll k R (omega arith) in
+              let a = x .sort in let b = y .sort in
+              let c = same-kind (y .kind) (x .kind) (omega arith) in
+              let i : w ≡ coll (x .kind) (y .members) = y .is ∙ ap (λ (j : Kind). coll j (y .members)) c in
+              rw (x .is, i, eq-eqb (kindCode (x .kind)) (kindCode (x .kind)) refl)
+              (formed-ran B s room (D .is (x .kind) (x .members) (y .members) (rw (x .is) at (l .fits)) (rw i at (k .fits)) (rw (x .is) at (l .cells)) (rw (z, ← i) (k .cells))));
+        })
+
+-- by the form's code
+
+arith-codes : (n : ℕ) → n < 5 → arithCodeOf (15 + n) ≡ arithOf n
+unfolding arithCodeOf arithOf
+arith-codes zero h = refl
+arith-codes (suc zero) h = refl
+arith-codes (suc (suc zero)) h = refl
+arith-codes (suc (suc (suc zero))) h = refl
+arith-codes (suc (suc (suc (suc zero)))) h = refl
+arith-codes (suc (suc (suc (suc (suc n))))) h = absurd (omega arith)
+
+pub binary-13 : {k : ℕ} → k ≡ 13 → binaryOf k ≡ equal
+unfolding binaryOf
+binary-13 e = rw e
+
+pub binary-14 : {k : ℕ} → k ≡ 14 → binaryOf k ≡ less
+unfolding binaryOf
+binary-14 e = rw e
+
+pub binary-15 : {k : ℕ} → 15 ≤ k → k < 20 → binaryOf k ≡ calculation (arithOf (k - 15))
+unfolding binaryOf
+binary-15 {k} h l =
+    let e : 15 + (k - 15) ≡ k = omega arith in
+    rw (ne-eqb k 13 (λ x. omega arith), ne-eqb k 14 (λ x. omega arith), lt-ltb k 20 l) (ap calculation (ap arithCodeOf (sym e) ∙ arith-codes (k - 15) (omega arith)))
+
+pub binary-20 : {k : ℕ} → k ≡ 20 → binaryOf k ≡ includes
+unfolding binaryOf
+binary-20 e = rw e
+
+pub binary-21 : {k : ℕ} → k ≡ 21 → binaryOf k ≡ including
+unfolding binaryOf
+binary-21 e = rw e
+
+pub binary-22 : {k : ℕ} → k ≡ 22 → binaryOf k ≡ union
+unfolding binaryOf
+binary-22 e = rw e
+
+pub binary-by : (k : ℕ) {b : Binary} {sp la lb s : ℕ} {B A : List ℕ} {r : Ended} → binaryOf k ≡ b → OfTwo (binaryApply b) sp la lb s B A r → OfTwo (binaryApply (binaryOf k)) sp la lb s B A r
+binary-by k e x = rw e x

@@ -1,0 +1,7 @@
+pub mod Words
+pub mod Lookups
+pub mod Sorts
+pub mod OperationLaws
+pub mod BinaryLaws
+pub mod LeafLaws
+pub mod Packing

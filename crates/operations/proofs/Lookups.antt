@@ -1,0 +1,207 @@
+-- What is found in the tables: an object's class, a row's owner, a slot by its key, a slot's value. Assumes nothing.
+use mathlib.Core.Path.{_≡_, refl, sym, ap, _∙_}
+use mathlib.Core.Bool.{Bool, true, false}
+use mathlib.Core.Option.{Option, none, some}
+use mathlib.Core.List.{List}
+use Prim.Native.Nat.{ℕ, suc, _+_, _-_, _*_, _<_, _≤_}
+use native.Mathlib.Omega.{arith}
+use lib.ListN.{length, getD}
+use lib.Seq.{slice}
+use lib.Dec.{eqb}
+use borrow.Author.Tests.{lt-ltb, le-ltb, eq-eqb, ne-eqb, eqb-true, eqb-false}
+use Rattle.laws.specs.Choice.{if_then_else_}
+use Rattle.laws.proofs.Orders.{Three, less, same, over, three}
+use Rattle.ocl.specs.Types.{class, simpleSubtype}
+use Rattle.ocl.specs.Values.{Value, obj, size}
+use Rattle.ocl.specs.Model.{Row, Model, isA, classBelow}
+use Rattle.ocl.specs.Evaluation.{Outcome, value, stuck, onObj, given}
+use Rattle.types.specs.Flat.{parentsIn}
+use Rattle.values.specs.Cells.{enc}
+use Rattle.values.specs.Contracts.{SortOf, PayloadOf, Brings}
+use Rattle.values.specs.declared.Formed.{Formed}
+use Rattle.values.proofs.Heads.{shape, Shape, shape-bool, shape-int, shape-obj, shape-coll}
+use Rattle.values.proofs.Forming.{part-size}
+use Rattle.tables.specs.declared.Counts.{Counts}
+use Rattle.tables.specs.Layout.{tab}
+use Rattle.tables.specs.Stored.{keyAt, startAt, endAt, Stored, no-slot, slot, HoldsModel}
+use Rattle.tables.proofs.Tables.{tab-at}
+use Rattle.operations.specs.declared.Ended.{Ended}
+use Rattle.operations.specs.declared.Ended.the-variants as ended
+use Rattle.operations.specs.declared.Place.{Place}
+use Rattle.operations.specs.declared.Place.the-variants as place
+use Rattle.operations.specs.Answers.{Ends, ends-undefined, ends-stuck, Ran, Small, formedAs}
+use Rattle.operations.specs.Tables.{Plain, IsA, Owner, FindsSlot, startOf, Stands, Attribute}
+use Rattle.operations.proofs.Words.{under-refl, head-at, formed-small, formed-value, one-cell}
+
+-- ---- classes and rows
+
+pub no-object : {st : Counts} {w0 : List ℕ} {o c : ℕ} → st .objects ≤ o → IsA st w0 o c false
+unfolding isA classBelow
+no-object {st} {w0} {o} h = record { is = λ m H. rw (H .classOf o, le-ltb o (st .objects) h) }
+
+pub object-is : {st : Counts} {w0 ps : List ℕ} {o c d at : ℕ} {r : Bool} → o < st .objects → at ≡ 256 + o → d ≡ getD w0 at 0 → ps ≡ tab 0 (st .classes) w0
+    → r ≡ simpleSubtype (parentsIn ps) (class d) (class c) → IsA st w0 o c r
+unfolding isA classBelow
+object-is {st} {w0} {ps} {o} {c} {d} {at} {r} h a e p q = record { is = λ m H. rw (H .classOf o, lt-ltb o (st .objects) h, H .classes .parent, ← p, ← a, ← e) q }
+
+pub no-owner : {st : Counts} {w0 : List ℕ} {i : ℕ} → st .rows ≤ i → Owner st w0 i 0
+no-owner {i = i} h = record { is = λ m H P. sym (P .no-row i h) }
+
+pub owner-is : {st : Counts} {w0 : List ℕ} {i at : ℕ} → i < st .rows → at ≡ i → Owner st w0 i (getD w0 (64 + at) 0)
+owner-is {st} {w0} {i} {at} h e = record {
+  is = λ m H P.
+      let k : i < m .rowCount = (let a = H .rowCount in omega arith) in
+      ap (λ (j : ℕ). getD w0 (64 + j) 0) e ∙ sym (tab-at 64 (st .rows) w0 i h) ∙ sym (ap (λ (x : Row). x .owner) (H .classes .row i k));
+}
+
+-- ---- a slot by its key
+
+abbrev pub Ascending : List ℕ → ℕ → Type 0
+Ascending w0 slots = (j k : ℕ) → j < k → k < slots → keyAt w0 j < keyAt w0 k
+
+-- the slots before low are under the key, those from high on are over it
+pub record Between (w0 : List ℕ) (slots key low high : ℕ) : Type 0 where
+  pub up : low ≤ high
+  pub within : high ≤ slots
+  pub under : Ascending w0 slots → (j : ℕ) → j < low → keyAt w0 j < key
+  pub above : Ascending w0 slots → (j : ℕ) → high ≤ j → j < slots → key < keyAt w0 j
+
+module _ {w0 : List ℕ} {slots key low high : ℕ} where
+  pub all-open : slots ≡ high → low ≡ 0 → Between w0 slots key low high
+  all-open e f = record { up = omega arith; within = omega arith; under = λ a j h. absurd (omega arith); above = λ a j h k. absurd (omega arith) }
+
+  module _ (b : Between w0 slots key low high) where
+    pub go-up : (mid : ℕ) → low ≤ mid → mid < high → keyAt w0 mid < key → Between w0 slots key (mid + 1) high
+    go-up mid l h u =
+        let w = b .within in
+        record { up = omega arith; within = w; above = b .above; under = λ a j k. by a j k (three j mid) }
+      where
+        by : Ascending w0 slots → (j : ℕ) → j < mid + 1 → Three j mid → keyAt w0 j < key
+        by a j k (less x) = let w = b .within in let z = a j mid x (omega arith) in omega arith
+        by a j k (same x) = rw x u
+        by a j k (over x) = absurd (omega arith)
+
+    pub go-down : (mid : ℕ) → low ≤ mid → mid < high → (keyAt w0 mid ≡ key → ⊥) → key ≤ keyAt w0 mid → Between w0 slots key low mid
+    go-down mid l h n u =
+        let w = b .within in
+        record { up = l; within = omega arith; under = b .under; above = λ a j k m. by a j k m (three j mid) }
+      where
+        by : Ascending w0 slots → (j : ℕ) → mid ≤ j → j < slots → Three j mid → key < keyAt w0 j
+        by a j k m (less x) = absurd (omega arith)
+        by a j k m (same x) = rw x (omega arith)
+        by a j k m (over x) = let z = a mid j x m in omega arith
+
+    pub none-there : high ≤ low → FindsSlot w0 slots key place.Nowhere
+    none-there h a j k e = by (three j low)
+      where
+        by : Three j low → ⊥
+        by (less x) = let z = b .under a j x in omega arith
+        by (same x) = let z = b .above a j (omega arith) k in omega arith
+        by (over x) = let z = b .above a j (omega arith) k in omega arith
+
+same-slot : (w0 : List ℕ) (slots : ℕ) → Ascending w0 slots → (j k : ℕ) → j < slots → k < slots → keyAt w0 j ≡ keyAt w0 k → j ≡ k
+same-slot w0 slots a j k h i e = by (three j k)
+  where
+    by : Three j k → j ≡ k
+    by (less x) = absurd (let z = a j k x i in omega arith)
+    by (same x) = x
+    by (over x) = absurd (let z = a k j x h in omega arith)
+
+-- ---- a slot's value
+
+pub start-last : (st : Counts) (w0 : List ℕ) {j a : ℕ} → a ≡ st .slots → a ≡ j → st .cells ≡ startOf st w0 j
+start-last st w0 {j} e f = rw (eq-eqb (st .slots) j (sym e ∙ f))
+
+pub start-other : (st : Counts) (w0 : List ℕ) {j a : ℕ} → a ≡ st .slots → (a ≡ j → ⊥) → getD w0 (1376 + j) 0 ≡ startOf st w0 j
+start-other st w0 {j} e f = rw (ne-eqb (st .slots) j (λ g. f (e ∙ g)))
+
+module _ (st : Counts) (w0 : List ℕ) (j a e : ℕ) (p : a ≡ startOf st w0 j) (q : e ≡ startOf st w0 (j + 1)) where
+  begins : j < st .slots → 2400 + a ≡ startAt w0 j
+  begins h = let z : eqb (st .slots) j ≡ false = ne-eqb (st .slots) j (λ g. omega arith) in let p' : a ≡ getD w0 (1376 + j) 0 = rw z at p in omega arith
+
+  ends-at : (b : Bool) → eqb (suc j) (st .slots) ≡ b → 2400 + e ≡ (if b then 2400 + st .cells else startAt w0 (suc j))
+  ends-at true z =
+      let y : eqb (st .slots) (j + 1) ≡ true = eq-eqb (st .slots) (j + 1) (let k = eqb-true (suc j) (st .slots) z in omega arith) in
+      let q' : e ≡ st .cells = rw y at q in omega arith
+  ends-at false z =
+      let y : eqb (st .slots) (j + 1) ≡ false = ne-eqb (st .slots) (j + 1) (λ g. eqb-false (suc j) (st .slots) z (omega arith)) in
+      let q' : e ≡ getD w0 (1376 + (j + 1)) 0 = rw y at q in
+      let k : 1376 + (j + 1) ≡ 1376 + suc j = omega arith in
+      rw (← k) (omega arith)
+
+  part : (v : Value) → j < st .slots → slice (startAt w0 j) (endAt st w0 j) w0 ≡ enc v → slice (2400 + a) (2400 + e) w0 ≡ enc v
+  part v h x = rw (begins h, ends-at (eqb (suc j) (st .slots)) refl) x
+
+  size-is : (v : Value) → 4448 ≤ length w0 → j < st .slots → endAt st w0 j ≤ 4448 → slice (startAt w0 j) (endAt st w0 j) w0 ≡ enc v → (size v ≡ e - a) × (e ≤ 2048)
+  size-is v room h l x =
+      let z = ends-at (eqb (suc j) (st .slots)) refl in
+      let y = part-size w0 (2400 + a) (2400 + e) v (omega arith) (part v h x) in
+      (omega arith, omega arith)
+
+  module _ (sp s : ℕ) {B : List ℕ} (room : 8192 ≤ length w0) where
+    pub stands-empty : e ≤ a → Stands st w0 j sp s B B ended.Stuck
+    stands-empty k = record { small = tt; is = λ v f m h l x. absurd (let z = size-is v (omega arith) h l x in let y = one-cell v in omega arith) }
+
+    pub stands-far : 2048 < e → Stands st w0 j sp s B B ended.Stuck
+    stands-far k = record { small = tt; is = λ v f m h l x. absurd (let z = size-is v (omega arith) h l x in omega arith) }
+
+    pub stands : {A : List ℕ} {x y : ℕ} (f : Formed) {r : Ended} → sp ≤ length B → x ≡ 2400 + a → y ≡ 2400 + e → Brings w0 x y sp B A f → r ≡ formedAs f s → Stands st w0 j sp s B A r
+    stands {A} {x} {y} f {r} k g h b q = rw q (record { small = formed-small f s (b .small); is = λ v t m i l z. formed-value B s k (b .is v t (rw (g, h) (part v i z))) m })
+
+-- ---- the value of a row for the object at sp
+
+not-object : {t p : ℕ} {v : Value} → Shape t p v → (t ≡ 2 → ⊥) → (k : ℕ → Outcome) → onObj v k ≡ stuck
+not-object (shape-bool i j) n k = refl
+not-object (shape-int i j l) n k = refl
+not-object (shape-obj i j l) n k = absurd (n i)
+not-object (shape-coll i j l) n k = refl
+
+pub is-object : {t p : ℕ} {v : Value} → Shape t p v → t ≡ 2 → v ≡ obj p
+is-object (shape-bool i j) e = absurd (omega arith)
+is-object (shape-int i j l) e = absurd (omega arith)
+is-object (shape-obj i j l) e = ap obj (sym j)
+is-object (shape-coll i j l) e = absurd (omega arith)
+
+module _ {st : Counts} {w0 : List ℕ} {i sp s t : ℕ} {B : List ℕ} (S : SortOf (getD B sp 0) t) where
+  pub attribute-kind : (t ≡ 2 → ⊥) → Attribute st w0 i sp s B B ended.Stuck
+  attribute-kind n = record {
+    small = tt;
+    is = λ m H P h v len l.
+        let k = shape (l .fits) (S .is v (l .fits) (head-at l)) refl in
+        rw (not-object k n (λ o. if isA m o (class (m .row i .owner)) then given (m .valueOf o i) s else stuck)) (record { kept = under-refl; ends = ends-stuck });
+  }
+
+  pub attribute-row : 64 ≤ i → Attribute st w0 i sp s B B ended.Stuck
+  attribute-row n = record { small = tt; is = λ m H P h v len l. absurd (omega arith) }
+
+  module _ {o c : ℕ} {b : Bool} (e : t ≡ 2) (Q : PayloadOf (getD B sp 0) o) (C : Owner st w0 i c) (I : IsA st w0 o c b) where
+    on-object : {A : List ℕ} {r : Ended} → Small r → ((m : Model) → HoldsModel st w0 m → Plain st m → i < 64 → Ran (if b then given (m .valueOf o i) s else stuck) sp B A r) → Attribute st w0 i sp s B A r
+    on-object sm k = record {
+      small = sm;
+      is = λ m H P h v len l.
+          let z = is-object (shape (l .fits) (S .is v (l .fits) (head-at l)) (Q .is v (l .fits) (head-at l))) e in
+          rw (z, ← C .is m H P, ← I .is m H) (k m H P h);
+    }
+
+    pub attribute-other : b ≡ false → Attribute st w0 i sp s B B ended.Stuck
+    attribute-other f = on-object tt (λ m H P h. rw f (record { kept = under-refl; ends = ends-stuck }))
+
+    module _ (g : b ≡ true) {key slots : ℕ} (k : key ≡ o * 64 + i) (n : slots ≡ st .slots) where
+      pub attribute-none : {x : Place} → FindsSlot w0 slots key x → x ≡ place.Nowhere → Attribute st w0 i sp s B B (ended.Undef s)
+      attribute-none F y = on-object tt (λ m H P h. rw g (record { kept = under-refl; ends = by m H (m .valueOf o i) (H .stored o i h) }))
+        where
+          by : (m : Model) → HoldsModel st w0 m → (x : Option Value) → Stored st w0 o i x → Ends sp B (given x s) (ended.Undef s)
+          by m H none q = ends-undefined
+          by m H (some v) (slot j l q x y' z f) = absurd (let a : FindsSlot w0 slots key place.Nowhere = rw y at F in a (rw n (H .ascending)) j (omega arith) (q ∙ sym k))
+
+      pub attribute-some : {x : Place} {j : ℕ} {A : List ℕ} {r : Ended} → FindsSlot w0 slots key x → x ≡ place.At j → Stands st w0 j sp s B A r → Attribute st w0 i sp s B A r
+      attribute-some {x} {j} {A} {r} F y d = on-object (d .small) (λ m H P h. rw g (by m H P (m .valueOf o i) refl (H .stored o i h)))
+        where
+          a : (j < slots) × (keyAt w0 j ≡ key)
+          a = rw y at F
+
+          by : (m : Model) → HoldsModel st w0 m → Plain st m → (x : Option Value) → m .valueOf o i ≡ x → Stored st w0 o i x → Ran (given x s) sp B A r
+          by m H P none u (no-slot f) = absurd (f j (let l = a .0 in omega arith) (a .1 ∙ k))
+          by m H P (some v) u (slot j' l q x' y' z f) =
+              let e = same-slot w0 (st .slots) (H .ascending) j' j l (let l = a .0 in omega arith) (q ∙ sym k ∙ sym (a .1)) in
+              d .is v f (P .small o i v u) (rw e at l) (rw e at y') (rw e at z)

@@ -1,0 +1,24 @@
+-- `operations::answers::word_of` meets its contract. Assumes nothing.
+use borrow.Author.Needs.{needs}
+use Rattle.operations.specs.Answers.{wordOf}
+use Rattle.operations.proofs.answers.word_of.Statement.{statement}
+use Rattle.operations.proofs.answers.word_of.Tie as tie
+
+mul-result : tie.Need-mul-result
+mul-result c = search needs
+
+add-result : tie.Need-add-result
+add-result c = search needs
+
+mul-result-2 : tie.Need-mul-result-2
+mul-result-2 c = search needs
+
+add-result-2 : tie.Need-add-result-2
+add-result-2 c = search needs
+
+returns : tie.Need-returns
+unfolding wordOf
+returns c = search needs
+
+pub word-of-spec : {M : Type 1} → statement M
+word-of-spec = tie.close (tie.spec mul-result add-result mul-result-2 add-result-2 returns)

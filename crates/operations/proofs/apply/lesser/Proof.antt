@@ -1,0 +1,70 @@
+-- `operations::apply::lesser` meets its contract. Assumes nothing.
+use Rattle.operations.proofs.BinaryLaws.{less-left, less-right, less-done}
+use borrow.Author.Needs.{needs}
+use Rattle.operations.proofs.apply.lesser.Statement.{statement}
+use Rattle.operations.proofs.apply.lesser.Tie as tie
+
+mul-x : tie.Need-mul-x
+mul-x c = search needs
+
+slice-read-x : tie.Need-slice-read-x
+slice-read-x c = search needs
+
+add-y : tie.Need-add-y
+add-y c = search needs
+
+mul-y : tie.Need-mul-y
+mul-y c = search needs
+
+slice-read-y : tie.Need-slice-read-y
+slice-read-y c = search needs
+
+sort-of-requires : tie.Need-sort-of-requires
+sort-of-requires c κs = search needs
+
+returns : tie.Need-returns
+returns c = less-left (c .before .sort-of .ensures) (c .if1 .taken)
+
+sort-of-requires-2 : tie.Need-sort-of-requires-2
+sort-of-requires-2 c κs = search needs
+
+returns-2 : tie.Need-returns-2
+returns-2 c = less-right (c .before .before .before .sort-of .ensures) (c .before .sort-of2 .ensures) (c .if2 .taken)
+
+payload-of-requires : tie.Need-payload-of-requires
+payload-of-requires c κs = search needs
+
+payload-of-requires-2 : tie.Need-payload-of-requires-2
+payload-of-requires-2 c κs = search needs
+
+less-requires : tie.Need-less-requires
+less-requires c κs = search needs
+
+put-requires : tie.Need-put-requires
+put-requires c κs = search needs
+
+same-length : tie.Need-same-length
+same-length c = search needs
+
+returns-3 : tie.Need-returns-3
+returns-3 c = less-done (c .before .before .before .before .before .before .before .before .before .before .sort-of .ensures) (c .before .before .before .before .before .before .before .before .sort-of2 .ensures) (c .before .before .before .before .before .before .before .before .before .if1 .left) (c .before .before .before .before .before .before .payload-of .ensures) (c .before .before .before .before .before .before .before .if2 .left) (c .before .before .before .before .before .payload-of2 .ensures) (c .before .before .before .before .less .ensures) (c .before .before .put .ensures)
+
+pub lesser-spec : {M : Type 1} → statement M
+lesser-spec =
+    tie.close
+    (tie.spec
+    mul-x
+    slice-read-x
+    add-y
+    mul-y
+    slice-read-y
+    sort-of-requires
+    returns
+    sort-of-requires-2
+    returns-2
+    payload-of-requires
+    payload-of-requires-2
+    less-requires
+    put-requires
+    same-length
+    returns-3)

@@ -1,0 +1,76 @@
+-- `operations::apply::united` meets its contract. Assumes nothing.
+use mathlib.Core.Path.{refl}
+use native.Mathlib.Omega.{arith}
+use Rattle.operations.proofs.BinaryLaws.{union-stuck, union-other, union-done}
+use borrow.Author.Needs.{needs}
+use Rattle.operations.proofs.apply.united.Statement.{statement}
+use Rattle.operations.proofs.apply.united.Tie as tie
+
+mul-sort-of : tie.Need-mul-sort-of
+mul-sort-of c = search needs
+
+slice-read-sort-of : tie.Need-slice-read-sort-of
+slice-read-sort-of c = search needs
+
+sort-of-requires : tie.Need-sort-of-requires
+sort-of-requires c κs = search needs
+
+returns : tie.Need-returns
+returns c = union-stuck (c .before .sort-of .ensures) (c .if1 .taken)
+
+add-sort-of : tie.Need-add-sort-of
+add-sort-of c = search needs
+
+mul-sort-of-2 : tie.Need-mul-sort-of-2
+mul-sort-of-2 c = search needs
+
+slice-read-sort-of-2 : tie.Need-slice-read-sort-of-2
+slice-read-sort-of-2 c = search needs
+
+sort-of-requires-2 : tie.Need-sort-of-requires-2
+sort-of-requires-2 c κs = search needs
+
+returns-2 : tie.Need-returns-2
+returns-2 c = union-other (c .before .before .before .before .sort-of .ensures) (c .before .before .before .if1 .left) (c .before .sort-of2 .ensures) (c .if2 .taken)
+
+add-union : tie.Need-add-union
+add-union c = search needs
+
+add-union-2 : tie.Need-add-union-2
+add-union-2 c = search needs
+
+add-union-3 : tie.Need-add-union-3
+add-union-3 c = search needs
+
+union-requires : tie.Need-union-requires
+union-requires c κs = search needs
+
+formed-requires : tie.Need-formed-requires
+formed-requires c κs = search needs
+
+same-length : tie.Need-same-length
+same-length c = search needs
+
+returns-3 : tie.Need-returns-3
+returns-3 c = union-done (c .before .before .before .before .before .before .before .before .before .sort-of .ensures) (c .before .before .before .before .before .before .before .before .if1 .left) (c .before .before .before .before .before .before .sort-of2 .ensures) _ (c .before .before .before .before .before .if2 .left) refl (omega arith) (c .before .before .before .union .ensures) (c .formed .ensures)
+
+pub united-spec : {M : Type 1} → statement M
+united-spec =
+    tie.close
+    (tie.spec
+    mul-sort-of
+    slice-read-sort-of
+    sort-of-requires
+    returns
+    add-sort-of
+    mul-sort-of-2
+    slice-read-sort-of-2
+    sort-of-requires-2
+    returns-2
+    add-union
+    add-union-2
+    add-union-3
+    union-requires
+    formed-requires
+    same-length
+    returns-3)

@@ -1,0 +1,97 @@
+-- `operations::leaves::leaf` meets its contract. Assumes nothing.
+use native.Mathlib.Omega.{arith}
+use mathlib.Core.Bool.{true, false}
+use mathlib.Core.Path.{_≡_}
+use Rattle.operations.proofs.LeafLaws.{leaf-truth, leaf-undef, leaf-number, leaf-self, leaf-var, leaf-all, code-0, code-1}
+use borrow.Author.Needs.{needs}
+use Rattle.operations.proofs.leaves.leaf.Statement.{statement}
+use Rattle.operations.proofs.leaves.leaf.Tie as tie
+
+put-requires : tie.Need-put-requires
+put-requires c κs = search needs
+
+put-requires-2 : tie.Need-put-requires-2
+put-requires-2 c κs = search needs
+
+put-requires-3 : tie.Need-put-requires-3
+put-requires-3 c κs = search needs
+
+variable-requires : tie.Need-variable-requires
+variable-requires c κs = search needs
+
+wide-requires : tie.Need-wide-requires
+wide-requires c κs = search needs
+
+variable-requires-2 : tie.Need-variable-requires-2
+variable-requires-2 c κs = search needs
+
+instances-requires : tie.Need-instances-requires
+instances-requires c κs = search needs
+
+formed-requires : tie.Need-formed-requires
+formed-requires c κs = search needs
+
+same-length : tie.Need-same-length
+same-length c = search needs
+
+returns : tie.Need-returns
+returns c = leaf-truth _ _ false (code-0 _ _ (c .before .before .before .before .match .keys1)) (c .before .before .put .ensures)
+
+same-length-2 : tie.Need-same-length-2
+same-length-2 c = search needs
+
+returns-2 : tie.Need-returns-2
+returns-2 c = leaf-truth _ _ true (code-1 _ _ (c .before .before .before .before .match .keys2)) (c .before .before .put2 .ensures)
+
+returns-3 : tie.Need-returns-3
+returns-3 c = leaf-undef _ _ (c .match .keys3)
+
+same-length-3 : tie.Need-same-length-3
+same-length-3 c = search needs
+
+returns-4 : tie.Need-returns-4
+returns-4 c = leaf-number _ _ (c .before .before .before .before .match .keys4) (c .before .before .put3 .ensures)
+
+same-length-4 : tie.Need-same-length-4
+same-length-4 c = search needs
+
+returns-5 : tie.Need-returns-5
+returns-5 c = leaf-self _ _ (c .before .before .before .before .match .keys5) (c .before .before .variable .ensures)
+
+same-length-5 : tie.Need-same-length-5
+same-length-5 c = search needs
+
+returns-6 : tie.Need-returns-6
+returns-6 c = leaf-var _ _ (c .before .before .before .before .before .match .keys6) (c .before .before .before .before .wide .ensures) (c .before .before .variable2 .ensures)
+
+same-length-6 : tie.Need-same-length-6
+same-length-6 c = search needs
+
+returns-7 : tie.Need-returns-7
+returns-7 c = let e : c .before .before .before .before .before .before .before .before .args .form ≡ 6 = omega (arith, c .before .before .before .before .before .before .before .before .pre, c .before .before .before .before .before .match .rest) in leaf-all _ _ _ e (omega arith) (c .before .before .before .instances .ensures) (c .formed .ensures)
+
+pub leaf-spec : {M : Type 1} → statement M
+leaf-spec =
+    tie.close
+    (tie.spec
+    put-requires
+    put-requires-2
+    put-requires-3
+    variable-requires
+    wide-requires
+    variable-requires-2
+    instances-requires
+    formed-requires
+    same-length
+    returns
+    same-length-2
+    returns-2
+    returns-3
+    same-length-3
+    returns-4
+    same-length-4
+    returns-5
+    same-length-5
+    returns-6
+    same-length-6
+    returns-7)

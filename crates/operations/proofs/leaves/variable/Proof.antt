@@ -1,0 +1,48 @@
+-- `operations::leaves::variable` meets its contract. Assumes nothing.
+use mathlib.Core.Path.{refl}
+use native.Mathlib.Omega.{arith}
+use Rattle.operations.proofs.LeafLaws.{variable-free, variable-above, variable-done}
+use borrow.Author.Needs.{needs}
+use Rattle.operations.proofs.leaves.variable.Statement.{statement}
+use Rattle.operations.proofs.leaves.variable.Tie as tie
+
+mul-at : tie.Need-mul-at
+mul-at c = search needs
+
+array-read-at : tie.Need-array-read-at
+array-read-at c = search needs
+
+returns : tie.Need-returns
+returns c = variable-free (c .if1 .taken)
+
+sub-p : tie.Need-sub-p
+sub-p c = search needs
+
+returns-2 : tie.Need-returns-2
+returns-2 c = variable-above (c .before .if1 .left) refl (c .if2 .taken)
+
+push-copy-requires : tie.Need-push-copy-requires
+push-copy-requires c κs = search needs
+
+formed-requires : tie.Need-formed-requires
+formed-requires c κs = search needs
+
+same-length : tie.Need-same-length
+same-length c = search needs
+
+returns-3 : tie.Need-returns-3
+returns-3 c = variable-done (c .before .before .before .before .before .before .if1 .left) refl _ (omega arith) (c .before .before .before .push-copy .ensures) (c .formed .ensures)
+
+pub variable-spec : {M : Type 1} → statement M
+variable-spec =
+    tie.close
+    (tie.spec
+    mul-at
+    array-read-at
+    returns
+    sub-p
+    returns-2
+    push-copy-requires
+    formed-requires
+    same-length
+    returns-3)

@@ -1,0 +1,93 @@
+-- An outcome of the definition and the code's answer for it: a value's cells lie at sp, above words that are as they were.
+use mathlib.Core.Path.{_≡_}
+use mathlib.Core.List.{List}
+use Prim.Native.Nat.{ℕ, _+_, _*_, _/_, _%_, _≤_, _<_}
+use lib.ListN.{take}
+use lib.Seq.{slice}
+use lib.Dec.{eqb}
+use Rattle.laws.specs.Choice.{if_then_else_}
+use Rattle.ocl.specs.Values.{Value, bool, int, obj, coll, size}
+use Rattle.ocl.specs.Evaluation.{Outcome, value, undefined, stuck, stop}
+use Rattle.values.specs.Cells.{bit, head, enc, Fits}
+use Rattle.values.specs.Contracts.{Means}
+use Rattle.values.specs.declared.Simple.{Simple}
+use Rattle.values.specs.declared.Formed.{Formed}
+use Rattle.values.specs.declared.Formed.the-variants as formed
+use Rattle.operations.specs.declared.Ended.{Ended}
+use Rattle.operations.specs.declared.Ended.the-variants as ended
+
+-- the value v is the len cells at p
+pub record Lies (v : Value) (p len : ℕ) (S : List ℕ) : Type 0 where
+  pub fits : Fits v
+  pub long : len ≡ size v
+  pub cells : slice p (p + len) S ≡ enc v
+
+-- the answer for an outcome
+pub data Ends (sp : ℕ) (A : List ℕ) : Outcome → Ended → Type 0 where
+  ends-value : {v : Value} {len s : ℕ} → Lies v sp len A → len ≤ 128 → Ends sp A (value v s) (ended.Value len s)
+  ends-undefined : {s : ℕ} → Ends sp A (undefined s) (ended.Undef s)
+  ends-stuck : Ends sp A stuck ended.Stuck
+  ends-stop : {c s : ℕ} → Ends sp A (stop c s) (ended.Stop c s)
+
+-- the words below sp are the same
+pub record Under (sp : ℕ) (A B : List ℕ) : Type 0 where
+  pub same : take sp A ≡ take sp B
+
+-- the words were B and are A
+pub record Ran (o : Outcome) (sp : ℕ) (B A : List ℕ) (r : Ended) : Type 0 where
+  pub kept : Under sp A B
+  pub ends : Ends sp A o r
+
+-- whatever the words stand for, an answer has between 1 and 128 cells
+abbrev pub Small : Ended → Type 0
+Small (ended.Value len s) = (1 ≤ len) × (len ≤ 128)
+Small (ended.Undef s) = Unit {0}
+Small ended.Stuck = Unit {0}
+Small (ended.Stop c s) = Unit {0}
+
+-- ---- an answer as one word
+
+-- two bits for the variant, eight for the length or the number, twenty for the steps
+unfoldable pub wordOf : ℕ → ℕ → ℕ → ℕ
+wordOf variant small s = variant + 4 * (small % 256) + 1024 * (s % 1048576)
+
+unfoldable pub answerOf : ℕ → ℕ → ℕ → Ended
+answerOf variant small s =
+    if eqb variant 0 then ended.Value small s
+    else if eqb variant 1 then ended.Undef s
+    else if eqb variant 2 then ended.Stuck
+    else ended.Stop small s
+
+unfoldable pub answerIn : ℕ → Ended
+answerIn w = answerOf (w % 4) (w / 4 % 256) (w / 1024)
+
+-- what the word has room for
+abbrev pub Slim : Ended → Type 0
+Slim (ended.Value len s) = (len < 256) × (s < 1048576)
+Slim (ended.Undef s) = s < 1048576
+Slim ended.Stuck = Unit {0}
+Slim (ended.Stop c s) = (c < 256) × (s < 1048576)
+
+pub record Packs (e : Ended) (w : ℕ) : Type 0 where
+  pub small : Small e → Small (answerIn w)
+  pub same : Slim e → answerIn w ≡ e
+
+-- a simple value is put down
+pub record Gives (x : Simple) (sp s : ℕ) (B A : List ℕ) (r : Ended) : Type 0 where
+  pub small : Small r
+  pub is : (v : Value) → Fits v → Means x v → Ran (value v s) sp B A r
+
+-- what was formed, with the steps
+abbrev pub formedAs : Formed → ℕ → Ended
+formedAs (formed.Done len) s = ended.Value len s
+formedAs formed.Over s = ended.Stop 17 s
+
+-- 0 for false, 1 for true, 2 for any other value
+unfoldable pub truthOf : Value → ℕ
+truthOf (bool b) = bit b
+truthOf (int z) = 2
+truthOf (obj o) = 2
+truthOf (coll k vs) = 2
+
+pub record Truth (cell r : ℕ) : Type 0 where
+  pub is : (v : Value) → Fits v → cell ≡ head v → r ≡ truthOf v

@@ -1,0 +1,83 @@
+// A value that was formed at the top of the stack, as an answer; an answer as one word; and a truth value read back.
+use crate::Ended;
+use types::classes::wide;
+use values::Formed;
+use values::Simple;
+use values::cells::payload_of;
+use values::cells::push;
+use values::cells::sort_of;
+ghost use mathlib.Core.Path.{_≡_};
+ghost use Prim.Native.Nat.{_<_};
+ghost use lib.ListN.{length};
+ghost use Rattle.values.specs.Contracts.{Narrow};
+ghost use Rattle.operations.specs.Answers.{formedAs, Gives, wordOf, answerIn, Packs, Truth};
+
+// A simple value at sp.
+pub fn put(stack: &mut [u64], sp: usize, s: Simple, steps: u64) -> Ended
+    requires { ⌜ Narrow s × (sp < length (now stack)) ⌝ }
+    ensures { λ r. ⌜ Gives s sp steps (now (stack .entry)) (now (stack .exit)) r ⌝ }
+{
+    push(stack, sp, s);
+    Ended::Value { len: 1, steps }
+}
+
+// What was formed, or 17 where it would be too large.
+pub fn formed(f: Formed, steps: u64) -> Ended
+    ensures { λ r. ⌜ r ≡ formedAs f steps ⌝ }
+{
+    match f {
+        Formed::Done { len } => Ended::Value { len, steps },
+        Formed::Over => Ended::Stop { number: 17, steps },
+    }
+}
+
+// Two bits for the variant, eight for the length or the number, and twenty for the steps, which never pass 1,000,000.
+fn word_of(variant: u64, small: u64, steps: u64) -> u64
+    requires { ⌜ variant < 4 ⌝ }
+    ensures { λ r. ⌜ r ≡ wordOf variant small steps ⌝ }
+{
+    variant + 4 * (small % 256) + 1024 * (steps % 1_048_576)
+}
+
+// The answer as one word.
+pub fn pack(e: Ended) -> u64
+    ensures { λ r. ⌜ Packs e r ⌝ }
+{
+    match e {
+        Ended::Value { len, steps } => word_of(0, len as u64, steps),
+        Ended::Undef { steps } => word_of(1, 0, steps),
+        Ended::Stuck => 2,
+        Ended::Stop { number, steps } => word_of(3, number, steps),
+    }
+}
+
+// The answer that a word stands for.
+pub fn unpack(w: u64) -> Ended
+    ensures { λ r. ⌜ r ≡ answerIn w ⌝ }
+{
+    let steps = w / 1024;
+    let small = w / 4 % 256;
+    match w % 4 {
+        0 => Ended::Value {
+            len: wide(small),
+            steps,
+        },
+        1 => Ended::Undef { steps },
+        2 => Ended::Stuck,
+        _ => Ended::Stop {
+            number: small,
+            steps,
+        },
+    }
+}
+
+// 0 for false, 1 for true, 2 for any other value, by the value's first cell.
+pub fn truth(cell: u64) -> u64
+    ensures { λ r. ⌜ Truth cell r ⌝ }
+{
+    if sort_of(cell) == 0 {
+        payload_of(cell)
+    } else {
+        2
+    }
+}

@@ -1,0 +1,257 @@
+// The strict forms, given their operands' values: the first lies at sp, a second after it, and the result takes their place.
+use crate::Ended;
+use crate::answers::formed;
+use crate::answers::put;
+use crate::answers::truth;
+use crate::lookup::is_a;
+use tables::Counts;
+use values::Num;
+use values::Simple;
+use values::arith::calculate;
+use values::arith::less;
+use values::cells::payload_of;
+use values::cells::sort_of;
+use values::collect::add;
+use values::collect::convert;
+use values::collect::union;
+use values::order::equal;
+use values::order::includes;
+ghost use mathlib.Core.Path.{_≡_};
+ghost use Prim.Native.Nat.{_+_, _≤_, _<_};
+ghost use lib.ListN.{length};
+ghost use Rattle.ocl.specs.Forms.{negation, sizeOf, castTo, less as lessForm, equal as equalForm, arith, includes as includesForm, including as includingForm, union as unionForm};
+ghost use Rattle.ocl.specs.Forms.{convert as convertForm};
+ghost use Rattle.ocl.specs.Evaluation.{unaryApply, binaryApply};
+ghost use Rattle.nodes.specs.Nodes.{binaryOf};
+ghost use Rattle.values.specs.Integers.{arithOf};
+ghost use Rattle.tables.specs.Stored.{HoldsModel};
+ghost use Rattle.operations.specs.Tables.{Bounds};
+ghost use Rattle.operations.specs.Operations.{Any, OfOne, OfTwo, FitsLeft, kindFor, unaryFor};
+
+const INTEGER: u64 = 1;
+
+const OBJECT: u64 = 2;
+
+// Collections' sorts start here: Set, Sequence, Bag.
+const SET: u64 = 3;
+// What the Integer 0 is held as.
+const ZERO: u64 = 2_147_483_648;
+// Integers are held below this.
+const END: u64 = 4_294_967_296;
+// The most cells that a value may have.
+const LARGEST: u64 = 128;
+
+// `not`
+fn negate(stack: &mut [u64], sp: usize, len: usize, steps: u64) -> Ended
+    requires { ⌜ sp < length (now stack) ⌝ }
+    ensures { λ r. ⌜ OfOne Any (λ m. unaryApply m negation) sp len steps (now (stack .entry)) (now (stack .exit)) r ⌝ }
+{
+    let t = truth(stack[sp]);
+    if 1 < t {
+        return Ended::Stuck;
+    }
+    put(stack, sp, Simple::Bool { b: t == 0 }, steps)
+}
+
+// `size`
+fn member_total(stack: &mut [u64], sp: usize, len: usize, steps: u64) -> Ended
+    requires { ⌜ (sp < length (now stack)) × (len ≤ 128) ⌝ }
+    ensures { λ r. ⌜ OfOne Any (λ m. unaryApply m sizeOf) sp len steps (now (stack .entry)) (now (stack .exit)) r ⌝ }
+{
+    let cell = stack[sp];
+    if sort_of(cell) < SET {
+        return Ended::Stuck;
+    }
+    let count = payload_of(cell);
+    if LARGEST < count {
+        return Ended::Stuck;
+    }
+    put(
+        stack,
+        sp,
+        Simple::Integer {
+            biased: ZERO + count,
+        },
+        steps,
+    )
+}
+
+// `asSet` (0), `asSequence` (1), `asBag` (2)
+fn change(kind: u64, stack: &mut [u64], sp: usize, len: usize, steps: u64) -> Ended
+    requires { ⌜ (kind < 3) × (1 ≤ len) × (sp + len + 256 ≤ length (now stack)) ⌝ }
+    ensures { λ r. ⌜ OfOne Any (λ m. unaryApply m (convertForm (kindFor kind))) sp len steps (now (stack .entry)) (now (stack .exit)) r ⌝ }
+{
+    if sort_of(stack[sp]) < SET {
+        return Ended::Stuck;
+    }
+    formed(convert(stack, sp, sp + len, kind), steps)
+}
+
+// `as`: an object of class c or below stays where it lies
+fn cast(
+    tables: &[u64],
+    st: Counts,
+    c: u64,
+    stack: &mut [u64],
+    sp: usize,
+    len: usize,
+    steps: u64,
+) -> Ended
+    requires { ⌜ Bounds st (length (now tables)) × (sp < length (now stack)) × (1 ≤ len) × (len ≤ 128) ⌝ }
+    ensures { λ r. ⌜ OfOne (HoldsModel st (now (tables .entry))) (λ m. unaryApply m (castTo c)) sp len steps (now (stack .entry)) (now (stack .exit)) r ⌝ }
+{
+    let cell = stack[sp];
+    let sort = sort_of(cell);
+    if OBJECT < sort {
+        return Ended::Stuck;
+    }
+    if sort < OBJECT {
+        return Ended::Undef { steps };
+    }
+    if is_a(tables, st, payload_of(cell), c) {
+        Ended::Value { len, steps }
+    } else {
+        Ended::Undef { steps }
+    }
+}
+
+// The form with one operand that has this code; c is the class of `as`.
+pub fn unary_apply(
+    tables: &[u64],
+    st: Counts,
+    form: u64,
+    c: u64,
+    stack: &mut [u64],
+    sp: usize,
+    len: usize,
+    steps: u64,
+) -> Ended
+    requires { ⌜ (7 ≤ form) × (form < 13) × Bounds st (length (now tables)) ⌝ }
+    requires { ⌜ (1 ≤ len) × (len ≤ 128) × (sp + 384 ≤ length (now stack)) ⌝ }
+    ensures { λ r. ⌜ OfOne (HoldsModel st (now (tables .entry))) (λ m. unaryApply m (unaryFor form c)) sp len steps (now (stack .entry)) (now (stack .exit)) r ⌝ }
+{
+    match form {
+        7 => negate(stack, sp, len, steps),
+        8 => member_total(stack, sp, len, steps),
+        9..=11 => change(form - 9, stack, sp, len, steps),
+        _ => cast(tables, st, c, stack, sp, len, steps),
+    }
+}
+
+// Whether the form with this code takes the value with this first cell on its left.
+pub fn left_fits(form: u64, cell: u64) -> bool
+    requires { ⌜ (13 ≤ form) × (form < 23) ⌝ }
+    ensures { λ r. ⌜ FitsLeft form cell r ⌝ }
+{
+    match form {
+        13 => true,
+        14..=19 => sort_of(cell) == INTEGER,
+        _ => SET <= sort_of(cell),
+    }
+}
+
+// `eq`
+fn same_value(stack: &mut [u64], sp: usize, la: usize, lb: usize, steps: u64) -> Ended
+    requires { ⌜ (1 ≤ la) × (sp + la + lb ≤ length (now stack)) ⌝ }
+    ensures { λ r. ⌜ OfTwo (binaryApply equalForm) sp la lb steps (now (stack .entry)) (now (stack .exit)) r ⌝ }
+{
+    let b = equal(stack, sp, la, sp + la, lb);
+    put(stack, sp, Simple::Bool { b }, steps)
+}
+
+// `less`
+fn lesser(stack: &mut [u64], sp: usize, la: usize, lb: usize, steps: u64) -> Ended
+    requires { ⌜ (1 ≤ la) × (1 ≤ lb) × (sp + la + lb ≤ length (now stack)) ⌝ }
+    ensures { λ r. ⌜ OfTwo (binaryApply lessForm) sp la lb steps (now (stack .entry)) (now (stack .exit)) r ⌝ }
+{
+    let x = stack[sp];
+    let y = stack[sp + la];
+    if sort_of(x) != INTEGER {
+        return Ended::Stuck;
+    }
+    if sort_of(y) != INTEGER {
+        return Ended::Stuck;
+    }
+    let b = less(payload_of(x), payload_of(y));
+    put(stack, sp, Simple::Bool { b }, steps)
+}
+
+// `plus` (0), `minus` (1), `times` (2), `div` (3), `mod` (4)
+fn calculated(op: u64, stack: &mut [u64], sp: usize, la: usize, lb: usize, steps: u64) -> Ended
+    requires { ⌜ (1 ≤ la) × (1 ≤ lb) × (sp + la + lb ≤ length (now stack)) ⌝ }
+    ensures { λ r. ⌜ OfTwo (binaryApply (arith (arithOf op))) sp la lb steps (now (stack .entry)) (now (stack .exit)) r ⌝ }
+{
+    let x = stack[sp];
+    let y = stack[sp + la];
+    if sort_of(x) != INTEGER {
+        return Ended::Stuck;
+    }
+    if sort_of(y) != INTEGER {
+        return Ended::Stuck;
+    }
+    let Num::Is { n } = calculate(op, payload_of(x), payload_of(y)) else {
+        return Ended::Undef { steps };
+    };
+    put(stack, sp, Simple::Integer { biased: n % END }, steps)
+}
+
+// `includes`
+fn contains(stack: &mut [u64], sp: usize, la: usize, lb: usize, steps: u64) -> Ended
+    requires { ⌜ (1 ≤ la) × (sp + la + lb ≤ length (now stack)) ⌝ }
+    ensures { λ r. ⌜ OfTwo (binaryApply includesForm) sp la lb steps (now (stack .entry)) (now (stack .exit)) r ⌝ }
+{
+    if sort_of(stack[sp]) < SET {
+        return Ended::Stuck;
+    }
+    let b = includes(stack, sp + 1, sp + la, lb);
+    put(stack, sp, Simple::Bool { b }, steps)
+}
+
+// `including`
+fn including(stack: &mut [u64], sp: usize, la: usize, lb: usize, steps: u64) -> Ended
+    requires { ⌜ (1 ≤ la) × (la ≤ 128) × (lb ≤ 128) × (sp + 256 ≤ length (now stack)) ⌝ }
+    ensures { λ r. ⌜ OfTwo (binaryApply includingForm) sp la lb steps (now (stack .entry)) (now (stack .exit)) r ⌝ }
+{
+    if sort_of(stack[sp]) < SET {
+        return Ended::Stuck;
+    }
+    formed(add(stack, sp, sp + la, lb), steps)
+}
+
+// `union` of two collections of one kind
+fn united(stack: &mut [u64], sp: usize, la: usize, lb: usize, steps: u64) -> Ended
+    requires { ⌜ (1 ≤ la) × (la ≤ 128) × (1 ≤ lb) × (sp + la + lb + 256 ≤ length (now stack)) ⌝ }
+    ensures { λ r. ⌜ OfTwo (binaryApply unionForm) sp la lb steps (now (stack .entry)) (now (stack .exit)) r ⌝ }
+{
+    let sort = sort_of(stack[sp]);
+    if sort < SET {
+        return Ended::Stuck;
+    }
+    if sort_of(stack[sp + la]) != sort {
+        return Ended::Stuck;
+    }
+    formed(union(stack, sp, sp + la, sp + la + lb), steps)
+}
+
+// The form with two operands that has this code.
+pub fn binary_apply(
+    form: u64,
+    stack: &mut [u64],
+    sp: usize,
+    la: usize,
+    lb: usize,
+    steps: u64,
+) -> Ended
+    requires { ⌜ (13 ≤ form) × (form < 23) ⌝ }
+    requires { ⌜ (1 ≤ la) × (la ≤ 128) × (1 ≤ lb) × (lb ≤ 128) × (sp + 512 ≤ length (now stack)) ⌝ }
+    ensures { λ r. ⌜ OfTwo (binaryApply (binaryOf form)) sp la lb steps (now (stack .entry)) (now (stack .exit)) r ⌝ }
+{
+    match form {
+        13 => same_value(stack, sp, la, lb, steps),
+        14 => lesser(stack, sp, la, lb, steps),
+        15..=19 => calculated(form - 15, stack, sp, la, lb, steps),
+        20 => contains(stack, sp, la, lb, steps),
+        21 => including(stack, sp, la, lb, steps),
+        _ => united(stack, sp, la, lb, steps),
+    }
+}

@@ -1,0 +1,100 @@
+// The forms with no operand: `true` and `false`, `undef`, Integers, `self`, variables, and all objects of a class.
+use crate::Ended;
+use crate::answers::formed;
+use crate::answers::put;
+use crate::lookup::is_a;
+use tables::Counts;
+use types::classes::wide;
+use values::Formed;
+use values::Simple;
+use values::cells::empty_of;
+use values::cells::push_copy;
+use values::collect::append_simple;
+ghost use Prim.Native.Nat.{_+_, _≤_, _<_};
+ghost use lib.ListN.{length};
+ghost use Rattle.operations.specs.Tables.{Bounds, WithObject, Instances};
+ghost use Rattle.operations.specs.Runs.{Variable, Evals, ModelIn, leafFor};
+
+// Integers are held below this.
+const END: u64 = 4_294_967_296;
+
+// The value of variable i, once more at sp.
+pub fn variable(i: usize, env: [usize; 16], stack: &mut [u64], sp: usize, steps: u64) -> Ended
+    requires { ⌜ (i < 16) × (sp + 128 ≤ length (now stack)) ⌝ }
+    ensures { λ r. ⌜ Variable i env sp steps (now (stack .entry)) (now (stack .exit)) r ⌝ }
+{
+    let at = env[i];
+    if at == 0 {
+        return Ended::Stuck;
+    }
+    let p = at - 1;
+    if sp <= p {
+        return Ended::Stuck;
+    }
+    formed(push_copy(stack, p, sp), steps)
+}
+
+// The Set of the len cells at sp, with object o where it is of class c or below.
+fn with_object(
+    tables: &[u64],
+    st: Counts,
+    c: u64,
+    stack: &mut [u64],
+    sp: usize,
+    len: usize,
+    o: u64,
+) -> Formed
+    requires { ⌜ Bounds st (length (now tables)) × (sp + 256 ≤ length (now stack)) ⌝ }
+    requires { ⌜ (1 ≤ len) × (len ≤ 128) × (o < 96) ⌝ }
+    ensures { λ r. ⌜ WithObject st (now (tables .entry)) c sp len o (now (stack .entry)) (now (stack .exit)) r ⌝ }
+{
+    if is_a(tables, st, o, c) {
+        append_simple(stack, sp, sp + len, Simple::Object { number: o })
+    } else {
+        Formed::Done { len }
+    }
+}
+
+// The Set of all objects of class c or below it. Objects ascend, so each goes to the end.
+pub fn instances(tables: &[u64], st: Counts, c: u64, stack: &mut [u64], sp: usize) -> Formed
+    requires { ⌜ Bounds st (length (now tables)) × (sp + 256 ≤ length (now stack)) ⌝ }
+    ensures { λ r. ⌜ Instances st (now (tables .entry)) c sp (now (stack .entry)) (now (stack .exit)) r ⌝ }
+{
+    stack[sp] = empty_of(0);
+    let mut len: usize = 1;
+    let mut o: u64 = 0;
+    while o < st.objects {
+        let f = with_object(tables, st, c, stack, sp, len, o);
+        let Formed::Done { len: n } = f else {
+            return f;
+        };
+        len = n;
+        o += 1;
+    }
+    Formed::Done { len }
+}
+
+// The form with this code; word is the literal, the variable or the class.
+pub fn leaf(
+    tables: &[u64],
+    st: Counts,
+    form: u64,
+    word: u64,
+    env: [usize; 16],
+    stack: &mut [u64],
+    sp: usize,
+    steps: u64,
+) -> Ended
+    requires { ⌜ (form < 7) × Bounds st (length (now tables)) × (sp + 256 ≤ length (now stack)) ⌝ }
+    ensures { λ r. ⌜ Evals (ModelIn st (now (tables .entry))) (leafFor form word) env sp steps (now (stack .entry)) (now (stack .exit)) r ⌝ }
+{
+    match form {
+        0 => put(stack, sp, Simple::Bool { b: false }, steps),
+        1 => put(stack, sp, Simple::Bool { b: true }, steps),
+        2 => Ended::Undef { steps },
+        3 => put(stack, sp, Simple::Integer { biased: word % END }, steps),
+        4 => variable(0, env, stack, sp, steps),
+        5 => variable(wide(word % 16), env, stack, sp, steps),
+        _ => formed(instances(tables, st, word, stack, sp), steps),
+    }
+}

@@ -1,0 +1,123 @@
+// What evaluation finds in the tables: an object's class, a row's owner, the value of a row for an object.
+use crate::Ended;
+use crate::Place;
+use crate::answers::formed;
+use tables::Counts;
+use types::classes::class_below;
+use types::classes::wide;
+use values::cells::payload_of;
+use values::cells::push_cells;
+use values::cells::sort_of;
+ghost use mathlib.Core.Path.{_≡_};
+ghost use Prim.Native.Nat.{_+_, _≤_, _<_};
+ghost use lib.ListN.{length};
+ghost use Rattle.operations.specs.Tables.{Bounds, IsA, Owner, FindsSlot, startOf, Stands, Attribute};
+
+const OBJECT: u64 = 2;
+
+// Whether object o is of class c or below it.
+pub fn is_a(tables: &[u64], st: Counts, o: u64, c: u64) -> bool
+    requires { ⌜ Bounds st (length (now tables)) ⌝ }
+    ensures { λ r. ⌜ IsA st (now (tables .entry)) o c r ⌝ }
+{
+    if st.objects <= o {
+        return false;
+    }
+    let classes = wide(st.classes);
+    let at = 256 + wide(o);
+    class_below(&tables[0..classes], tables[at], c)
+}
+
+// The class that declares row i; a row that is not there has owner 0.
+pub fn owner(tables: &[u64], st: Counts, i: u64) -> u64
+    requires { ⌜ Bounds st (length (now tables)) ⌝ }
+    ensures { λ r. ⌜ Owner st (now (tables .entry)) i r ⌝ }
+{
+    if st.rows <= i {
+        return 0;
+    }
+    tables[64 + wide(i)]
+}
+
+// The slot with the key: slots ascend by their keys, so the half in which it can be is halved.
+pub fn find_slot(tables: &[u64], slots: usize, key: u64) -> Place
+    requires { ⌜ (slots ≤ 1024) × (8192 ≤ length (now tables)) ⌝ }
+    ensures { λ r. ⌜ FindsSlot (now (tables .entry)) slots key r ⌝ }
+{
+    let mut low: usize = 0;
+    let mut high = slots;
+    while low < high {
+        let mid = low + (high - low) / 2;
+        let k = tables[352 + mid];
+        if k == key {
+            return Place::At { j: mid };
+        }
+        if k < key {
+            low = mid + 1;
+        } else {
+            high = mid;
+        }
+    }
+    Place::Nowhere
+}
+
+// Where slot j's cells start among the cells; after the last slot, where the cells end.
+fn start_of(tables: &[u64], st: Counts, j: usize) -> u64
+    requires { ⌜ (j ≤ 1024) × (8192 ≤ length (now tables)) ⌝ }
+    ensures { λ r. ⌜ r ≡ startOf st (now (tables .entry)) j ⌝ }
+{
+    if wide(st.slots) == j {
+        return st.cells;
+    }
+    tables[1376 + j]
+}
+
+// The value in slot j, at sp.
+fn bring(tables: &[u64], st: Counts, j: usize, stack: &mut [u64], sp: usize, steps: u64) -> Ended
+    requires { ⌜ (j < 1024) × (8192 ≤ length (now tables)) × (sp + 128 ≤ length (now stack)) ⌝ }
+    ensures { λ r. ⌜ Stands st (now (tables .entry)) j sp steps (now (stack .entry)) (now (stack .exit)) r ⌝ }
+{
+    let a = start_of(tables, st, j);
+    let e = start_of(tables, st, j + 1);
+    if e <= a {
+        return Ended::Stuck;
+    }
+    if 2048 < e {
+        return Ended::Stuck;
+    }
+    formed(
+        push_cells(stack, sp, tables, 2400 + wide(a), 2400 + wide(e)),
+        steps,
+    )
+}
+
+// The value of row i for the object at sp, in the object's place.
+pub fn attribute_of(
+    tables: &[u64],
+    st: Counts,
+    i: u64,
+    stack: &mut [u64],
+    sp: usize,
+    steps: u64,
+) -> Ended
+    requires { ⌜ Bounds st (length (now tables)) × (sp + 128 ≤ length (now stack)) ⌝ }
+    ensures { λ r. ⌜ Attribute st (now (tables .entry)) i sp steps (now (stack .entry)) (now (stack .exit)) r ⌝ }
+{
+    let cell = stack[sp];
+    if sort_of(cell) != OBJECT {
+        return Ended::Stuck;
+    }
+    let o = payload_of(cell);
+    if 64 <= i {
+        return Ended::Stuck;
+    }
+    let c = owner(tables, st, i);
+    if is_a(tables, st, o, c) {
+        let Place::At { j } = find_slot(tables, wide(st.slots), o * 64 + i) else {
+            return Ended::Undef { steps };
+        };
+        bring(tables, st, j, stack, sp, steps)
+    } else {
+        Ended::Stuck
+    }
+}
