@@ -47,6 +47,10 @@ pub each-imp : {A : Type 0} {P Q : A → Type 0} {ns : List A} → ((n : A) → 
 each-imp f each-nil = each-nil
 each-imp f (each-cons {n} p h) = each-cons (f n p) (each-imp f h)
 
+pub each-all : {A : Type 0} {P : A → Type 0} → ((n : A) → P n) → (ns : List A) → Each P ns
+each-all f [] = each-nil
+each-all f (n ∷ ns) = each-cons (f n) (each-all f ns)
+
 pub each-append : {A : Type 0} {P : A → Type 0} {a b : List A} → Each P a → Each P b → Each P (a ++ b)
 each-append each-nil k = k
 each-append (each-cons p h) k = each-cons p (each-append h k)

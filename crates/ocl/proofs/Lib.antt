@@ -5,7 +5,9 @@ pub mod Order
 pub mod Ranges
 pub mod Sorted
 pub mod Ends
+pub mod Kept
 pub mod Formed
+pub mod InRange
 pub mod Runs
 pub mod Steps
 pub mod Marks

@@ -9,11 +9,12 @@ use native.Mathlib.Omega.{arith as linear}
 use lib.IntN.{ℤ, pos, negsuc, _+ℤ_}
 use lib.Dec.{T, T-not, eqb, leb}
 use Rattle.laws.specs.Choice.{if_then_else_}
+use Rattle.laws.specs.Lists.{Each}
 use Rattle.ocl.specs.Environment.{Env, extend, start}
 use Rattle.ocl.specs.Types.{Simple, any, boolean, integer, class, Kind, set, sequence, bag, Letter, collection, exactly, Ty, void, simple, around, Boolean, Integer, Class, depth, simpleSubtype, letterSubtype, sameKind, subtype, join, climbs, height, up, sameSimple, simpleCode}
 use Rattle.ocl.specs.Values.{Value, bool, int, obj, coll, Values, nil, cons, count, size, sizes, orderInt, same, has, append, add, addAll}
 use Rattle.ocl.specs.Model.{Row, Model, classBelow, isA, belongs, rowRead}
-use Rattle.ocl.specs.Forms.{Arith, plus, minus, times, div, modulo, Connective, Quantifier, Leaf, truth, undef, number, self, var, all, Unary, negation, sizeOf, convert, castTo, Binary, equal, less, arith, includes, including, union, Expr, node, Form, leaf, unary, binary, connective, isUndef, conditional, letIn, attribute, quantified, iterate, collect, Operands, noOperand, operand, reach, inside, reaches}
+use Rattle.ocl.specs.Forms.{Arith, plus, minus, times, div, modulo, Connective, Quantifier, Leaf, truth, undef, number, self, var, all, Unary, negation, sizeOf, convert, castTo, Binary, equal, less, arith, includes, including, union, Expr, node, Form, leaf, unary, binary, connective, isUndef, conditional, letIn, attribute, quantified, iterate, collect, Operands, noOperand, operand, reach, inside, reaches, literals}
 use Rattle.ocl.specs.Typing.{Answer, typed, refused, Marks, Typed, Typing, pure, thenFor, andThen, below, common, wrap, onCollection, onKind, bound, leafType, castType, unaryType, bothBelow, binaryType, conditionalType, rowType, attributeType, leafTyping, unaryTyping, binaryTyping, connectiveTyping, isUndefTyping, conditionalTyping, letTyping, attributeTyping, quantifiedTyping, iterateTyping, noOperandTyping, operandTyping, collectTyping, typing, formTyping, operandsTyping, typeRule, markOf}
 use Rattle.ocl.specs.Evaluation.{Outcome, value, undefined, stuck, stop, Run, resume, bind, tick, form, given, onBool, onInt, onObj, onColl, isLess, inRange, ranged, unlessZero, quotient, remainder, arithmetic, instances, leafRun, cast, unaryApply, unaryRun, isInt, isColl, leftFits, binaryApply, binaryRun, decides, connectiveRun, isUndefRun, conditionalRun, letRun, attributeRun, search, quantifiedRun, fold, iterateRun, Gather, noOperandRun, operandRun, collectRun, evaluation, formRun, operandsRun, evaluateRule}
 use Rattle.ocl.specs.Evaluation.{bound as boundRun}
@@ -22,6 +23,8 @@ use Rattle.laws.proofs.Tests.{by-if, All?, all-none, all-some, Any?, any-some, 
 use Rattle.ocl.proofs.Types.{here, join-upper, subtype-refl, subtype-trans, climb→simpleSubtype, sameKind→eq, sameKind-refl, class-not-boolean, class-not-integer, boolean-not-class, integer-not-class}
 use Rattle.ocl.proofs.Values.{Every, every-nil, every-cons, every-imp, append-every, add-every, addAll-every, count-sizes, Belongs, belongs-by, belongs-test, belongs-up, isA-up, Above, rowRead-above}
 use Rattle.ocl.proofs.Runs.{Fine, Safe, safe-weak, safe-le, safe-value, safe-undefined, safe-resume, safe-bind, safe-tick, safe-form, safe-if, safe-fold, IsBool, safe-bool, safe-search, Fits, fine-sound, safe-zero}
+use Rattle.ocl.proofs.Ends.{arithmetic-all}
+use Rattle.ocl.proofs.InRange.{ends-in-range}
 use Rattle.ocl.proofs.Marks.{Agree, agree-left, agree-right, agree-one, Marked, marked, agree-marks}
 
 module _ (s : Model) (ok : Accepted s) (mark : ℕ → ℕ) where
@@ -300,24 +303,6 @@ module _ (s : Model) (ok : Accepted s) (mark : ℕ → ℕ) where
         (λ t. safe-le (omega linear) (safe-bind (hg .run ρ r) (λ x j. ap v x i j))) (λ t. absurd (T-not (leftFits op v) t (fit v i))));
   }
 
-  ranged-ok : (z : ℤ) → All? (Ok Integer) (ranged z)
-  unfolding ranged
-  ranged-ok z = by-if (All? (Ok Integer)) (inRange z) (some (int z)) none (λ t. all-some (int-ok z)) (λ t. all-none)
-
-  unless-ok : (y z : ℤ) → All? (Ok Integer) (unlessZero y (ranged z))
-  unfolding unlessZero
-  unless-ok (pos zero) z = all-none
-  unless-ok (pos (suc n)) z = ranged-ok z
-  unless-ok (negsuc n) z = ranged-ok z
-
-  arithmetic-ok : (o : Arith) (x y : ℤ) → All? (Ok Integer) (arithmetic o x y)
-  unfolding arithmetic
-  arithmetic-ok plus x y = ranged-ok _
-  arithmetic-ok minus x y = ranged-ok _
-  arithmetic-ok times x y = ranged-ok _
-  arithmetic-ok div x y = unless-ok y _
-  arithmetic-ok modulo x y = unless-ok y _
-
   same-kind : (j k c d : Kind) → T (sameKind j c) → T (sameKind c d) → T (sameKind k d) → T (sameKind j k)
   same-kind j k c d p q r = subst (λ x. T (sameKind j x)) (sameKind→eq j c p ∙ sameKind→eq c d q ∙ sym (sameKind→eq k d r)) (sameKind-refl j)
 
@@ -335,7 +320,7 @@ module _ (s : Model) (ok : Accepted s) (mark : ℕ → ℕ) where
   binary-sem {t = t} {u = u} p less hf hg = gives-below p t Integer (λ a. gives-below p u Integer (λ b. gives (binary-run less hf hg (λ v i. int-fits (int-of v a i))
       (λ v x i j. int-sem (int-of v a i) (λ y. int-sem (int-of x b j) (λ z. give-bool (isLess (orderInt y z))))))))
   binary-sem {t = t} {u = u} p (arith o) hf hg = gives-below p t Integer (λ a. gives-below p u Integer (λ b. gives (binary-run (arith o) hf hg (λ v i. int-fits (int-of v a i))
-      (λ v x i j. int-sem (int-of v a i) (λ y. int-sem (int-of x b j) (λ z. given-sem (arithmetic-ok o y z)))))))
+      (λ v x i j. int-sem (int-of v a i) (λ y. int-sem (int-of x b j) (λ z. given-sem (arithmetic-all (Ok Integer) (λ z h. int-ok z) o y z)))))))
   binary-sem {Γ} {k} {t = t} {u = u} {f = f} p includes hf hg = gives-collection (λ t. Sem Γ k t f) p t hf (λ l m hf. gives-common p (joined m u) (λ w q.
       gives (binary-run includes hf hg (λ v i. coll-fits (coll-of v i)) (λ v x i j. coll-sem (coll-of v i) (λ c vs y h z. give-bool (has x vs))))))
   binary-sem {Γ} {k} {t = t} {u = u} {f = f} p including hf hg = gives-collection (λ t. Sem Γ k t f) p t hf (λ l m hf. gives-kind (λ l. Sem Γ k (around l m) f) p l hf (λ c hf.
@@ -468,13 +453,13 @@ module _ (s : Model) (ok : Accepted s) (mark : ℕ → ℕ) where
   fits-of {t} {v} h = record { belong = belongs-test s t v (h .bel); small = h .fits }
 
   -- with any table that has the marks
-  pub sound-with : (e : Expr) (c o : ℕ) (t : Ty) → typeRule s c e .answer ≡ typed t → Agree mark (typeRule s c e .marks) → T (isA s o (class c))
+  sound-with : (e : Expr) → Each (λ z. T (inRange z)) (literals e) → (c o : ℕ) (t : Ty) → typeRule s c e .answer ≡ typed t → Agree mark (typeRule s c e .marks) → T (isA s o (class c))
       → Sound s t (reach e) (evaluateRule s mark e o)
   unfolding typeRule evaluateRule start Belongs size
-  sound-with e c o t h g a = fine-sound s t _ _ (safe-zero (safe-weak (λ v. fits-of) (omega linear) (sound e (start (Class c)) .means t h g .run _
-      (extend-ok 0 (record { vars = λ i. all-none }) (record { bel = a; fits = omega linear })))))
+  sound-with e l c o t h g a = fine-sound s t _ _ (safe-zero (safe-weak (λ v. fits-of) (omega linear) (sound e (start (Class c)) .means t h g .run _
+      (extend-ok 0 (record { vars = λ i. all-none }) (record { bel = a; fits = omega linear }))))) (λ v n q. ends-in-range s ok mark e l o n v q)
 
 pub soundness : Soundness
 unfolding markOf typeRule
-soundness s ok e d c o t h a =
-    sound-with s ok (markOf (typeRule s c e)) e c o t h (agree-marks (λ p. 0) (marked s e (start (Class c)) .part) d) a
+soundness s ok e d l c o t h a =
+    sound-with s ok (markOf (typeRule s c e)) e l c o t h (agree-marks (λ p. 0) (marked s e (start (Class c)) .part) d) a

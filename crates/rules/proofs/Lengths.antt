@@ -13,7 +13,7 @@ use lib.Dec.{T, ltb→lt}
 use Rattle.laws.proofs.Tests.{and-i, and-l, and-r}
 use Rattle.laws.proofs.Elements.{elem-at}
 use Rattle.ocl.specs.Types.{Simple, any, boolean, integer, class, exactly, Ty, void, simple, around, simpleSubtype, letterSubtype, climbs, height, up, sameSimple, simpleCode}
-use Rattle.ocl.specs.Values.{Value, bool, int, obj, coll, Values, size}
+use Rattle.ocl.specs.Values.{Value, bool, int, obj, coll, Values, size, everyPart, everyParts}
 use Rattle.ocl.specs.Model.{Model, classBelow, isA, every, belongs}
 use Rattle.ocl.specs.Forms.{reach}
 use Rattle.ocl.specs.Typing.{typed}
@@ -24,7 +24,7 @@ use Rattle.ocl.proofs.Steps.{steps-limited}
 use Rattle.sheet.specs.Text.{bytes, spellNumber}
 use Rattle.sheet.specs.Spelling.{spellBool, spellValue}
 use Rattle.sheet.specs.Sheet.{Rule, Sheet, modelOf}
-use Rattle.sheet.specs.Refusals.{everyPart, everyParts, partWithin}
+use Rattle.sheet.specs.Refusals.{partWithin}
 use Rattle.sheet.specs.Calls.{typingOf, outcomeOf}
 use Rattle.sheet.specs.Report.{spellOutcome, reportLine}
 use Rattle.sheet.proofs.Acceptance.{accepted-good}

@@ -1,5 +1,5 @@
 -- What every sheet that reading accepts has: parents that are smaller, slots that ascend, values that belong to their rows' types,
--- rules whose trees have no node twice and at most 12 levels. The induction over the lines, over the laws of proofs/Good.antt. Assumes nothing.
+-- rules whose trees have no node twice and at most 12 levels, Integers in range. The induction over the lines, over the laws of proofs/Good.antt. Assumes nothing.
 use mathlib.Core.Path.{_≡_, refl, subst}
 use mathlib.Core.Bool.{Bool, true, false, _&&_}
 use mathlib.Core.Option.{Option, none, some}
@@ -14,13 +14,15 @@ use Rattle.laws.proofs.Tests.{and-r, by-if, All?, all-none, all-some}
 use Rattle.laws.proofs.Lists.{each-append}
 use Rattle.ocl.specs.Values.{Value, size}
 use Rattle.ocl.specs.Model.{Model, every, belongs}
-use Rattle.ocl.specs.Forms.{Expr, numbers, levels}
+use Rattle.ocl.specs.Forms.{Expr, numbers, levels, literals}
+use Rattle.ocl.specs.Evaluation.{integersInRange}
 use Rattle.ocl.specs.Soundness.{Accepted}
 use Rattle.sheet.specs.Text.{Bytes, fieldsOf, linesOf}
 use Rattle.sheet.specs.Lines.{Line, lineOf, firstIsN}
 use Rattle.sheet.specs.Sheet.{Slot, Current, Sheet, empty, lookup, noRow, modelOf, treeOf, lastTree, allUsed, withRule, endOf, endFor, endRule}
 use Rattle.sheet.specs.Refusals.{withinLimits, inOrder, partsKnown, suits, treeHolds}
 use Rattle.sheet.specs.Reading.{Step, next, refuse, must, stepLine, stepSpelled, step, Reading, accepted, refused, onStep, onEnd, closing, readLast, readLines, readText}
+use Rattle.sheet.proofs.InRange.{InRange, tree-in-range}
 use Rattle.sheet.proofs.Good.{CurrentOk, Good, OpenOk, RuleOk, SlotOk, belongs-same, good-added, good-empty, no-rule, open-rule, plain}
 
 -- ---- a rule's end
@@ -42,6 +44,7 @@ rule-ok n c body h e l = let r = last-tree (c .trees) body e in record {
   distinct = subst (λ x. Distinct (numbers x)) (r .is) (h .forest .distinct (r .index) (r .inside));
   on-sheet = subst (λ i. Each (λ p. p < i) (numbers body)) (h .count) (subst (λ x. Each (λ p. p < c .first + length (c .trees)) (numbers x)) (r .is) (h .forest .below (r .index) (r .inside)));
   shallow = l;
+  in-range = subst (λ x. InRange (literals x)) (r .is) (tree-in-range (h .in-range) (r .index));
 }
 
 good-body : (s : Sheet) (c : Current) → Good s → CurrentOk (length (s .lines)) c → (o : Option Expr) → lastTree (c .trees) ≡ o
@@ -143,19 +146,26 @@ accepted-good text s e = of (subst GoodReading e (good-text text))
 
 -- ---- and so its model is what demand 3 asks
 
-lookup-ok : (m : Model) (l : List Slot) (o i : ℕ) (v : Value) → Each (SlotOk m) l → lookup l o i ≡ some v → T (belongs m (m .row i .type) v) × (size v ≤ 128)
+-- what a slot says of its value
+record ValueOk (m : Model) (i : ℕ) (v : Value) : Type 0 where
+  belong : T (belongs m (m .row i .type) v)
+  small : size v ≤ 128
+  in-range : T (integersInRange v)
+
+lookup-ok : (m : Model) (l : List Slot) (o i : ℕ) (v : Value) → Each (SlotOk m) l → lookup l o i ≡ some v → ValueOk m i v
 unfolding lookup
 lookup-ok m [] o i v each-nil e = absurd (let z : _≡_ {A = ℕ} 0 1 = cc in omega arith)
 lookup-ok m (x ∷ l) o i v (each-cons h hs) e =
-    by-if (λ y. y ≡ some v → T (belongs m (m .row i .type) v) × (size v ≤ 128)) (eqb o (x .object) && eqb i (x .row)) _ _
+    by-if (λ y. y ≡ some v → ValueOk m i v) (eqb o (x .object) && eqb i (x .row)) _ _
     (λ t q. let z : x .value ≡ v = cc in let r : i ≡ x .row = eqb→eq i (x .row) (and-r (eqb o (x .object)) _ t) in
-    rw (← z, r) (h .belong, h .small))
+    rw (← z, r) (record { belong = h .belong; small = h .small; in-range = h .in-range }))
     (λ t q. lookup-ok m l o i v hs q) e
 
 pub good-model : (s : Sheet) → Good s → Accepted (modelOf s)
 unfolding modelOf plain
 good-model s g = record {
   parents-smaller = g .parents;
-  values-belong = λ o i v e. subst T (belongs-same (plain s) (modelOf s) refl refl (getD (s .rows) i noRow .type) v) (lookup-ok (plain s) (s .slots) o i v (g .slots) e .0);
-  values-small = λ o i v e. lookup-ok (plain s) (s .slots) o i v (g .slots) e .1;
+  values-belong = λ o i v e. subst T (belongs-same (plain s) (modelOf s) refl refl (getD (s .rows) i noRow .type) v) (lookup-ok (plain s) (s .slots) o i v (g .slots) e .belong);
+  values-small = λ o i v e. lookup-ok (plain s) (s .slots) o i v (g .slots) e .small;
+  values-in-range = λ o i v e. lookup-ok (plain s) (s .slots) o i v (g .slots) e .in-range;
 }

@@ -3,7 +3,7 @@ use mathlib.Core.Path.{_≡_, refl}
 use Rattle.laws.specs.Choice.{orElse, onSome, mapSome, isSome}
 use Rattle.laws.specs.Lists.{allOf, member, concat}
 use Rattle.ocl.specs.Types.{join, simpleJoin, firstAbove, simpleSubtype, climbs, sameSimple, simpleCode, up, parentOr, height, letterJoin, letterSubtype, sameKind, kindCode, aroundSome, subtype, depth}
-use Rattle.ocl.specs.Values.{size, add, addAll, insert, put, order, headOrder, thenOrder, sort, rank, ofBool, orderInt, members, count, append, same, has}
+use Rattle.ocl.specs.Values.{size, add, addAll, insert, put, order, headOrder, thenOrder, sort, rank, ofBool, orderInt, members, count, append, same, has, everyPart}
 use Rattle.ocl.specs.Model.{classBelow, isA, every, belongs, declared, nearest, rowRead}
 use Rattle.ocl.specs.Environment.{extend, start}
 use Rattle.ocl.specs.Forms.{levels, reach}
@@ -14,7 +14,7 @@ use Rattle.sheet.specs.Text.{bytes, onto, split, linesOf, fieldsOf, noth
 use Rattle.sheet.specs.Spelling.{collectionType, typeWithin, readType, letterByte, spellSimple, spellType, valueWithin, readValue, kindByte, spellBool, spellValue}
 use Rattle.sheet.specs.Lines.{is, next, done, each, aNumber, anInteger, aParent, aKind, oneOperand, twoOperands, threeNumbers, iterateFields, atMostFour, collectFields, shapeOf, aWord, lineOf, firstIsN}
 use Rattle.sheet.specs.Sheet.{empty, lookup, noRow, modelOf, operandsOf, growAll, grow, treeOf, withNode, added, lastTree, allUsed, withRule, endOf, endFor, endRule}
-use Rattle.sheet.specs.Refusals.{simpleClassBelow, everyPart, objectBelow, partWithin, nesting, mayFollow, followed, ordered, isClass, isVariable, isNode, leafWithin, unaryWithin, formWithin, parentWithin, totalSize, withinLimits, blockOf, declares, afterSlots, nextNode, twoVariables, numbered, inOrder, parentSmaller, leafKnown, unaryKnown, formKnown, partsKnown, suits, fresh, operandsFresh, treeHolds}
+use Rattle.sheet.specs.Refusals.{simpleClassBelow, objectBelow, partWithin, nesting, mayFollow, followed, ordered, isClass, isVariable, isNode, leafWithin, unaryWithin, formWithin, parentWithin, totalSize, withinLimits, blockOf, declares, afterSlots, nextNode, twoVariables, numbered, inOrder, parentSmaller, leafKnown, unaryKnown, formKnown, partsKnown, suits, fresh, operandsFresh, treeHolds}
 use Rattle.sheet.specs.Refusals.{classBelow as classInBelow, typeWithin as typeLimits, valueWithin as valueLimits}
 use Rattle.sheet.specs.Reading.{must, stepLine, stepSpelled, step, onStep, onEnd, closing, readLast, readLines, readText}
 use Rattle.sheet.specs.Calls.{answer, refusalAt, refusal, onSheet, onRule, typingOf, onType, onObject, outcomeOf, ended}

@@ -46,7 +46,7 @@ module _ (m : Model) (t : Ty) (k : ℕ) where
 
   end-of : (o : Outcome) → Sound m t k o → Ending m t (ended o)
   unfolding ended
-  end-of (value v n) h = value-end v (h .of-type v n refl)
+  end-of (value v n) h = value-end v (h .of-type v n refl) (h .of-size v n refl) (h .in-range v n refl)
   end-of (undefined n) h = undefined-end
   end-of stuck h = absurd (h .not-stuck refl)
   end-of (stop c n) h = stop-end c n (h .known-stop c n refl) (ℕ-discrete c 16)
@@ -71,7 +71,8 @@ pub sound-rule : (s : Sheet) → Good s → (r o : ℕ) (x : Rule) (t : Ty) → 
     → T (isA (modelOf s) o (class (x .context))) → Sound (modelOf s) t (reach (x .body)) (outcomeOf s x o)
 unfolding typingOf outcomeOf
 sound-rule s g r o x t e h a =
-    soundness (modelOf s) (good-model s g) (x .body) (each-elem r (g .rules) e .distinct) (x .context) o t h a
+    let k = each-elem r (g .rules) e in
+    soundness (modelOf s) (good-model s g) (x .body) (k .distinct) (k .in-range) (x .context) o t h a
 
 -- ---- the calls, with every slice at its minimum or above
 

@@ -8,7 +8,7 @@ use lib.Dec.{eqb, leb, ltb}
 use Rattle.laws.specs.Choice.{if_then_else_, onSome}
 use Rattle.laws.specs.Lists.{allOf, member}
 use Rattle.ocl.specs.Types.{Simple, any, boolean, integer, class, Kind, set, sequence, bag, Letter, Ty, void, simple, around, depth}
-use Rattle.ocl.specs.Values.{Value, bool, int, obj, coll, Values, nil, cons, size, order}
+use Rattle.ocl.specs.Values.{Value, bool, int, obj, coll, Values, nil, cons, size, everyPart, order}
 use Rattle.ocl.specs.Evaluation.{inRange, isLess}
 use Rattle.ocl.specs.Model.{Row, Model, isA, belongs}
 use Rattle.ocl.specs.Forms.{Leaf, truth, undef, number, self, var, all, Unary, negation, sizeOf, convert, castTo}
@@ -28,18 +28,6 @@ unfoldable pub classBelow : ℕ → Ty → Bool
 classBelow n void = true
 classBelow n (simple a) = simpleClassBelow n a
 classBelow n (around l t) = classBelow n t
-
--- the test holds of each Integer and object in a value
-unfoldable mutual
-  pub everyPart : (Value → Bool) → Value → Bool
-  everyPart f (bool b) = f (bool b)
-  everyPart f (int z) = f (int z)
-  everyPart f (obj o) = f (obj o)
-  everyPart f (coll k vs) = everyParts f vs
-
-  pub everyParts : (Value → Bool) → Values → Bool
-  everyParts f nil = true
-  everyParts f (cons v vs) = everyPart f v && everyParts f vs
 
 -- an object's number is below n
 unfoldable pub objectBelow : ℕ → Value → Bool

@@ -8,10 +8,10 @@ use lib.ListN.{length, drop}
 use Rattle.laws.specs.Lists.{each-nil, each-cons}
 use Rattle.laws.proofs.Options.{onSome-some}
 use Rattle.ocl.specs.Types.{Kind}
-use Rattle.ocl.specs.Values.{Value, coll, nil, size}
+use Rattle.ocl.specs.Values.{Value, coll, nil, size, everyPart}
 use Rattle.sheet.specs.Text.{Bytes, whole}
 use Rattle.sheet.specs.Spelling.{valueWithin, membersWithin, readValue}
-use Rattle.sheet.specs.Refusals.{everyPart, partWithin, nesting}
+use Rattle.sheet.specs.Refusals.{partWithin, nesting}
 use Rattle.values.specs.Cells.{head, enc}
 use Rattle.slots.specs.declared.parts.Part.the-variants as part
 use Rattle.slots.specs.declared.reader.Open.{Open}

@@ -10,10 +10,10 @@ use borrow.Author.Tests.{ne-eqb}
 use Rattle.laws.specs.Choice.{orElse, onSome, mapSome}
 use Rattle.laws.proofs.Options.{onSome-some}
 use Rattle.ocl.specs.Types.{Kind}
-use Rattle.ocl.specs.Values.{Value, coll, Values, nil, cons, size, sizes, append}
+use Rattle.ocl.specs.Values.{Value, coll, Values, nil, cons, size, sizes, append, everyPart, everyParts}
 use Rattle.sheet.specs.Text.{Bytes, bytes, after, literal, behind, _or_, _then_, given, nothing, atEnd, number, integer, digits, plain}
 use Rattle.sheet.specs.Spelling.{valueWithin, membersWithin, moreWithin}
-use Rattle.sheet.specs.Refusals.{everyPart, everyParts, partWithin, nesting, nestings}
+use Rattle.sheet.specs.Refusals.{partWithin, nesting, nestings}
 use Rattle.values.specs.Cells.{enc}
 use Rattle.values.proofs.Encoding.{size-law}
 use Rattle.values.proofs.Growing.{append-grows}

@@ -11,10 +11,10 @@ use lib.Dec.{eqb, leb}
 use Rattle.laws.specs.Choice.{if_then_else_, onSome}
 use Rattle.laws.specs.Lists.{Each}
 use Rattle.ocl.specs.Types.{Kind}
-use Rattle.ocl.specs.Values.{Value, coll, Values, nil, cons, size, append}
+use Rattle.ocl.specs.Values.{Value, coll, Values, nil, cons, size, append, everyPart, everyParts}
 use Rattle.sheet.specs.Text.{Bytes, atEnd}
 use Rattle.sheet.specs.Spelling.{valueWithin, membersWithin, moreWithin, readValue}
-use Rattle.sheet.specs.Refusals.{everyPart, everyParts, partWithin, nesting, nestings}
+use Rattle.sheet.specs.Refusals.{partWithin, nesting, nestings}
 use Rattle.sheet.specs.Refusals.{valueWithin as withinLimits}
 use Rattle.values.specs.Cells.{head, enc}
 use Rattle.slots.specs.declared.reader.Open.{Open}
