@@ -1,3 +1,4 @@
+pub mod SimpleTypes
 pub mod Types
 pub mod Subtyping
 pub mod Values

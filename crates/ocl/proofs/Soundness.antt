@@ -20,7 +20,8 @@ use Rattle.ocl.specs.Evaluation.{Outcome, value, undefined, stuck, stop,
 use Rattle.ocl.specs.Evaluation.{bound as boundRun}
 use Rattle.ocl.specs.Soundness.{Accepted, Sound, Soundness}
 use Rattle.laws.proofs.Tests.{by-if, All?, all-none, all-some, Any?, any-some, all-imp, all-self, at-some}
-use Rattle.ocl.proofs.Types.{here, join-upper, subtype-refl, subtype-trans, climb→simpleSubtype, sameKind→eq, sameKind-refl, class-not-boolean, class-not-integer, boolean-not-class, integer-not-class}
+use Rattle.ocl.proofs.SimpleTypes.{here, climb→simpleSubtype, class-not-boolean, class-not-integer, boolean-not-class, integer-not-class}
+use Rattle.ocl.proofs.Types.{join-upper, subtype-refl, subtype-trans, sameKind→eq, sameKind-refl}
 use Rattle.ocl.proofs.Values.{Every, every-nil, every-cons, every-imp, append-every, add-every, addAll-every, count-sizes, Belongs, belongs-by, belongs-test, belongs-up, isA-up, Above, rowRead-above}
 use Rattle.ocl.proofs.Runs.{Fine, Safe, safe-weak, safe-le, safe-value, safe-undefined, safe-resume, safe-bind, safe-tick, safe-form, safe-if, safe-fold, IsBool, safe-bool, safe-search, Fits, fine-sound, safe-zero}
 use Rattle.ocl.proofs.Ends.{arithmetic-all}

@@ -10,7 +10,8 @@ use Rattle.ocl.specs.Values.{Value, bool, int, obj, coll, Values, nil, c
 use Rattle.ocl.specs.Model.{Model, classBelow, isA, every, belongs, declared, nearest, rowRead}
 use Rattle.ocl.specs.Laws.{Small, BelongsUpLaw}
 use Rattle.laws.proofs.Tests.{and-i, and-l, and-r, by-if, All?, all-none, all-some, all-imp, all-self, all-else, all-on}
-use Rattle.ocl.proofs.Types.{letter-trans, Climb, step, climb-trans, climb-eq, simpleSubtype→climb, climb→simpleSubtype}
+use Rattle.ocl.proofs.SimpleTypes.{step, Climb, climb-trans, climb-eq, simpleSubtype→climb, climb→simpleSubtype}
+use Rattle.ocl.proofs.Types.{letter-trans}
 use Rattle.ocl.proofs.Subtyping.{Subtype→subtype}
 
 -- ---- every member

@@ -19,7 +19,7 @@ use Rattle.ocl.specs.Forms.{reach}
 use Rattle.ocl.specs.Typing.{typed}
 use Rattle.ocl.specs.Evaluation.{Outcome, value, undefined, stuck, stop}
 use Rattle.ocl.specs.Soundness.{stepsOf, Sound}
-use Rattle.ocl.proofs.Types.{integer-not-class}
+use Rattle.ocl.proofs.SimpleTypes.{integer-not-class}
 use Rattle.ocl.proofs.Steps.{steps-limited}
 use Rattle.sheet.specs.Text.{bytes, spellNumber}
 use Rattle.sheet.specs.Spelling.{spellBool, spellValue}
