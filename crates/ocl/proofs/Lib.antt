@@ -13,6 +13,8 @@ pub mod Runs
 pub mod Steps
 pub mod Marks
 pub mod Places
+pub mod Means
+pub mod ByType
 pub mod Soundness
 pub mod Worked
 pub mod Mistakes
