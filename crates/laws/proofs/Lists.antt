@@ -82,18 +82,6 @@ each-member (m ∷ ns) = each-cons (or-l (eqb m m) (member m ns) (eqb-refl m)) (
 
 -- ---- no number twice: in neither part, and none of the one in the other
 
-pub distinct-left : (a b : List ℕ) → Distinct (a ++ b) → Distinct a
-distinct-left [] b h = distinct-nil
-distinct-left (n ∷ a) b (distinct-cons z h) = distinct-cons (each-left a b z) (distinct-left a b h)
-
-pub distinct-right : (a : List ℕ) {b : List ℕ} → Distinct (a ++ b) → Distinct b
-distinct-right [] h = h
-distinct-right (n ∷ a) (distinct-cons z h) = distinct-right a h
-
-pub distinct-apart : (a : List ℕ) {b : List ℕ} → Distinct (a ++ b) → Each (λ n. Each (λ m. m ≢ n) b) a
-distinct-apart [] h = each-nil
-distinct-apart (n ∷ a) (distinct-cons z h) = each-cons (each-right a z) (distinct-apart a h)
-
 pub distinct-append : {a b : List ℕ} → Distinct a → Distinct b → Each (λ n. Each (λ m. m ≢ n) b) a → Distinct (a ++ b)
 distinct-append distinct-nil k each-nil = k
 distinct-append (distinct-cons z h) k (each-cons p e) = distinct-cons (each-append z p) (distinct-append h k e)

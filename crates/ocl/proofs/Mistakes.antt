@@ -1,5 +1,5 @@
 -- The cases of the five mistakes, by computation. Assumes nothing.
-use mathlib.Core.Path.{_≡_, refl}
+use mathlib.Core.Path.{refl}
 use Rattle.laws.specs.Choice.{orElse, onSome}
 use Rattle.ocl.specs.Types.{join, simpleJoin, firstAbove, simpleSubtype, climbs, sameSimple, simpleCode, up, parentOr, height, subtype}
 use Rattle.ocl.specs.Model.{classBelow, isA, declared, nearest, rowRead}

@@ -1,7 +1,7 @@
 -- Document 01, The forms and their typing: a rule as a tree of nodes. Evaluation: its reach.
 use mathlib.Core.Bool.{Bool}
 use mathlib.Core.List.{List, [], _∷_, _++_}
-use Prim.Native.Nat.{ℕ, zero, suc, _+_, _*_, max}
+use Prim.Native.Nat.{ℕ, suc, _+_, _*_, max}
 use lib.IntN.{ℤ}
 use Rattle.ocl.specs.Types.{Kind, Ty}
 

@@ -4,7 +4,7 @@ use mathlib.Core.Option.{Option, none, some}
 use Prim.Native.Nat.{ℕ, zero, suc}
 use lib.Dec.{eqb}
 use Rattle.laws.specs.Choice.{if_then_else_, orElse, onSome}
-use Rattle.ocl.specs.Types.{Simple, any, boolean, integer, class, Letter, exactly, Ty, void, simple, around, Parents, simpleSubtype, letterSubtype}
+use Rattle.ocl.specs.Types.{Simple, boolean, integer, class, exactly, Ty, void, simple, around, Parents, simpleSubtype, letterSubtype}
 use Rattle.ocl.specs.Values.{Value, bool, int, obj, coll, Values, nil, cons}
 
 -- an attribute row: the class that declares it, its name, its type

@@ -2,15 +2,15 @@
 -- sheet/specs/Soundness.antt states it from the bytes.
 use mathlib.Core.Path.{_≡_}
 use mathlib.Core.Logic.{_≢_}
-use mathlib.Core.Option.{Option, some}
+use mathlib.Core.Option.{some}
 use Prim.Native.Nat.{ℕ, _≤_, _<_}
 use lib.Dec.{T}
 use Rattle.laws.specs.Lists.{Each, Distinct}
 use Rattle.ocl.specs.Types.{class, Ty}
 use Rattle.ocl.specs.Values.{Value, size}
-use Rattle.ocl.specs.Model.{Row, Model, isA, belongs}
+use Rattle.ocl.specs.Model.{Model, isA, belongs}
 use Rattle.ocl.specs.Forms.{Expr, reach, numbers, literals}
-use Rattle.ocl.specs.Typing.{typed, Typed, typeRule, markOf}
+use Rattle.ocl.specs.Typing.{typed, typeRule, markOf}
 use Rattle.ocl.specs.Evaluation.{Outcome, value, undefined, stuck, stop, inRange, integersInRange, evaluateRule}
 
 -- what reading makes sure of

@@ -1,12 +1,12 @@
 -- Document 01, The forms and their typing: a type, or the number and node of a refusal; and the marks made on the way.
-use mathlib.Core.Bool.{Bool, true, false, _||_}
+use mathlib.Core.Bool.{_||_}
 use mathlib.Core.Option.{Option, none, some}
 use mathlib.Core.List.{List, [], _∷_, _++_}
-use Prim.Native.Nat.{ℕ, zero, suc}
+use Prim.Native.Nat.{ℕ}
 use lib.Dec.{eqb, leb}
 use Rattle.laws.specs.Choice.{if_then_else_}
-use Rattle.ocl.specs.Types.{Simple, any, boolean, integer, class, Kind, set, Letter, collection, exactly, Ty, void, simple, around, Any, Boolean, Integer, Class, depth, Parents, simpleSubtype, sameKind, subtype, join}
-use Rattle.ocl.specs.Model.{Row, Model, rowRead}
+use Rattle.ocl.specs.Types.{any, boolean, integer, class, Kind, set, Letter, collection, exactly, Ty, void, simple, around, Boolean, Integer, Class, depth, sameKind, subtype, join}
+use Rattle.ocl.specs.Model.{Model, rowRead}
 use Rattle.ocl.specs.Environment.{Env, extend, start}
 use Rattle.ocl.specs.Forms.{Leaf, truth, undef, number, self, var, all, Unary, negation, sizeOf, convert, castTo, Binary, equal, less, arith, includes, including, union, Expr, node, Form, leaf, unary, binary, connective, isUndef, conditional, letIn, attribute, quantified, iterate, collect, Operands, noOperand, operand}
 

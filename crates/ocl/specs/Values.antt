@@ -1,6 +1,6 @@
 -- Document 01, Values and types: values, their size and order; Evaluation: how a member is added.
 use mathlib.Core.Bool.{Bool, true, false, _&&_, _||_}
-use Prim.Native.Nat.{ℕ, zero, suc, _+_, compare, Ordering, Ordering·lt, Ordering·eq, Ordering·gt}
+use Prim.Native.Nat.{ℕ, suc, _+_, compare, Ordering, Ordering·lt, Ordering·eq, Ordering·gt}
 use lib.IntN.{ℤ, pos, negsuc}
 use lib.Dec.{isEq}
 use Rattle.ocl.specs.Types.{Kind, set, sequence, bag}

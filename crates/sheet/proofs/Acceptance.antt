@@ -13,7 +13,7 @@ use Rattle.laws.specs.Lists.{Each, each-nil, each-cons, Distinct}
 use Rattle.laws.proofs.Tests.{and-r, by-if, All?, all-none, all-some}
 use Rattle.laws.proofs.Lists.{each-append}
 use Rattle.ocl.specs.Values.{Value, size}
-use Rattle.ocl.specs.Model.{Model, every, belongs}
+use Rattle.ocl.specs.Model.{Model, belongs}
 use Rattle.ocl.specs.Forms.{Expr, numbers, levels, literals}
 use Rattle.ocl.specs.Evaluation.{integersInRange}
 use Rattle.ocl.specs.Soundness.{Accepted}

@@ -1,12 +1,12 @@
 -- The table of small sheets, by computation. Assumes nothing.
-use mathlib.Core.Path.{_≡_, refl}
+use mathlib.Core.Path.{refl}
 use Rattle.laws.specs.Choice.{orElse, onSome, mapSome, isSome}
 use Rattle.laws.specs.Lists.{allOf, member, concat}
 use Rattle.ocl.specs.Types.{join, simpleJoin, firstAbove, simpleSubtype, climbs, sameSimple, simpleCode, up, parentOr, height, letterJoin, letterSubtype, sameKind, kindCode, aroundSome, subtype, depth}
 use Rattle.ocl.specs.Values.{size, add, addAll, insert, put, order, headOrder, thenOrder, sort, rank, ofBool, orderInt, members, count, append, same, has, everyPart}
 use Rattle.ocl.specs.Model.{classBelow, isA, every, belongs, declared, nearest, rowRead}
 use Rattle.ocl.specs.Environment.{extend, start}
-use Rattle.ocl.specs.Forms.{levels, reach}
+use Rattle.ocl.specs.Forms.{levels}
 use Rattle.ocl.specs.Typing.{thenFor, andThen, common, wrap, onCollection, onKind, bound, leafType, castType, unaryType, bothBelow, binaryType, conditionalType, rowType, attributeType, leafTyping, unaryTyping, binaryTyping, connectiveTyping, isUndefTyping, conditionalTyping, letTyping, attributeTyping, quantifiedTyping, iterateTyping, noOperandTyping, operandTyping, collectTyping, typing, typeRule, markOr, markOf}
 use Rattle.ocl.specs.Evaluation.{tick, form, isLess, inRange, ranged, unlessZero, quotient, remainder, arithmetic, instances, leafRun, cast, unaryApply, unaryRun, leftFits, binaryApply, binaryRun, decides, connectiveRun, isUndefRun, conditionalRun, letRun, attributeRun, endsAt, search, quantifiedRun, fold, iterateRun, noOperandRun, operandRun, collectRun, evaluation, evaluateRule}
 use Rattle.ocl.specs.Soundness.{stepsOf}

@@ -1,9 +1,8 @@
 -- Integers that reading takes are in range: those in a value within its limits, and the literals of a tree whose nodes are within
 -- theirs. Assumes nothing.
-use mathlib.Core.List.{List, [], _∷_, _++_}
+use mathlib.Core.List.{List, [], _∷_}
 use Prim.Native.Nat.{ℕ, zero, suc}
 use lib.IntN.{ℤ}
-use lib.ListN.{getD}
 use lib.Dec.{T}
 use Rattle.laws.specs.Lists.{Each, each-nil, each-cons}
 use Rattle.laws.proofs.Tests.{and-i, and-l, and-r}

@@ -1,40 +1,38 @@
 -- Demand 3, from the bytes: what reading accepts is what the language's theorem asks, and the calls answer by its outcome. Assumes nothing.
 use mathlib.Core.Path.{_≡_, refl, sym, ap, _∙_, subst}
 use mathlib.Core.Logic.{_≢_}
-use mathlib.Core.Bool.{Bool, true, false, _||_}
+use mathlib.Core.Bool.{false}
 use mathlib.Core.Option.{Option, none, some, Option·some-injective}
-use mathlib.Core.List.{List, [], _∷_}
-use Prim.Native.Nat.{ℕ, _≤_, _<_}
+use mathlib.Core.List.{List, []}
+use Prim.Native.Nat.{ℕ, _≤_}
 use native.Mathlib.Omega.{arith}
 use native.Mathlib.Decide.{ℕ-discrete}
 use borrow.Author.Tests.{le-ltb}
-use lib.ListN.{length, getElem?, getD}
-use lib.Dec.{T, T-not, ltb}
+use lib.ListN.{length, getElem?}
+use lib.Dec.{T, T-not}
 use Rattle.laws.proofs.Tests.{by-if}
 use Rattle.laws.proofs.Lists.{each-at, member-exact}
 use Rattle.laws.proofs.Elements.{each-elem}
-use Rattle.laws.specs.Choice.{if_then_else_}
 use Rattle.ocl.specs.Types.{class, Ty}
-use Rattle.ocl.specs.Values.{Value}
-use Rattle.ocl.specs.Model.{Model, classBelow, isA, belongs}
+use Rattle.ocl.specs.Model.{Model, classBelow, isA}
 use Rattle.ocl.specs.Forms.{reach, numbers}
-use Rattle.ocl.specs.Typing.{Answer, typed, refused as untyped, typeRule, markOf}
+use Rattle.ocl.specs.Typing.{Answer, typed, refused as untyped, typeRule}
 use Rattle.ocl.specs.Environment.{start}
 use Rattle.ocl.specs.Types.{Class}
-use Rattle.ocl.specs.Evaluation.{Outcome, value, undefined, stuck, stop, evaluateRule}
+use Rattle.ocl.specs.Evaluation.{Outcome, value, undefined, stuck, stop}
 use Rattle.ocl.specs.Soundness.{stepsOf, Sound}
 use Rattle.ocl.proofs.Soundness.{soundness}
 use Rattle.ocl.proofs.Places.{typing-places}
-use Rattle.sheet.specs.Text.{Bytes, bytes}
-use Rattle.sheet.specs.Spelling.{readType, spellType, spellValue}
+use Rattle.sheet.specs.Text.{Bytes}
+use Rattle.sheet.specs.Spelling.{readType, spellType}
 use Rattle.sheet.specs.Sheet.{Rule, Sheet, modelOf}
 use Rattle.sheet.specs.Reading.{Reading, accepted, refused, readText}
 use Rattle.sheet.specs.Calls.{Verdict, answer, refusalAt, refusal, shortWords, shortOutput, onSheet, readCall, onRule, typingOf, onType, typeOn, typeCall, onObject, outcomeOf, ended, evaluateOn, evaluateCall}
-use Rattle.sheet.specs.Soundness.{Lent, sheetFrom, sheetIn, ruleReach, reachOf, contextHas, ofContext, Ending, undefined-end, value-end, step-stop, size-stop, SoundCall, Demand3}
+use Rattle.sheet.specs.Soundness.{Lent, sheetFrom, sheetIn, ruleReach, reachOf, contextHas, ofContext, Ending, undefined-end, value-end, step-stop, size-stop, Demand3}
 use Rattle.sheet.specs.Laws.{ReadRefusal, long-sheet, at-line, TypeRefusals}
 use Rattle.sheet.proofs.Spelling.{type-back}
 use Rattle.sheet.proofs.Listed.{read-refusals}
-use Rattle.sheet.proofs.Good.{Good, RuleOk}
+use Rattle.sheet.proofs.Good.{Good}
 use Rattle.sheet.proofs.Acceptance.{accepted-good, good-model}
 
 -- ---- an outcome and what evaluate answers for it

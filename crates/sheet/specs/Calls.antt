@@ -1,13 +1,12 @@
 -- Document 01, Calls: what read, type and evaluate answer, for all texts, numbers and lengths of what is lent.
-use Prim.Native.Nat.{ℕ, zero, suc}
-use mathlib.Core.Bool.{Bool, true, false, _||_}
+use Prim.Native.Nat.{ℕ}
+use mathlib.Core.Bool.{Bool, _||_}
 use mathlib.Core.Option.{Option, none, some}
-use mathlib.Core.List.{List, [], _∷_, _++_}
+use mathlib.Core.List.{List, [], _++_}
 use lib.ListN.{length, getD, getElem?, drop, replicate}
 use lib.Dec.{eqb, ltb}
 use Rattle.laws.specs.Choice.{if_then_else_}
 use Rattle.ocl.specs.Types.{class, Ty}
-use Rattle.ocl.specs.Values.{Value}
 use Rattle.ocl.specs.Model.{Model, isA}
 use Rattle.ocl.specs.Typing.{Answer, typed, Typed, typeRule, markOf}
 use Rattle.ocl.specs.Typing.{refused as untyped}

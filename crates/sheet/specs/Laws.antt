@@ -1,7 +1,5 @@
 -- What is proved of reading and the calls, besides demand 3 (Soundness.antt): the statements. proofs/ has the proofs.
 use mathlib.Core.Path.{_≡_}
-use mathlib.Core.Logic.{_⊎_}
-use mathlib.Core.List.{List}
 use Prim.Native.Nat.{ℕ, _≤_, _<_}
 use lib.ListN.{length, getElem?}
 use lib.Dec.{T}

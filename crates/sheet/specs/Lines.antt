@@ -1,18 +1,18 @@
 -- Document 01, The sheet and The forms: a line's fields, as far as spelling, field count and words go. What is not a line
 -- here is refused with 3.
-use Prim.Native.Nat.{ℕ, zero, suc, _+_}
+use Prim.Native.Nat.{ℕ}
 use mathlib.Core.Bool.{Bool, true, false, _&&_}
 use mathlib.Core.Option.{Option, none, some}
-use mathlib.Core.List.{List, [], _∷_, _++_}
+use mathlib.Core.List.{List, [], _∷_}
 use lib.IntN.{ℤ}
 use lib.ListN.{length}
 use lib.Dec.{eqb, leb}
 use Rattle.laws.specs.Choice.{if_then_else_, onSome, mapSome}
 use Rattle.ocl.specs.Types.{Kind, set, sequence, bag, Ty}
 use Rattle.ocl.specs.Values.{Value}
-use Rattle.ocl.specs.Forms.{Arith, plus, minus, times, div, modulo, Connective, and, or, Quantifier, forAll, exists, Leaf, truth, undef, self, var, all, Unary, negation, sizeOf, convert, castTo, Binary, equal, less, arith, includes, including, union}
+use Rattle.ocl.specs.Forms.{plus, minus, times, div, modulo, Connective, and, or, Quantifier, forAll, exists, Leaf, truth, undef, self, var, all, Unary, negation, sizeOf, convert, castTo, Binary, equal, less, arith, includes, including, union}
 use Rattle.ocl.specs.Forms.{number as literalInt}
-use Rattle.sheet.specs.Text.{Bytes, bytes, literal, given, whole, number, integer}
+use Rattle.sheet.specs.Text.{Bytes, bytes, literal, whole, number, integer}
 use Rattle.sheet.specs.Text.{_or_ as either}
 use Rattle.sheet.specs.Spelling.{readType, readValue}
 

@@ -3,9 +3,8 @@
 use Prim.Native.Nat.{ℕ, zero, suc}
 use Prim.Native.String.{String}
 use mathlib.Core.Bool.{Bool, true, false}
-use mathlib.Core.Option.{Option, none, some}
-use mathlib.Core.List.{List, [], _∷_, _++_}
-use lib.IntN.{ℤ}
+use mathlib.Core.Option.{Option}
+use mathlib.Core.List.{_∷_, _++_}
 use lib.ListN.{length}
 use Rattle.ocl.specs.Types.{Simple, any, boolean, integer, class, Kind, set, sequence, bag, Letter, collection, exactly, Ty, void, simple, around, Any, Boolean, Integer, Class}
 use Rattle.ocl.specs.Values.{Value, bool, int, obj, coll, Values, nil, cons}
