@@ -10,10 +10,10 @@ use Rattle.laws.proofs.Tests.{All?, all-none, all-some, Any?, any-some, all-imp
 use Rattle.ocl.specs.Environment.{Env, extend}
 use Rattle.ocl.specs.Types.{Parents, boolean, integer, class, Kind, Letter, exactly, Ty, around, Boolean, Integer, Class, simpleSubtype, letterSubtype, subtype, join, climbs, height, up, sameSimple, simpleCode}
 use Rattle.ocl.specs.Values.{Value, bool, int, obj, coll, Values, nil, cons, count, size, sizes}
-use Rattle.ocl.specs.Model.{Model, classBelow, isA}
+use Rattle.ocl.specs.Model.{Model, classIsA, isA}
 use Rattle.ocl.specs.Typing.{Answer, below}
 use Rattle.ocl.specs.Evaluation.{Outcome, value, Run, form, given, onBool, onInt, onObj, onColl, isInt, isColl, Gather}
-use Rattle.ocl.specs.Soundness.{Accepted}
+use Rattle.ocl.specs.Soundness.{AcceptedModel}
 use Rattle.ocl.proofs.SimpleTypes.{class-not-boolean, class-not-integer, boolean-not-class, integer-not-class}
 use Rattle.ocl.proofs.Types.{join-upper}
 use Rattle.ocl.proofs.Values.{Every, every-nil, every-cons, every-imp, count-sizes, Belongs, belongs-up}
@@ -54,19 +54,19 @@ int-fits is-int = tt
 pub data IsColl (s : Model) (l : Letter) (t : Ty) : Value → Type 0 where
   is-coll : {k : Kind} {vs : Values} → T (letterSubtype (exactly k) l) → Every (Ok s t) vs → count vs ≤ 127 → IsColl s l t (coll k vs)
 
-obj-not-boolean : (parent : Parents) (c : Option ℕ) → T (classBelow parent c boolean) → ⊥
-unfolding classBelow
+obj-not-boolean : (parent : Parents) (c : Option ℕ) → T (classIsA parent c boolean) → ⊥
+unfolding classIsA
 obj-not-boolean parent none h = h
 obj-not-boolean parent (some c) h = class-not-boolean parent c h
 
-obj-not-integer : (parent : Parents) (c : Option ℕ) → T (classBelow parent c integer) → ⊥
-unfolding classBelow
+obj-not-integer : (parent : Parents) (c : Option ℕ) → T (classIsA parent c integer) → ⊥
+unfolding classIsA
 obj-not-integer parent none h = h
 obj-not-integer parent (some c) h = class-not-integer parent c h
 
 -- ---- subtypes, where parents are smaller classes
 
-module _ {s : Model} (ok : Accepted s) where
+module _ {s : Model} (ok : AcceptedModel s) where
   pub below-by : (t u : Ty) → T (subtype (s .parent) t u) → Below s t u
   below-by t u h = record { up-to = belongs-up s (ok .parents-smaller) t u h }
 

@@ -14,7 +14,7 @@ use Rattle.ocl.specs.Values.{Value, int, obj, coll, Values, nil, cons, c
 use Rattle.ocl.specs.Model.{Model, isA}
 use Rattle.ocl.specs.Forms.{Expr, literals}
 use Rattle.ocl.specs.Evaluation.{value, inRange, integerInRange, integersInRange, instances, evaluateRule}
-use Rattle.ocl.specs.Soundness.{Accepted}
+use Rattle.ocl.specs.Soundness.{AcceptedModel}
 use Rattle.ocl.proofs.Values.{Every, every-nil, every-cons, append-every, add-every, count-sizes}
 use Rattle.ocl.proofs.Kept.{Keeps, kept-rule}
 
@@ -61,7 +61,7 @@ unfolding instances integersInRange everyPart integerInRange InRange
 instances-in-range s c zero = every-nil
 instances-in-range s c (suc n) = by-if (Every InRange) (isA s n (class c)) _ _ (λ t. append-every (obj n) tt (instances-in-range s c n)) (λ t. instances-in-range s c n)
 
-in-range-kept : (s : Model) → Accepted s → Keeps s Allowed (λ k vs. Every InRange vs)
+in-range-kept : (s : Model) → AcceptedModel s → Keeps s Allowed (λ k vs. Every InRange vs)
 unfolding integersInRange everyPart integerInRange size InRange
 in-range-kept s ok = record {
   of-bool = λ b. record { in-range = tt; small = omega arith };
@@ -78,7 +78,7 @@ in-range-kept s ok = record {
 }
 
 -- of whatever a rule ends in, typed or not, with any marks
-pub ends-in-range : (s : Model) → Accepted s → (mark : ℕ → ℕ) (e : Expr) → Each (λ z. T (inRange z)) (literals e)
+pub ends-in-range : (s : Model) → AcceptedModel s → (mark : ℕ → ℕ) (e : Expr) → Each (λ z. T (inRange z)) (literals e)
     → (o n : ℕ) (v : Value) → evaluateRule s mark e o ≡ value v n → T (integersInRange v)
 unfolding InRange
 ends-in-range s ok mark e h o n v q =

@@ -13,10 +13,10 @@ use Rattle.ocl.specs.Types.{Simple, any, boolean, integer, class, Kind, 
 use Rattle.ocl.specs.Values.{Value, bool, int, obj, coll, nil, count, size, orderInt, same, has, add}
 use Rattle.ocl.specs.Model.{Model, isA}
 use Rattle.ocl.specs.Forms.{Connective, Quantifier, Leaf, truth, undef, number, self, var, all, Unary, negation, sizeOf, convert, castTo, Binary, equal, less, arith, includes, including, union, Expr, node, Form, leaf, unary, binary, connective, isUndef, conditional, letIn, attribute, quantified, iterate, collect, Operands, noOperand, operand, reach, inside, reaches, literals}
-use Rattle.ocl.specs.Typing.{typed, bound, leafType, castType, unaryType, bothBelow, binaryType, conditionalType, rowType, attributeType, leafTyping, unaryTyping, binaryTyping, connectiveTyping, isUndefTyping, conditionalTyping, letTyping, attributeTyping, quantifiedTyping, iterateTyping, noOperandTyping, operandTyping, collectTyping, typing, formTyping, operandsTyping, typeRule, markOf}
+use Rattle.ocl.specs.Typing.{typed, boundType, leafType, castType, unaryType, bothBelow, binaryType, conditionalType, rowType, attributeType, leafTyping, unaryTyping, binaryTyping, connectiveTyping, isUndefTyping, conditionalTyping, letTyping, attributeTyping, quantifiedTyping, iterateTyping, noOperandTyping, operandTyping, collectTyping, typing, formTyping, operandsTyping, typeRule, markOf}
 use Rattle.ocl.specs.Evaluation.{Run, isLess, inRange, instances, leafRun, cast, unaryApply, unaryRun, leftFits, binaryApply, binaryRun, decides, connectiveRun, isUndefRun, conditionalRun, letRun, attributeRun, quantifiedRun, iterateRun, Gather, noOperandRun, operandRun, collectRun, evaluation, formRun, operandsRun, evaluateRule}
 use Rattle.ocl.specs.Evaluation.{bound as boundRun}
-use Rattle.ocl.specs.Soundness.{Accepted, Sound, Soundness}
+use Rattle.ocl.specs.Soundness.{AcceptedModel, Sound, Soundness}
 use Rattle.laws.proofs.Tests.{by-if, All?, all-none, all-some, Any?, any-some, all-imp, all-self, at-some}
 use Rattle.ocl.proofs.SimpleTypes.{climb→simpleSubtype}
 use Rattle.ocl.proofs.Types.{sameKind→eq, sameKind-refl}
@@ -28,17 +28,17 @@ use Rattle.ocl.proofs.Ends.{arithmetic-all}
 use Rattle.ocl.proofs.InRange.{ends-in-range}
 use Rattle.ocl.proofs.Marks.{Agree, agree-one, marked, agree-marks}
 
-module _ (s : Model) (ok : Accepted s) (mark : ℕ → ℕ) where
+module _ (s : Model) (ok : AcceptedModel s) (mark : ℕ → ℕ) where
   -- ---- forms with no operand
 
   bound-sem : {k : ℕ} {t : Ty} {x : Option Value} → Any? (Ok s t) x → Safe (Ok s t) k (λ n. boundRun x n)
   bound-sem (any-some {x} h) = safe-value x h
 
-  bound-gives : {Γ : Env Ty} (p i : ℕ) {f : Run} → ((ρ : Env Value) (t : Ty) → Any? (Ok s t) (ρ i) → Safe (Ok s t) 0 (f ρ)) → Gives (λ t. Sem s Γ 0 t f) (bound p (Γ i))
-  unfolding bound
+  bound-gives : {Γ : Env Ty} (p i : ℕ) {f : Run} → ((ρ : Env Value) (t : Ty) → Any? (Ok s t) (ρ i) → Safe (Ok s t) 0 (f ρ)) → Gives (λ t. Sem s Γ 0 t f) (boundType p (Γ i))
+  unfolding boundType
   bound-gives {Γ} p i {f} g = go (Γ i) (λ ρ r. r .vars i)
     where
-      go : (o : Option Ty) → ((ρ : Env Value) → EnvOk s Γ ρ → All? (λ t. Any? (Ok s t) (ρ i)) o) → Gives (λ t. Sem s Γ 0 t f) (bound p o)
+      go : (o : Option Ty) → ((ρ : Env Value) → EnvOk s Γ ρ → All? (λ t. Any? (Ok s t) (ρ i)) o) → Gives (λ t. Sem s Γ 0 t f) (boundType p o)
       go none h = no-type
       go (some t) h = gives (record { run = λ ρ r. g ρ t (at-some (h ρ r)) })
 

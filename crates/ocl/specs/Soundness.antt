@@ -14,7 +14,7 @@ use Rattle.ocl.specs.Typing.{typed, typeRule, markOf}
 use Rattle.ocl.specs.Evaluation.{Outcome, value, undefined, stuck, stop, inRange, integersInRange, evaluateRule}
 
 -- what reading makes sure of
-pub record Accepted (s : Model) : Type 0 where
+pub record AcceptedModel (s : Model) : Type 0 where
   -- a parent is a smaller class
   pub parents-smaller : (c p : ℕ) → s .parent c ≡ some p → p < c
   -- a value belongs to its row's type
@@ -48,6 +48,6 @@ pub record Sound (s : Model) (t : Ty) (k : ℕ) (o : Outcome) : Type 0 where
 -- each node of the rule's tree has a number of its own, so that no mark replaces another, and its literals are in range
 abbrev pub Soundness : Type 0
 Soundness =
-    (s : Model) → Accepted s → (e : Expr) → Distinct (numbers e) → Each (λ z. T (inRange z)) (literals e) → (c o : ℕ) (t : Ty)
+    (s : Model) → AcceptedModel s → (e : Expr) → Distinct (numbers e) → Each (λ z. T (inRange z)) (literals e) → (c o : ℕ) (t : Ty)
     → typeRule s c e .answer ≡ typed t → T (isA s o (class c))
     → Sound s t (reach e) (evaluateRule s (markOf (typeRule s c e)) e o)

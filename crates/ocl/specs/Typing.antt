@@ -68,9 +68,9 @@ onKind collection no11 k = no11
 onKind (exactly c) no11 k = k c
 
 -- the variable is bound, else 9
-unfoldable pub bound : ℕ → Option Ty → Answer
-bound p none = refused 9 p
-bound p (some t) = typed t
+unfoldable pub boundType : ℕ → Option Ty → Answer
+boundType p none = refused 9 p
+boundType p (some t) = typed t
 
 -- ---- the type of each form, given its operands' types
 
@@ -79,8 +79,8 @@ unfoldable pub leafType : ℕ → Leaf → Env Ty → Answer
 leafType p (truth b) Γ = typed Boolean
 leafType p undef Γ = typed void
 leafType p (number z) Γ = typed Integer
-leafType p self Γ = bound p (Γ 0)
-leafType p (var i) Γ = bound p (Γ i)
+leafType p self Γ = boundType p (Γ 0)
+leafType p (var i) Γ = boundType p (Γ i)
 leafType p (all c) Γ = typed (around (exactly set) (Class c))
 
 -- `as`: from Any, or from a class above or below c; an unrelated class is 10, any other type 11

@@ -16,12 +16,12 @@ use Rattle.ocl.specs.Values.{Value, size}
 use Rattle.ocl.specs.Model.{Model, belongs}
 use Rattle.ocl.specs.Forms.{Expr, numbers, levels, literals}
 use Rattle.ocl.specs.Evaluation.{integersInRange}
-use Rattle.ocl.specs.Soundness.{Accepted}
+use Rattle.ocl.specs.Soundness.{AcceptedModel}
 use Rattle.sheet.specs.Text.{Bytes, fieldsOf, linesOf}
 use Rattle.sheet.specs.Lines.{Line, lineOf, firstIsN}
 use Rattle.sheet.specs.Sheet.{Slot, Current, Sheet, empty, lookup, noRow, modelOf, treeOf, lastTree, allUsed, withRule, endOf, endFor, endRule}
 use Rattle.sheet.specs.Refusals.{withinLimits, inOrder, partsKnown, suits, treeHolds}
-use Rattle.sheet.specs.Reading.{Step, next, refuse, must, stepLine, stepSpelled, step, Reading, accepted, refused, onStep, onEnd, closing, readLast, readLines, readText}
+use Rattle.sheet.specs.Reading.{Step, taken, refuse, must, stepLine, stepSpelled, step, Reading, accepted, rejected, onStep, onEnd, closing, readLast, readLines, readText}
 use Rattle.sheet.proofs.InRange.{InRange, tree-in-range}
 use Rattle.sheet.proofs.Good.{CurrentOk, Good, OpenOk, RuleOk, SlotOk, belongs-same, good-added, good-empty, no-rule, open-rule, plain}
 
@@ -79,7 +79,7 @@ good-endRule s g = good-close s g (s .current) (g .current)
 
 pub data GoodStep : Step → Type 0 where
   no-step : {n : ℕ} → GoodStep (refuse n)
-  good-step : {s : Sheet} → Good s → GoodStep (next s)
+  good-step : {s : Sheet} → Good s → GoodStep (taken s)
 
 must-good : (b : Bool) (n : ℕ) (x : Step) → (T b → GoodStep x) → GoodStep (must b n x)
 unfolding must
@@ -104,7 +104,7 @@ good-fields s k fs g = good-spelled s k (lineOf fs) g
 
 -- a reading that accepts, accepts a good sheet
 data GoodReading : Reading → Type 0 where
-  no-reading : {n k : ℕ} → GoodReading (refused n k)
+  no-reading : {n k : ℕ} → GoodReading (rejected n k)
   good-reading : {s : Sheet} → Good s → GoodReading (accepted s)
 
 on-step : {x : Step} (k : ℕ) {f : Sheet → Reading} → GoodStep x → ((s : Sheet) → Good s → GoodReading (f s)) → GoodReading (onStep x k f)
@@ -161,7 +161,7 @@ lookup-ok m (x ∷ l) o i v (each-cons h hs) e =
     rw (← z, r) (record { belong = h .belong; small = h .small; in-range = h .in-range }))
     (λ t q. lookup-ok m l o i v hs q) e
 
-pub good-model : (s : Sheet) → Good s → Accepted (modelOf s)
+pub good-model : (s : Sheet) → Good s → AcceptedModel (modelOf s)
 unfolding modelOf plain
 good-model s g = record {
   parents-smaller = g .parents;

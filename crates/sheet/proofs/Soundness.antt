@@ -14,9 +14,9 @@ use Rattle.laws.proofs.Tests.{by-if}
 use Rattle.laws.proofs.Lists.{each-at, member-exact}
 use Rattle.laws.proofs.Elements.{each-elem}
 use Rattle.ocl.specs.Types.{class, Ty}
-use Rattle.ocl.specs.Model.{Model, classBelow, isA}
+use Rattle.ocl.specs.Model.{Model, classIsA, isA}
 use Rattle.ocl.specs.Forms.{reach, numbers}
-use Rattle.ocl.specs.Typing.{Answer, typed, refused as untyped, typeRule}
+use Rattle.ocl.specs.Typing.{Answer, typed, refused, typeRule}
 use Rattle.ocl.specs.Environment.{start}
 use Rattle.ocl.specs.Types.{Class}
 use Rattle.ocl.specs.Evaluation.{Outcome, value, undefined, stuck, stop}
@@ -26,7 +26,7 @@ use Rattle.ocl.proofs.Places.{typing-places}
 use Rattle.sheet.specs.Text.{Bytes}
 use Rattle.sheet.specs.Spelling.{readType, spellType}
 use Rattle.sheet.specs.Sheet.{Rule, Sheet, modelOf}
-use Rattle.sheet.specs.Reading.{Reading, accepted, refused, readText}
+use Rattle.sheet.specs.Reading.{Reading, accepted, rejected, readText}
 use Rattle.sheet.specs.Calls.{Verdict, answer, refusalAt, refusal, shortWords, shortOutput, onSheet, readCall, onRule, typingOf, onType, typeOn, typeCall, onObject, outcomeOf, ended, evaluateOn, evaluateCall}
 use Rattle.sheet.specs.Soundness.{Lent, sheetFrom, sheetIn, ruleReach, reachOf, contextHas, ofContext, Ending, undefined-end, value-end, step-stop, size-stop, Demand3}
 use Rattle.sheet.specs.Laws.{ReadRefusal, long-sheet, at-line, TypeRefusals}
@@ -100,7 +100,7 @@ no-number : (n : ℕ) → 1 ≤ n → n ≡ 0 → ⊥
 no-number n h e = omega arith
 
 -- a reading whose call answers 0 is a sheet
-read-number : (text : Bytes) (n k : ℕ) → readText text ≡ refused n k → 1 ≤ n
+read-number : (text : Bytes) (n k : ℕ) → readText text ≡ rejected n k → 1 ≤ n
 read-number text n k e = by (read-refusals text n k e)
   where
     by : ReadRefusal text n k → 1 ≤ n
@@ -112,10 +112,10 @@ spellType-one : (t u : Ty) → spellType t ≡ spellType u → t ≡ u
 spellType-one t u e = Option·some-injective t u (sym (type-back t) ∙ ap readType e ∙ type-back u)
 
 -- the type that typing answers with
-type-answer : (s : Sheet) (a : Answer) (t : Ty) → ((n p : ℕ) → a ≡ untyped n p → 9 ≤ n) → onType s a (λ u. answer (spellType u)) ≡ answer (spellType t) → a ≡ typed t
+type-answer : (s : Sheet) (a : Answer) (t : Ty) → ((n p : ℕ) → a ≡ refused n p → 9 ≤ n) → onType s a (λ u. answer (spellType u)) ≡ answer (spellType t) → a ≡ typed t
 unfolding onType answer refusalAt
 type-answer s (typed u) t h e = ap typed (spellType-one u t (ap (λ (v : Verdict). v .output) e))
-type-answer s (untyped n p) t h e = absurd (no-number n (let k = h n p refl in omega arith) (ap (λ (v : Verdict). v .number) e))
+type-answer s (refused n p) t h e = absurd (no-number n (let k = h n p refl in omega arith) (ap (λ (v : Verdict). v .number) e))
 
 type-given : (s : Sheet) (x : Option Rule) (t : Ty) → onRule x (λ y. onType s (typingOf s y .answer) (λ u. answer (spellType u))) ≡ answer (spellType t)
     → (y : Rule) → x ≡ some y → typingOf s y .answer ≡ typed t
@@ -134,7 +134,7 @@ record SoundOn (s : Sheet) (x : Option Rule) (t : Ty) (v : Verdict) : Type 0 whe
 
 -- an object of the context class is there, so that evaluate answers by the outcome
 object-there : (m : Model) (d : Option ℕ) (o c : ℕ) (v : Verdict) → m .classOf o ≡ d → T (isA m o (class c)) → onObject m d o c v ≡ v
-unfolding onObject isA classBelow
+unfolding onObject isA classIsA
 object-there m none o c v e h = absurd (rw e at h)
 object-there m (some d) o c v e h = by-if (λ w. w ≡ v) (isA m o (class c)) v (refusal 15) (λ t. refl) (λ t. absurd (T-not (isA m o (class c)) t h))
 
@@ -158,7 +158,7 @@ sound-reading : (text : Bytes) (r o : ℕ) (t : Ty) (x : Reading) → readText t
     → SoundOn (sheetFrom x) (getElem? (sheetFrom x .rules) r) t (onSheet x (λ s. evaluateOn s r o))
 unfolding onSheet sheetFrom typeOn evaluateOn refusalAt
 sound-reading text r o t (accepted s) e q h c = sound-sheet s (accepted-good text s e) r o t (getElem? (s .rules) r) refl h c
-sound-reading text r o t (refused n k) e q h c = absurd (no-number n (read-number text n k e) q)
+sound-reading text r o t (rejected n k) e q h c = absurd (no-number n (read-number text n k e) q)
 
 pub demand3 : Demand3
 unfolding reachOf ofContext sheetIn

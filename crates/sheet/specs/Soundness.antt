@@ -15,7 +15,7 @@ use Rattle.ocl.specs.Evaluation.{integersInRange}
 use Rattle.sheet.specs.Text.{Bytes, bytes}
 use Rattle.sheet.specs.Spelling.{spellType, spellValue}
 use Rattle.sheet.specs.Sheet.{Rule, Sheet, empty, modelOf}
-use Rattle.sheet.specs.Reading.{Reading, accepted, refused, readText}
+use Rattle.sheet.specs.Reading.{Reading, accepted, rejected, readText}
 use Rattle.sheet.specs.Calls.{Verdict, answer, readCall, typeCall, evaluateCall}
 
 -- every lent slice is at its minimum or above
@@ -28,7 +28,7 @@ pub record Lent (w0 w1 w2 : List ℕ) (out : Bytes) : Type 0 where
 -- the sheet of an accepted text; nothing is asked of another
 unfoldable pub sheetFrom : Reading → Sheet
 sheetFrom (accepted s) = s
-sheetFrom (refused n k) = empty
+sheetFrom (rejected n k) = empty
 
 unfoldable pub sheetIn : Bytes → Sheet
 sheetIn text = sheetFrom (readText text)
