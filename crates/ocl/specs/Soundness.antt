@@ -45,7 +45,8 @@ pub record Sound (s : Model) (t : Ty) (k : ℕ) (o : Outcome) : Type 0 where
   -- no step stop where the reach is within the limit
   pub no-step-stop : k ≤ 1000000 → (n : ℕ) → o ≢ stop 16 n
 
--- each node of the rule's tree has a number of its own, so that no mark replaces another, and its literals are in range
+-- each node of the rule's tree has a number of its own, so that no mark replaces another, and its literals are in range: reading makes
+-- sure of both
 abbrev pub Soundness : Type 0
 Soundness =
     (s : Model) → AcceptedModel s → (e : Expr) → Distinct (numbers e) → Each (λ z. T (inRange z)) (literals e) → (c o : ℕ) (t : Ty)
