@@ -8,7 +8,7 @@ use borrow.Author.Tests.{lt-ltb, le-ltb}
 use lib.ListN.{length}
 use Rattle.sheet.specs.Text.{Bytes}
 use Rattle.sheet.specs.Sheet.{Sheet}
-use Rattle.sheet.specs.Reading.{Reading, accepted, refused, readText}
+use Rattle.sheet.specs.Reading.{Reading, accepted, rejected, readText}
 use Rattle.sheet.specs.Calls.{Verdict, answer, refusalAt, onSheet}
 use Rattle.sheet.specs.Laws.{ReadRefusal, long-sheet, at-line}
 use Rattle.sheet.proofs.Listed.{read-refusals}
@@ -68,4 +68,4 @@ read-number text f h = by (readText text) refl
 
     by : (x : Reading) → readText text ≡ x → onSheet x f .number ≢ 1
     by (accepted s) e q = h s e q
-    by (refused n k) e q = refusal-number (read-refusals text n k e) q
+    by (rejected n k) e q = refusal-number (read-refusals text n k e) q

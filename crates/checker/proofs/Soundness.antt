@@ -8,7 +8,7 @@ use Rattle.ocl.specs.Types.{Ty}
 use Rattle.ocl.specs.Model.{Model}
 use Rattle.sheet.specs.Text.{Bytes, bytes}
 use Rattle.sheet.specs.Spelling.{spellType, spellValue}
-use Rattle.sheet.specs.Reading.{Reading, accepted, refused, readText}
+use Rattle.sheet.specs.Reading.{Reading, accepted, rejected, readText}
 use Rattle.sheet.specs.Calls.{Verdict, answer, refusalAt, outputAfter, onSheet, readCall, typeOn, typeCall}
 use Rattle.sheet.specs.Soundness.{Lent, Ending, undefined-end, value-end, step-stop, size-stop}
 use Rattle.sheet.proofs.Soundness.{read-lent, type-lent, demand3}
@@ -24,7 +24,7 @@ read-accepts text w0 w1 w2 out l r t e = rw (read-lent text w0 w1 w2 out l) (by 
   where
     by : (x : Reading) → onSheet x (λ s. typeOn s r) ≡ answer (spellType t) → onSheet x (λ s. answer []) .number ≡ 0
     by (accepted s) q = refl
-    by (refused n k) q = ap (λ (v : Verdict). v .number) q
+    by (rejected n k) q = ap (λ (v : Verdict). v .number) q
 
 module _ {a : Answer} {after : Bytes} (out : Bytes) where
   answer-says : (w : Bytes) (n : ℕ) → a ≡ answerOf (record { number = 0; steps = n; place = 0; output = w }) → after ≡ w ++ drop (length w) out → Says w a after
@@ -37,7 +37,7 @@ module _ {a : Answer} {after : Bytes} (out : Bytes) where
   answer-ending : {m : Model} {t : Ty} {v : Verdict} → Ending m t v → a ≡ answerOf v → after ≡ outputAfter v out → AnswerEnding m t a after
   unfolding outputAfter
   answer-ending (undefined-end {n}) e q = undefined-said (answer-says (bytes "u") n e q)
-  answer-ending (value-end {n} v b) e q = value-said v b (answer-says (spellValue v) n e q)
+  answer-ending (value-end {n} v b l r) e q = value-said v b l r (answer-says (spellValue v) n e q)
   answer-ending step-stop e q = step-stopped (ap (λ (b : Answer). b .number) e)
   answer-ending size-stop e q = size-stopped (ap (λ (b : Answer). b .number) e)
 

@@ -6,7 +6,7 @@ use Prim.Native.Nat.{ℕ}
 use Rattle.sheet.specs.Text.{Bytes, fieldsOf}
 use Rattle.sheet.specs.Lines.{Line, lineOf}
 use Rattle.sheet.specs.Sheet.{Sheet, added}
-use Rattle.sheet.specs.Reading.{next, refuse, stepLine}
+use Rattle.sheet.specs.Reading.{taken, refuse, stepLine}
 use Rattle.tables.specs.declared.Counts.{Counts}
 use Rattle.tables.specs.declared.Step.{Step}
 use Rattle.tables.specs.declared.Step.the-variants.{Next, Stop}
@@ -20,7 +20,7 @@ module _ (st : Counts) (k : ℕ) (w0 w1 : List ℕ) where
   stopped l n all = record { is = λ s h. rw (all s h) moved-stop; kept0 = kept-refl w0; kept1 = kept-refl w1 }
 
   pub taken : (l : Line) (su : Counts) (v0 : List ℕ) → Kept w0 v0 → Fine su
-      → ((s : Sheet) → Holds st w0 w1 s → (stepLine s k l ≡ next (added s k l)) × Holds su v0 w1 (added s k l)) → TookLine st k l (Next su) w0 w1 v0 w1
+      → ((s : Sheet) → Holds st w0 w1 s → (stepLine s k l ≡ taken (added s k l)) × Holds su v0 w1 (added s k l)) → TookLine st k l (Next su) w0 w1 v0 w1
   taken l su v0 kept fine all =
       record { is = λ s h. rw (all s h .0) (moved-next {st = su} fine (all s h .1)); kept0 = kept; kept1 = kept-refl w1 }
 

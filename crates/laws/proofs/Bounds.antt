@@ -1,10 +1,10 @@
 -- A number that is cut at a bound c: a test with a limit that is not above c does not see the cut. Assumes nothing.
 use Prim.Native.Nat.{ℕ, _<_, _≤_, min}
-use mathlib.Core.Path.{_≡_, sym, ap, _∙_}
+use mathlib.Core.Path.{_≡_, sym, _∙_}
 use native.Mathlib.Omega.{arith}
 use native.Mathlib.Decide.{decLt}
-use borrow.Author.Tests.{ne-eqb, lt-ltb, le-ltb}
-use lib.Dec.{eqb, ltb}
+use borrow.Author.Tests.{lt-ltb, le-ltb}
+use lib.Dec.{ltb}
 
 module _ (n c k : ℕ) where
   pub cut-lt : k ≤ c → ltb (min n c) k ≡ ltb n k
@@ -13,14 +13,3 @@ module _ (n c k : ℕ) where
       go : Dec (n < k) → ltb (min n c) k ≡ ltb n k
       go (yes l) = lt-ltb (min n c) k (omega arith) ∙ sym (lt-ltb n k l)
       go (no l) = le-ltb (min n c) k (omega arith) ∙ sym (le-ltb n k (omega arith))
-
-  pub cut-eq : k < c → eqb (min n c) k ≡ eqb n k
-  cut-eq h = go (decLt n c)
-    where
-      go : Dec (n < c) → eqb (min n c) k ≡ eqb n k
-      go (yes l) = ap (λ (m : ℕ). eqb m k) (omega arith)
-      go (no l) = ne-eqb (min n c) k (λ e. omega arith) ∙ sym (ne-eqb n k (λ e. omega arith))
-
-  -- a number that passes a limit was not cut
-  pub cut-not : min n c < c → min n c ≡ n
-  cut-not h = omega arith

@@ -47,6 +47,10 @@ pub each-imp : {A : Type 0} {P Q : A → Type 0} {ns : List A} → ((n : A) → 
 each-imp f each-nil = each-nil
 each-imp f (each-cons {n} p h) = each-cons (f n p) (each-imp f h)
 
+pub each-all : {A : Type 0} {P : A → Type 0} → ((n : A) → P n) → (ns : List A) → Each P ns
+each-all f [] = each-nil
+each-all f (n ∷ ns) = each-cons (f n) (each-all f ns)
+
 pub each-append : {A : Type 0} {P : A → Type 0} {a b : List A} → Each P a → Each P b → Each P (a ++ b)
 each-append each-nil k = k
 each-append (each-cons p h) k = each-cons p (each-append h k)
@@ -77,18 +81,6 @@ each-member [] = each-nil
 each-member (m ∷ ns) = each-cons (or-l (eqb m m) (member m ns) (eqb-refl m)) (each-imp (λ n h. or-r (eqb n m) (member n ns) h) (each-member ns))
 
 -- ---- no number twice: in neither part, and none of the one in the other
-
-pub distinct-left : (a b : List ℕ) → Distinct (a ++ b) → Distinct a
-distinct-left [] b h = distinct-nil
-distinct-left (n ∷ a) b (distinct-cons z h) = distinct-cons (each-left a b z) (distinct-left a b h)
-
-pub distinct-right : (a : List ℕ) {b : List ℕ} → Distinct (a ++ b) → Distinct b
-distinct-right [] h = h
-distinct-right (n ∷ a) (distinct-cons z h) = distinct-right a h
-
-pub distinct-apart : (a : List ℕ) {b : List ℕ} → Distinct (a ++ b) → Each (λ n. Each (λ m. m ≢ n) b) a
-distinct-apart [] h = each-nil
-distinct-apart (n ∷ a) (distinct-cons z h) = each-cons (each-right a z) (distinct-apart a h)
 
 pub distinct-append : {a b : List ℕ} → Distinct a → Distinct b → Each (λ n. Each (λ m. m ≢ n) b) a → Distinct (a ++ b)
 distinct-append distinct-nil k each-nil = k

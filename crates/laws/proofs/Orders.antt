@@ -141,6 +141,3 @@ total-order order one turn chain = record {
   turned = turn;
   chained = λ x y z. chain-less (order x y) (order y z) (chain x y z);
 }
-
-pub compare-total : TotalOrder compare
-compare-total = total-order compare compare-same compare-turned compare-chain

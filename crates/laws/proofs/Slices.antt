@@ -45,11 +45,3 @@ under-top S T top p q h e = ap (drop p) (take-lower S T top q h e)
 -- what a list begins with, from what more of it is
 pub trim : (sp k : ℕ) (A low Q : List ℕ) → length low ≡ sp → take (sp + k) A ≡ low ++ Q → take sp A ≡ low
 trim sp k A low Q n e = sym (take-take sp (sp + k) A (omega arith)) ∙ ap (take sp) e ∙ take-at low Q sp n
-
--- two lists, one above the other, from what a list begins with
-module _ (S low : List ℕ) (sp mid : ℕ) (xs ys : List ℕ) (n : length low ≡ sp) (m : length (low ++ xs) ≡ mid) (e : take (mid + length ys) S ≡ (low ++ xs) ++ ys) where
-  pub upper-part : slice mid (mid + length ys) S ≡ ys
-  upper-part = ap (drop mid) e ∙ drop-at (low ++ xs) ys mid m
-
-  pub lower-part : slice sp mid S ≡ xs
-  lower-part = ap (drop sp) (sym (take-take mid (mid + length ys) S (omega arith)) ∙ ap (take mid) e ∙ take-at (low ++ xs) ys mid m) ∙ drop-at low xs sp n

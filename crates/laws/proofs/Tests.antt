@@ -88,17 +88,11 @@ pub all-imp : {A : Type 0} {P Q : A → Type 0} {o : Option A} → ((x : A) → 
 all-imp k all-none = all-none
 all-imp k (all-some {x} h) = all-some (k x h)
 
-pub any-imp : {A : Type 0} {P Q : A → Type 0} {o : Option A} → ((x : A) → P x → Q x) → Any? P o → Any? Q o
-any-imp k (any-some {x} h) = any-some (k x h)
-
 pub at-some : {A : Type 0} {P : A → Type 0} {x : A} → All? P (some x) → P x
 at-some (all-some h) = h
 
 pub at-any : {A : Type 0} {P : A → Type 0} {x : A} → Any? P (some x) → P x
 at-any (any-some h) = h
-
-pub any-self : {A : Type 0} {P : A → Type 0} {o : Option A} → Any? P o → All? (λ x. (o ≡ some x) × P x) o
-any-self (any-some h) = all-some (refl, h)
 
 pub all-else : {A : Type 0} {P : A → Type 0} {o q : Option A} → All? P o → All? P q → All? P (orElse o q)
 unfolding orElse

@@ -2,18 +2,18 @@
 -- Assumes nothing.
 use mathlib.Core.Path.{_≡_, subst}
 use mathlib.Core.Bool.{Bool, true, false, not, Bool·beq}
-use mathlib.Core.Option.{Option}
-use Prim.Native.Nat.{ℕ, _+_}
+use mathlib.Core.Option.{Option, none, some}
+use Prim.Native.Nat.{ℕ, zero, suc, _+_, _≤_}
 use native.Mathlib.Omega.{arith}
-use lib.IntN.{ℤ}
-use lib.Dec.{leb, ltb}
+use lib.IntN.{ℤ, pos, negsuc}
+use lib.Dec.{T, leb, ltb, leb→le}
 use Rattle.laws.specs.Choice.{if_then_else_}
 use Rattle.ocl.specs.Types.{Kind}
 use Rattle.ocl.specs.Values.{Value, bool, int, obj, coll, Values, size}
 use Rattle.ocl.specs.Environment.{Env}
-use Rattle.ocl.specs.Forms.{Quantifier}
-use Rattle.ocl.specs.Evaluation.{Outcome, value, undefined, stuck, stop, Run, resume, bind, tick, form, given, bound, onBool, onInt, onObj, onColl, endsAt, search, fold}
-use Rattle.laws.proofs.Tests.{All?, all-none, all-some}
+use Rattle.ocl.specs.Forms.{Arith, plus, minus, times, div, modulo, Quantifier}
+use Rattle.ocl.specs.Evaluation.{Outcome, value, undefined, stuck, stop, Run, resume, bind, tick, form, given, bound, onBool, onInt, onObj, onColl, inRange, ranged, unlessZero, arithmetic, endsAt, search, fold}
+use Rattle.laws.proofs.Tests.{by-if, All?, all-none, all-some}
 use Rattle.ocl.proofs.Values.{Every, every-nil, every-cons}
 
 pub data Ends (P : Value → Type 0) : Outcome → Type 0 where
@@ -49,9 +49,9 @@ pub ends-tick : {P : Value → Type 0} (f : Run) (ρ : Env Value) (n : ℕ) → 
 unfolding tick
 ends-tick f ρ n h = ends-if (ltb n 1000000) (h (n + 1)) ends-stop
 
-pub ends-form : {P : Value → Type 0} (v : Value) (n : ℕ) → P v → Ends P (form v n)
+pub ends-form : {P : Value → Type 0} (v : Value) (n : ℕ) → (size v ≤ 128 → P v) → Ends P (form v n)
 unfolding form
-ends-form v n p = ends-if (leb (size v) 128) (ends-value p) ends-stop
+ends-form {P} v n p = by-if (Ends P) (leb (size v) 128) (value v n) (stop 17 n) (λ t. ends-value (p (leb→le (size v) 128 t))) (λ t. ends-stop)
 
 pub ends-given : {P : Value → Type 0} {o : Option Value} (n : ℕ) → All? P o → Ends P (given o n)
 ends-given n all-none = ends-undefined
@@ -98,3 +98,24 @@ pub ends-fold : {P Q : Value → Type 0} {body : Value → Value → ℕ → Out
 unfolding fold
 ends-fold a n every-nil q g = ends-value q
 ends-fold a n (every-cons {v} p h) q g = ends-bind (g v a n p q) (λ b m r. ends-fold b m h r g)
+
+-- ---- Integers: what holds of those in range holds of what arithmetic gives
+
+module _ (P : Value → Type 0) (h : (z : ℤ) → T (inRange z) → P (int z)) where
+  ranged-all : (z : ℤ) → All? P (ranged z)
+  unfolding ranged
+  ranged-all z = by-if (All? P) (inRange z) (some (int z)) none (λ t. all-some (h z t)) (λ t. all-none)
+
+  unless-all : (y z : ℤ) → All? P (unlessZero y (ranged z))
+  unfolding unlessZero
+  unless-all (pos zero) z = all-none
+  unless-all (pos (suc n)) z = ranged-all z
+  unless-all (negsuc n) z = ranged-all z
+
+  pub arithmetic-all : (o : Arith) (x y : ℤ) → All? P (arithmetic o x y)
+  unfolding arithmetic
+  arithmetic-all plus x y = ranged-all _
+  arithmetic-all minus x y = ranged-all _
+  arithmetic-all times x y = ranged-all _
+  arithmetic-all div x y = unless-all y _
+  arithmetic-all modulo x y = unless-all y _

@@ -1,3 +1,4 @@
+pub mod SimpleTypes
 pub mod Types
 pub mod Subtyping
 pub mod Values
@@ -5,11 +6,15 @@ pub mod Order
 pub mod Ranges
 pub mod Sorted
 pub mod Ends
+pub mod Kept
 pub mod Formed
+pub mod InRange
 pub mod Runs
 pub mod Steps
 pub mod Marks
 pub mod Places
+pub mod Means
+pub mod ByType
 pub mod Soundness
 pub mod Worked
 pub mod Mistakes

@@ -4,16 +4,15 @@ use mathlib.Core.Logic.{_≢_}
 use mathlib.Core.Bool.{Bool, true, false}
 use mathlib.Core.Option.{Option, none, some}
 use mathlib.Core.List.{List, [], _∷_, _++_, append-nil}
-use Prim.Native.Nat.{ℕ, _<_}
-use native.Mathlib.Omega.{arith}
+use Prim.Native.Nat.{ℕ}
 use lib.Dec.{eqb}
 use borrow.Author.Tests.{eq-eqb, ne-eqb}
 use Rattle.laws.specs.Choice.{if_then_else_}
 use Rattle.ocl.specs.Environment.{Env, extend}
 use Rattle.ocl.specs.Types.{any, boolean, integer, class, Letter, Ty, void, simple, around, subtype}
-use Rattle.ocl.specs.Model.{Row, Model, rowRead}
+use Rattle.ocl.specs.Model.{Model, rowRead}
 use Rattle.ocl.specs.Forms.{Expr, node, Form, leaf, unary, binary, connective, isUndef, conditional, letIn, attribute, quantified, iterate, collect, Operands, noOperand, operand, numbers, numbersIn, numbersOf}
-use Rattle.ocl.specs.Typing.{Answer, typed, refused, Marks, Typed, Typing, pure, thenFor, andThen, onCollection, rowType, attributeType, leafTyping, unaryTyping, binaryTyping, connectiveTyping, isUndefTyping, conditionalTyping, letTyping, attributeTyping, quantifiedTyping, iterateTyping, noOperandTyping, operandTyping, collectTyping, typing, formTyping, operandsTyping, markOr}
+use Rattle.ocl.specs.Typing.{Answer, typed, refused, Marks, Typed, pure, thenFor, andThen, onCollection, rowType, attributeType, leafTyping, unaryTyping, binaryTyping, connectiveTyping, isUndefTyping, conditionalTyping, letTyping, attributeTyping, quantifiedTyping, iterateTyping, noOperandTyping, operandTyping, collectTyping, typing, formTyping, operandsTyping, markOr}
 use Rattle.laws.specs.Lists.{Each, each-nil, each-cons, Distinct, distinct-nil, distinct-cons}
 
 -- the marks are those that typing made

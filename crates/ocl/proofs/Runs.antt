@@ -3,17 +3,16 @@
 use mathlib.Core.Path.{_≡_, refl, subst}
 use mathlib.Core.Logic.{_≢_}
 use mathlib.Core.Bool.{Bool, true, false, not, Bool·beq}
-use mathlib.Core.Option.{Option, none, some}
-use Prim.Native.Nat.{ℕ, zero, suc, _+_, _*_, _≤_, _<_}
+use Prim.Native.Nat.{ℕ, suc, _+_, _*_, _≤_, _<_}
 use native.Mathlib.Omega.{arith}
 use lib.Dec.{T, leb, ltb, leb→le, nltb→le}
 use Rattle.laws.specs.Choice.{if_then_else_}
 use Rattle.ocl.specs.Environment.{Env}
-use Rattle.ocl.specs.Types.{Kind, Ty}
-use Rattle.ocl.specs.Values.{Value, bool, int, obj, coll, Values, nil, cons, count, size}
+use Rattle.ocl.specs.Types.{Ty}
+use Rattle.ocl.specs.Values.{Value, bool, int, obj, coll, Values, count, size}
 use Rattle.ocl.specs.Model.{Model, belongs}
 use Rattle.ocl.specs.Forms.{Quantifier}
-use Rattle.ocl.specs.Evaluation.{Outcome, value, undefined, stuck, stop, Run, resume, bind, tick, form, onBool, endsAt, search, fold}
+use Rattle.ocl.specs.Evaluation.{Outcome, value, undefined, stuck, stop, Run, resume, bind, tick, form, onBool, integersInRange, endsAt, search, fold}
 use Rattle.ocl.specs.Soundness.{stepsOf, Sound}
 use Rattle.laws.proofs.Tests.{by-if}
 use Rattle.ocl.proofs.Values.{Every, every-nil, every-cons}
@@ -141,12 +140,13 @@ fine-steps P k (undefined n) h = h
 fine-steps P k stuck h = absurd h
 fine-steps P k (stop c n) h = h .0
 
-pub fine-sound : (s : Model) (t : Ty) (k : ℕ) (o : Outcome) → Fine (Fits s t) k o → Sound s t k o
+pub fine-sound : (s : Model) (t : Ty) (k : ℕ) (o : Outcome) → Fine (Fits s t) k o → ((v : Value) (n : ℕ) → o ≡ value v n → T (integersInRange v)) → Sound s t k o
 unfolding Fine
-fine-sound s t k o h = record {
+fine-sound s t k o h r = record {
   not-stuck = λ e. subst (Fine (Fits s t) k) e h;
   of-type = λ v n e. (subst (Fine (Fits s t) k) e h) .0 .belong;
   of-size = λ v n e. (subst (Fine (Fits s t) k) e h) .0 .small;
+  in-range = r;
   known-stop = λ c n e. (subst (Fine (Fits s t) k) e h) .2;
   in-reach = fine-steps (Fits s t) k o h;
   no-step-stop = λ l n e. let q = (subst (Fine (Fits s t) k) e h) .1 refl in omega arith;

@@ -7,7 +7,8 @@ use lib.Dec.{T}
 use Rattle.ocl.specs.Types.{Simple, any, boolean, integer, class, Letter, collection, exactly, Ty, void, simple, around, Parents, Subtype, reflexive, transitive, void-below, boolean-any, integer-any, class-any, class-parent, kind-collection, covariant, parentOr, up, letterSubtype, subtype, join}
 use Rattle.ocl.specs.Laws.{Small, SubtypingLaw, CommonTypeLaw}
 use Rattle.laws.proofs.Tests.{and-i, and-l, and-r, All?, all-none, all-some, Any?, any-some, at-any}
-use Rattle.ocl.proofs.Types.{sameKind→eq, Climb, here, step, climb-eq, simpleSubtype→climb, climb→simpleSubtype, top, letter-refl, subtype-refl, subtype-trans, subtype-anti, join-upper, join-least}
+use Rattle.ocl.proofs.SimpleTypes.{here, step, Climb, climb-eq, top, simpleSubtype→climb, climb→simpleSubtype}
+use Rattle.ocl.proofs.Types.{sameKind→eq, letter-refl, subtype-refl, subtype-trans, subtype-anti, join-upper, join-least}
 
 -- ---- the document's relation, rule for rule, and the test are one
 

@@ -7,10 +7,11 @@ use native.Mathlib.Omega.{arith}
 use lib.Dec.{T, eqb, eqb→eq}
 use Rattle.ocl.specs.Types.{Simple, boolean, integer, class, Kind, set, sequence, bag, exactly, Ty, void, simple, around, simpleSubtype, letterSubtype, subtype, up, parentOr}
 use Rattle.ocl.specs.Values.{Value, bool, int, obj, coll, Values, nil, cons, count, size, sizes, order, put, insert, append, add, addAll}
-use Rattle.ocl.specs.Model.{Model, classBelow, isA, every, belongs, declared, nearest, rowRead}
+use Rattle.ocl.specs.Model.{Model, classIsA, isA, every, belongs, declared, nearest, rowRead}
 use Rattle.ocl.specs.Laws.{Small, BelongsUpLaw}
 use Rattle.laws.proofs.Tests.{and-i, and-l, and-r, by-if, All?, all-none, all-some, all-imp, all-self, all-else, all-on}
-use Rattle.ocl.proofs.Types.{letter-trans, Climb, step, climb-trans, climb-eq, simpleSubtype→climb, climb→simpleSubtype}
+use Rattle.ocl.proofs.SimpleTypes.{step, Climb, climb-trans, climb-eq, simpleSubtype→climb, climb→simpleSubtype}
+use Rattle.ocl.proofs.Types.{letter-trans}
 use Rattle.ocl.proofs.Subtyping.{Subtype→subtype}
 
 -- ---- every member
@@ -124,8 +125,8 @@ module _ (s : Model) (small : Small (s .parent)) where
       climb→simpleSubtype (s .parent) small a c
       (climb-trans (simpleSubtype→climb (s .parent) small a b p) (simpleSubtype→climb (s .parent) small b c q))
 
-  class-up : (o : Option ℕ) (b c : Simple) → T (classBelow (s .parent) o b) → T (simpleSubtype (s .parent) b c) → T (classBelow (s .parent) o c)
-  unfolding classBelow
+  class-up : (o : Option ℕ) (b c : Simple) → T (classIsA (s .parent) o b) → T (simpleSubtype (s .parent) b c) → T (classIsA (s .parent) o c)
+  unfolding classIsA
   class-up none b c p q = p
   class-up (some n) b c p q = up-simple (class n) b c p q
 

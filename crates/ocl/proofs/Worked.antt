@@ -1,7 +1,7 @@
 -- P1 to P12, by computation. Assumes nothing.
-use mathlib.Core.Path.{_≡_, refl}
+use mathlib.Core.Path.{refl}
 use Rattle.ocl.specs.Types.{join, simpleJoin, firstAbove, simpleSubtype, climbs, sameSimple, simpleCode, up, parentOr, height, letterJoin, sameKind, kindCode, aroundSome}
-use Rattle.ocl.specs.Values.{size, add, addAll, insert, put, order, headOrder, thenOrder, sort, rank, orderInt, members, count}
+use Rattle.ocl.specs.Values.{size, add, insert, put, order, headOrder, thenOrder, sort, rank, orderInt, members, count}
 use Rattle.ocl.specs.Environment.{extend}
 use Rattle.ocl.specs.Evaluation.{tick, form, inRange, ranged, unlessZero, quotient, remainder, arithmetic, leafRun, leftFits, binaryApply, binaryRun, decides, connectiveRun, isUndefRun, letRun, endsAt, search, quantifiedRun, noOperandRun, operandRun, collectRun, evaluation}
 use Rattle.ocl.specs.Worked.{parents, bare, outcome, false₀, undef₀, int₀, arith₂, Worked}

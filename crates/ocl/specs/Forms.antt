@@ -1,7 +1,7 @@
 -- Document 01, The forms and their typing: a rule as a tree of nodes. Evaluation: its reach.
 use mathlib.Core.Bool.{Bool}
 use mathlib.Core.List.{List, [], _∷_, _++_}
-use Prim.Native.Nat.{ℕ, zero, suc, _+_, _*_, max}
+use Prim.Native.Nat.{ℕ, suc, _+_, _*_, max}
 use lib.IntN.{ℤ}
 use Rattle.ocl.specs.Types.{Kind, Ty}
 
@@ -135,3 +135,33 @@ unfoldable mutual
   pub numbersOf : Operands → List ℕ
   numbersOf noOperand = []
   numbersOf (operand e es) = numbers e ++ numbersOf es
+
+-- a tree's Integer literals, operands from left to right
+unfoldable pub leafLiterals : Leaf → List ℤ
+leafLiterals (truth b) = []
+leafLiterals undef = []
+leafLiterals (number z) = z ∷ []
+leafLiterals self = []
+leafLiterals (var i) = []
+leafLiterals (all c) = []
+
+unfoldable mutual
+  pub literals : Expr → List ℤ
+  literals (node n f) = literalsIn f
+
+  pub literalsIn : Form → List ℤ
+  literalsIn (leaf l) = leafLiterals l
+  literalsIn (unary op a) = literals a
+  literalsIn (binary op a b) = literals a ++ literals b
+  literalsIn (connective c a b) = literals a ++ literals b
+  literalsIn (isUndef a) = literals a
+  literalsIn (conditional c a b) = literals c ++ (literals a ++ literals b)
+  literalsIn (letIn i a b) = literals a ++ literals b
+  literalsIn (attribute name a) = literals a
+  literalsIn (quantified q i a b) = literals a ++ literals b
+  literalsIn (iterate i j t a e b) = literals a ++ (literals e ++ literals b)
+  literalsIn (collect k es) = literalsOf es
+
+  pub literalsOf : Operands → List ℤ
+  literalsOf noOperand = []
+  literalsOf (operand e es) = literals e ++ literalsOf es

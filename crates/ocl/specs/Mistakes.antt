@@ -1,14 +1,14 @@
 -- Document 01, Worked and marked: the five mistakes to shut out, each as a case that a checker with it gets wrong.
 use mathlib.Core.Path.{_≡_}
-use mathlib.Core.Bool.{Bool, true, false}
+use mathlib.Core.Bool.{true}
 use mathlib.Core.Option.{Option, none, some}
-use mathlib.Core.List.{List, [], _∷_}
+use mathlib.Core.List.{[], _∷_}
 use Prim.Native.Nat.{ℕ, zero, suc}
-use lib.IntN.{ℤ, pos}
-use Rattle.ocl.specs.Types.{Ty, Boolean, Integer}
+use lib.IntN.{pos}
+use Rattle.ocl.specs.Types.{Boolean, Integer}
 use Rattle.ocl.specs.Values.{Value, bool, int}
 use Rattle.ocl.specs.Model.{Row, Model}
-use Rattle.ocl.specs.Forms.{plus, truth, undef, self, var, arith, sizeOf, castTo, Expr, node, leaf, unary, binary, conditional, letIn, attribute}
+use Rattle.ocl.specs.Forms.{plus, truth, self, var, arith, sizeOf, castTo, Expr, node, leaf, unary, binary, conditional, letIn, attribute}
 use Rattle.ocl.specs.Typing.{typed, refused, Typed, typeRule, markOf}
 use Rattle.ocl.specs.Evaluation.{Outcome, value, undefined, evaluateRule}
 use Rattle.ocl.specs.Worked.{parents, undef₀, int₀}

@@ -4,7 +4,7 @@ use mathlib.Core.Option.{Option, none, some}
 use Prim.Native.Nat.{ℕ, zero, suc}
 use lib.Dec.{eqb}
 use Rattle.laws.specs.Choice.{if_then_else_, orElse, onSome}
-use Rattle.ocl.specs.Types.{Simple, any, boolean, integer, class, Letter, exactly, Ty, void, simple, around, Parents, simpleSubtype, letterSubtype}
+use Rattle.ocl.specs.Types.{Simple, boolean, integer, class, exactly, Ty, void, simple, around, Parents, simpleSubtype, letterSubtype}
 use Rattle.ocl.specs.Values.{Value, bool, int, obj, coll, Values, nil, cons}
 
 -- an attribute row: the class that declares it, its name, its type
@@ -24,13 +24,13 @@ pub record Model : Type 0 where
   pub valueOf : ℕ → ℕ → Option Value
 
 -- a class, if there is one, that is b or below it
-unfoldable pub classBelow : Parents → Option ℕ → Simple → Bool
-classBelow parent none b = false
-classBelow parent (some c) b = simpleSubtype parent (class c) b
+unfoldable pub classIsA : Parents → Option ℕ → Simple → Bool
+classIsA parent none b = false
+classIsA parent (some c) b = simpleSubtype parent (class c) b
 
 -- an object belongs to its class, to that class's ancestors and to Any
 unfoldable pub isA : Model → ℕ → Simple → Bool
-isA s o b = classBelow (s .parent) (s .classOf o) b
+isA s o b = classIsA (s .parent) (s .classOf o) b
 
 -- does the test hold of each member
 unfoldable pub every : (Value → Bool) → Values → Bool

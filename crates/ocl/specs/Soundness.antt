@@ -2,25 +2,27 @@
 -- sheet/specs/Soundness.antt states it from the bytes.
 use mathlib.Core.Path.{_≡_}
 use mathlib.Core.Logic.{_≢_}
-use mathlib.Core.Option.{Option, some}
+use mathlib.Core.Option.{some}
 use Prim.Native.Nat.{ℕ, _≤_, _<_}
 use lib.Dec.{T}
-use Rattle.laws.specs.Lists.{Distinct}
+use Rattle.laws.specs.Lists.{Each, Distinct}
 use Rattle.ocl.specs.Types.{class, Ty}
 use Rattle.ocl.specs.Values.{Value, size}
-use Rattle.ocl.specs.Model.{Row, Model, isA, belongs}
-use Rattle.ocl.specs.Forms.{Expr, reach, numbers}
-use Rattle.ocl.specs.Typing.{typed, Typed, typeRule, markOf}
-use Rattle.ocl.specs.Evaluation.{Outcome, value, undefined, stuck, stop, evaluateRule}
+use Rattle.ocl.specs.Model.{Model, isA, belongs}
+use Rattle.ocl.specs.Forms.{Expr, reach, numbers, literals}
+use Rattle.ocl.specs.Typing.{typed, typeRule, markOf}
+use Rattle.ocl.specs.Evaluation.{Outcome, value, undefined, stuck, stop, inRange, integersInRange, evaluateRule}
 
 -- what reading makes sure of
-pub record Accepted (s : Model) : Type 0 where
+pub record AcceptedModel (s : Model) : Type 0 where
   -- a parent is a smaller class
   pub parents-smaller : (c p : ℕ) → s .parent c ≡ some p → p < c
   -- a value belongs to its row's type
   pub values-belong : (o i : ℕ) (v : Value) → s .valueOf o i ≡ some v → T (belongs s (s .row i .type) v)
-  -- and is of an allowed size
+  -- is of an allowed size
   pub values-small : (o i : ℕ) (v : Value) → s .valueOf o i ≡ some v → size v ≤ 128
+  -- and its Integers are in range
+  pub values-in-range : (o i : ℕ) (v : Value) → s .valueOf o i ≡ some v → T (integersInRange v)
 
 -- the steps that an outcome returns
 unfoldable pub stepsOf : Outcome → ℕ
@@ -32,9 +34,10 @@ stepsOf (stop c n) = n
 -- how a rule of type t and reach k may end
 pub record Sound (s : Model) (t : Ty) (k : ℕ) (o : Outcome) : Type 0 where
   pub not-stuck : o ≢ stuck
-  -- a value belongs to the rule's type and is of an allowed size
+  -- a value belongs to the rule's type, is of an allowed size, and its Integers are in range
   pub of-type : (v : Value) (n : ℕ) → o ≡ value v n → T (belongs s t v)
   pub of-size : (v : Value) (n : ℕ) → o ≡ value v n → size v ≤ 128
+  pub in-range : (v : Value) (n : ℕ) → o ≡ value v n → T (integersInRange v)
   -- a stop is the step stop or the size stop
   pub known-stop : (c n : ℕ) → o ≡ stop c n → c ≢ 16 → c ≡ 17
   -- the steps are within the reach
@@ -42,9 +45,10 @@ pub record Sound (s : Model) (t : Ty) (k : ℕ) (o : Outcome) : Type 0 where
   -- no step stop where the reach is within the limit
   pub no-step-stop : k ≤ 1000000 → (n : ℕ) → o ≢ stop 16 n
 
--- each node of the rule's tree has a number of its own, so that no mark replaces another
+-- each node of the rule's tree has a number of its own, so that no mark replaces another, and its literals are in range: reading makes
+-- sure of both
 abbrev pub Soundness : Type 0
 Soundness =
-    (s : Model) → Accepted s → (e : Expr) → Distinct (numbers e) → (c o : ℕ) (t : Ty)
+    (s : Model) → AcceptedModel s → (e : Expr) → Distinct (numbers e) → Each (λ z. T (inRange z)) (literals e) → (c o : ℕ) (t : Ty)
     → typeRule s c e .answer ≡ typed t → T (isA s o (class c))
     → Sound s t (reach e) (evaluateRule s (markOf (typeRule s c e)) e o)

@@ -1,12 +1,12 @@
 -- Document 01, The forms and their typing: a type, or the number and node of a refusal; and the marks made on the way.
-use mathlib.Core.Bool.{Bool, true, false, _||_}
+use mathlib.Core.Bool.{_||_}
 use mathlib.Core.Option.{Option, none, some}
 use mathlib.Core.List.{List, [], _∷_, _++_}
-use Prim.Native.Nat.{ℕ, zero, suc}
+use Prim.Native.Nat.{ℕ}
 use lib.Dec.{eqb, leb}
 use Rattle.laws.specs.Choice.{if_then_else_}
-use Rattle.ocl.specs.Types.{Simple, any, boolean, integer, class, Kind, set, Letter, collection, exactly, Ty, void, simple, around, Any, Boolean, Integer, Class, depth, Parents, simpleSubtype, sameKind, subtype, join}
-use Rattle.ocl.specs.Model.{Row, Model, rowRead}
+use Rattle.ocl.specs.Types.{any, boolean, integer, class, Kind, set, Letter, collection, exactly, Ty, void, simple, around, Boolean, Integer, Class, depth, sameKind, subtype, join}
+use Rattle.ocl.specs.Model.{Model, rowRead}
 use Rattle.ocl.specs.Environment.{Env, extend, start}
 use Rattle.ocl.specs.Forms.{Leaf, truth, undef, number, self, var, all, Unary, negation, sizeOf, convert, castTo, Binary, equal, less, arith, includes, including, union, Expr, node, Form, leaf, unary, binary, connective, isUndef, conditional, letIn, attribute, quantified, iterate, collect, Operands, noOperand, operand}
 
@@ -68,9 +68,9 @@ onKind collection no11 k = no11
 onKind (exactly c) no11 k = k c
 
 -- the variable is bound, else 9
-unfoldable pub bound : ℕ → Option Ty → Answer
-bound p none = refused 9 p
-bound p (some t) = typed t
+unfoldable pub boundType : ℕ → Option Ty → Answer
+boundType p none = refused 9 p
+boundType p (some t) = typed t
 
 -- ---- the type of each form, given its operands' types
 
@@ -79,8 +79,8 @@ unfoldable pub leafType : ℕ → Leaf → Env Ty → Answer
 leafType p (truth b) Γ = typed Boolean
 leafType p undef Γ = typed void
 leafType p (number z) Γ = typed Integer
-leafType p self Γ = bound p (Γ 0)
-leafType p (var i) Γ = bound p (Γ i)
+leafType p self Γ = boundType p (Γ 0)
+leafType p (var i) Γ = boundType p (Γ i)
 leafType p (all c) Γ = typed (around (exactly set) (Class c))
 
 -- `as`: from Any, or from a class above or below c; an unrelated class is 10, any other type 11

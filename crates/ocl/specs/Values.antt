@@ -1,6 +1,6 @@
 -- Document 01, Values and types: values, their size and order; Evaluation: how a member is added.
-use mathlib.Core.Bool.{Bool, true, false, _||_}
-use Prim.Native.Nat.{ℕ, zero, suc, _+_, compare, Ordering, Ordering·lt, Ordering·eq, Ordering·gt}
+use mathlib.Core.Bool.{Bool, true, false, _&&_, _||_}
+use Prim.Native.Nat.{ℕ, suc, _+_, compare, Ordering, Ordering·lt, Ordering·eq, Ordering·gt}
 use lib.IntN.{ℤ, pos, negsuc}
 use lib.Dec.{isEq}
 use Rattle.ocl.specs.Types.{Kind, set, sequence, bag}
@@ -33,6 +33,18 @@ unfoldable mutual
   pub sizes : Values → ℕ
   sizes nil = 0
   sizes (cons v vs) = size v + sizes vs
+
+-- does the test hold of each part of a value that is no collection, at every depth
+unfoldable mutual
+  pub everyPart : (Value → Bool) → Value → Bool
+  everyPart f (bool b) = f (bool b)
+  everyPart f (int z) = f (int z)
+  everyPart f (obj o) = f (obj o)
+  everyPart f (coll k vs) = everyParts f vs
+
+  pub everyParts : (Value → Bool) → Values → Bool
+  everyParts f nil = true
+  everyParts f (cons v vs) = everyPart f v && everyParts f vs
 
 -- ---- the order of values
 

@@ -1,12 +1,12 @@
 -- Document 01, Worked and marked: P1 to P12, as one table.
 use mathlib.Core.Path.{_≡_}
-use mathlib.Core.Bool.{Bool, true, false}
-use mathlib.Core.Option.{Option, none, some}
+use mathlib.Core.Bool.{true, false}
+use mathlib.Core.Option.{none, some}
 use Prim.Native.Nat.{ℕ, zero, suc}
 use lib.IntN.{ℤ, pos, negsuc}
-use Rattle.ocl.specs.Types.{Kind, set, sequence, collection, exactly, Ty, void, around, Any, Boolean, Integer, Class, Parents, join}
-use Rattle.ocl.specs.Values.{Value, bool, int, coll, nil, cons}
-use Rattle.ocl.specs.Model.{Row, Model}
+use Rattle.ocl.specs.Types.{set, sequence, collection, exactly, void, around, Any, Integer, Class, Parents, join}
+use Rattle.ocl.specs.Values.{bool, int, coll, nil, cons}
+use Rattle.ocl.specs.Model.{Model}
 use Rattle.ocl.specs.Forms.{Arith, plus, div, modulo, and, forAll, truth, undef, number, arith, Expr, node, leaf, binary, connective, isUndef, letIn, quantified, collect, noOperand, operand}
 use Rattle.ocl.specs.Evaluation.{Outcome, value, undefined, evaluation}
 

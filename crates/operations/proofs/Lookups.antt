@@ -13,7 +13,7 @@ use Rattle.laws.specs.Choice.{if_then_else_}
 use Rattle.laws.proofs.Orders.{Three, less, same, over, three}
 use Rattle.ocl.specs.Types.{class, simpleSubtype}
 use Rattle.ocl.specs.Values.{Value, obj, size}
-use Rattle.ocl.specs.Model.{Row, Model, isA, classBelow}
+use Rattle.ocl.specs.Model.{Row, Model, isA, classIsA}
 use Rattle.ocl.specs.Evaluation.{Outcome, value, stuck, onObj, given}
 use Rattle.types.specs.Flat.{parentsIn}
 use Rattle.values.specs.Cells.{enc}
@@ -36,12 +36,12 @@ use Rattle.operations.proofs.Words.{under-refl, head-at, formed-small, 
 -- ---- classes and rows
 
 pub no-object : {st : Counts} {w0 : List ℕ} {o c : ℕ} → st .objects ≤ o → IsA st w0 o c false
-unfolding isA classBelow
+unfolding isA classIsA
 no-object {st} {w0} {o} h = record { is = λ m H. rw (H .classOf o, le-ltb o (st .objects) h) }
 
 pub object-is : {st : Counts} {w0 ps : List ℕ} {o c d at : ℕ} {r : Bool} → o < st .objects → at ≡ 256 + o → d ≡ getD w0 at 0 → ps ≡ tab 0 (st .classes) w0
     → r ≡ simpleSubtype (parentsIn ps) (class d) (class c) → IsA st w0 o c r
-unfolding isA classBelow
+unfolding isA classIsA
 object-is {st} {w0} {ps} {o} {c} {d} {at} {r} h a e p q = record { is = λ m H. rw (H .classOf o, lt-ltb o (st .objects) h, H .classes .parent, ← p, ← a, ← e) q }
 
 pub no-owner : {st : Counts} {w0 : List ℕ} {i : ℕ} → st .rows ≤ i → Owner st w0 i 0

@@ -15,7 +15,7 @@ use Rattle.sheet.specs.Text.{Bytes, bytes, split, linesOf, fieldsOf}
 use Rattle.sheet.specs.Lines.{is, lineOf, firstIsN}
 use Rattle.laws.proofs.Tests.{All?, all-none, all-some}
 use Rattle.sheet.specs.Sheet.{Current, Sheet}
-use Rattle.sheet.specs.Reading.{Step, next, refuse, step, Reading, accepted, refused, onStep, onEnd, closing, readLast, readLines}
+use Rattle.sheet.specs.Reading.{Step, taken, refuse, step, Reading, accepted, rejected, onStep, onEnd, closing, readLast, readLines}
 use Rattle.text.specs.Words.{byteKind, letterOf}
 use Rattle.text.proofs.WordLaws.{is-class-line, is-row-line, is-object-line, is-value-line, is-rule-line, is-node-line}
 use Rattle.tables.specs.declared.Counts.{Counts}
@@ -137,12 +137,12 @@ unfolding readLast
 last-empty k [] s z = refl
 last-empty k (b ∷ l) s z = absurd (omega arith)
 
-last-left : (k : ℕ) (part : Bytes) (s : Sheet) → length part ≢ 0 → readLast k part s ≡ refused 3 (suc k)
+last-left : (k : ℕ) (part : Bytes) (s : Sheet) → length part ≢ 0 → readLast k part s ≡ rejected 3 (suc k)
 unfolding readLast
 last-left k [] s z = absurd (z refl)
 last-left k (b ∷ l) s z = refl
 
-node-part : (s : Sheet) (k : ℕ) (part : Bytes) → firstIsN (fieldsOf part) ≡ true → readLines s k (part ∷ []) ≡ refused 3 (suc k)
+node-part : (s : Sheet) (k : ℕ) (part : Bytes) → firstIsN (fieldsOf part) ≡ true → readLines s k (part ∷ []) ≡ rejected 3 (suc k)
 unfolding readLines closing readLast firstIsN fieldsOf split is bytes
 node-part s k [] e = absurd (let z : false ≡ true = e in let y : _≡_ {A = ℕ} 0 1 = cc in omega arith)
 node-part s k (b ∷ l) e = rw e

@@ -12,7 +12,7 @@ use Rattle.laws.proofs.Parts.{part-all}
 use Rattle.sheet.specs.Text.{Bytes, linesOf, fieldsOf}
 use Rattle.sheet.specs.Sheet.{Sheet, empty}
 use Rattle.sheet.specs.Refusals.{totalSize}
-use Rattle.sheet.specs.Reading.{Reading, refused, step, onStep, closing, readLines}
+use Rattle.sheet.specs.Reading.{Reading, rejected, step, onStep, closing, readLines}
 use Rattle.sheet.proofs.Split.{split-laws}
 use Rattle.text.specs.Parts.{Ends}
 use Rattle.text.proofs.PartLaws.{first-part, only-part}
@@ -77,7 +77,7 @@ some-lines : (s : Bytes) → 0 < length (linesOf s)
 unfolding linesOf
 some-lines s = split-laws 10 .some-part s
 
-refused-is : {v0 v1 : List ℕ} {f : Sheet → Reading} {n p : ℕ} {x : Reading} → GoesOn v0 v1 f (line.Refused n p) x → x ≡ refused n p
+refused-is : {v0 v1 : List ℕ} {f : Sheet → Reading} {n p : ℕ} {x : Reading} → GoesOn v0 v1 f (line.Refused n p) x → x ≡ rejected n p
 refused-is refuses = refl
 
 record Onward (v0 v1 : List ℕ) (f : Sheet → Reading) (st : Counts) (x : Reading) : Type 0 where

@@ -14,7 +14,7 @@ use Rattle.sheet.specs.Text.{Bytes}
 use Rattle.sheet.specs.Lines.{Line, classLine, rowLine, objectLine, valueLine, ruleLine, nodeLine, lineOf}
 use Rattle.sheet.specs.Sheet.{Rule, Current, Sheet, empty, withNode, added, lastTree, allUsed, withRule, endOf, endFor, endRule}
 use Rattle.sheet.specs.Refusals.{isClass, withinLimits, blockOf, numbered, inOrder, partsKnown, suits, treeHolds}
-use Rattle.sheet.specs.Reading.{Step, next, refuse, must, stepLine, stepSpelled, step}
+use Rattle.sheet.specs.Reading.{Step, taken, refuse, must, stepLine, stepSpelled, step}
 use Rattle.slots.specs.Slots.{SmallRows}
 use Rattle.slots.proofs.RowLaws.{rows-empty, RowsStep, rows-next, rows-stop, rows-step, rows-end}
 use Rattle.reader.specs.Contracts.{Tame}
@@ -24,7 +24,7 @@ record Room (s : Sheet) : Type 0 where
   room : (c : Current) → s .current ≡ some c → length (s .rules) < 64
 
 data RoomStep : Step → Type 0 where
-  room-next : {s : Sheet} → Room s → RoomStep (next s)
+  room-next : {s : Sheet} → Room s → RoomStep (taken s)
   room-stop : {n : ℕ} → RoomStep (refuse n)
 
 -- some rule was open before
@@ -75,7 +75,7 @@ room-end s m = go (s .current)
 -- ---- both together
 
 pub data TameStep : Step → Type 0 where
-  tame-next : {s : Sheet} → Tame s → TameStep (next s)
+  tame-next : {s : Sheet} → Tame s → TameStep (taken s)
   tame-stop : {n : ℕ} → TameStep (refuse n)
 
 both : {x : Step} → RowsStep x → RoomStep x → TameStep x

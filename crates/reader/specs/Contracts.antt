@@ -7,7 +7,7 @@ use Prim.Native.Nat.{ℕ, suc, _<_}
 use lib.ListN.{length}
 use Rattle.sheet.specs.Text.{Bytes, linesOf, fieldsOf}
 use Rattle.sheet.specs.Sheet.{Rule, Current, Sheet, empty}
-use Rattle.sheet.specs.Reading.{Reading, accepted, refused, step, onStep, closing, readLines}
+use Rattle.sheet.specs.Reading.{Reading, accepted, rejected, step, onStep, closing, readLines}
 use Rattle.tables.specs.declared.Counts.{Counts}
 use Rattle.tables.specs.declared.Step.{Step as CodeStep}
 use Rattle.tables.specs.declared.Step.the-variants as step-code
@@ -38,7 +38,7 @@ placedAt (step-code.Stop n) k = line-code.Refused n k
 -- a line: it goes on with f, or refuses
 pub data GoesOn (v0 v1 : List ℕ) (f : Sheet → Reading) : LineRead → Reading → Type 0 where
   goes-on : {st : Counts} {s : Sheet} → Fine st → Holds st v0 v1 s → Tame s → GoesOn v0 v1 f (line-code.Next st) (f s)
-  refuses : {n k : ℕ} → GoesOn v0 v1 f (line-code.Refused n k) (refused n k)
+  refuses : {n k : ℕ} → GoesOn v0 v1 f (line-code.Refused n k) (rejected n k)
 
 -- line k by itself
 pub record TookLine (st : Counts) (k : ℕ) (line : Bytes) (r : CodeStep) (w0 w1 v0 v1 : List ℕ) : Type 0 where
@@ -56,7 +56,7 @@ pub record TookWhole (st : Counts) (k : ℕ) (line : Bytes) (r : LineRead) (w0 w
 -- a whole text: a sheet, or a refusal
 pub data EndsAs (v0 v1 : List ℕ) : SheetRead → Reading → Type 0 where
   a-sheet : {st : Counts} {s : Sheet} → Fine st → Holds st v0 v1 s → EndsAs v0 v1 (sheet-code.Sheet st) (accepted s)
-  a-refusal : {n k : ℕ} → EndsAs v0 v1 (sheet-code.Refused n k) (refused n k)
+  a-refusal : {n k : ℕ} → EndsAs v0 v1 (sheet-code.Refused n k) (rejected n k)
 
 -- the text's last part, after k lines
 pub record TookLast (st : Counts) (k : ℕ) (part : Bytes) (r : SheetRead) (w0 w1 v0 v1 : List ℕ) : Type 0 where

@@ -13,18 +13,18 @@ use lib.Dec.{T, ltb→lt}
 use Rattle.laws.proofs.Tests.{and-i, and-l, and-r}
 use Rattle.laws.proofs.Elements.{elem-at}
 use Rattle.ocl.specs.Types.{Simple, any, boolean, integer, class, exactly, Ty, void, simple, around, simpleSubtype, letterSubtype, climbs, height, up, sameSimple, simpleCode}
-use Rattle.ocl.specs.Values.{Value, bool, int, obj, coll, Values, size}
-use Rattle.ocl.specs.Model.{Model, classBelow, isA, every, belongs}
+use Rattle.ocl.specs.Values.{Value, bool, int, obj, coll, Values, size, everyPart, everyParts}
+use Rattle.ocl.specs.Model.{Model, classIsA, isA, every, belongs}
 use Rattle.ocl.specs.Forms.{reach}
 use Rattle.ocl.specs.Typing.{typed}
 use Rattle.ocl.specs.Evaluation.{Outcome, value, undefined, stuck, stop}
 use Rattle.ocl.specs.Soundness.{stepsOf, Sound}
-use Rattle.ocl.proofs.Types.{integer-not-class}
+use Rattle.ocl.proofs.SimpleTypes.{integer-not-class}
 use Rattle.ocl.proofs.Steps.{steps-limited}
 use Rattle.sheet.specs.Text.{bytes, spellNumber}
 use Rattle.sheet.specs.Spelling.{spellBool, spellValue}
 use Rattle.sheet.specs.Sheet.{Rule, Sheet, modelOf}
-use Rattle.sheet.specs.Refusals.{everyPart, everyParts, partWithin}
+use Rattle.sheet.specs.Refusals.{partWithin}
 use Rattle.sheet.specs.Calls.{typingOf, outcomeOf}
 use Rattle.sheet.specs.Report.{spellOutcome, reportLine}
 use Rattle.sheet.proofs.Acceptance.{accepted-good}
@@ -41,10 +41,10 @@ use Rattle.rules.specs.Width.{width}
 
 module _ (m : Model) (few : (o c : ℕ) → m .classOf o ≡ some c → o < 96) where
   object-few : (o : ℕ) (b : Simple) → T (isA m o b) → o < 96
-  unfolding isA classBelow
+  unfolding isA classIsA
   object-few o b h = by (m .classOf o) refl h
     where
-      by : (c : Option ℕ) → m .classOf o ≡ c → T (classBelow (m .parent) c b) → o < 96
+      by : (c : Option ℕ) → m .classOf o ≡ c → T (classIsA (m .parent) c b) → o < 96
       by none e k = absurd k
       by (some c) e k = few o c e
 

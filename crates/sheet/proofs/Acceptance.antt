@@ -1,5 +1,5 @@
 -- What every sheet that reading accepts has: parents that are smaller, slots that ascend, values that belong to their rows' types,
--- rules whose trees have no node twice and at most 12 levels. The induction over the lines, over the laws of proofs/Good.antt. Assumes nothing.
+-- rules whose trees have no node twice and at most 12 levels, Integers in range. The induction over the lines, over the laws of proofs/Good.antt. Assumes nothing.
 use mathlib.Core.Path.{_≡_, refl, subst}
 use mathlib.Core.Bool.{Bool, true, false, _&&_}
 use mathlib.Core.Option.{Option, none, some}
@@ -10,17 +10,19 @@ use lib.ListN.{length, getD}
 use lib.Dec.{T, eqb, eqb→eq, ltb, leb, leb→le}
 use Rattle.laws.specs.Choice.{if_then_else_, onSome}
 use Rattle.laws.specs.Lists.{Each, each-nil, each-cons, Distinct}
-use Rattle.laws.proofs.Tests.{and-r, by-if}
+use Rattle.laws.proofs.Tests.{and-r, by-if, All?, all-none, all-some}
 use Rattle.laws.proofs.Lists.{each-append}
 use Rattle.ocl.specs.Values.{Value, size}
-use Rattle.ocl.specs.Model.{Model, every, belongs}
-use Rattle.ocl.specs.Forms.{Expr, numbers, levels}
-use Rattle.ocl.specs.Soundness.{Accepted}
+use Rattle.ocl.specs.Model.{Model, belongs}
+use Rattle.ocl.specs.Forms.{Expr, numbers, levels, literals}
+use Rattle.ocl.specs.Evaluation.{integersInRange}
+use Rattle.ocl.specs.Soundness.{AcceptedModel}
 use Rattle.sheet.specs.Text.{Bytes, fieldsOf, linesOf}
 use Rattle.sheet.specs.Lines.{Line, lineOf, firstIsN}
 use Rattle.sheet.specs.Sheet.{Slot, Current, Sheet, empty, lookup, noRow, modelOf, treeOf, lastTree, allUsed, withRule, endOf, endFor, endRule}
 use Rattle.sheet.specs.Refusals.{withinLimits, inOrder, partsKnown, suits, treeHolds}
-use Rattle.sheet.specs.Reading.{Step, next, refuse, must, stepLine, stepSpelled, step, Reading, accepted, refused, onStep, onEnd, closing, readLast, readLines, readText}
+use Rattle.sheet.specs.Reading.{Step, taken, refuse, must, stepLine, stepSpelled, step, Reading, accepted, rejected, onStep, onEnd, closing, readLast, readLines, readText}
+use Rattle.sheet.proofs.InRange.{InRange, tree-in-range}
 use Rattle.sheet.proofs.Good.{CurrentOk, Good, OpenOk, RuleOk, SlotOk, belongs-same, good-added, good-empty, no-rule, open-rule, plain}
 
 -- ---- a rule's end
@@ -42,20 +44,16 @@ rule-ok n c body h e l = let r = last-tree (c .trees) body e in record {
   distinct = subst (λ x. Distinct (numbers x)) (r .is) (h .forest .distinct (r .index) (r .inside));
   on-sheet = subst (λ i. Each (λ p. p < i) (numbers body)) (h .count) (subst (λ x. Each (λ p. p < c .first + length (c .trees)) (numbers x)) (r .is) (h .forest .below (r .index) (r .inside)));
   shallow = l;
+  in-range = subst (λ x. InRange (literals x)) (r .is) (tree-in-range (h .in-range) (r .index));
 }
 
--- a sheet, if there is one, is good
-data GoodEnd : Option Sheet → Type 0 where
-  bad-end : GoodEnd none
-  good-end : {s : Sheet} → Good s → GoodEnd (some s)
-
 good-body : (s : Sheet) (c : Current) → Good s → CurrentOk (length (s .lines)) c → (o : Option Expr) → lastTree (c .trees) ≡ o
-    → GoodEnd (onSome o (λ body. if allUsed (c .used) (length (c .trees) - 1) && leb (levels body) 12 then some (withRule s (c .context) body) else none))
+    → All? Good (onSome o (λ body. if allUsed (c .used) (length (c .trees) - 1) && leb (levels body) 12 then some (withRule s (c .context) body) else none))
 unfolding onSome withRule plain
-good-body s c g h none e = bad-end
+good-body s c g h none e = all-none
 good-body s c g h (some body) e =
-    by-if GoodEnd (allUsed (c .used) (length (c .trees) - 1) && leb (levels body) 12) _ none
-    (λ t. good-end (record {
+    by-if (All? Good) (allUsed (c .used) (length (c .trees) - 1) && leb (levels body) 12) _ none
+    (λ t. all-some (record {
       parents = g .parents;
       early = g .early;
       slots = g .slots;
@@ -64,23 +62,24 @@ good-body s c g h (some body) e =
           each-append (g .rules)
           (each-cons (rule-ok (length (s .lines)) c body h e (leb→le (levels body) 12 (and-r (allUsed (c .used) (length (c .trees) - 1)) _ t))) each-nil);
       current = no-rule;
+      room = λ d e. absurd (let z : _≡_ {A = ℕ} 0 1 = cc in omega arith);
     }))
-    (λ t. bad-end)
+    (λ t. all-none)
 
-good-close : (s : Sheet) → Good s → (o : Option Current) → OpenOk (length (s .lines)) o → GoodEnd (endFor s o)
+good-close : (s : Sheet) → Good s → (o : Option Current) → OpenOk (length (s .lines)) o → All? Good (endFor s o)
 unfolding endFor endOf
-good-close s g none no-rule = good-end g
+good-close s g none no-rule = all-some g
 good-close s g (some c) (open-rule h) = good-body s c g h (lastTree (c .trees)) refl
 
-good-endRule : (s : Sheet) → Good s → GoodEnd (endRule s)
+pub good-endRule : (s : Sheet) → Good s → All? Good (endRule s)
 unfolding endRule
 good-endRule s g = good-close s g (s .current) (g .current)
 
 -- ---- a line, and a whole text
 
-data GoodStep : Step → Type 0 where
+pub data GoodStep : Step → Type 0 where
   no-step : {n : ℕ} → GoodStep (refuse n)
-  good-step : {s : Sheet} → Good s → GoodStep (next s)
+  good-step : {s : Sheet} → Good s → GoodStep (taken s)
 
 must-good : (b : Bool) (n : ℕ) (x : Step) → (T b → GoodStep x) → GoodStep (must b n x)
 unfolding must
@@ -99,9 +98,13 @@ unfolding stepSpelled
 good-spelled s k none g = no-step
 good-spelled s k (some l) g = good-line s k l g
 
+pub good-fields : (s : Sheet) (k : ℕ) (fs : List Bytes) → Good s → GoodStep (step s k fs)
+unfolding step
+good-fields s k fs g = good-spelled s k (lineOf fs) g
+
 -- a reading that accepts, accepts a good sheet
 data GoodReading : Reading → Type 0 where
-  no-reading : {n k : ℕ} → GoodReading (refused n k)
+  no-reading : {n k : ℕ} → GoodReading (rejected n k)
   good-reading : {s : Sheet} → Good s → GoodReading (accepted s)
 
 on-step : {x : Step} (k : ℕ) {f : Sheet → Reading} → GoodStep x → ((s : Sheet) → Good s → GoodReading (f s)) → GoodReading (onStep x k f)
@@ -109,10 +112,10 @@ unfolding onStep
 on-step k no-step h = no-reading
 on-step k (good-step {s} g) h = h s g
 
-on-end : {o : Option Sheet} (k : ℕ) {f : Sheet → Reading} → GoodEnd o → ((s : Sheet) → Good s → GoodReading (f s)) → GoodReading (onEnd o k f)
+on-end : {o : Option Sheet} (k : ℕ) {f : Sheet → Reading} → All? Good o → ((s : Sheet) → Good s → GoodReading (f s)) → GoodReading (onEnd o k f)
 unfolding onEnd
-on-end k bad-end h = no-reading
-on-end k (good-end {s} g) h = h s g
+on-end k all-none h = no-reading
+on-end k (all-some {x = s} g) h = h s g
 
 on-closing : (s : Sheet) (k : ℕ) (fs : List Bytes) {f : Sheet → Reading} → Good s → ((s : Sheet) → Good s → GoodReading (f s)) → GoodReading (closing s k fs f)
 unfolding closing
@@ -124,11 +127,11 @@ on-last k [] s g = good-reading g
 on-last k (b ∷ l) s g = no-reading
 
 good-lines : (s : Sheet) (k : ℕ) (ls : List Bytes) → Good s → GoodReading (readLines s k ls)
-unfolding readLines step
+unfolding readLines
 good-lines s k [] g = good-reading g
 good-lines s k (l ∷ []) g = on-closing s k (fieldsOf l) g (on-last k l)
 good-lines s k (l ∷ m ∷ ls) g =
-    on-closing s k (fieldsOf l) g (λ t h. on-step (suc k) (good-spelled t (suc k) (lineOf (fieldsOf l)) h) (λ u i. good-lines u (suc k) (m ∷ ls) i))
+    on-closing s k (fieldsOf l) g (λ t h. on-step (suc k) (good-fields t (suc k) (fieldsOf l) h) (λ u i. good-lines u (suc k) (m ∷ ls) i))
 
 good-text : (text : Bytes) → GoodReading (readText text)
 unfolding readText
@@ -143,19 +146,26 @@ accepted-good text s e = of (subst GoodReading e (good-text text))
 
 -- ---- and so its model is what demand 3 asks
 
-lookup-ok : (m : Model) (l : List Slot) (o i : ℕ) (v : Value) → Each (SlotOk m) l → lookup l o i ≡ some v → T (belongs m (m .row i .type) v) × (size v ≤ 128)
+-- what a slot says of its value
+record ValueOk (m : Model) (i : ℕ) (v : Value) : Type 0 where
+  belong : T (belongs m (m .row i .type) v)
+  small : size v ≤ 128
+  in-range : T (integersInRange v)
+
+lookup-ok : (m : Model) (l : List Slot) (o i : ℕ) (v : Value) → Each (SlotOk m) l → lookup l o i ≡ some v → ValueOk m i v
 unfolding lookup
 lookup-ok m [] o i v each-nil e = absurd (let z : _≡_ {A = ℕ} 0 1 = cc in omega arith)
 lookup-ok m (x ∷ l) o i v (each-cons h hs) e =
-    by-if (λ y. y ≡ some v → T (belongs m (m .row i .type) v) × (size v ≤ 128)) (eqb o (x .object) && eqb i (x .row)) _ _
+    by-if (λ y. y ≡ some v → ValueOk m i v) (eqb o (x .object) && eqb i (x .row)) _ _
     (λ t q. let z : x .value ≡ v = cc in let r : i ≡ x .row = eqb→eq i (x .row) (and-r (eqb o (x .object)) _ t) in
-    rw (← z, r) (h .belong, h .small))
+    rw (← z, r) (record { belong = h .belong; small = h .small; in-range = h .in-range }))
     (λ t q. lookup-ok m l o i v hs q) e
 
-pub good-model : (s : Sheet) → Good s → Accepted (modelOf s)
+pub good-model : (s : Sheet) → Good s → AcceptedModel (modelOf s)
 unfolding modelOf plain
 good-model s g = record {
   parents-smaller = g .parents;
-  values-belong = λ o i v e. subst T (belongs-same (plain s) (modelOf s) refl refl (getD (s .rows) i noRow .type) v) (lookup-ok (plain s) (s .slots) o i v (g .slots) e .0);
-  values-small = λ o i v e. lookup-ok (plain s) (s .slots) o i v (g .slots) e .1;
+  values-belong = λ o i v e. subst T (belongs-same (plain s) (modelOf s) refl refl (getD (s .rows) i noRow .type) v) (lookup-ok (plain s) (s .slots) o i v (g .slots) e .belong);
+  values-small = λ o i v e. lookup-ok (plain s) (s .slots) o i v (g .slots) e .small;
+  values-in-range = λ o i v e. lookup-ok (plain s) (s .slots) o i v (g .slots) e .in-range;
 }

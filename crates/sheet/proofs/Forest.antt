@@ -3,20 +3,19 @@
 use mathlib.Core.Path.{_≡_, refl, sym, ap, _∙_, subst}
 use mathlib.Core.Logic.{_≢_}
 use mathlib.Core.Bool.{Bool, true, false, not, _&&_, _||_}
-use mathlib.Core.Option.{Option, none, some}
-use mathlib.Core.List.{List, [], _∷_, _++_, append-nil, append-assoc}
-use Prim.Native.Nat.{ℕ, zero, suc, _+_, _-_, _<_, _≤_}
+use mathlib.Core.List.{List, [], _∷_, _++_, append-nil}
+use Prim.Native.Nat.{ℕ, suc, _+_, _<_}
 use native.Mathlib.Omega.{arith}
-use lib.ListN.{length, getD, length-append, List·getD-append}
-use lib.Seq.{getD-append-seam, getD-at}
+use lib.ListN.{length, length-append, List·getD-append}
+use lib.Seq.{getD-at}
 use borrow.Author.Tests.{ltb-true, ltb-false}
-use lib.Dec.{T, T-not, not-T, eqb, eqb→eq, eqb-refl, ltb, ltb→lt}
+use lib.Dec.{T, T-not, not-T, eqb, eqb-refl, ltb, ltb→lt}
 use Rattle.laws.specs.Lists.{member, Each, each-nil, each-cons, Distinct, distinct-nil, distinct-cons}
-use Rattle.laws.proofs.Lists.{member-append, each-imp, each-append, each-right, distinct-append}
+use Rattle.laws.proofs.Lists.{member-append, each-imp, each-append, distinct-append}
 use Rattle.laws.proofs.Tests.{and-l, and-r, or-l, or-r}
-use Rattle.ocl.specs.Forms.{Expr, node, Form, numbers, numbersIn, numbersOf}
+use Rattle.ocl.specs.Forms.{Expr, node, numbers, numbersIn, numbersOf}
 use Rattle.sheet.specs.Lines.{Shape, leaf, unary, binary, connective, isUndef, conditional, letIn, attribute, quantified, iterate, collect}
-use Rattle.sheet.specs.Sheet.{Current, operandsOf, growAll, grow, treeOf, withNode}
+use Rattle.sheet.specs.Sheet.{operandsOf, growAll, grow, treeOf}
 use Rattle.sheet.specs.Refusals.{fresh}
 
 -- ---- the nodes of a tree are its operands' and its own

@@ -1,27 +1,30 @@
 -- What holds of a sheet after every line that is taken: parents that are smaller, slots that ascend, values that belong to their rows'
--- types, rules of at most 12 levels, and a forest of the open rule's nodes. One law for each line kind. Assumes nothing.
+-- types, rules of at most 12 levels, a forest of the open rule's nodes, room for that rule, and Integers in range. One law for each line
+-- kind. Assumes nothing.
 use mathlib.Core.Path.{_≡_, refl, sym, ap, _∙_, subst}
 use mathlib.Core.Bool.{Bool, true, false, _&&_}
 use mathlib.Core.Option.{Option, none, some}
 use mathlib.Core.List.{List, [], _∷_, _++_}
-use Prim.Native.Nat.{ℕ, suc, _+_, _-_, _<_, _≤_}
+use Prim.Native.Nat.{ℕ, suc, _+_, _<_, _≤_}
 use native.Mathlib.Omega.{arith}
 use borrow.Author.Tests.{ltb-true, ltb-false}
 use lib.ListN.{length, getD, getElem?, length-append, List·getD-append, List·getD-eq-default}
 use lib.Seq.{getD-at}
 use lib.Dec.{T, eqb→eq, ltb, ltb→lt, leb, leb→le}
 use Rattle.laws.specs.Choice.{onSome}
-use Rattle.laws.specs.Lists.{Each, each-nil, each-cons, Distinct}
+use Rattle.laws.specs.Lists.{allOf, Each, each-nil, each-cons, Distinct}
 use Rattle.laws.proofs.Tests.{and-l, and-r}
 use Rattle.laws.proofs.Lists.{each-imp, each-append}
 use Rattle.ocl.specs.Types.{Simple, Ty, void, simple, around, letterSubtype, exactly}
-use Rattle.ocl.specs.Values.{Value, bool, int, obj, coll, Values, nil, cons, size}
+use Rattle.ocl.specs.Values.{Value, bool, int, obj, coll, Values, nil, cons, size, everyPart}
 use Rattle.ocl.specs.Model.{Model, every, isA, belongs}
-use Rattle.ocl.specs.Forms.{node, numbers, levels}
+use Rattle.ocl.specs.Forms.{node, numbers, levels, literals}
+use Rattle.ocl.specs.Evaluation.{integersInRange}
 use Rattle.sheet.specs.Lines.{Line, classLine, rowLine, objectLine, valueLine, ruleLine, nodeLine, Shape}
-use Rattle.sheet.specs.Sheet.{Slot, Rule, Current, Sheet, empty, noRow, modelOf, grow, treeOf, withNode, added}
-use Rattle.sheet.specs.Refusals.{everyPart, partWithin, valueWithin, withinLimits, blockOf, numbered, inOrder, afterSlots, ordered, parentSmaller, partsKnown, suits, operandsFresh, treeHolds}
+use Rattle.sheet.specs.Sheet.{Slot, Rule, Current, Sheet, empty, noRow, modelOf, operandsOf, grow, treeOf, withNode, added}
+use Rattle.sheet.specs.Refusals.{partWithin, valueWithin, isNode, formWithin, withinLimits, blockOf, numbered, inOrder, afterSlots, ordered, parentSmaller, partsKnown, suits, operandsFresh, treeHolds}
 use Rattle.sheet.proofs.Ascending.{Ascending, ascending-nil, ascending-more}
+use Rattle.sheet.proofs.InRange.{InRange, value-in-range, tree-in-range, grown-in-range}
 use Rattle.sheet.proofs.Forest.{Forest, forest-empty, forest-more}
 
 -- ---- belonging looks at classes alone
@@ -64,6 +67,7 @@ plain s = record {
 pub record SlotOk (m : Model) (x : Slot) : Type 0 where
   pub belong : T (belongs m (m .row (x .row) .type) (x .value))
   pub small : size (x .value) ≤ 128
+  pub in-range : T (integersInRange (x .value))
   pub low-row : x .row < 64
 
 -- an ended rule's tree, on a sheet with n nodes
@@ -71,10 +75,12 @@ pub record RuleOk (n : ℕ) (r : Rule) : Type 0 where
   pub distinct : Distinct (numbers (r .body))
   pub on-sheet : Each (λ p. p < n) (numbers (r .body))
   pub shallow : levels (r .body) ≤ 12
+  pub in-range : InRange (literals (r .body))
 
 pub record CurrentOk (n : ℕ) (c : Current) : Type 0 where
   pub forest : Forest (c .first) (c .trees) (c .used)
   pub count : c .first + length (c .trees) ≡ n
+  pub in-range : Each (λ e. InRange (literals e)) (c .trees)
 
 pub data OpenOk (n : ℕ) : Option Current → Type 0 where
   no-rule : OpenOk n none
@@ -88,6 +94,8 @@ pub record Good (s : Sheet) : Type 0 where
   pub ascending : Ascending (s .slots)
   pub rules : Each (RuleOk (length (s .lines))) (s .rules)
   pub current : OpenOk (length (s .lines)) (s .current)
+  -- there is room for the rule that is open
+  pub room : (c : Current) → s .current ≡ some c → length (s .rules) < 64
 
 pub good-empty : Good empty
 unfolding empty
@@ -98,6 +106,7 @@ good-empty = record {
   ascending = ascending-nil;
   rules = each-nil;
   current = no-rule;
+  room = λ c e. absurd (let z : _≡_ {A = ℕ} 0 1 = cc in omega arith);
 }
 
 -- ---- each line kind
@@ -168,6 +177,7 @@ good-class s k n p g m = let e = no-slot s (classLine n p) g m (omega arith) in 
   ascending = g .ascending;
   rules = g .rules;
   current = g .current;
+  room = g .room;
 }
 
 good-row : (s : Sheet) (k n c name : ℕ) (t : Ty) → Good s → Met s (rowLine n c name t) → Good (added s k (rowLine n c name t))
@@ -179,6 +189,7 @@ good-row s k n c name t g m = let e = no-slot s (rowLine n c name t) g m (omega 
   ascending = g .ascending;
   rules = g .rules;
   current = g .current;
+  room = g .room;
 }
 
 good-object : (s : Sheet) (k n c : ℕ) → Good s → Met s (objectLine n c) → Good (added s k (objectLine n c))
@@ -190,6 +201,7 @@ good-object s k n c g m = let e = no-slot s (objectLine n c) g m (omega arith) i
   ascending = g .ascending;
   rules = g .rules;
   current = g .current;
+  room = g .room;
 }
 
 -- the value of a V line belongs to its row's type, and is small
@@ -197,9 +209,11 @@ slot-ok : (s : Sheet) (o a : ℕ) (v : Value) → Met s (valueLine o a v) → Sl
 unfolding plain modelOf suits withinLimits valueWithin
 slot-ok s o a v m =
     let x = and-l (ltb o 96 && ltb a 64 && valueWithin v) _ (and-l (ltb o 96 && ltb a 64 && valueWithin v && ltb (length (s .slots)) 1024) _ (m .limits)) in
+    let y = and-l (everyPart partWithin v && leb (size v) 128) _ (and-r (ltb o 96 && ltb a 64) _ x) in
     record {
       belong = subst T (belongs-same (modelOf s) (plain s) refl refl (getD (s .rows) a noRow .type) v) (and-r (isA (modelOf s) o _) _ (m .suit));
-      small = leb→le (size v) 128 (and-r (everyPart partWithin v) _ (and-l (everyPart partWithin v && leb (size v) 128) _ (and-r (ltb o 96 && ltb a 64) _ x)));
+      small = leb→le (size v) 128 (and-r (everyPart partWithin v) _ y);
+      in-range = value-in-range v (and-l (everyPart partWithin v) _ y);
       low-row = ltb→lt a 64 (and-r (ltb o 96) (ltb a 64) (and-l (ltb o 96 && ltb a 64) (valueWithin v) x));
     }
 
@@ -212,47 +226,59 @@ good-value s k o a v g m = record {
   ascending = ascending-more (s .slots) (record { object = o; row = a; value = v }) (g .ascending) (and-l (afterSlots (s .slots) o a) (ordered v) (met-numbered s (valueLine o a v) m));
   rules = g .rules;
   current = g .current;
+  room = g .room;
 }
 
-good-rule : (s : Sheet) (k n c : ℕ) → Good s → Good (added s k (ruleLine n c))
-unfolding added plain
-good-rule s k n c g = record {
+good-rule : (s : Sheet) (k n c : ℕ) → Good s → Met s (ruleLine n c) → Good (added s k (ruleLine n c))
+unfolding added plain withinLimits numbered
+good-rule s k n c g m = record {
   parents = g .parents;
   early = λ h. absurd (omega arith);
   slots = g .slots;
   ascending = g .ascending;
   rules = g .rules;
-  current = open-rule (record { forest = forest-empty (length (s .lines)); count = omega arith });
+  current = open-rule (record { forest = forest-empty (length (s .lines)); count = omega arith; in-range = each-nil });
+  room = λ d e. omega (arith, eqb→eq n (length (s .rules)) (met-numbered s (ruleLine n c) m), ltb→lt n 64 (and-l (ltb n 64) _ (m .limits)));
 }
 
 -- ---- a node line
 
 rules-more : {n : ℕ} {l : List Rule} → Each (RuleOk n) l → Each (RuleOk (suc n)) l
-rules-more h = each-imp (λ r x. record { distinct = x .distinct; on-sheet = each-imp (λ p l. omega arith) (x .on-sheet); shallow = x .shallow }) h
+rules-more h = each-imp (λ r x. record { distinct = x .distinct; on-sheet = each-imp (λ p l. omega arith) (x .on-sheet); shallow = x .shallow; in-range = x .in-range }) h
 
-current-more : (n : ℕ) (x : Shape) {o : Option Current} → OpenOk n o → T (operandsFresh o x) → OpenOk (suc n) (onSome o (λ c. some (withNode c x)))
-unfolding onSome withNode operandsFresh
-current-more n x no-rule h = no-rule
-current-more n x (open-rule {c} r) h = open-rule (record {
+current-more : (n : ℕ) (x : Shape) {o : Option Current} → OpenOk n o → T (formWithin x) → T (operandsFresh o x) → OpenOk (suc n) (onSome o (λ c. some (withNode c x)))
+unfolding onSome withNode operandsFresh literals
+current-more n x no-rule w h = no-rule
+current-more n x (open-rule {c} r) w h = open-rule (record {
   forest = forest-more (c .first) (c .trees) (c .used) x (r .forest) h;
   count = omega (arith, r .count, length-one (c .trees) (node (c .first + length (c .trees)) (grow (treeOf (c .trees)) x)));
+  in-range = each-append (r .in-range) (each-cons (grown-in-range (treeOf (c .trees)) (tree-in-range (r .in-range)) x w) each-nil);
 })
 
+-- a rule was open already
+was-open : (o : Option Current) (f : Current → Current) (c : Current) → onSome o (λ d. some (f d)) ≡ some c → (d : Current) × (o ≡ some d)
+unfolding onSome
+was-open none f c e = absurd (let z : _≡_ {A = ℕ} 0 1 = cc in omega arith)
+was-open (some d) f c e = (d, refl)
+
 good-node : (s : Sheet) (k n : ℕ) (x : Shape) → Good s → Met s (nodeLine n x) → Good (added s k (nodeLine n x))
-unfolding added plain treeHolds
-good-node s k n x g m = let e = length-one (s .lines) k in record {
-  parents = g .parents;
-  early = λ h. absurd (omega arith);
-  slots = g .slots;
-  ascending = g .ascending;
-  rules = subst (λ i. Each (RuleOk i) (s .rules)) (sym e) (rules-more (g .rules));
-  current = subst (λ i. OpenOk i (onSome (s .current) (λ c. some (withNode c x)))) (sym e) (current-more (length (s .lines)) x (g .current) (m .tree));
-}
+unfolding added plain treeHolds withinLimits
+good-node s k n x g m =
+    let e = length-one (s .lines) k in
+    let w = and-r (isNode n) _ (and-l (isNode n && formWithin x) _ (and-l (isNode n && formWithin x && allOf isNode (operandsOf x)) _ (m .limits))) in record {
+      parents = g .parents;
+      early = λ h. absurd (omega arith);
+      slots = g .slots;
+      ascending = g .ascending;
+      rules = subst (λ i. Each (RuleOk i) (s .rules)) (sym e) (rules-more (g .rules));
+      current = subst (λ i. OpenOk i (onSome (s .current) (λ c. some (withNode c x)))) (sym e) (current-more (length (s .lines)) x (g .current) w (m .tree));
+      room = λ c q. let d = was-open (s .current) (λ d. withNode d x) c q in g .room (d .0) (d .1);
+    }
 
 pub good-added : (s : Sheet) (k : ℕ) (l : Line) → Good s → Met s l → Good (added s k l)
 good-added s k (classLine n p) g m = good-class s k n p g m
 good-added s k (rowLine n c name t) g m = good-row s k n c name t g m
 good-added s k (objectLine n c) g m = good-object s k n c g m
 good-added s k (valueLine o a v) g m = good-value s k o a v g m
-good-added s k (ruleLine n c) g m = good-rule s k n c g
+good-added s k (ruleLine n c) g m = good-rule s k n c g m
 good-added s k (nodeLine n x) g m = good-node s k n x g m

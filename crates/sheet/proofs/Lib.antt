@@ -1,5 +1,6 @@
 pub mod Forest
 pub mod Ascending
+pub mod InRange
 pub mod Good
 pub mod Acceptance
 pub mod Listed

@@ -1,24 +1,23 @@
 -- Reading refuses with listed numbers at lines of the text. One law for each piece that reading is written in. Assumes nothing.
-use mathlib.Core.Path.{_≡_, refl, sym, ap, _∙_, subst}
+use mathlib.Core.Path.{_≡_, refl, sym, ap, _∙_}
 use mathlib.Core.Bool.{Bool, true, false}
 use mathlib.Core.Option.{Option, none, some}
 use mathlib.Core.List.{List, [], _∷_}
-use Prim.Native.Nat.{ℕ, zero, suc, _+_, _≤_, _<_}
+use Prim.Native.Nat.{ℕ, zero, suc, _+_, _≤_}
 use native.Mathlib.Omega.{arith}
 use lib.ListN.{length}
-use lib.Dec.{T, ltb}
-use Rattle.laws.specs.Choice.{if_then_else_}
+use lib.Dec.{ltb}
 use Rattle.laws.proofs.Tests.{by-if}
 use Rattle.sheet.specs.Text.{Bytes, linesOf, fieldsOf}
 use Rattle.sheet.specs.Lines.{Line, lineOf, firstIsN}
 use Rattle.sheet.specs.Sheet.{Current, Sheet, empty, endFor, endRule}
 use Rattle.sheet.specs.Refusals.{withinLimits, inOrder, partsKnown, suits, treeHolds}
-use Rattle.sheet.specs.Reading.{Step, next, refuse, must, stepLine, stepSpelled, step, Reading, accepted, refused, onStep, onEnd, closing, readLast, readLines, readText}
+use Rattle.sheet.specs.Reading.{Step, taken, refuse, must, stepLine, stepSpelled, step, Reading, accepted, rejected, onStep, onEnd, closing, readLast, readLines, readText}
 use Rattle.sheet.specs.Laws.{ReadRefusal, long-sheet, at-line, ReadRefusals}
 
 -- a line's refusal is 3 to 8
 data LineStep : Step → Type 0 where
-  goes-on : {s : Sheet} → LineStep (next s)
+  goes-on : {s : Sheet} → LineStep (taken s)
   refuses : {n : ℕ} → 3 ≤ n → n ≤ 8 → LineStep (refuse n)
 
 must-listed : (b : Bool) (n : ℕ) {x : Step} → 3 ≤ n → n ≤ 8 → LineStep x → LineStep (must b n x)
@@ -37,7 +36,7 @@ spelled-listed s k (some l) =
 -- a reading's refusal is at one of the first m lines
 data Listed (m : ℕ) : Reading → Type 0 where
   sheet-there : {s : Sheet} → Listed m (accepted s)
-  listed : {n k : ℕ} → 3 ≤ n → n ≤ 8 → 1 ≤ k → k ≤ m → Listed m (refused n k)
+  listed : {n k : ℕ} → 3 ≤ n → n ≤ 8 → 1 ≤ k → k ≤ m → Listed m (rejected n k)
 
 on-step : {m : ℕ} {x : Step} (k : ℕ) {f : Sheet → Reading} → LineStep x → 1 ≤ k → k ≤ m → ((s : Sheet) → Listed m (f s)) → Listed m (onStep x k f)
 unfolding onStep
@@ -71,13 +70,13 @@ listed-lines s k (x ∷ y ∷ ls) h l =
     on-closing s k (fieldsOf x) h (omega arith) (λ t. on-step (suc k) (spelled-listed t (suc k) (lineOf (fieldsOf x))) (omega arith) (omega arith)
     (λ u. listed-lines u (suc k) (y ∷ ls) (λ e. absurd (omega arith)) (omega arith)))
 
-refusal-of : {m : ℕ} {r : Reading} → Listed m r → (n k : ℕ) → r ≡ refused n k → (3 ≤ n) × (n ≤ 8) × (1 ≤ k) × (k ≤ m)
+refusal-of : {m : ℕ} {r : Reading} → Listed m r → (n k : ℕ) → r ≡ rejected n k → (3 ≤ n) × (n ≤ 8) × (1 ≤ k) × (k ≤ m)
 refusal-of sheet-there n k e = absurd (let z : _≡_ {A = ℕ} 0 1 = cc in omega arith)
 refusal-of {m} (listed {n = a} {k = b} p q r s) n k e = let y : a ≡ n = cc in let z : b ≡ k = cc in rw (← y, ← z) (p, q, r, s)
 
 pub read-refusals : ReadRefusals
 unfolding readText
 read-refusals text n k e =
-    by-if (λ r. r ≡ refused n k → ReadRefusal text n k) (ltb 49152 (length text)) _ _
+    by-if (λ r. r ≡ rejected n k → ReadRefusal text n k) (ltb 49152 (length text)) _ _
     (λ t q. long-sheet (let z : n ≡ 2 = cc in z) (let z : k ≡ 0 = cc in z))
     (λ t q. let h = refusal-of (listed-lines empty 0 (linesOf text) (λ z. unfold empty in refl) (omega arith)) n k q in at-line (h .0) (h .1) (h .2) (h .3)) e

@@ -15,7 +15,7 @@ use Rattle.laws.specs.Lists.{Each, each-nil, each-cons}
 use Rattle.laws.proofs.Tests.{and-i, and-l, and-r, by-if, test-true, test-false, by-test, same-choice}
 use Rattle.laws.proofs.Options.{if-some}
 use Rattle.laws.proofs.Lists.{each-append}
-use Rattle.sheet.specs.Text.{Bytes, isDigit, digits, afterDigits, plain, valueOfDigits, number, spellDigits, spellNumber}
+use Rattle.sheet.specs.Text.{Bytes, isDigit, digits, afterDigits, plain, valueOfDigits, numberParser, spellDigits, spellNumber}
 use Rattle.sheet.specs.SpellingLaws.{Stops, at-end, no-digit, Decimal}
 
 -- ---- a number's digits: of its tenth part, and one more
@@ -119,8 +119,8 @@ after-front each-nil at-end = refl
 after-front each-nil (no-digit {b} t) = rw (test-false (isDigit b) t)
 after-front (each-cons {n} p ps) st = rw (test-true (isDigit n) p) (after-front ps st)
 
-pub number-back : (n : ℕ) (rest : Bytes) → Stops rest → number (spellNumber n ++ rest) ≡ some (n, rest)
-unfolding number
+pub number-back : (n : ℕ) (rest : Bytes) → Stops rest → numberParser (spellNumber n ++ rest) ≡ some (n, rest)
+unfolding numberParser
 number-back n rest st =
     rw (digits-front (spell-digits n) st, after-front (spell-digits n) st, test-true (plain (spellNumber n)) (spell-plain n), value-spell)
 
@@ -169,8 +169,8 @@ digits-split (b ∷ s) = step (isDigit b) (digits-split s)
     step true e = ap (λ (r : Bytes). b ∷ r) e
     step false e = refl
 
-pub number-only : (s : Bytes) (n : ℕ) (rest : Bytes) → number s ≡ some (n, rest) → s ≡ spellNumber n ++ rest
-unfolding number
+pub number-only : (s : Bytes) (n : ℕ) (rest : Bytes) → numberParser s ≡ some (n, rest) → s ≡ spellNumber n ++ rest
+unfolding numberParser
 number-only s n rest e =
     let got = if-some (plain (digits s)) (valueOfDigits 0 (digits s), afterDigits s) e in
     let value : spellNumber n ≡ digits s = ap spellNumber (sym (ap (λ (x : ℕ × Bytes). x .0) (got .1))) ∙ spell-value (digits-all s) (got .0) in

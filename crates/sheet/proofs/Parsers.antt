@@ -11,7 +11,7 @@ use borrow.Author.Tests.{ne-eqb}
 use Rattle.laws.specs.Choice.{if_then_else_, orElse, onSome, mapSome}
 use Rattle.laws.proofs.Tests.{test-true}
 use Rattle.laws.proofs.Options.{orElse-some, onSome-some, mapSome-some}
-use Rattle.sheet.specs.Text.{Bytes, bytes, Parser, nothing, after, literal, behind, _or_, _then_, given, atEnd, whole}
+use Rattle.sheet.specs.Text.{Bytes, bytes, Parser, nothing, after, literal, behind, _or_, _then_, mapped, atEnd, whole}
 use Rattle.sheet.specs.SpellingLaws.{Stops, at-end}
 
 -- ---- what is read back
@@ -54,9 +54,9 @@ unfolding _then_ onSome
 then-reads k {v} {w} r h s =
     record { read = λ rest st. rw (append-assoc v w rest, r .read (w ++ rest) (h .halts rest)) (s .read rest st) }
 
-pub given-reads : {A B : Type 0} (f : A → B) {p : Parser A} {w : Bytes} {x : A} → Reads p w x → Reads (given f p) w (f x)
-unfolding given mapSome
-given-reads f r = record { read = λ rest st. rw (r .read rest st) }
+pub mapped-reads : {A B : Type 0} (f : A → B) {p : Parser A} {w : Bytes} {x : A} → Reads p w x → Reads (mapped f p) w (f x)
+unfolding mapped mapSome
+mapped-reads f r = record { read = λ rest st. rw (r .read rest st) }
 
 -- the first byte of w is so
 pub data Begins (P : ℕ → Type 0) : Bytes → Type 0 where
@@ -136,11 +136,11 @@ then-spells {A} {B} {v} {p} {k} {g} {f} h j = record { spelled = got }
         let m = onSome-some (p s) (λ (x : A × Bytes). k (x .0) (x .1)) e in
         ap (λ (t : Bytes). v ++ t) (h .spelled s (m .0 .0) (m .0 .1) (m .1)) ∙ sym (append-assoc v (g (m .0 .0)) (m .0 .1)) ∙ j (m .0 .0) .spelled (m .0 .1) y rest (m .2)
 
-pub given-spells : {A B : Type 0} {v : Bytes} (k : A → B) {p : Parser A} {g : A → Bytes} {f : B → Bytes} → Spells [] p g → ((x : A) → v ++ g x ≡ f (k x)) → Spells v (given k p) f
-unfolding given
-given-spells {A} {B} {v} k {p} {g} {f} h j = record { spelled = got }
+pub mapped-spells : {A B : Type 0} {v : Bytes} (k : A → B) {p : Parser A} {g : A → Bytes} {f : B → Bytes} → Spells [] p g → ((x : A) → v ++ g x ≡ f (k x)) → Spells v (mapped k p) f
+unfolding mapped
+mapped-spells {A} {B} {v} k {p} {g} {f} h j = record { spelled = got }
   where
-    got : (s : Bytes) (y : B) (rest : Bytes) → given k p s ≡ some (y, rest) → v ++ s ≡ f y ++ rest
+    got : (s : Bytes) (y : B) (rest : Bytes) → mapped k p s ≡ some (y, rest) → v ++ s ≡ f y ++ rest
     got s y rest e =
         let m = mapSome-some (λ (x : A × Bytes). (k (x .0), x .1)) (p s) e in
         let same : k (m .0 .0) ≡ y = ap (λ (q : B × Bytes). q .0) (m .2) in

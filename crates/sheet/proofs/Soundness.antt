@@ -1,40 +1,38 @@
 -- Demand 3, from the bytes: what reading accepts is what the language's theorem asks, and the calls answer by its outcome. Assumes nothing.
 use mathlib.Core.Path.{_≡_, refl, sym, ap, _∙_, subst}
 use mathlib.Core.Logic.{_≢_}
-use mathlib.Core.Bool.{Bool, true, false, _||_}
+use mathlib.Core.Bool.{false}
 use mathlib.Core.Option.{Option, none, some, Option·some-injective}
-use mathlib.Core.List.{List, [], _∷_}
-use Prim.Native.Nat.{ℕ, _≤_, _<_}
+use mathlib.Core.List.{List, []}
+use Prim.Native.Nat.{ℕ, _≤_}
 use native.Mathlib.Omega.{arith}
 use native.Mathlib.Decide.{ℕ-discrete}
 use borrow.Author.Tests.{le-ltb}
-use lib.ListN.{length, getElem?, getD}
-use lib.Dec.{T, T-not, ltb}
+use lib.ListN.{length, getElem?}
+use lib.Dec.{T, T-not}
 use Rattle.laws.proofs.Tests.{by-if}
 use Rattle.laws.proofs.Lists.{each-at, member-exact}
 use Rattle.laws.proofs.Elements.{each-elem}
-use Rattle.laws.specs.Choice.{if_then_else_}
 use Rattle.ocl.specs.Types.{class, Ty}
-use Rattle.ocl.specs.Values.{Value}
-use Rattle.ocl.specs.Model.{Model, classBelow, isA, belongs}
+use Rattle.ocl.specs.Model.{Model, classIsA, isA}
 use Rattle.ocl.specs.Forms.{reach, numbers}
-use Rattle.ocl.specs.Typing.{Answer, typed, refused as untyped, typeRule, markOf}
+use Rattle.ocl.specs.Typing.{Answer, typed, refused, typeRule}
 use Rattle.ocl.specs.Environment.{start}
 use Rattle.ocl.specs.Types.{Class}
-use Rattle.ocl.specs.Evaluation.{Outcome, value, undefined, stuck, stop, evaluateRule}
+use Rattle.ocl.specs.Evaluation.{Outcome, value, undefined, stuck, stop}
 use Rattle.ocl.specs.Soundness.{stepsOf, Sound}
 use Rattle.ocl.proofs.Soundness.{soundness}
 use Rattle.ocl.proofs.Places.{typing-places}
-use Rattle.sheet.specs.Text.{Bytes, bytes}
-use Rattle.sheet.specs.Spelling.{readType, spellType, spellValue}
+use Rattle.sheet.specs.Text.{Bytes}
+use Rattle.sheet.specs.Spelling.{readType, spellType}
 use Rattle.sheet.specs.Sheet.{Rule, Sheet, modelOf}
-use Rattle.sheet.specs.Reading.{Reading, accepted, refused, readText}
+use Rattle.sheet.specs.Reading.{Reading, accepted, rejected, readText}
 use Rattle.sheet.specs.Calls.{Verdict, answer, refusalAt, refusal, shortWords, shortOutput, onSheet, readCall, onRule, typingOf, onType, typeOn, typeCall, onObject, outcomeOf, ended, evaluateOn, evaluateCall}
-use Rattle.sheet.specs.Soundness.{Lent, sheetFrom, sheetIn, ruleReach, reachOf, contextHas, ofContext, Ending, undefined-end, value-end, step-stop, size-stop, SoundCall, Demand3}
+use Rattle.sheet.specs.Soundness.{Lent, sheetFrom, sheetIn, ruleReach, reachOf, contextHas, ofContext, Ending, undefined-end, value-end, step-stop, size-stop, Demand3}
 use Rattle.sheet.specs.Laws.{ReadRefusal, long-sheet, at-line, TypeRefusals}
 use Rattle.sheet.proofs.Spelling.{type-back}
 use Rattle.sheet.proofs.Listed.{read-refusals}
-use Rattle.sheet.proofs.Good.{Good, RuleOk}
+use Rattle.sheet.proofs.Good.{Good}
 use Rattle.sheet.proofs.Acceptance.{accepted-good, good-model}
 
 -- ---- an outcome and what evaluate answers for it
@@ -46,7 +44,7 @@ module _ (m : Model) (t : Ty) (k : ℕ) where
 
   end-of : (o : Outcome) → Sound m t k o → Ending m t (ended o)
   unfolding ended
-  end-of (value v n) h = value-end v (h .of-type v n refl)
+  end-of (value v n) h = value-end v (h .of-type v n refl) (h .of-size v n refl) (h .in-range v n refl)
   end-of (undefined n) h = undefined-end
   end-of stuck h = absurd (h .not-stuck refl)
   end-of (stop c n) h = stop-end c n (h .known-stop c n refl) (ℕ-discrete c 16)
@@ -71,7 +69,8 @@ pub sound-rule : (s : Sheet) → Good s → (r o : ℕ) (x : Rule) (t : Ty) → 
     → T (isA (modelOf s) o (class (x .context))) → Sound (modelOf s) t (reach (x .body)) (outcomeOf s x o)
 unfolding typingOf outcomeOf
 sound-rule s g r o x t e h a =
-    soundness (modelOf s) (good-model s g) (x .body) (each-elem r (g .rules) e .distinct) (x .context) o t h a
+    let k = each-elem r (g .rules) e in
+    soundness (modelOf s) (good-model s g) (x .body) (k .distinct) (k .in-range) (x .context) o t h a
 
 -- ---- the calls, with every slice at its minimum or above
 
@@ -101,7 +100,7 @@ no-number : (n : ℕ) → 1 ≤ n → n ≡ 0 → ⊥
 no-number n h e = omega arith
 
 -- a reading whose call answers 0 is a sheet
-read-number : (text : Bytes) (n k : ℕ) → readText text ≡ refused n k → 1 ≤ n
+read-number : (text : Bytes) (n k : ℕ) → readText text ≡ rejected n k → 1 ≤ n
 read-number text n k e = by (read-refusals text n k e)
   where
     by : ReadRefusal text n k → 1 ≤ n
@@ -113,10 +112,10 @@ spellType-one : (t u : Ty) → spellType t ≡ spellType u → t ≡ u
 spellType-one t u e = Option·some-injective t u (sym (type-back t) ∙ ap readType e ∙ type-back u)
 
 -- the type that typing answers with
-type-answer : (s : Sheet) (a : Answer) (t : Ty) → ((n p : ℕ) → a ≡ untyped n p → 9 ≤ n) → onType s a (λ u. answer (spellType u)) ≡ answer (spellType t) → a ≡ typed t
+type-answer : (s : Sheet) (a : Answer) (t : Ty) → ((n p : ℕ) → a ≡ refused n p → 9 ≤ n) → onType s a (λ u. answer (spellType u)) ≡ answer (spellType t) → a ≡ typed t
 unfolding onType answer refusalAt
 type-answer s (typed u) t h e = ap typed (spellType-one u t (ap (λ (v : Verdict). v .output) e))
-type-answer s (untyped n p) t h e = absurd (no-number n (let k = h n p refl in omega arith) (ap (λ (v : Verdict). v .number) e))
+type-answer s (refused n p) t h e = absurd (no-number n (let k = h n p refl in omega arith) (ap (λ (v : Verdict). v .number) e))
 
 type-given : (s : Sheet) (x : Option Rule) (t : Ty) → onRule x (λ y. onType s (typingOf s y .answer) (λ u. answer (spellType u))) ≡ answer (spellType t)
     → (y : Rule) → x ≡ some y → typingOf s y .answer ≡ typed t
@@ -135,7 +134,7 @@ record SoundOn (s : Sheet) (x : Option Rule) (t : Ty) (v : Verdict) : Type 0 whe
 
 -- an object of the context class is there, so that evaluate answers by the outcome
 object-there : (m : Model) (d : Option ℕ) (o c : ℕ) (v : Verdict) → m .classOf o ≡ d → T (isA m o (class c)) → onObject m d o c v ≡ v
-unfolding onObject isA classBelow
+unfolding onObject isA classIsA
 object-there m none o c v e h = absurd (rw e at h)
 object-there m (some d) o c v e h = by-if (λ w. w ≡ v) (isA m o (class c)) v (refusal 15) (λ t. refl) (λ t. absurd (T-not (isA m o (class c)) t h))
 
@@ -159,7 +158,7 @@ sound-reading : (text : Bytes) (r o : ℕ) (t : Ty) (x : Reading) → readText t
     → SoundOn (sheetFrom x) (getElem? (sheetFrom x .rules) r) t (onSheet x (λ s. evaluateOn s r o))
 unfolding onSheet sheetFrom typeOn evaluateOn refusalAt
 sound-reading text r o t (accepted s) e q h c = sound-sheet s (accepted-good text s e) r o t (getElem? (s .rules) r) refl h c
-sound-reading text r o t (refused n k) e q h c = absurd (no-number n (read-number text n k e) q)
+sound-reading text r o t (rejected n k) e q h c = absurd (no-number n (read-number text n k e) q)
 
 pub demand3 : Demand3
 unfolding reachOf ofContext sheetIn

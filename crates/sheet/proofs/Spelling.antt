@@ -1,7 +1,7 @@
 -- Types and values are read back as they are written, and only so. Assumes nothing.
 use mathlib.Core.Path.{_≡_, refl, ap}
 use mathlib.Core.Logic.{_≢_}
-use mathlib.Core.Bool.{Bool, true, false}
+use mathlib.Core.Bool.{true, false}
 use mathlib.Core.Option.{some, Option·none-ne-some, Option·some-injective}
 use mathlib.Core.List.{[], _∷_, _++_, append-assoc}
 use Prim.Native.Nat.{ℕ, zero, suc, _≤_, _<_}
@@ -15,15 +15,15 @@ use Rattle.laws.specs.Lists.{Each, each-nil, each-cons}
 use Rattle.ocl.specs.Types.{any, boolean, class, Kind, set, sequence, bag, Letter, collection, exactly, Ty, void, simple, around, Any, Boolean, Integer, Class}
 use Rattle.ocl.specs.Types.{integer as integerType}
 use Rattle.ocl.specs.Values.{Value, bool, int, obj, coll, Values, nil, cons}
-use Rattle.sheet.specs.Text.{Bytes, byte, bytes, Parser, after, literal, behind, _or_, _then_, given, isDigit, digits, plain, number, minus, integer, spellNumber, spellInteger}
-use Rattle.sheet.specs.Spelling.{collectionType, typeWithin, readType, letterByte, spellSimple, spellType, valueWithin, membersWithin, moreWithin, readValue, kindByte, spellBool, spellValue, spellMembers, spellMore}
+use Rattle.sheet.specs.Text.{Bytes, byte, bytes, Parser, after, literal, behind, _or_, _then_, mapped, isDigit, digits, plain, numberParser, negative, integerParser, spellNumber, spellInteger}
+use Rattle.sheet.specs.Spelling.{collectionType, typeParser, readType, letterByte, spellSimple, spellType, valueParser, membersParser, moreParser, readValue, kindByte, spellBool, spellValue, spellMembers, spellMore}
 use Rattle.sheet.specs.SpellingLaws.{no-digit, SpellingLaws}
 use Rattle.sheet.proofs.Numbers.{decimal, digit-from, digit-to, spell-digits, digits-some, number-back, number-only}
-use Rattle.sheet.proofs.Parsers.{Reads, Halts, Begins, begins, begins-imp, other-byte, literal-reads, literal-misses, behind-reads, behind-misses, first-reads, second-reads, then-reads, given-reads, whole-reads, Spells, nothing-spells, literal-spells, behind-spells, or-spells, then-spells, given-spells, whole-spells}
+use Rattle.sheet.proofs.Parsers.{Reads, Halts, Begins, begins, begins-imp, other-byte, literal-reads, literal-misses, behind-reads, behind-misses, first-reads, second-reads, then-reads, mapped-reads, whole-reads, Spells, nothing-spells, literal-spells, behind-spells, or-spells, then-spells, mapped-spells, whole-spells}
 
 -- ---- numbers and Integers, read back
 
-pub number-reads : (n : ℕ) → Reads number (spellNumber n) n
+pub number-reads : (n : ℕ) → Reads numberParser (spellNumber n) n
 number-reads n = record { read = number-back n }
 
 -- a digit is first
@@ -40,15 +40,15 @@ unfolding spellInteger
 integer-begins (pos n) = begins-imp (λ b t. let p = digit-from b t in let q = digit-to b t in (omega arith, omega arith)) (number-begins n)
 integer-begins (negsuc n) = begins {b = 45} (omega arith, omega arith)
 
-negative-reads : (n : ℕ) → Reads (number then minus) (spellNumber (suc n)) (negsuc n)
-unfolding _then_ onSome minus
+negative-reads : (n : ℕ) → Reads (numberParser then negative) (spellNumber (suc n)) (negsuc n)
+unfolding _then_ onSome negative
 negative-reads n = record { read = λ rest st. rw (number-back (suc n) rest st) }
 
-pub integer-reads : (z : ℤ) → Reads integer (spellInteger z) z
-unfolding integer spellInteger bytes
+pub integer-reads : (z : ℤ) → Reads integerParser (spellInteger z) z
+unfolding integerParser spellInteger bytes
 integer-reads (pos n) =
     second-reads (behind-misses "-" _ (spellNumber n) (λ rest. other-byte [] rest (begins-imp (λ b t e. let p = digit-from b t in omega arith) (number-begins n))))
-    (given-reads pos (number-reads n))
+    (mapped-reads pos (number-reads n))
 integer-reads (negsuc n) = first-reads _ (behind-reads "-" (negative-reads n))
 
 -- ---- types, read back
@@ -59,22 +59,22 @@ unfolding bytes isDigit
 close-halts = record { halts = λ rest. no-digit tt }
 
 -- behind a letter and its bracket nothing but a collection type is read
-letter-first : (l : Letter) (n : ℕ) (s : Bytes) {x : Ty × Bytes} → (typeWithin n then (λ t. literal ")" (around l t))) s ≡ some x → typeWithin (suc n) (letterByte l ∷ byte "(" ∷ s) ≡ some x
-unfolding typeWithin collectionType letterByte bytes after literal behind _or_ _then_ orElse onSome mapSome
+letter-first : (l : Letter) (n : ℕ) (s : Bytes) {x : Ty × Bytes} → (typeParser n then (λ t. literal ")" (around l t))) s ≡ some x → typeParser (suc n) (letterByte l ∷ byte "(" ∷ s) ≡ some x
+unfolding typeParser collectionType letterByte bytes after literal behind _or_ _then_ orElse onSome mapSome
 letter-first collection n s e = e
 letter-first (exactly set) n s e = rw e
 letter-first (exactly sequence) n s e = rw e
 letter-first (exactly bag) n s e = rw e
 
-letter-reads : (l : Letter) (t : Ty) (n : ℕ) → Reads (typeWithin n) (spellType t) t → Reads (typeWithin (suc n)) (spellType (around l t)) (around l t)
+letter-reads : (l : Letter) (t : Ty) (n : ℕ) → Reads (typeParser n) (spellType t) t → Reads (typeParser (suc n)) (spellType (around l t)) (around l t)
 unfolding spellType
 letter-reads l t n r =
     let inside = then-reads (λ u. literal ")" (around l u)) r close-halts (literal-reads ")" (around l t)) in
     record { read = λ rest st. letter-first l n (spellType t ++ bytes ")" ++ rest) (inside .read rest st) }
 
 -- as many letters may be read as there are bytes
-type-reads : (t : Ty) (n : ℕ) → length (spellType t) ≤ n → Reads (typeWithin n) (spellType t) t
-unfolding typeWithin spellType spellSimple bytes after literal behind _or_ given orElse onSome mapSome
+type-reads : (t : Ty) (n : ℕ) → length (spellType t) ≤ n → Reads (typeParser n) (spellType t) t
+unfolding typeParser spellType spellSimple bytes after literal behind _or_ mapped orElse onSome mapSome
 type-reads void zero h = absurd (omega arith)
 type-reads void (suc n) h = record { read = λ rest st. refl }
 type-reads (simple any) zero h = absurd (omega arith)
@@ -98,24 +98,24 @@ type-back t = whole-reads (type-reads t (length (spellType t)) (omega arith))
 no-letter : (b : ℕ) → 57 < b → (z : ℤ) → Begins (λ c. b ≢ c) (spellInteger z)
 no-letter b l z = begins-imp (λ c h e. omega arith) (integer-begins z)
 
-integer-value-reads : (z : ℤ) (n : ℕ) → Reads (valueWithin (suc n)) (spellInteger z) (int z)
-unfolding valueWithin bytes
+integer-value-reads : (z : ℤ) (n : ℕ) → Reads (valueParser (suc n)) (spellInteger z) (int z)
+unfolding valueParser bytes
 integer-value-reads z n =
     second-reads (literal-misses "t" (bool true) (spellInteger z) (λ rest. other-byte [] rest (no-letter 116 (omega arith) z)))
     (second-reads (literal-misses "f" (bool false) (spellInteger z) (λ rest. other-byte [] rest (no-letter 102 (omega arith) z)))
-    (first-reads _ (given-reads int (integer-reads z))))
+    (first-reads _ (mapped-reads int (integer-reads z))))
 
 -- behind a letter and its bracket nothing but members are read
-kind-first : (k : Kind) (n : ℕ) (s : Bytes) {x : Value × Bytes} → given (coll k) (membersWithin n) s ≡ some x → valueWithin (suc n) (kindByte k ∷ byte "(" ∷ s) ≡ some x
-unfolding valueWithin kindByte letterByte bytes after literal behind _or_ given orElse onSome mapSome integer number digits plain isDigit
+kind-first : (k : Kind) (n : ℕ) (s : Bytes) {x : Value × Bytes} → mapped (coll k) (membersParser n) s ≡ some x → valueParser (suc n) (kindByte k ∷ byte "(" ∷ s) ≡ some x
+unfolding valueParser kindByte letterByte bytes after literal behind _or_ mapped orElse onSome mapSome integerParser numberParser digits plain isDigit
 kind-first set n s e = rw e
 kind-first sequence n s e = rw e
 kind-first bag n s e = e
 
-collection-reads : (k : Kind) (vs : Values) (n : ℕ) → Reads (membersWithin n) (spellMembers vs) vs → Reads (valueWithin (suc n)) (spellValue (coll k vs)) (coll k vs)
+collection-reads : (k : Kind) (vs : Values) (n : ℕ) → Reads (membersParser n) (spellMembers vs) vs → Reads (valueParser (suc n)) (spellValue (coll k vs)) (coll k vs)
 unfolding spellValue
 collection-reads k vs n r =
-    let inside = given-reads (coll k) r in
+    let inside = mapped-reads (coll k) r in
     record { read = λ rest st. kind-first k n (spellMembers vs ++ rest) (inside .read rest st) }
 
 -- a value does not begin with the bracket that ends its collection
@@ -151,24 +151,24 @@ unfolding spellMembers bytes
 members-long nil = omega arith
 members-long (cons v vs) = omega (arith, length-append (spellValue v) (spellMore vs), value-long v)
 
-member-reads : (n : ℕ) (v : Value) (vs : Values) → Reads (valueWithin n) (spellValue v) v → Reads (moreWithin n) (spellMore vs) vs → Reads (valueWithin n then (λ w. given (cons w) (moreWithin n))) (spellValue v ++ spellMore vs) (cons v vs)
-member-reads n v vs r s = then-reads (λ w. given (cons w) (moreWithin n)) r (more-halts vs) (given-reads (cons v) s)
+member-reads : (n : ℕ) (v : Value) (vs : Values) → Reads (valueParser n) (spellValue v) v → Reads (moreParser n) (spellMore vs) vs → Reads (valueParser n then (λ w. mapped (cons w) (moreParser n))) (spellValue v ++ spellMore vs) (cons v vs)
+member-reads n v vs r s = then-reads (λ w. mapped (cons w) (moreParser n)) r (more-halts vs) (mapped-reads (cons v) s)
 
-first-reads-member : (n : ℕ) (v : Value) (vs : Values) → Reads (valueWithin n) (spellValue v) v → Reads (moreWithin n) (spellMore vs) vs → Reads (membersWithin (suc n)) (spellMembers (cons v vs)) (cons v vs)
-unfolding membersWithin spellMembers bytes
+first-reads-member : (n : ℕ) (v : Value) (vs : Values) → Reads (valueParser n) (spellValue v) v → Reads (moreParser n) (spellMore vs) vs → Reads (membersParser (suc n)) (spellMembers (cons v vs)) (cons v vs)
+unfolding membersParser spellMembers bytes
 first-reads-member n v vs r s =
     second-reads (literal-misses ")" nil (spellValue v ++ spellMore vs) (λ rest. rw (append-assoc (spellValue v) (spellMore vs) rest) (other-byte [] (spellMore vs ++ rest) (no-bracket v))))
     (member-reads n v vs r s)
 
-next-reads-member : (n : ℕ) (v : Value) (vs : Values) → Reads (valueWithin n) (spellValue v) v → Reads (moreWithin n) (spellMore vs) vs → Reads (moreWithin (suc n)) (spellMore (cons v vs)) (cons v vs)
-unfolding moreWithin spellMore bytes after
+next-reads-member : (n : ℕ) (v : Value) (vs : Values) → Reads (valueParser n) (spellValue v) v → Reads (moreParser n) (spellMore vs) vs → Reads (moreParser (suc n)) (spellMore (cons v vs)) (cons v vs)
+unfolding moreParser spellMore bytes after
 next-reads-member n v vs r s = second-reads (literal-misses ")" nil (spellMore (cons v vs)) (λ rest. refl)) (behind-reads "," (member-reads n v vs r s))
 
 -- as many parts may be read as there are bytes
 mutual
-  unfolding valueWithin spellValue spellBool bytes after literal behind _or_ given orElse onSome mapSome integer number digits plain isDigit
+  unfolding valueParser spellValue spellBool bytes after literal behind _or_ mapped orElse onSome mapSome integerParser numberParser digits plain isDigit
 
-  value-reads : (n : ℕ) (v : Value) → length (spellValue v) ≤ n → Reads (valueWithin n) (spellValue v) v
+  value-reads : (n : ℕ) (v : Value) → length (spellValue v) ≤ n → Reads (valueParser n) (spellValue v) v
   value-reads zero v h = absurd (omega (arith, value-long v))
   value-reads (suc n) (bool true) h = record { read = λ rest st. refl }
   value-reads (suc n) (bool false) h = record { read = λ rest st. refl }
@@ -176,7 +176,7 @@ mutual
   value-reads (suc n) (obj o) h = record { read = λ rest st. rw (number-back o rest st) }
   value-reads (suc n) (coll k vs) h = collection-reads k vs n (members-read n vs (omega arith))
 
-  members-read : (n : ℕ) (vs : Values) → length (spellMembers vs) ≤ n → Reads (membersWithin n) (spellMembers vs) vs
+  members-read : (n : ℕ) (vs : Values) → length (spellMembers vs) ≤ n → Reads (membersParser n) (spellMembers vs) vs
   members-read zero vs h = absurd (omega (arith, members-long vs))
   members-read (suc n) nil h = record { read = λ rest st. refl }
   members-read (suc n) (cons v vs) h =
@@ -185,7 +185,7 @@ mutual
       let more = more-long vs in
       first-reads-member n v vs (value-reads n v (omega arith)) (more-read n vs (omega arith))
 
-  more-read : (n : ℕ) (vs : Values) → length (spellMore vs) ≤ n → Reads (moreWithin n) (spellMore vs) vs
+  more-read : (n : ℕ) (vs : Values) → length (spellMore vs) ≤ n → Reads (moreParser n) (spellMore vs) vs
   more-read zero vs h = absurd (omega (arith, more-long vs))
   more-read (suc n) nil h = record { read = λ rest st. refl }
   more-read (suc n) (cons v vs) h =
@@ -198,31 +198,31 @@ value-back v = whole-reads (value-reads (length (spellValue v)) v (omega arith))
 
 -- ---- nothing else is read
 
-number-spells : Spells [] number spellNumber
+number-spells : Spells [] numberParser spellNumber
 number-spells = record { spelled = number-only }
 
-minus-spells : (n : ℕ) → Spells (bytes "-" ++ spellNumber n) (minus n) spellInteger
-unfolding minus spellInteger bytes
+minus-spells : (n : ℕ) → Spells (bytes "-" ++ spellNumber n) (negative n) spellInteger
+unfolding negative spellInteger bytes
 minus-spells zero = record { spelled = λ s z rest e. absurd (Option·none-ne-some _ e) }
 minus-spells (suc n) = record { spelled = λ s z rest e. ap (λ (x : ℤ × Bytes). spellInteger (x .0) ++ x .1) (Option·some-injective _ _ e) }
 
-integer-spells : Spells [] integer spellInteger
-unfolding integer spellInteger
-integer-spells = or-spells (behind-spells "-" (then-spells number-spells minus-spells)) (given-spells pos number-spells (λ n. refl))
+integer-spells : Spells [] integerParser spellInteger
+unfolding integerParser spellInteger
+integer-spells = or-spells (behind-spells "-" (then-spells number-spells minus-spells)) (mapped-spells pos number-spells (λ n. refl))
 
 letter-spells : (w : String) (l : Letter) {p : Parser Ty} → Spells [] p spellType → ((t : Ty) → bytes w ++ spellType t ++ bytes ")" ≡ spellType (around l t)) → Spells [] (collectionType w l p) spellType
 unfolding collectionType
 letter-spells w l h e = behind-spells w (then-spells h (λ t. literal-spells ")" (around l t) (e t)))
 
-type-spells : (n : ℕ) → Spells [] (typeWithin n) spellType
-unfolding typeWithin spellType spellSimple letterByte bytes
+type-spells : (n : ℕ) → Spells [] (typeParser n) spellType
+unfolding typeParser spellType spellSimple letterByte bytes
 type-spells zero = nothing-spells
 type-spells (suc n) =
     or-spells (literal-spells "Void" void refl)
     (or-spells (literal-spells "Bool" Boolean refl)
     (or-spells (literal-spells "Int" Integer refl)
     (or-spells (literal-spells "Any" Any refl)
-    (or-spells (behind-spells "#" (given-spells Class number-spells (λ c. refl)))
+    (or-spells (behind-spells "#" (mapped-spells Class number-spells (λ c. refl)))
     (or-spells (letter-spells "S(" (exactly set) (type-spells n) (λ t. refl))
     (or-spells (letter-spells "Q(" (exactly sequence) (type-spells n) (λ t. refl))
     (or-spells (letter-spells "B(" (exactly bag) (type-spells n) (λ t. refl))
@@ -233,27 +233,27 @@ unfolding readType
 type-only f t e = whole-spells (type-spells (length f)) f t e
 
 mutual
-  unfolding valueWithin spellValue spellBool kindByte letterByte bytes
+  unfolding valueParser spellValue spellBool kindByte letterByte bytes
 
-  value-spells : (n : ℕ) → Spells [] (valueWithin n) spellValue
+  value-spells : (n : ℕ) → Spells [] (valueParser n) spellValue
   value-spells zero = nothing-spells
   value-spells (suc n) =
       or-spells (literal-spells "t" (bool true) refl)
       (or-spells (literal-spells "f" (bool false) refl)
-      (or-spells (given-spells int integer-spells (λ z. refl))
-      (or-spells (behind-spells "@" (given-spells obj number-spells (λ o. refl)))
-      (or-spells (behind-spells "S(" (given-spells (coll set) (members-spell n) (λ vs. refl)))
-      (or-spells (behind-spells "Q(" (given-spells (coll sequence) (members-spell n) (λ vs. refl)))
-      (behind-spells "B(" (given-spells (coll bag) (members-spell n) (λ vs. refl))))))))
+      (or-spells (mapped-spells int integer-spells (λ z. refl))
+      (or-spells (behind-spells "@" (mapped-spells obj number-spells (λ o. refl)))
+      (or-spells (behind-spells "S(" (mapped-spells (coll set) (members-spell n) (λ vs. refl)))
+      (or-spells (behind-spells "Q(" (mapped-spells (coll sequence) (members-spell n) (λ vs. refl)))
+      (behind-spells "B(" (mapped-spells (coll bag) (members-spell n) (λ vs. refl))))))))
 
-  members-spell : (n : ℕ) → Spells [] (membersWithin n) spellMembers
+  members-spell : (n : ℕ) → Spells [] (membersParser n) spellMembers
   members-spell zero = nothing-spells
-  members-spell (suc n) = or-spells (literal-spells ")" nil refl) (then-spells (value-spells n) (λ v. given-spells (cons v) (more-spell n) (λ vs. refl)))
+  members-spell (suc n) = or-spells (literal-spells ")" nil refl) (then-spells (value-spells n) (λ v. mapped-spells (cons v) (more-spell n) (λ vs. refl)))
 
-  more-spell : (n : ℕ) → Spells [] (moreWithin n) spellMore
+  more-spell : (n : ℕ) → Spells [] (moreParser n) spellMore
   more-spell zero = nothing-spells
   more-spell (suc n) =
-      or-spells (literal-spells ")" nil refl) (behind-spells "," (then-spells (value-spells n) (λ v. given-spells (cons v) (more-spell n) (λ vs. refl))))
+      or-spells (literal-spells ")" nil refl) (behind-spells "," (then-spells (value-spells n) (λ v. mapped-spells (cons v) (more-spell n) (λ vs. refl))))
 
 pub value-only : (f : Bytes) (v : Value) → readValue f ≡ some v → f ≡ spellValue v
 unfolding readValue

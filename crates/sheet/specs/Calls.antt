@@ -1,21 +1,19 @@
 -- Document 01, Calls: what read, type and evaluate answer, for all texts, numbers and lengths of what is lent.
-use Prim.Native.Nat.{ℕ, zero, suc}
-use mathlib.Core.Bool.{Bool, true, false, _||_}
+use Prim.Native.Nat.{ℕ}
+use mathlib.Core.Bool.{Bool, _||_}
 use mathlib.Core.Option.{Option, none, some}
-use mathlib.Core.List.{List, [], _∷_, _++_}
+use mathlib.Core.List.{List, [], _++_}
 use lib.ListN.{length, getD, getElem?, drop, replicate}
 use lib.Dec.{eqb, ltb}
 use Rattle.laws.specs.Choice.{if_then_else_}
 use Rattle.ocl.specs.Types.{class, Ty}
-use Rattle.ocl.specs.Values.{Value}
 use Rattle.ocl.specs.Model.{Model, isA}
-use Rattle.ocl.specs.Typing.{Answer, typed, Typed, typeRule, markOf}
-use Rattle.ocl.specs.Typing.{refused as untyped}
+use Rattle.ocl.specs.Typing.{Answer, typed, refused, Typed, typeRule, markOf}
 use Rattle.ocl.specs.Evaluation.{Outcome, value, undefined, stuck, stop, evaluateRule}
 use Rattle.sheet.specs.Text.{Bytes, bytes}
 use Rattle.sheet.specs.Spelling.{spellType, spellValue}
 use Rattle.sheet.specs.Sheet.{Rule, Sheet, modelOf}
-use Rattle.sheet.specs.Reading.{Reading, accepted, refused, readText}
+use Rattle.sheet.specs.Reading.{Reading, accepted, rejected, readText}
 
 -- what a call comes to: its number, steps and place, and the bytes that it writes, none where it refuses
 pub record Verdict : Type 0 where
@@ -60,7 +58,7 @@ shortOutput out = ltb (length out) 2048
 -- 2 to 8, or what follows for a sheet
 unfoldable pub onSheet : Reading → (Sheet → Verdict) → Verdict
 onSheet (accepted s) f = f s
-onSheet (refused n k) f = refusalAt n k
+onSheet (rejected n k) f = refusalAt n k
 
 unfoldable pub readCall : Bytes → List ℕ → List ℕ → List ℕ → Verdict
 readCall text w0 w1 w2 = if shortWords w0 w1 w2 then refusal 1 else onSheet (readText text) (λ s. answer [])
@@ -78,7 +76,7 @@ typingOf s r = typeRule (modelOf s) (r .context) (r .body)
 -- 9 to 13 at the node's line, or what follows for a type
 unfoldable pub onType : Sheet → Answer → (Ty → Verdict) → Verdict
 onType s (typed t) f = f t
-onType s (untyped n p) f = refusalAt n (getD (s .lines) p 0)
+onType s (refused n p) f = refusalAt n (getD (s .lines) p 0)
 
 unfoldable pub typeOn : Sheet → ℕ → Verdict
 typeOn s r = onRule (getElem? (s .rules) r) (λ x. onType s (typingOf s x .answer) (λ t. answer (spellType t)))

@@ -1,12 +1,10 @@
 -- Small sheets and what the program prints for each, as one table. Document 01's own sheet is the first.
 use mathlib.Core.Path.{_≡_}
-use mathlib.Core.List.{List, [], _∷_, _++_, map}
-use Prim.Native.Nat.{ℕ}
+use mathlib.Core.List.{List, [], _∷_, _++_}
 use Prim.Native.String.{String}
 use lib.Dec.{eqb}
 use Rattle.laws.specs.Choice.{if_then_else_}
-use Rattle.laws.specs.Lists.{concat}
-use Rattle.sheet.specs.Text.{Bytes, byte, bytes}
+use Rattle.sheet.specs.Text.{Bytes, bytes}
 use Rattle.sheet.specs.Report.{program}
 
 -- a space stands for the tab between two fields

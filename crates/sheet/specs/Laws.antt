@@ -1,17 +1,15 @@
 -- What is proved of reading and the calls, besides demand 3 (Soundness.antt): the statements. proofs/ has the proofs.
 use mathlib.Core.Path.{_≡_}
-use mathlib.Core.Logic.{_⊎_}
-use mathlib.Core.List.{List}
 use Prim.Native.Nat.{ℕ, _≤_, _<_}
 use lib.ListN.{length, getElem?}
 use lib.Dec.{T}
 use mathlib.Core.Option.{some}
 use Rattle.laws.specs.Lists.{member}
 use Rattle.ocl.specs.Forms.{numbers}
-use Rattle.ocl.specs.Typing.{refused as untyped}
+use Rattle.ocl.specs.Typing.{refused}
 use Rattle.sheet.specs.Text.{Bytes, linesOf}
 use Rattle.sheet.specs.Sheet.{Rule, Sheet}
-use Rattle.sheet.specs.Reading.{accepted, refused, readText}
+use Rattle.sheet.specs.Reading.{accepted, rejected, readText}
 use Rattle.sheet.specs.Calls.{typingOf}
 
 -- reading refuses with 2 and no place, or with 3 to 8 at a line of the text
@@ -20,7 +18,7 @@ pub data ReadRefusal (text : Bytes) (n k : ℕ) : Type 0 where
   at-line : 3 ≤ n → n ≤ 8 → 1 ≤ k → k ≤ length (linesOf text) → ReadRefusal text n k
 
 abbrev pub ReadRefusals : Type 0
-ReadRefusals = (text : Bytes) (n k : ℕ) → readText text ≡ refused n k → ReadRefusal text n k
+ReadRefusals = (text : Bytes) (n k : ℕ) → readText text ≡ rejected n k → ReadRefusal text n k
 
 -- typing a rule of an accepted sheet refuses with 9 to 13 at a node of that rule, which has a line
 pub record TypeRefusal (s : Sheet) (x : Rule) (n p : ℕ) : Type 0 where
@@ -32,4 +30,4 @@ pub record TypeRefusal (s : Sheet) (x : Rule) (n p : ℕ) : Type 0 where
 abbrev pub TypeRefusals : Type 0
 TypeRefusals =
     (text : Bytes) (s : Sheet) → readText text ≡ accepted s → (r : ℕ) (x : Rule) → getElem? (s .rules) r ≡ some x
-    → (n p : ℕ) → typingOf s x .answer ≡ untyped n p → TypeRefusal s x n p
+    → (n p : ℕ) → typingOf s x .answer ≡ refused n p → TypeRefusal s x n p

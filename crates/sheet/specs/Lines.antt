@@ -1,18 +1,17 @@
 -- Document 01, The sheet and The forms: a line's fields, as far as spelling, field count and words go. What is not a line
 -- here is refused with 3.
-use Prim.Native.Nat.{ℕ, zero, suc, _+_}
+use Prim.Native.Nat.{ℕ}
 use mathlib.Core.Bool.{Bool, true, false, _&&_}
 use mathlib.Core.Option.{Option, none, some}
-use mathlib.Core.List.{List, [], _∷_, _++_}
+use mathlib.Core.List.{List, [], _∷_}
 use lib.IntN.{ℤ}
 use lib.ListN.{length}
 use lib.Dec.{eqb, leb}
 use Rattle.laws.specs.Choice.{if_then_else_, onSome, mapSome}
 use Rattle.ocl.specs.Types.{Kind, set, sequence, bag, Ty}
 use Rattle.ocl.specs.Values.{Value}
-use Rattle.ocl.specs.Forms.{Arith, plus, minus, times, div, modulo, Connective, and, or, Quantifier, forAll, exists, Leaf, truth, undef, self, var, all, Unary, negation, sizeOf, convert, castTo, Binary, equal, less, arith, includes, including, union}
-use Rattle.ocl.specs.Forms.{number as literalInt}
-use Rattle.sheet.specs.Text.{Bytes, bytes, literal, given, whole, number, integer}
+use Rattle.ocl.specs.Forms.{plus, minus, times, div, modulo, Connective, and, or, Quantifier, forAll, exists, Leaf, truth, undef, number, self, var, all, Unary, negation, sizeOf, convert, castTo, Binary, equal, less, arith, includes, including, union}
+use Rattle.sheet.specs.Text.{Bytes, bytes, literal, whole, numberParser, integerParser}
 use Rattle.sheet.specs.Text.{_or_ as either}
 use Rattle.sheet.specs.Spelling.{readType, readValue}
 
@@ -64,10 +63,10 @@ each read [] = some []
 each read (f ∷ fs) = onSome (read f) (λ x. mapSome (λ xs. x ∷ xs) (each read fs))
 
 unfoldable pub aNumber : Bytes → Option ℕ
-aNumber f = whole number f
+aNumber f = whole numberParser f
 
 unfoldable pub anInteger : Bytes → Option ℤ
-anInteger f = whole integer f
+anInteger f = whole integerParser f
 
 -- `-` or a class
 unfoldable pub aParent : Bytes → Option (Option ℕ)
@@ -107,7 +106,7 @@ shapeOf w fs =
     if is w (bytes "true") then done (leaf (truth true)) fs
     else if is w (bytes "false") then done (leaf (truth false)) fs
     else if is w (bytes "undef") then done (leaf undef) fs
-    else if is w (bytes "int") then next anInteger (λ z. done (leaf (literalInt z))) fs
+    else if is w (bytes "int") then next anInteger (λ z. done (leaf (number z))) fs
     else if is w (bytes "self") then done (leaf self) fs
     else if is w (bytes "var") then next aNumber (λ i. done (leaf (var i))) fs
     else if is w (bytes "coll") then collectFields fs

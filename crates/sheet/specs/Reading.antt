@@ -1,10 +1,10 @@
 -- Document 01, The sheet and Calls: a text is read line by line, to a sheet or to a refusal with its number and line.
-use Prim.Native.Nat.{ℕ, zero, suc}
+use Prim.Native.Nat.{ℕ, suc}
 use mathlib.Core.Bool.{Bool, true, false}
 use mathlib.Core.Option.{Option, none, some}
 use mathlib.Core.List.{List, [], _∷_}
 use lib.ListN.{length}
-use lib.Dec.{eqb, ltb}
+use lib.Dec.{ltb}
 use Rattle.laws.specs.Choice.{if_then_else_}
 use Rattle.sheet.specs.Text.{Bytes, linesOf, fieldsOf}
 use Rattle.sheet.specs.Lines.{Line, lineOf, firstIsN}
@@ -13,7 +13,7 @@ use Rattle.sheet.specs.Refusals.{withinLimits, inOrder, partsKnown, suit
 
 -- one line: the sheet with it, or a refusal's number
 pub data Step : Type 0 where
-  next : Sheet → Step
+  taken : Sheet → Step
   refuse : ℕ → Step
 
 -- what must hold, the number where it does not, and what follows where it does
@@ -25,7 +25,7 @@ must false n x = refuse n
 unfoldable pub stepLine : Sheet → ℕ → Line → Step
 stepLine s k l =
     must (withinLimits s l) 4 (must (inOrder s l) 5 (must (partsKnown s l) 6 (must (suits s l) 7 (must (treeHolds s l) 8
-    (next (added s k l))))))
+    (taken (added s k l))))))
 
 -- 3 where the fields spell no line
 unfoldable pub stepSpelled : Sheet → ℕ → Option Line → Step
@@ -38,16 +38,16 @@ step s k fields = stepSpelled s k (lineOf fields)
 -- a whole text: a sheet, or a refusal's number and line
 pub data Reading : Type 0 where
   accepted : Sheet → Reading
-  refused : ℕ → ℕ → Reading
+  rejected : ℕ → ℕ → Reading
 
 -- after line k, whose refusal has that line as its place
 unfoldable pub onStep : Step → ℕ → (Sheet → Reading) → Reading
-onStep (next s) k f = f s
-onStep (refuse n) k f = refused n k
+onStep (taken s) k f = f s
+onStep (refuse n) k f = rejected n k
 
 -- a rule that ends badly is 8 at its last line, k
 unfoldable pub onEnd : Option Sheet → ℕ → (Sheet → Reading) → Reading
-onEnd none k f = refused 8 k
+onEnd none k f = rejected 8 k
 onEnd (some s) k f = f s
 
 -- before a line whose first field is not `N`, and at the text's end, an open rule ends; k lines stand before this one
@@ -57,7 +57,7 @@ closing s k fields f = if firstIsN fields then f s else onEnd (endRule s) k f
 -- the text's last part is empty, else it is a line without a line feed: 3
 unfoldable pub readLast : ℕ → Bytes → Sheet → Reading
 readLast k [] s = accepted s
-readLast k (b ∷ l) s = refused 3 (suc k)
+readLast k (b ∷ l) s = rejected 3 (suc k)
 
 -- the parts after k lines
 unfoldable pub readLines : Sheet → ℕ → List Bytes → Reading
@@ -67,4 +67,4 @@ readLines s k (l ∷ m ∷ ls) = closing s k (fieldsOf l) (λ t. onStep (step t 
 
 -- over 49,152 bytes are 2
 unfoldable pub readText : Bytes → Reading
-readText text = if ltb 49152 (length text) then refused 2 0 else readLines empty 0 (linesOf text)
+readText text = if ltb 49152 (length text) then rejected 2 0 else readLines empty 0 (linesOf text)

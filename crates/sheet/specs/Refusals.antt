@@ -1,16 +1,15 @@
 -- Document 01, Calls: when a well-spelled line is refused with 4, 5, 6, 7 or 8. Each test says what must hold.
-use Prim.Native.Nat.{ℕ, zero, suc, _+_, max, Ordering, Ordering·lt, Ordering·eq, Ordering·gt}
+use Prim.Native.Nat.{ℕ, suc, _+_, max, Ordering, Ordering·lt, Ordering·eq, Ordering·gt}
 use mathlib.Core.Bool.{Bool, true, false, not, _&&_, _||_}
 use mathlib.Core.Option.{Option, none, some}
-use mathlib.Core.List.{List, [], _∷_, _++_}
-use lib.ListN.{length, getD}
+use mathlib.Core.List.{List, [], _∷_}
+use lib.ListN.{length}
 use lib.Dec.{eqb, leb, ltb}
-use Rattle.laws.specs.Choice.{if_then_else_, onSome}
 use Rattle.laws.specs.Lists.{allOf, member}
-use Rattle.ocl.specs.Types.{Simple, any, boolean, integer, class, Kind, set, sequence, bag, Letter, Ty, void, simple, around, depth}
-use Rattle.ocl.specs.Values.{Value, bool, int, obj, coll, Values, nil, cons, size, order}
+use Rattle.ocl.specs.Types.{Simple, any, boolean, integer, class, Kind, set, sequence, bag, Ty, void, simple, around, depth}
+use Rattle.ocl.specs.Values.{Value, bool, int, obj, coll, Values, nil, cons, size, everyPart, order}
 use Rattle.ocl.specs.Evaluation.{inRange, isLess}
-use Rattle.ocl.specs.Model.{Row, Model, isA, belongs}
+use Rattle.ocl.specs.Model.{Row, isA, belongs}
 use Rattle.ocl.specs.Forms.{Leaf, truth, undef, number, self, var, all, Unary, negation, sizeOf, convert, castTo}
 use Rattle.sheet.specs.Lines.{Shape, leaf, unary, binary, connective, isUndef, conditional, letIn, attribute, quantified, iterate, collect, Line, classLine, rowLine, objectLine, valueLine, ruleLine, nodeLine}
 use Rattle.sheet.specs.Sheet.{Slot, Current, Sheet, modelOf, operandsOf}
@@ -28,18 +27,6 @@ unfoldable pub classBelow : ℕ → Ty → Bool
 classBelow n void = true
 classBelow n (simple a) = simpleClassBelow n a
 classBelow n (around l t) = classBelow n t
-
--- the test holds of each Integer and object in a value
-unfoldable mutual
-  pub everyPart : (Value → Bool) → Value → Bool
-  everyPart f (bool b) = f (bool b)
-  everyPart f (int z) = f (int z)
-  everyPart f (obj o) = f (obj o)
-  everyPart f (coll k vs) = everyParts f vs
-
-  pub everyParts : (Value → Bool) → Values → Bool
-  everyParts f nil = true
-  everyParts f (cons v vs) = everyPart f v && everyParts f vs
 
 -- an object's number is below n
 unfoldable pub objectBelow : ℕ → Value → Bool

@@ -1,14 +1,12 @@
 -- Document 01, Calls: the report's bytes, the report call, and what the program prints.
 use Prim.Native.Nat.{ℕ, zero, suc}
-use mathlib.Core.Bool.{Bool, true, false, _||_}
-use mathlib.Core.Option.{Option, none, some}
+use mathlib.Core.Bool.{_||_}
 use mathlib.Core.List.{List, [], _∷_, _++_}
 use lib.ListN.{length}
 use lib.Dec.{eqb, ltb}
 use Rattle.laws.specs.Choice.{if_then_else_}
-use Rattle.ocl.specs.Types.{class, Ty}
-use Rattle.ocl.specs.Model.{Model, isA}
-use Rattle.ocl.specs.Typing.{typed, Typed}
+use Rattle.ocl.specs.Types.{class}
+use Rattle.ocl.specs.Model.{isA}
 use Rattle.ocl.specs.Evaluation.{Outcome, value, undefined, stuck, stop}
 use Rattle.ocl.specs.Soundness.{stepsOf}
 use Rattle.sheet.specs.Text.{Bytes, byte, bytes, spellNumber}

@@ -1,13 +1,13 @@
 -- Document 01, The sheet: what the lines so far have put on it, and what a line adds.
 use Prim.Native.Nat.{ℕ, zero, suc, _+_, _-_}
-use mathlib.Core.Bool.{Bool, true, false, _&&_}
+use mathlib.Core.Bool.{Bool, true, _&&_}
 use mathlib.Core.Option.{Option, none, some}
 use mathlib.Core.List.{List, [], _∷_, _++_}
 use lib.ListN.{length, getD, getElem?}
 use lib.Dec.{eqb, leb}
 use Rattle.laws.specs.Choice.{if_then_else_, onSome}
 use Rattle.laws.specs.Lists.{member}
-use Rattle.ocl.specs.Types.{Ty, void}
+use Rattle.ocl.specs.Types.{void}
 use Rattle.ocl.specs.Values.{Value}
 use Rattle.ocl.specs.Model.{Row, Model}
 use Rattle.ocl.specs.Forms.{undef, Expr, node, Form, Operands, noOperand, operand, levels}

@@ -1,20 +1,21 @@
 -- Document 01, Evaluation, on demand 3: stated from the bytes, over what the calls answer.
 use mathlib.Core.Path.{_≡_}
 use mathlib.Core.Logic.{_≢_}
-use mathlib.Core.Bool.{Bool, true, false}
+use mathlib.Core.Bool.{Bool, false}
 use mathlib.Core.Option.{Option, none, some}
 use mathlib.Core.List.{List, []}
 use Prim.Native.Nat.{ℕ, _≤_}
 use lib.ListN.{length, getElem?}
 use lib.Dec.{T}
 use Rattle.ocl.specs.Types.{class, Ty}
-use Rattle.ocl.specs.Values.{Value}
+use Rattle.ocl.specs.Values.{Value, size}
 use Rattle.ocl.specs.Model.{Model, isA, belongs}
 use Rattle.ocl.specs.Forms.{reach}
+use Rattle.ocl.specs.Evaluation.{integersInRange}
 use Rattle.sheet.specs.Text.{Bytes, bytes}
 use Rattle.sheet.specs.Spelling.{spellType, spellValue}
 use Rattle.sheet.specs.Sheet.{Rule, Sheet, empty, modelOf}
-use Rattle.sheet.specs.Reading.{Reading, accepted, refused, readText}
+use Rattle.sheet.specs.Reading.{Reading, accepted, rejected, readText}
 use Rattle.sheet.specs.Calls.{Verdict, answer, readCall, typeCall, evaluateCall}
 
 -- every lent slice is at its minimum or above
@@ -27,7 +28,7 @@ pub record Lent (w0 w1 w2 : List ℕ) (out : Bytes) : Type 0 where
 -- the sheet of an accepted text; nothing is asked of another
 unfoldable pub sheetFrom : Reading → Sheet
 sheetFrom (accepted s) = s
-sheetFrom (refused n k) = empty
+sheetFrom (rejected n k) = empty
 
 unfoldable pub sheetIn : Bytes → Sheet
 sheetIn text = sheetFrom (readText text)
@@ -48,10 +49,12 @@ contextHas s (some x) o = isA (modelOf s) o (class (x .context))
 unfoldable pub ofContext : Bytes → ℕ → ℕ → Bool
 ofContext text r o = contextHas (sheetIn text) (getElem? (sheetIn text .rules) r) o
 
--- how evaluate may end for a rule of type t: undefined, a value of that type, the step stop, the size stop
+-- how evaluate may end for a rule of type t: undefined, a value of that type and of an allowed size whose Integers are in range, the
+-- step stop, the size stop
 pub data Ending (m : Model) (t : Ty) : Verdict → Type 0 where
   undefined-end : {n : ℕ} → Ending m t (record { number = 0; steps = n; place = 0; output = bytes "u" })
-  value-end : {n : ℕ} (v : Value) → T (belongs m t v) → Ending m t (record { number = 0; steps = n; place = 0; output = spellValue v })
+  value-end : {n : ℕ} (v : Value) → T (belongs m t v) → size v ≤ 128 → T (integersInRange v)
+      → Ending m t (record { number = 0; steps = n; place = 0; output = spellValue v })
   step-stop : {n : ℕ} → Ending m t (record { number = 16; steps = n; place = 0; output = [] })
   size-stop : {n : ℕ} → Ending m t (record { number = 17; steps = n; place = 0; output = [] })
 

@@ -3,14 +3,12 @@
 use Prim.Native.Nat.{ℕ, zero, suc}
 use Prim.Native.String.{String}
 use mathlib.Core.Bool.{Bool, true, false}
-use mathlib.Core.Option.{Option, none, some}
-use mathlib.Core.List.{List, [], _∷_, _++_}
-use lib.IntN.{ℤ}
+use mathlib.Core.Option.{Option}
+use mathlib.Core.List.{_∷_, _++_}
 use lib.ListN.{length}
 use Rattle.ocl.specs.Types.{Simple, any, boolean, integer, class, Kind, set, sequence, bag, Letter, collection, exactly, Ty, void, simple, around, Any, Boolean, Integer, Class}
 use Rattle.ocl.specs.Values.{Value, bool, int, obj, coll, Values, nil, cons}
-use Rattle.sheet.specs.Text.{Bytes, byte, bytes, Parser, nothing, literal, behind, _or_, _then_, given, whole, number, spellNumber, spellInteger}
-use Rattle.sheet.specs.Text.{integer as integerParser}
+use Rattle.sheet.specs.Text.{Bytes, byte, bytes, Parser, nothing, literal, behind, _or_, _then_, mapped, whole, numberParser, integerParser, spellNumber, spellInteger}
 
 -- ---- types
 
@@ -18,23 +16,23 @@ use Rattle.sheet.specs.Text.{integer as integerParser}
 unfoldable pub collectionType : String → Letter → Parser Ty → Parser Ty
 collectionType w l p = behind w (p then (λ t. literal ")" (around l t)))
 
--- a type with at most n letters around one another
-unfoldable pub typeWithin : ℕ → Parser Ty
-typeWithin zero = nothing
-typeWithin (suc n) =
+-- a type with fewer than n letters around one another
+unfoldable pub typeParser : ℕ → Parser Ty
+typeParser zero = nothing
+typeParser (suc n) =
     literal "Void" void
     or literal "Bool" Boolean
     or literal "Int" Integer
     or literal "Any" Any
-    or behind "#" (given Class number)
-    or collectionType "S(" (exactly set) (typeWithin n)
-    or collectionType "Q(" (exactly sequence) (typeWithin n)
-    or collectionType "B(" (exactly bag) (typeWithin n)
-    or collectionType "C(" collection (typeWithin n)
+    or behind "#" (mapped Class numberParser)
+    or collectionType "S(" (exactly set) (typeParser n)
+    or collectionType "Q(" (exactly sequence) (typeParser n)
+    or collectionType "B(" (exactly bag) (typeParser n)
+    or collectionType "C(" collection (typeParser n)
 
 -- a field that spells a type; it has fewer letters than bytes
 unfoldable pub readType : Bytes → Option Ty
-readType f = whole (typeWithin (length f)) f
+readType f = whole (typeParser (length f)) f
 
 unfoldable pub letterByte : Letter → ℕ
 letterByte collection = byte "C"
@@ -57,28 +55,28 @@ spellType (around l t) = letterByte l ∷ byte "(" ∷ spellType t ++ bytes ")"
 
 -- a value, a collection's members after its bracket, and those after a member, in at most n parts
 unfoldable mutual
-  pub valueWithin : ℕ → Parser Value
-  valueWithin zero = nothing
-  valueWithin (suc n) =
+  pub valueParser : ℕ → Parser Value
+  valueParser zero = nothing
+  valueParser (suc n) =
       literal "t" (bool true)
       or literal "f" (bool false)
-      or given int integerParser
-      or behind "@" (given obj number)
-      or behind "S(" (given (coll set) (membersWithin n))
-      or behind "Q(" (given (coll sequence) (membersWithin n))
-      or behind "B(" (given (coll bag) (membersWithin n))
+      or mapped int integerParser
+      or behind "@" (mapped obj numberParser)
+      or behind "S(" (mapped (coll set) (membersParser n))
+      or behind "Q(" (mapped (coll sequence) (membersParser n))
+      or behind "B(" (mapped (coll bag) (membersParser n))
 
-  pub membersWithin : ℕ → Parser Values
-  membersWithin zero = nothing
-  membersWithin (suc n) = literal ")" nil or (valueWithin n then (λ v. given (cons v) (moreWithin n)))
+  pub membersParser : ℕ → Parser Values
+  membersParser zero = nothing
+  membersParser (suc n) = literal ")" nil or (valueParser n then (λ v. mapped (cons v) (moreParser n)))
 
-  pub moreWithin : ℕ → Parser Values
-  moreWithin zero = nothing
-  moreWithin (suc n) = literal ")" nil or behind "," (valueWithin n then (λ v. given (cons v) (moreWithin n)))
+  pub moreParser : ℕ → Parser Values
+  moreParser zero = nothing
+  moreParser (suc n) = literal ")" nil or behind "," (valueParser n then (λ v. mapped (cons v) (moreParser n)))
 
 -- a field that spells a value; it has fewer parts than bytes
 unfoldable pub readValue : Bytes → Option Value
-readValue f = whole (valueWithin (length f)) f
+readValue f = whole (valueParser (length f)) f
 
 unfoldable pub kindByte : Kind → ℕ
 kindByte k = letterByte (exactly k)

@@ -11,11 +11,11 @@ use lib.ListN.{length}
 use lib.Dec.{T}
 use Rattle.laws.specs.Lists.{Each}
 use Rattle.ocl.specs.Types.{Ty, depth}
-use Rattle.ocl.specs.Values.{Value, size}
+use Rattle.ocl.specs.Values.{Value, size, everyPart}
 use Rattle.ocl.specs.Evaluation.{inRange}
-use Rattle.sheet.specs.Text.{Bytes, split, Parser, whole, isDigit, plain, number, integer, spellNumber, spellInteger}
+use Rattle.sheet.specs.Text.{Bytes, split, Parser, whole, isDigit, plain, numberParser, integerParser, spellNumber, spellInteger}
 use Rattle.sheet.specs.Spelling.{readType, spellType, readValue, spellValue}
-use Rattle.sheet.specs.Refusals.{classBelow, everyPart, partWithin}
+use Rattle.sheet.specs.Refusals.{classBelow, partWithin}
 
 -- ---- one spelling for each number, type and value
 
@@ -41,10 +41,10 @@ pub record OneSpellingInFront {A : Type 0} (p : Parser A) (spell : A → Bytes) 
 
 pub record SpellingLaws : Type 0 where
   pub decimal : (n : ℕ) → Decimal (spellNumber n)
-  pub numbers : OneSpelling (whole number) spellNumber
-  pub numbers-in-front : OneSpellingInFront number spellNumber
-  pub integers : OneSpelling (whole integer) spellInteger
-  pub integers-in-front : OneSpellingInFront integer spellInteger
+  pub numbers : OneSpelling (whole numberParser) spellNumber
+  pub numbers-in-front : OneSpellingInFront numberParser spellNumber
+  pub integers : OneSpelling (whole integerParser) spellInteger
+  pub integers-in-front : OneSpellingInFront integerParser spellInteger
   -- whatever the nesting
   pub types : OneSpelling readType spellType
   pub values : OneSpelling readValue spellValue

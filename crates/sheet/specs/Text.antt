@@ -72,8 +72,8 @@ unfoldable pub _then_ : {A B : Type 0} → Parser A → (A → Parser B) → Par
 _then_ p k s = onSome (p s) (λ x. k (x .0) (x .1))
 
 -- what was read, changed
-unfoldable pub given : {A B : Type 0} → (A → B) → Parser A → Parser B
-given f p s = mapSome (λ x. (f (x .0), x .1)) (p s)
+unfoldable pub mapped : {A B : Type 0} → (A → B) → Parser A → Parser B
+mapped f p s = mapSome (λ x. (f (x .0), x .1)) (p s)
 
 -- the whole of a field is read
 unfoldable pub atEnd : {A : Type 0} → A → Bytes → Option A
@@ -109,17 +109,17 @@ valueOfDigits n [] = n
 valueOfDigits n (b ∷ s) = valueOfDigits (n * 10 + (b - 48)) s
 
 -- a number of any length
-unfoldable pub number : Parser ℕ
-number s = if plain (digits s) then some (valueOfDigits 0 (digits s), afterDigits s) else none
+unfoldable pub numberParser : Parser ℕ
+numberParser s = if plain (digits s) then some (valueOfDigits 0 (digits s), afterDigits s) else none
 
 -- the Integer -n, which 0 is not spelled as
-unfoldable pub minus : ℕ → Parser ℤ
-minus zero s = none
-minus (suc n) s = some (negsuc n, s)
+unfoldable pub negative : ℕ → Parser ℤ
+negative zero s = none
+negative (suc n) s = some (negsuc n, s)
 
 -- an Integer of any length
-unfoldable pub integer : Parser ℤ
-integer = behind "-" (number then minus) or given pos number
+unfoldable pub integerParser : Parser ℤ
+integerParser = behind "-" (numberParser then negative) or mapped pos numberParser
 
 -- ---- writing numbers
 

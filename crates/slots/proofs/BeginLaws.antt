@@ -8,10 +8,10 @@ use lib.ListN.{length, drop}
 use Rattle.laws.specs.Lists.{each-nil, each-cons}
 use Rattle.laws.proofs.Options.{onSome-some}
 use Rattle.ocl.specs.Types.{Kind}
-use Rattle.ocl.specs.Values.{Value, coll, nil, size}
+use Rattle.ocl.specs.Values.{Value, coll, nil, size, everyPart}
 use Rattle.sheet.specs.Text.{Bytes, whole}
-use Rattle.sheet.specs.Spelling.{valueWithin, membersWithin, readValue}
-use Rattle.sheet.specs.Refusals.{everyPart, partWithin, nesting}
+use Rattle.sheet.specs.Spelling.{valueParser, membersParser, readValue}
+use Rattle.sheet.specs.Refusals.{partWithin, nesting}
 use Rattle.values.specs.Cells.{head, enc}
 use Rattle.slots.specs.declared.parts.Part.the-variants as part
 use Rattle.slots.specs.declared.reader.Open.{Open}
@@ -60,8 +60,8 @@ deep-by {f} {fs} u s e h = record {
 deep-open : {f : Bytes} {fs : List Frame} (n : ℕ) (k : Kind) (s : Bytes) → readValue f ≡ enter n k fs s → Deep f fs 1
 unfolding size nesting
 deep-open {f} {fs} n k s e = record {
-  wide = λ v g. let m = onSome-some (membersWithin n s) _ (sym e ∙ g) in let b = resumed fs (coll k (m .0 .0)) (m .0 .1) (m .2) .wide in omega arith;
-  deep = λ v g. let m = onSome-some (membersWithin n s) _ (sym e ∙ g) in let b = resumed fs (coll k (m .0 .0)) (m .0 .1) (m .2) .deep in omega arith;
+  wide = λ v g. let m = onSome-some (membersParser n s) _ (sym e ∙ g) in let b = resumed fs (coll k (m .0 .0)) (m .0 .1) (m .2) .wide in omega arith;
+  deep = λ v g. let m = onSome-some (membersParser n s) _ (sym e ∙ g) in let b = resumed fs (coll k (m .0 .0)) (m .0 .1) (m .2) .deep in omega arith;
 }
 
 module _ {f : Bytes} {A : List ℕ} {at : ℕ} {o : Open} (w : Wanted f A at o) (h : at < length f) where
@@ -69,11 +69,11 @@ module _ {f : Bytes} {A : List ℕ} {at : ℕ} {o : Open} (w : Wanted f A at o) 
   wanted-parts = some-parts (w .parts) (let l = w .left in omega arith)
 
   pub begin-bad : PartIs f at part.Bad → readValue f ≡ none
-  begin-bad (part-bad q n) = let m = wanted-parts in w .same ∙ start-none (w .parts) (w .frames) (drop at f) (ap (λ (k : ℕ). valueWithin k (drop at f)) (m .1) ∙ n (m .0))
+  begin-bad (part-bad q n) = let m = wanted-parts in w .same ∙ start-none (w .parts) (w .frames) (drop at f) (ap (λ (k : ℕ). valueParser k (drop at f)) (m .1) ∙ n (m .0))
   begin-bad (part-opens k q l n) = absurd (let z : _≡_ {A = ℕ} 0 1 = cc in omega arith)
 
-  read-to : {v : Value} {r : Bytes} → ((n : ℕ) → valueWithin (suc n) (drop at f) ≡ some (v, r)) → readValue f ≡ resume (w .frames) v r
-  read-to n = let m = wanted-parts in w .same ∙ start-alone (w .parts) (w .frames) (drop at f) (ap (λ (k : ℕ). valueWithin k (drop at f)) (m .1) ∙ n (m .0))
+  read-to : {v : Value} {r : Bytes} → ((n : ℕ) → valueParser (suc n) (drop at f) ≡ some (v, r)) → readValue f ≡ resume (w .frames) v r
+  read-to n = let m = wanted-parts in w .same ∙ start-alone (w .parts) (w .frames) (drop at f) (ap (λ (k : ℕ). valueParser k (drop at f)) (m .1) ∙ n (m .0))
 
   pub begin-simple : {c e : ℕ} {B : List ℕ} {s : Open} → PartIs f at (part.Simple c e) → AddsCell c A o B s → Ending f B e s
   begin-simple (part-bad q n) a = absurd (let z : _≡_ {A = ℕ} 0 1 = cc in omega arith)
@@ -114,7 +114,7 @@ module _ {f : Bytes} {A : List ℕ} {at : ℕ} {o : Open} (w : Wanted f A at o) 
       let m = wanted-parts in
       let x = some-parts (m .0) (let y = w .left in let z = m .1 in omega arith) in
       let same : readValue f ≡ enter (m .0) k (w .frames) (drop (at + 2) f) =
-      w .same ∙ start-opens (w .parts) (w .frames) (drop at f) (m .0) k (drop (at + 2) f) (ap (λ (i : ℕ). valueWithin i (drop at f)) (m .1) ∙ n (m .0)) in
+      w .same ∙ start-opens (w .parts) (w .frames) (drop at f) (m .0) k (drop (at + 2) f) (ap (λ (i : ℕ). valueParser i (drop at f)) (m .1) ∙ n (m .0)) in
       let end : at + 2 ≡ e = cc in
       let cell : c ≡ head (coll k nil) = cc in
       let t = later {to = at + 2} (omega arith) l (w .enough) in

@@ -12,9 +12,9 @@ use lib.Dec.{eqb, leb}
 use borrow.Author.Tests.{eq-eqb, ne-eqb, leb-true, leb-false, eqb-true, eqb-false}
 use Rattle.laws.specs.Choice.{if_then_else_}
 use Rattle.ocl.specs.Types.{Kind}
-use Rattle.ocl.specs.Values.{Value, coll, nil, size}
+use Rattle.ocl.specs.Values.{Value, coll, nil, size, everyParts}
 use Rattle.sheet.specs.Text.{Bytes}
-use Rattle.sheet.specs.Refusals.{everyParts, nestings}
+use Rattle.sheet.specs.Refusals.{nestings}
 use Rattle.values.specs.Cells.{head, enc, encs}
 use Rattle.slots.specs.declared.reader.Open.{Open}
 use Rattle.slots.specs.Machine.{mayBe, Frame, laid, headAt, beyond, Heads, heads-nil, heads-cons, Never, Deep, sound-cons, Lies, Sure, AddsCell, OpensCell}

@@ -11,7 +11,7 @@ use borrow.Author.Tests.{ne-eqb, eqb-true}
 use Rattle.laws.specs.Choice.{if_then_else_}
 use Rattle.laws.proofs.Elements.{elem-some, elem-none}
 use Rattle.ocl.specs.Types.{Simple, any, boolean, integer, class, Parents, parentOr, up, height, simpleCode, sameSimple, climbs, simpleSubtype}
-use Rattle.ocl.specs.Model.{classBelow, isA}
+use Rattle.ocl.specs.Model.{classIsA, isA}
 use Rattle.tables.specs.Layout.{parentCode}
 use Rattle.slots.specs.Suits.{simpleBy, parentsOf, ClimbsIs, ObjectSuits}
 
@@ -111,19 +111,19 @@ module _ {parents : List ℕ} {c tag d x left : ℕ} (C : Climbing parents c tag
 
 module _ {parents objects : List ℕ} {o at : ℕ} (tag d : ℕ) (e : at ≡ o) where
   pub object-there : {r : Bool} → at < length objects → ClimbsIs parents (getD objects at 0) tag d r → ObjectSuits parents objects o tag d r
-  unfolding isA classBelow
+  unfolding isA classIsA
   object-there h c = record {
     is = λ m sn.
         c .is (sn .list) (sn .words)
-        ∙ sym (ap (λ (f : ℕ → Option ℕ). classBelow (m .parent) (f o) (simpleBy tag d)) (sn .classOf)
-        ∙ ap (λ (q : Option ℕ). classBelow (m .parent) q (simpleBy tag d)) (ap (getElem? objects) (sym e) ∙ elem-some objects at 0 h)
+        ∙ sym (ap (λ (f : ℕ → Option ℕ). classIsA (m .parent) (f o) (simpleBy tag d)) (sn .classOf)
+        ∙ ap (λ (q : Option ℕ). classIsA (m .parent) q (simpleBy tag d)) (ap (getElem? objects) (sym e) ∙ elem-some objects at 0 h)
         ∙ ap (λ (p : Parents). simpleSubtype p (class (getD objects at 0)) (simpleBy tag d)) (sn .parent));
   }
 
   pub object-gone : length objects ≤ at → ObjectSuits parents objects o tag d false
-  unfolding isA classBelow
+  unfolding isA classIsA
   object-gone h = record {
     is = λ m sn.
-        sym (ap (λ (f : ℕ → Option ℕ). classBelow (m .parent) (f o) (simpleBy tag d)) (sn .classOf)
-        ∙ ap (λ (q : Option ℕ). classBelow (m .parent) q (simpleBy tag d)) (ap (getElem? objects) (sym e) ∙ elem-none objects at h));
+        sym (ap (λ (f : ℕ → Option ℕ). classIsA (m .parent) (f o) (simpleBy tag d)) (sn .classOf)
+        ∙ ap (λ (q : Option ℕ). classIsA (m .parent) q (simpleBy tag d)) (ap (getElem? objects) (sym e) ∙ elem-none objects at h));
   }

@@ -9,10 +9,10 @@ use lib.Seq.{take-set-lt, set-at, getD-take, getD-append-add}
 use borrow.Author.Tests.{ne-eqb}
 use Rattle.ocl.specs.Types.{Kind, kindCode}
 use Rattle.ocl.specs.Types.{set as setKind, sequence, bag}
-use Rattle.ocl.specs.Values.{Value, coll, Values, size, sizes, count, append}
+use Rattle.ocl.specs.Values.{Value, coll, Values, size, sizes, count, append, everyPart, everyParts}
 use Rattle.ocl.proofs.Values.{count-sizes}
 use Rattle.sheet.specs.Text.{Bytes}
-use Rattle.sheet.specs.Refusals.{everyPart, everyParts, partWithin, nesting, nestings}
+use Rattle.sheet.specs.Refusals.{partWithin, nesting, nestings}
 use Rattle.values.specs.Cells.{head, enc, encs}
 use Rattle.values.proofs.Heads.{head-coll}
 use Rattle.values.proofs.Encoding.{size-law}

@@ -6,9 +6,9 @@ use native.Mathlib.Omega.{arith}
 use lib.Dec.{T, leb, leb→le}
 use borrow.Author.Tests.{le-leb}
 use Rattle.laws.proofs.Tests.{and-l, and-r, test-fails}
-use Rattle.ocl.specs.Values.{Value, bool, int, obj, coll, Values, nil, cons, size, sizes, count}
+use Rattle.ocl.specs.Values.{Value, bool, int, obj, coll, Values, nil, cons, size, sizes, count, everyPart, everyParts}
 use Rattle.ocl.proofs.Values.{count-sizes}
-use Rattle.sheet.specs.Refusals.{everyPart, everyParts, partWithin, nesting}
+use Rattle.sheet.specs.Refusals.{partWithin, nesting}
 use Rattle.sheet.specs.Refusals.{valueWithin as withinLimits}
 use Rattle.values.specs.Cells.{Fits, fits-bool, fits-int, fits-obj, fits-coll, AllFit, fit-nil, fit-cons}
 use lib.Dec.{ltb→lt}

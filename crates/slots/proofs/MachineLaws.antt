@@ -10,10 +10,10 @@ use borrow.Author.Tests.{ne-eqb}
 use Rattle.laws.specs.Choice.{orElse, onSome, mapSome}
 use Rattle.laws.proofs.Options.{onSome-some}
 use Rattle.ocl.specs.Types.{Kind}
-use Rattle.ocl.specs.Values.{Value, coll, Values, nil, cons, size, sizes, append}
-use Rattle.sheet.specs.Text.{Bytes, bytes, after, literal, behind, _or_, _then_, given, nothing, atEnd, number, integer, digits, plain}
-use Rattle.sheet.specs.Spelling.{valueWithin, membersWithin, moreWithin}
-use Rattle.sheet.specs.Refusals.{everyPart, everyParts, partWithin, nesting, nestings}
+use Rattle.ocl.specs.Values.{Value, coll, Values, nil, cons, size, sizes, append, everyPart, everyParts}
+use Rattle.sheet.specs.Text.{Bytes, bytes, after, literal, behind, _or_, _then_, mapped, nothing, atEnd, numberParser, integerParser, digits, plain}
+use Rattle.sheet.specs.Spelling.{valueParser, membersParser, moreParser}
+use Rattle.sheet.specs.Refusals.{partWithin, nesting, nestings}
 use Rattle.values.specs.Cells.{enc}
 use Rattle.values.proofs.Encoding.{size-law}
 use Rattle.values.proofs.Growing.{append-grows}
@@ -36,8 +36,8 @@ glue-nil (cons u us) = ap (cons u) (glue-nil us)
 abbrev frame : Kind → Values → ℕ → Frame
 frame k us m = record { kind = k; inside = us; parts = m }
 
-value-nil : (n : ℕ) → valueWithin n [] ≡ none
-unfolding valueWithin bytes after literal behind _or_ given nothing orElse onSome mapSome integer number digits plain
+value-nil : (n : ℕ) → valueParser n [] ≡ none
+unfolding valueParser bytes after literal behind _or_ mapped nothing orElse onSome mapSome integerParser numberParser digits plain
 value-nil zero = refl
 value-nil (suc n) = refl
 
@@ -46,28 +46,28 @@ unfolding onSome
 start-end n fs = rw (value-nil n)
 
 pub enter-end : (n : ℕ) (k : Kind) (fs : List Frame) → enter (suc n) k fs [] ≡ none
-unfolding membersWithin bytes after literal _or_ _then_ orElse onSome mapSome
+unfolding membersParser bytes after literal _or_ _then_ orElse onSome mapSome
 enter-end n k fs = rw (value-nil n)
 
 pub among-end : (x : Frame) (fs : List Frame) → among x fs [] ≡ none
-unfolding moreWithin bytes after literal behind _or_ nothing orElse onSome mapSome
+unfolding moreParser bytes after literal behind _or_ nothing orElse onSome mapSome
 among-end x fs = go (x .parts)
   where
     go : (m : ℕ) → among (frame (x .kind) (x .inside) m) fs [] ≡ none
     go zero = refl
     go (suc m) = refl
 
-pub start-alone : (n : ℕ) (fs : List Frame) (s : Bytes) {v : Value} {r : Bytes} → valueWithin n s ≡ some (v, r) → start n fs s ≡ resume fs v r
+pub start-alone : (n : ℕ) (fs : List Frame) (s : Bytes) {v : Value} {r : Bytes} → valueParser n s ≡ some (v, r) → start n fs s ≡ resume fs v r
 unfolding onSome
 start-alone n fs s e = rw e
 
-pub start-none : (n : ℕ) (fs : List Frame) (s : Bytes) → valueWithin n s ≡ none → start n fs s ≡ none
+pub start-none : (n : ℕ) (fs : List Frame) (s : Bytes) → valueParser n s ≡ none → start n fs s ≡ none
 unfolding onSome
 start-none n fs s e = rw e
 
-pub start-opens : (n : ℕ) (fs : List Frame) (s : Bytes) (m : ℕ) (k : Kind) (r : Bytes) → valueWithin n s ≡ given (coll k) (membersWithin m) r → start n fs s ≡ enter m k fs r
-unfolding onSome given mapSome
-start-opens n fs s m k r e = rw e (go (membersWithin m r))
+pub start-opens : (n : ℕ) (fs : List Frame) (s : Bytes) (m : ℕ) (k : Kind) (r : Bytes) → valueParser n s ≡ mapped (coll k) (membersParser m) r → start n fs s ≡ enter m k fs r
+unfolding onSome mapped mapSome
+start-opens n fs s m k r e = rw e (go (membersParser m r))
   where
     go : (o : Option (Values × Bytes)) → onSome {B = Value} (mapSome {B = Value × Bytes} (λ x. (coll k (x .0), x .1)) o) (λ x. resume fs (x .0) (x .1)) ≡ onSome o (λ y. resume fs (coll k (y .0)) (y .1))
     go none = refl
@@ -80,33 +80,33 @@ module _ (k : Kind) (us : Values) (fs : List Frame) (m : ℕ) where
   joins v none = refl
   joins v (some y) = ap (λ (l : Values). resume fs (coll k l) (y .1)) (sym (glue-append v us (y .0)))
 
-  member : (o : Option (Value × Bytes)) → onSome {B = Value} (onSome {B = Values × Bytes} o (λ x. mapSome (λ y. (cons (x .0) (y .0), y .1)) (moreWithin m (x .1)))) (λ y. resume fs (coll k (glue us (y .0))) (y .1)) ≡ onSome o (λ x. resume (frame k us m ∷ fs) (x .0) (x .1))
+  member : (o : Option (Value × Bytes)) → onSome {B = Value} (onSome {B = Values × Bytes} o (λ x. mapSome (λ y. (cons (x .0) (y .0), y .1)) (moreParser m (x .1)))) (λ y. resume fs (coll k (glue us (y .0))) (y .1)) ≡ onSome o (λ x. resume (frame k us m ∷ fs) (x .0) (x .1))
   unfolding onSome resume
   member none = refl
-  member (some x) = joins (x .0) (moreWithin m (x .1))
+  member (some x) = joins (x .0) (moreParser m (x .1))
 
   comma : (s : Bytes) → among (frame k us (suc m)) fs (44 ∷ s) ≡ start m (frame k us m ∷ fs) s
-  unfolding moreWithin bytes after literal behind _or_ _then_ given orElse onSome mapSome
-  comma s = member (valueWithin m s)
+  unfolding moreParser bytes after literal behind _or_ _then_ mapped orElse onSome mapSome
+  comma s = member (valueParser m s)
 
   pub close : (s : Bytes) → among (frame k us (suc m)) fs (41 ∷ s) ≡ resume fs (coll k us) s
-  unfolding moreWithin bytes after literal _or_ orElse onSome mapSome
+  unfolding moreParser bytes after literal _or_ orElse onSome mapSome
   close s = ap (λ (l : Values). resume fs (coll k l) s) (glue-nil us)
 
   pub other : (b : ℕ) (s : Bytes) → (b ≡ 41 → ⊥) → (b ≡ 44 → ⊥) → among (frame k us (suc m)) fs (b ∷ s) ≡ none
-  unfolding moreWithin bytes after literal behind _or_ orElse onSome mapSome
+  unfolding moreParser bytes after literal behind _or_ orElse onSome mapSome
   other b s p q = rw (ne-eqb 41 b (λ e. p (sym e)), ne-eqb 44 b (λ e. q (sym e)))
 
 pub among-comma : (x : Frame) (fs : List Frame) (m : ℕ) (s : Bytes) → x .parts ≡ suc m → among x fs (44 ∷ s) ≡ start m (frame (x .kind) (x .inside) m ∷ fs) s
 among-comma x fs m s e = rw e (comma (x .kind) (x .inside) fs m s)
 
 pub enter-close : (n : ℕ) (k : Kind) (fs : List Frame) (s : Bytes) → enter (suc n) k fs (41 ∷ s) ≡ resume fs (coll k nil) s
-unfolding membersWithin bytes after literal _or_ orElse onSome mapSome
+unfolding membersParser bytes after literal _or_ orElse onSome mapSome
 enter-close n k fs s = refl
 
 pub enter-value : (n : ℕ) (k : Kind) (fs : List Frame) (b : ℕ) (s : Bytes) → (b ≡ 41 → ⊥) → enter (suc n) k fs (b ∷ s) ≡ start n (frame k nil n ∷ fs) (b ∷ s)
-unfolding membersWithin bytes after literal _or_ _then_ given orElse onSome mapSome glue
-enter-value n k fs b s p = rw (ne-eqb 41 b (λ e. p (sym e))) (member k nil fs n (valueWithin n (b ∷ s)))
+unfolding membersParser bytes after literal _or_ _then_ mapped orElse onSome mapSome glue
+enter-value n k fs b s p = rw (ne-eqb 41 b (λ e. p (sym e))) (member k nil fs n (valueParser n (b ∷ s)))
 
 -- ---- the finished value holds each part that was read
 
@@ -161,7 +161,7 @@ resumed [] u s {v} e = go s e
     go [] q = let z : u ≡ v = Option·some-injective _ _ q in record { wide = rw z (omega arith); deep = rw z (omega arith); parts = λ p. rw z at p }
     go (b ∷ s) q = absurd (Option·none-ne-some _ q)
 resumed (x ∷ fs) u s {v} e =
-    let m = onSome-some (moreWithin (x .parts) s) _ e in
+    let m = onSome-some (moreParser (x .parts) s) _ e in
     let inner = resumed fs (coll (x .kind) (glue (append u (x .inside)) (m .0 .0))) (m .0 .1) (m .2) in
     let h = holds u (x .inside) (m .0 .0) in
     let l = length-append (laid fs) (enc (coll (x .kind) (x .inside))) in

@@ -10,8 +10,8 @@ use borrow.Author.Tests.{lt-ltb, le-ltb, le-leb, lt-leb}
 use Rattle.laws.specs.Lists.{allOf}
 use Rattle.laws.proofs.Parts.{at-next}
 use Rattle.laws.proofs.Elements.{all-append}
-use Rattle.ocl.specs.Values.{Value, bool, int, obj, coll, Values, sort}
-use Rattle.sheet.specs.Refusals.{everyPart, everyParts, objectBelow}
+use Rattle.ocl.specs.Values.{Value, bool, int, obj, coll, Values, sort, everyPart, everyParts}
+use Rattle.sheet.specs.Refusals.{objectBelow}
 use Rattle.values.specs.Cells.{bit, payload, head, enc, encs, Fits, fits-bool, fits-int, fits-obj, fits-coll, AllFit, fit-nil, fit-cons}
 use Rattle.values.proofs.Heads.{head-obj, head-int, head-coll, bias-small}
 use Rattle.slots.specs.Objects.{cellKnown, KnownIs}

@@ -19,8 +19,8 @@ use Rattle.laws.proofs.Options.{orElse-none}
 use Rattle.ocl.specs.Types.{Kind, set, sequence, bag, kindCode}
 use Rattle.ocl.specs.Values.{bool, int, obj, coll, nil, sort, count}
 use Rattle.ocl.specs.Evaluation.{inRange}
-use Rattle.sheet.specs.Text.{Bytes, bytes, after, literal, behind, _or_, given, number, integer, digits, plain, isDigit}
-use Rattle.sheet.specs.Spelling.{valueWithin, membersWithin, letterByte, kindByte}
+use Rattle.sheet.specs.Text.{Bytes, bytes, after, literal, behind, _or_, mapped, numberParser, integerParser, digits, plain, isDigit}
+use Rattle.sheet.specs.Spelling.{valueParser, membersParser, letterByte, kindByte}
 use Rattle.sheet.specs.Refusals.{partWithin}
 use Rattle.text.specs.Numbers.{numOf, leading, DigitsEnd, IntegerEnd, wholeOf, minusAt, leadingInteger}
 use Rattle.text.specs.Numbers.{bias as textBias}
@@ -51,7 +51,7 @@ module _ {f : Bytes} {at e : ℕ} (to : DigitsEnd f at e) {r : Num} (got : r ≡
   unfolding mapSome partWithin
   object-small {m} h l = go (leading (drop at f)) (number-from to) (num-is _ (sym h ∙ got))
     where
-      go : (o : Option ℕ) → number (drop at f) ≡ mapSome (λ n. (n, drop e f)) o → Any? (λ n. m ≡ min n 1000000) o → ObjectIs f at (part.Simple (8589934592 + m) e)
+      go : (o : Option ℕ) → numberParser (drop at f) ≡ mapSome (λ n. (n, drop e f)) o → Any? (λ n. m ≡ min n 1000000) o → ObjectIs f at (part.Simple (8589934592 + m) e)
       go (some n) d (any-some q) =
           let s : m ≡ n = omega arith in
           object-is n (λ from g. told-simple (ends from g) (ap (λ (k : ℕ). 8589934592 + k) s ∙ sym (head-obj n)) (lt-ltb n 96 (omega arith))) d
@@ -60,7 +60,7 @@ module _ {f : Bytes} {at e : ℕ} (to : DigitsEnd f at e) {r : Num} (got : r ≡
   unfolding mapSome partWithin
   object-wide {m} h l = go (leading (drop at f)) (number-from to) (num-is _ (sym h ∙ got))
     where
-      go : (o : Option ℕ) → number (drop at f) ≡ mapSome (λ n. (n, drop e f)) o → Any? (λ n. m ≡ min n 1000000) o → ObjectIs f at (part.Wide e)
+      go : (o : Option ℕ) → numberParser (drop at f) ≡ mapSome (λ n. (n, drop e f)) o → Any? (λ n. m ≡ min n 1000000) o → ObjectIs f at (part.Wide e)
       go (some n) d (any-some q) = object-is n (λ from g. told-wide (ends from g) (le-ltb n 96 (omega arith))) d
 
 -- ---- an Integer
@@ -91,7 +91,7 @@ module _ {f : Bytes} {at e : ℕ} (to : IntegerEnd f at e) {r : Whole} (got : r 
   unfolding mapSome partWithin
   whole-wide h = go (leadingInteger (drop at f)) refl (integer-from to) (whole-out _ (sym h ∙ got))
     where
-      go : (o : Option ℤ) → leadingInteger (drop at f) ≡ o → integer (drop at f) ≡ mapSome (λ z. (z, drop e f)) o → Any? (λ z. inRange z ≡ false) o → IntegerIs f at (part.Wide e)
+      go : (o : Option ℤ) → leadingInteger (drop at f) ≡ o → integerParser (drop at f) ≡ mapSome (λ z. (z, drop e f)) o → Any? (λ z. inRange z ≡ false) o → IntegerIs f at (part.Wide e)
       go (some z) q d (any-some t) = integer-is z (told-wide (reached q) t) d
 
   pub whole-small : {p : ℕ} → r ≡ whole.Is p → p < 4294967296
@@ -104,7 +104,7 @@ module _ {f : Bytes} {at e : ℕ} (to : IntegerEnd f at e) {r : Whole} (got : r 
   unfolding mapSome partWithin
   whole-simple {p} h = go (leadingInteger (drop at f)) refl (integer-from to) (whole-is _ (sym h ∙ got))
     where
-      go : (o : Option ℤ) → leadingInteger (drop at f) ≡ o → integer (drop at f) ≡ mapSome (λ z. (z, drop e f)) o → Any? (λ z. (inRange z ≡ true) × (p ≡ textBias z)) o → IntegerIs f at (part.Simple (4294967296 + p) e)
+      go : (o : Option ℤ) → leadingInteger (drop at f) ≡ o → integerParser (drop at f) ≡ mapSome (λ z. (z, drop e f)) o → Any? (λ z. (inRange z ≡ true) × (p ≡ textBias z)) o → IntegerIs f at (part.Simple (4294967296 + p) e)
       go (some z) q d (any-some t) =
           integer-is z (told-simple (reached q) (ap (λ (k : ℕ). 4294967296 + k) (t .1) ∙ sym (head-int z)) (t .0)) d
 
@@ -118,40 +118,40 @@ unfolding count
 letter-cell k e = let h = head-coll k nil in omega arith
 
 module _ (n : ℕ) where
-  true-first : (s : Bytes) → valueWithin (suc n) (116 ∷ s) ≡ some (bool true, s)
-  unfolding valueWithin bytes after literal _or_ orElse mapSome
+  true-first : (s : Bytes) → valueParser (suc n) (116 ∷ s) ≡ some (bool true, s)
+  unfolding valueParser bytes after literal _or_ orElse mapSome
   true-first s = refl
 
-  false-first : (s : Bytes) → valueWithin (suc n) (102 ∷ s) ≡ some (bool false, s)
-  unfolding valueWithin bytes after literal _or_ orElse mapSome
+  false-first : (s : Bytes) → valueParser (suc n) (102 ∷ s) ≡ some (bool false, s)
+  unfolding valueParser bytes after literal _or_ orElse mapSome
   false-first s = refl
 
-  object-first : (s : Bytes) → valueWithin (suc n) (64 ∷ s) ≡ orElse (given obj number s) none
-  unfolding valueWithin bytes after literal behind _or_ given orElse onSome mapSome integer number digits plain isDigit
+  object-first : (s : Bytes) → valueParser (suc n) (64 ∷ s) ≡ orElse (mapped obj numberParser s) none
+  unfolding valueParser bytes after literal behind _or_ mapped orElse onSome mapSome integerParser numberParser digits plain isDigit
   object-first s = refl
 
   -- a collection's letter at the end, before another byte, and before its bracket
-  letter-last : (k : Kind) → valueWithin (suc n) (kindByte k ∷ []) ≡ none
-  unfolding valueWithin kindByte letterByte bytes after literal behind _or_ given orElse onSome mapSome integer number digits plain isDigit
+  letter-last : (k : Kind) → valueParser (suc n) (kindByte k ∷ []) ≡ none
+  unfolding valueParser kindByte letterByte bytes after literal behind _or_ mapped orElse onSome mapSome integerParser numberParser digits plain isDigit
   letter-last set = refl
   letter-last sequence = refl
   letter-last bag = refl
 
-  letter-other : (k : Kind) (c : ℕ) (s : Bytes) → eqb 40 c ≡ false → valueWithin (suc n) (kindByte k ∷ c ∷ s) ≡ none
-  unfolding valueWithin kindByte letterByte bytes after literal behind _or_ given orElse onSome mapSome integer number digits plain isDigit
+  letter-other : (k : Kind) (c : ℕ) (s : Bytes) → eqb 40 c ≡ false → valueParser (suc n) (kindByte k ∷ c ∷ s) ≡ none
+  unfolding valueParser kindByte letterByte bytes after literal behind _or_ mapped orElse onSome mapSome integerParser numberParser digits plain isDigit
   letter-other set c s e = rw e
   letter-other sequence c s e = rw e
   letter-other bag c s e = rw e
 
-  letter-first : (k : Kind) (s : Bytes) → valueWithin (suc n) (kindByte k ∷ 40 ∷ s) ≡ given (coll k) (membersWithin n) s
-  unfolding valueWithin kindByte letterByte bytes after literal behind _or_ given orElse onSome mapSome integer number digits plain isDigit
+  letter-first : (k : Kind) (s : Bytes) → valueParser (suc n) (kindByte k ∷ 40 ∷ s) ≡ mapped (coll k) (membersParser n) s
+  unfolding valueParser kindByte letterByte bytes after literal behind _or_ mapped orElse onSome mapSome integerParser numberParser digits plain isDigit
   letter-first set s = orElse-none _
   letter-first sequence s = orElse-none _
   letter-first bag s = refl
 
   -- any other byte begins an Integer or nothing
-  integer-first : (b : ℕ) (s : Bytes) → (116 ≡ b → ⊥) → (102 ≡ b → ⊥) → (64 ≡ b → ⊥) → (83 ≡ b → ⊥) → (81 ≡ b → ⊥) → (66 ≡ b → ⊥) → valueWithin (suc n) (b ∷ s) ≡ given int integer (b ∷ s)
-  unfolding valueWithin bytes after literal behind _or_ orElse onSome mapSome
+  integer-first : (b : ℕ) (s : Bytes) → (116 ≡ b → ⊥) → (102 ≡ b → ⊥) → (64 ≡ b → ⊥) → (83 ≡ b → ⊥) → (81 ≡ b → ⊥) → (66 ≡ b → ⊥) → valueParser (suc n) (b ∷ s) ≡ mapped int integerParser (b ∷ s)
+  unfolding valueParser bytes after literal behind _or_ orElse onSome mapSome
   integer-first b s p q r x y z = rw (ne-eqb 116 b p, ne-eqb 102 b q, ne-eqb 64 b r, ne-eqb 83 b x, ne-eqb 81 b y, ne-eqb 66 b z) (orElse-none _)
 
 -- ---- the part
@@ -165,31 +165,31 @@ module _ (f : Bytes) (at : ℕ) (h : at < length f) where
 
   pub part-true : getD f at 0 ≡ 116 → PartIs f at (part.Simple 1 (at + 1))
   unfolding head sort payload bit partWithin
-  part-true e = part-alone (bool true) alone-bool (told-simple {c = 1} next-byte (omega arith) refl) (λ n. ap (valueWithin (suc n)) (from-byte e) ∙ true-first n _)
+  part-true e = part-alone (bool true) alone-bool (told-simple {c = 1} next-byte (omega arith) refl) (λ n. ap (valueParser (suc n)) (from-byte e) ∙ true-first n _)
 
   pub part-false : getD f at 0 ≡ 102 → PartIs f at (part.Simple 0 (at + 1))
   unfolding head sort payload bit partWithin
-  part-false e = part-alone (bool false) alone-bool (told-simple {c = 0} next-byte (omega arith) refl) (λ n. ap (valueWithin (suc n)) (from-byte e) ∙ false-first n _)
+  part-false e = part-alone (bool false) alone-bool (told-simple {c = 0} next-byte (omega arith) refl) (λ n. ap (valueParser (suc n)) (from-byte e) ∙ false-first n _)
 
   pub part-object : {r : Part} → getD f at 0 ≡ 64 → ObjectIs f (at + 1) r → PartIs f at r
-  unfolding orElse given mapSome
-  part-object e (object-bad q d) = part-bad q (λ n. ap (valueWithin (suc n)) (from-byte e) ∙ object-first n _ ∙ rw d)
-  part-object e (object-is o t d) = part-alone (obj o) alone-obj (t at (omega arith)) (λ n. ap (valueWithin (suc n)) (from-byte e) ∙ object-first n _ ∙ rw d)
+  unfolding orElse mapped mapSome
+  part-object e (object-bad q d) = part-bad q (λ n. ap (valueParser (suc n)) (from-byte e) ∙ object-first n _ ∙ rw d)
+  part-object e (object-is o t d) = part-alone (obj o) alone-obj (t at (omega arith)) (λ n. ap (valueParser (suc n)) (from-byte e) ∙ object-first n _ ∙ rw d)
 
   pub part-letter : {r : Part} {kind : ℕ} (k : Kind) → getD f at 0 ≡ kindByte k → kind ≡ kindCode k → OpensIs f at kind r → PartIs f at r
   part-letter k e c (opens q l d) =
       let two : drop (at + 1) f ≡ 40 ∷ drop (at + 2) f = at-next 0 f (at + 1) l ∙ rw (d, two-more at) in
       part-opens k (q ∙ ap (λ (m : ℕ). part.Opens m (at + 2)) (letter-cell k c)) (omega arith)
-      (λ n. ap (valueWithin (suc n)) (from-byte e ∙ ap (λ (s : Bytes). kindByte k ∷ s) two) ∙ letter-first n k _)
-  part-letter k e c (opens-not q d) = part-bad q (λ n. ap (valueWithin (suc n)) (from-byte e) ∙ rest n (decLt (at + 1) (length f)))
+      (λ n. ap (valueParser (suc n)) (from-byte e ∙ ap (λ (s : Bytes). kindByte k ∷ s) two) ∙ letter-first n k _)
+  part-letter k e c (opens-not q d) = part-bad q (λ n. ap (valueParser (suc n)) (from-byte e) ∙ rest n (decLt (at + 1) (length f)))
     where
-      rest : (n : ℕ) → Dec (at + 1 < length f) → valueWithin (suc n) (kindByte k ∷ drop (at + 1) f) ≡ none
+      rest : (n : ℕ) → Dec (at + 1 < length f) → valueParser (suc n) (kindByte k ∷ drop (at + 1) f) ≡ none
       rest n (yes l) = rw (at-next 0 f (at + 1) l) (letter-other n k _ _ (ne-eqb 40 (getD f (at + 1) 0) (λ g. d l (sym g))))
       rest n (no l) = rw (drop-of-length-le f {i = at + 1} (omega arith)) (letter-last n k)
 
   pub part-whole : {r : Part} (b : ℕ) → getD f at 0 ≡ b → (116 ≡ b → ⊥) → (102 ≡ b → ⊥) → (64 ≡ b → ⊥) → (83 ≡ b → ⊥) → (81 ≡ b → ⊥) → (66 ≡ b → ⊥) → IntegerIs f at r → PartIs f at r
-  unfolding given mapSome
+  unfolding mapped mapSome
   part-whole b e p q u x y z (integer-bad g d) =
-      part-bad g (λ n. ap (valueWithin (suc n)) (from-byte e) ∙ integer-first n b _ p q u x y z ∙ ap (given int integer) (sym (from-byte e)) ∙ rw d)
+      part-bad g (λ n. ap (valueParser (suc n)) (from-byte e) ∙ integer-first n b _ p q u x y z ∙ ap (mapped int integerParser) (sym (from-byte e)) ∙ rw d)
   part-whole b e p q u x y z (integer-is i t d) =
-      part-alone (int i) alone-int t (λ n. ap (valueWithin (suc n)) (from-byte e) ∙ integer-first n b _ p q u x y z ∙ ap (given int integer) (sym (from-byte e)) ∙ rw d)
+      part-alone (int i) alone-int t (λ n. ap (valueParser (suc n)) (from-byte e) ∙ integer-first n b _ p q u x y z ∙ ap (mapped int integerParser) (sym (from-byte e)) ∙ rw d)

@@ -12,10 +12,10 @@ use lib.Dec.{ltb}
 use Rattle.laws.specs.Lists.{each-nil, each-cons, concat}
 use Rattle.laws.proofs.Lists.{each-append}
 use Rattle.laws.proofs.Slices.{cut-part}
-use Rattle.ocl.specs.Values.{Value, size}
+use Rattle.ocl.specs.Values.{Value, size, everyPart}
 use Rattle.sheet.specs.Lines.{valueLine}
 use Rattle.sheet.specs.Sheet.{Slot, Sheet, added}
-use Rattle.sheet.specs.Refusals.{everyPart, objectBelow, totalSize, valueWithin, withinLimits, inOrder, partsKnown, suits, treeHolds}
+use Rattle.sheet.specs.Refusals.{objectBelow, totalSize, valueWithin, withinLimits, inOrder, partsKnown, suits, treeHolds}
 use Rattle.values.specs.Cells.{enc}
 use Rattle.tables.specs.declared.Counts.{Counts}
 use Rattle.tables.specs.declared.Step.the-variants.{Next, Stop}

@@ -15,7 +15,7 @@ use Rattle.sheet.specs.Text.{Bytes}
 use Rattle.sheet.specs.Lines.{Line, classLine, rowLine, objectLine, valueLine, ruleLine, nodeLine, lineOf}
 use Rattle.sheet.specs.Sheet.{Current, Sheet, empty, added, lastTree, allUsed, withRule, endOf, endFor, endRule}
 use Rattle.sheet.specs.Refusals.{totalSize, valueWithin, withinLimits, inOrder, partsKnown, suits, treeHolds}
-use Rattle.sheet.specs.Reading.{Step, next, refuse, must, stepLine, stepSpelled, step}
+use Rattle.sheet.specs.Reading.{Step, taken, refuse, must, stepLine, stepSpelled, step}
 use Rattle.slots.specs.Slots.{SmallRows}
 
 pub rows-empty : SmallRows empty
@@ -24,7 +24,7 @@ rows-empty = record { rows = each-nil }
 
 -- what a line leads to
 pub data RowsStep : Step → Type 0 where
-  rows-next : {s : Sheet} → SmallRows s → RowsStep (next s)
+  rows-next : {s : Sheet} → SmallRows s → RowsStep (taken s)
   rows-stop : {n : ℕ} → RowsStep (refuse n)
 
 rows-added : (s : Sheet) (k : ℕ) (l : Line) → SmallRows s → T (withinLimits s l) → SmallRows (added s k l)

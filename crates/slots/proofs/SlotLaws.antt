@@ -14,11 +14,11 @@ use Rattle.laws.specs.Lists.{Each, each-cons}
 use Rattle.laws.proofs.Slices.{cut-part}
 use Rattle.laws.proofs.Elements.{getD-map}
 use Rattle.ocl.specs.Types.{class, Ty}
-use Rattle.ocl.specs.Values.{Value}
+use Rattle.ocl.specs.Values.{Value, everyPart}
 use Rattle.ocl.specs.Model.{Row, isA, belongs}
 use Rattle.sheet.specs.Text.{Bytes}
 use Rattle.sheet.specs.Sheet.{Slot, Sheet, noRow, modelOf}
-use Rattle.sheet.specs.Refusals.{afterSlots, everyPart, objectBelow, blockOf, numbered, inOrder, partsKnown, suits}
+use Rattle.sheet.specs.Refusals.{afterSlots, objectBelow, blockOf, numbered, inOrder, partsKnown, suits}
 use Rattle.types.specs.Flat.{tyOf}
 use Rattle.types.specs.declared.FlatType.{FlatType}
 use Rattle.types.specs.Word.{typeIn}

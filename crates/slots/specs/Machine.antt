@@ -11,10 +11,10 @@ use lib.Dec.{eqb, leb}
 use Rattle.laws.specs.Choice.{if_then_else_, onSome}
 use Rattle.laws.specs.Lists.{Each}
 use Rattle.ocl.specs.Types.{Kind}
-use Rattle.ocl.specs.Values.{Value, coll, Values, nil, cons, size, append}
+use Rattle.ocl.specs.Values.{Value, coll, Values, nil, cons, size, append, everyPart, everyParts}
 use Rattle.sheet.specs.Text.{Bytes, atEnd}
-use Rattle.sheet.specs.Spelling.{valueWithin, membersWithin, moreWithin, readValue}
-use Rattle.sheet.specs.Refusals.{everyPart, everyParts, partWithin, nesting, nestings}
+use Rattle.sheet.specs.Spelling.{valueParser, membersParser, moreParser, readValue}
+use Rattle.sheet.specs.Refusals.{partWithin, nesting, nestings}
 use Rattle.sheet.specs.Refusals.{valueWithin as withinLimits}
 use Rattle.values.specs.Cells.{head, enc}
 use Rattle.slots.specs.declared.reader.Open.{Open}
@@ -42,19 +42,19 @@ grown x v = record { kind = x .kind; inside = append v (x .inside); parts = x .p
 -- v is read, and s is left
 unfoldable pub resume : List Frame → Value → Bytes → Option Value
 resume [] v s = atEnd v s
-resume (x ∷ fs) v s = onSome (moreWithin (x .parts) s) (λ y. resume fs (coll (x .kind) (glue (append v (x .inside)) (y .0))) (y .1))
+resume (x ∷ fs) v s = onSome (moreParser (x .parts) s) (λ y. resume fs (coll (x .kind) (glue (append v (x .inside)) (y .0))) (y .1))
 
 -- a member of x is read
 abbrev pub among : Frame → List Frame → Bytes → Option Value
-among x fs s = onSome (moreWithin (x .parts) s) (λ y. resume fs (coll (x .kind) (glue (x .inside) (y .0))) (y .1))
+among x fs s = onSome (moreParser (x .parts) s) (λ y. resume fs (coll (x .kind) (glue (x .inside) (y .0))) (y .1))
 
 -- a value is to be read
 abbrev pub start : ℕ → List Frame → Bytes → Option Value
-start n fs s = onSome (valueWithin n s) (λ x. resume fs (x .0) (x .1))
+start n fs s = onSome (valueParser n s) (λ x. resume fs (x .0) (x .1))
 
 -- a collection's bracket is read
 abbrev pub enter : ℕ → Kind → List Frame → Bytes → Option Value
-enter n k fs s = onSome (membersWithin n s) (λ y. resume fs (coll k (y .0)) (y .1))
+enter n k fs s = onSome (membersParser n s) (λ y. resume fs (coll k (y .0)) (y .1))
 
 -- ---- their cells
 

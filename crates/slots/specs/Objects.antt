@@ -5,8 +5,8 @@ use mathlib.Core.List.{List}
 use Prim.Native.Nat.{ℕ, _-_}
 use lib.Dec.{ltb, leb}
 use Rattle.laws.specs.Choice.{if_then_else_}
-use Rattle.ocl.specs.Values.{Value}
-use Rattle.sheet.specs.Refusals.{everyPart, objectBelow}
+use Rattle.ocl.specs.Values.{Value, everyPart}
+use Rattle.sheet.specs.Refusals.{objectBelow}
 use Rattle.values.specs.Cells.{enc, Fits}
 
 unfoldable pub cellKnown : ℕ → ℕ → Bool

@@ -7,8 +7,8 @@ use lib.IntN.{ℤ}
 use lib.ListN.{length, getD, drop}
 use Rattle.ocl.specs.Types.{Kind}
 use Rattle.ocl.specs.Values.{Value, bool, int, obj, coll, nil}
-use Rattle.sheet.specs.Text.{Bytes, given, number, integer}
-use Rattle.sheet.specs.Spelling.{valueWithin, membersWithin}
+use Rattle.sheet.specs.Text.{Bytes, mapped, numberParser, integerParser}
+use Rattle.sheet.specs.Spelling.{valueParser, membersParser}
 use Rattle.sheet.specs.Refusals.{partWithin}
 use Rattle.values.specs.Cells.{head}
 use Rattle.slots.specs.declared.parts.Part.{Part}
@@ -38,13 +38,13 @@ endOf (part.Opens c e) = e
 
 -- the object whose digits begin at `at`
 pub data ObjectIs (f : Bytes) (at : ℕ) (r : Part) : Type 0 where
-  object-bad : r ≡ part.Bad → number (drop at f) ≡ none → ObjectIs f at r
-  object-is : (o : ℕ) → ((from : ℕ) → from < at → Told f from (obj o) r) → number (drop at f) ≡ some (o, drop (endOf r) f) → ObjectIs f at r
+  object-bad : r ≡ part.Bad → numberParser (drop at f) ≡ none → ObjectIs f at r
+  object-is : (o : ℕ) → ((from : ℕ) → from < at → Told f from (obj o) r) → numberParser (drop at f) ≡ some (o, drop (endOf r) f) → ObjectIs f at r
 
 -- the Integer that begins at `at`
 pub data IntegerIs (f : Bytes) (at : ℕ) (r : Part) : Type 0 where
-  integer-bad : r ≡ part.Bad → integer (drop at f) ≡ none → IntegerIs f at r
-  integer-is : (z : ℤ) → Told f at (int z) r → integer (drop at f) ≡ some (z, drop (endOf r) f) → IntegerIs f at r
+  integer-bad : r ≡ part.Bad → integerParser (drop at f) ≡ none → IntegerIs f at r
+  integer-is : (z : ℤ) → Told f at (int z) r → integerParser (drop at f) ≡ some (z, drop (endOf r) f) → IntegerIs f at r
 
 -- a bracket after the letter at `at`
 pub data OpensIs (f : Bytes) (at kind : ℕ) (r : Part) : Type 0 where
@@ -53,7 +53,7 @@ pub data OpensIs (f : Bytes) (at kind : ℕ) (r : Part) : Type 0 where
 
 -- what `valueWithin` reads at `at`, however many parts it may have
 pub data PartIs (f : Bytes) (at : ℕ) (r : Part) : Type 0 where
-  part-bad : r ≡ part.Bad → ((n : ℕ) → valueWithin (suc n) (drop at f) ≡ none) → PartIs f at r
-  part-alone : (v : Value) → Alone v → Told f at v r → ((n : ℕ) → valueWithin (suc n) (drop at f) ≡ some (v, drop (endOf r) f)) → PartIs f at r
+  part-bad : r ≡ part.Bad → ((n : ℕ) → valueParser (suc n) (drop at f) ≡ none) → PartIs f at r
+  part-alone : (v : Value) → Alone v → Told f at v r → ((n : ℕ) → valueParser (suc n) (drop at f) ≡ some (v, drop (endOf r) f)) → PartIs f at r
   part-opens : (k : Kind) → r ≡ part.Opens (head (coll k nil)) (at + 2) → at + 2 ≤ length f
-      → ((n : ℕ) → valueWithin (suc n) (drop at f) ≡ given (coll k) (membersWithin n) (drop (at + 2) f)) → PartIs f at r
+      → ((n : ℕ) → valueParser (suc n) (drop at f) ≡ mapped (coll k) (membersParser n) (drop (at + 2) f)) → PartIs f at r

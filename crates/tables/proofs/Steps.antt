@@ -8,7 +8,7 @@ use Rattle.sheet.specs.Text.{Bytes}
 use Rattle.sheet.specs.Lines.{Line, lineOf}
 use Rattle.sheet.specs.Sheet.{Sheet, added}
 use Rattle.sheet.specs.Refusals.{withinLimits, inOrder, partsKnown, suits, treeHolds}
-use Rattle.sheet.specs.Reading.{next, refuse, must, stepLine, stepSpelled, step}
+use Rattle.sheet.specs.Reading.{taken, refuse, must, stepLine, stepSpelled, step}
 
 module _ (s : Sheet) (k : ℕ) (l : Line) where
   pub over-limits : withinLimits s l ≡ false → stepLine s k l ≡ refuse 4
@@ -31,7 +31,7 @@ module _ (s : Sheet) (k : ℕ) (l : Line) where
   unfolding stepLine must
   broken-tree a b c d e = rw (a, b, c, d, e)
 
-  pub steps-on : withinLimits s l ≡ true → inOrder s l ≡ true → partsKnown s l ≡ true → suits s l ≡ true → treeHolds s l ≡ true → stepLine s k l ≡ next (added s k l)
+  pub steps-on : withinLimits s l ≡ true → inOrder s l ≡ true → partsKnown s l ≡ true → suits s l ≡ true → treeHolds s l ≡ true → stepLine s k l ≡ taken (added s k l)
   unfolding stepLine must
   steps-on a b c d e = rw (a, b, c, d, e)
 

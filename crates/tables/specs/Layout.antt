@@ -15,7 +15,7 @@ use Rattle.ocl.specs.Forms.{Expr, levels}
 use Rattle.sheet.specs.Text.{Bytes, fieldsOf}
 use Rattle.sheet.specs.Sheet.{Slot, Rule, Current, Sheet, treeOf}
 use Rattle.sheet.specs.Refusals.{totalSize}
-use Rattle.sheet.specs.Reading.{Step, next, refuse, step}
+use Rattle.sheet.specs.Reading.{Step, taken, refuse, step}
 use Rattle.types.specs.Flat.{parentsIn}
 use Rattle.types.specs.Word.{typeIn}
 use Rattle.values.specs.Cells.{enc, Fits}
@@ -134,7 +134,7 @@ pub record Kept (before after : List ℕ) : Type 0 where
 
 -- a step of the code and a step of the definition
 pub data Moved (w0 w1 : List ℕ) : CodeStep → Step → Type 0 where
-  moved-next : {st : Counts} {s : Sheet} → Fine st → Holds st w0 w1 s → Moved w0 w1 (code.Next st) (next s)
+  moved-next : {st : Counts} {s : Sheet} → Fine st → Holds st w0 w1 s → Moved w0 w1 (code.Next st) (taken s)
   moved-stop : {n : ℕ} → Moved w0 w1 (code.Stop n) (refuse n)
 
 -- line k with these bytes, taken at st: the words were w0 and w1 and are v0 and v1

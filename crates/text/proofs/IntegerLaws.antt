@@ -17,7 +17,7 @@ use Rattle.laws.proofs.Options.{orElse-none}
 use Rattle.laws.proofs.Parts.{at-next}
 use Rattle.ocl.specs.Evaluation.{inRange}
 pub use Rattle.ocl.proofs.Ranges.{unbias-bias, bias-unbias, unbias-ranged, bias-small}
-use Rattle.sheet.specs.Text.{Bytes, bytes, after, behind, _or_, _then_, given, isDigit, digits, afterDigits, plain, valueOfDigits, number, minus, integer}
+use Rattle.sheet.specs.Text.{Bytes, bytes, after, behind, _or_, _then_, mapped, isDigit, digits, afterDigits, plain, valueOfDigits, numberParser, negative, integerParser}
 use Rattle.sheet.specs.Lines.{anInteger}
 use Rattle.laws.specs.Integers.{bias, unbias}
 use Rattle.text.specs.Numbers.{leading, DigitsEnd, DigitsRead, IntegerEnd, IntegerRead, ranged, wholeOf, minusAt, signed, leadingInteger}
@@ -94,33 +94,33 @@ minus-room s {at} {m} h e = omega (arith, simp length-drop at (minus-within (dro
 
 -- ---- what is read is told by `leadingInteger`, and what is left by the digits
 
-minus-leading : (s : Bytes) → integer (45 ∷ s) ≡ mapSome (λ z. (z, afterDigits s)) (onSome (leading s) (signed 1))
-unfolding integer _or_ behind _then_ given after bytes onSome mapSome number plain digits isDigit minus signed
-minus-leading s = orElse-none ((number then minus) s) ∙ rw (number-leading s) (go (leading s))
+minus-leading : (s : Bytes) → integerParser (45 ∷ s) ≡ mapSome (λ z. (z, afterDigits s)) (onSome (leading s) (signed 1))
+unfolding integerParser _or_ behind _then_ mapped after bytes onSome mapSome numberParser plain digits isDigit negative signed
+minus-leading s = orElse-none ((numberParser then negative) s) ∙ rw (number-leading s) (go (leading s))
   where
-    go : (o : Option ℕ) → onSome {A = ℕ × Bytes} (mapSome (λ n. (n, afterDigits s)) o) (λ x. minus (x .0) (x .1)) ≡ mapSome (λ z. (z, afterDigits s)) (onSome o (signed 1))
+    go : (o : Option ℕ) → onSome {A = ℕ × Bytes} (mapSome (λ n. (n, afterDigits s)) o) (λ x. negative (x .0) (x .1)) ≡ mapSome (λ z. (z, afterDigits s)) (onSome o (signed 1))
     go none = refl
     go (some zero) = refl
     go (some (suc n)) = refl
 
-plus-leading : (b : ℕ) (s : Bytes) → eqb 45 b ≡ false → integer (b ∷ s) ≡ mapSome (λ z. (z, afterDigits (b ∷ s))) (onSome (leading (b ∷ s)) (signed 0))
-unfolding integer _or_ behind given after bytes onSome mapSome orElse signed
+plus-leading : (b : ℕ) (s : Bytes) → eqb 45 b ≡ false → integerParser (b ∷ s) ≡ mapSome (λ z. (z, afterDigits (b ∷ s))) (onSome (leading (b ∷ s)) (signed 0))
+unfolding integerParser _or_ behind mapped after bytes onSome mapSome orElse signed
 plus-leading b s h = rw (h, number-leading (b ∷ s)) (go (leading (b ∷ s)))
   where
     go : (o : Option ℕ) → mapSome {A = ℕ × Bytes} {B = ℤ × Bytes} (λ x. (pos (x .0), x .1)) (mapSome (λ n. (n, afterDigits (b ∷ s))) o) ≡ mapSome (λ z. (z, afterDigits (b ∷ s))) (onSome o (signed 0))
     go none = refl
     go (some n) = refl
 
-none-leading : integer [] ≡ mapSome (λ z. (z, afterDigits [])) (onSome (leading []) (signed 0))
-unfolding integer _or_ behind given after bytes onSome mapSome orElse number leading digits plain
+none-leading : integerParser [] ≡ mapSome (λ z. (z, afterDigits [])) (onSome (leading []) (signed 0))
+unfolding integerParser _or_ behind mapped after bytes onSome mapSome orElse numberParser leading digits plain
 none-leading = refl
 
-pub integer-leading : (s : Bytes) → integer s ≡ mapSome (λ z. (z, afterDigits (drop (minusAt s) s))) (leadingInteger s)
+pub integer-leading : (s : Bytes) → integerParser s ≡ mapSome (λ z. (z, afterDigits (drop (minusAt s) s))) (leadingInteger s)
 unfolding leadingInteger minusAt
 integer-leading [] = none-leading
 integer-leading (b ∷ s) = go (eqb 45 b) refl
   where
-    go : (t : Bool) → t ≡ eqb 45 b → integer (b ∷ s) ≡ mapSome (λ z. (z, afterDigits (drop (if t then 1 else 0) (b ∷ s)))) (onSome (leading (drop (if t then 1 else 0) (b ∷ s))) (signed (if t then 1 else 0)))
+    go : (t : Bool) → t ≡ eqb 45 b → integerParser (b ∷ s) ≡ mapSome (λ z. (z, afterDigits (drop (if t then 1 else 0) (b ∷ s)))) (onSome (leading (drop (if t then 1 else 0) (b ∷ s))) (signed (if t then 1 else 0)))
     go true e = rw (← eqb-true 45 b (sym e)) (minus-leading s)
     go false e = plus-leading b s (sym e)
 
@@ -131,7 +131,7 @@ digits-behind q to = record { ends = record { digits = rw q at (to .ends) }; val
 
 module _ {s : Bytes} {at e : ℕ} (to : IntegerEnd s at e) where
   -- the Integer that begins at `at`, and what stands after it
-  pub integer-from : integer (drop at s) ≡ mapSome (λ z. (z, drop e s)) (leadingInteger (drop at s))
+  pub integer-from : integerParser (drop at s) ≡ mapSome (λ z. (z, drop e s)) (leadingInteger (drop at s))
   integer-from = rw (← digits-after (to .digits), ← drop-drop (minusAt (drop at s)) at s) (integer-leading (drop at s))
 
   module _ {m : ℕ} (sign : m ≡ minusAt (drop at s)) {t : Bool} (told : t ≡ plain (take (e - (at + m)) (drop (at + m) s))) where
@@ -153,11 +153,11 @@ module _ {s : Bytes} {at e : ℕ} (to : IntegerEnd s at e) where
 module _ {f : Bytes} {e : ℕ} (to : IntegerEnd f 0 e) where
   pub an-integer : e ≡ length f → anInteger f ≡ leadingInteger f
   unfolding anInteger
-  an-integer h = whole-read integer f (drop e f) (leadingInteger f) (integer-from to) (drop-of-length-le f {i = e} (omega arith))
+  an-integer h = whole-read integerParser f (drop e f) (leadingInteger f) (integer-from to) (drop-of-length-le f {i = e} (omega arith))
 
   pub not-an-integer : (e ≡ length f → ⊥) → anInteger f ≡ none
   unfolding anInteger
-  not-an-integer h = whole-left integer f (drop e f) (leadingInteger f) (integer-from to) (at-next 0 f e (omega (arith, to .digits .within)))
+  not-an-integer h = whole-left integerParser f (drop e f) (leadingInteger f) (integer-from to) (at-next 0 f e (omega (arith, to .digits .within)))
 
 -- ---- what a caller learns of the field by the answer
 

@@ -13,7 +13,7 @@ use lib.Seq.{take-at, drop-at, drop-drop}
 use Rattle.laws.specs.Choice.{if_then_else_, mapSome, onSome}
 use Rattle.laws.proofs.Tests.{Any?, any-some}
 use Rattle.laws.proofs.Parts.{at-next, part-next, part-none}
-use Rattle.sheet.specs.Text.{Bytes, Parser, isDigit, digits, afterDigits, plain, valueOfDigits, number, whole, atEnd}
+use Rattle.sheet.specs.Text.{Bytes, Parser, isDigit, digits, afterDigits, plain, valueOfDigits, numberParser, whole, atEnd}
 use Rattle.sheet.specs.Lines.{aNumber}
 use Rattle.sheet.proofs.Numbers.{digits-split}
 use Rattle.text.specs.Words.{byteKind}
@@ -75,8 +75,8 @@ pub digits-rest : (s : Bytes) → afterDigits s ≡ drop (length (digits s)) s
 digits-rest s = sym (ap (drop (length (digits s))) (digits-split s) ∙ drop-at (digits s) (afterDigits s) (length (digits s)) refl)
 
 -- what is read is told by `leading`, and what is left by the digits
-pub number-leading : (s : Bytes) → number s ≡ mapSome (λ n. (n, afterDigits s)) (leading s)
-unfolding number leading mapSome
+pub number-leading : (s : Bytes) → numberParser s ≡ mapSome (λ n. (n, afterDigits s)) (leading s)
+unfolding numberParser leading mapSome
 number-leading s = go (plain (digits s))
   where
     read : Option (ℕ × Bytes)
@@ -97,7 +97,7 @@ module _ {s : Bytes} {at e : ℕ} (to : DigitsEnd s at e) where
   digits-after = digits-rest (drop at s) ∙ drop-drop (length (digits (drop at s))) at s ∙ ap (λ (k : ℕ). drop k s) (sym (to .is))
 
   -- the number that begins at `at`, and what stands after it
-  pub number-from : number (drop at s) ≡ mapSome (λ n. (n, drop e s)) (leading (drop at s))
+  pub number-from : numberParser (drop at s) ≡ mapSome (λ n. (n, drop e s)) (leading (drop at s))
   number-from = rw (← digits-after) (number-leading (drop at s))
 
 -- ---- digits without a leading zero
@@ -164,11 +164,11 @@ module _ {A : Type 0} (p : Parser A) (s rest : Bytes) (o : Option A) (read : p s
 module _ {f : Bytes} {e : ℕ} (to : DigitsEnd f 0 e) where
   pub a-number : e ≡ length f → aNumber f ≡ leading f
   unfolding aNumber
-  a-number h = whole-read number f (drop e f) (leading f) (number-from to) (drop-of-length-le f {i = e} (omega arith))
+  a-number h = whole-read numberParser f (drop e f) (leading f) (number-from to) (drop-of-length-le f {i = e} (omega arith))
 
   pub not-a-number : (e ≡ length f → ⊥) → aNumber f ≡ none
   unfolding aNumber
-  not-a-number h = whole-left number f (drop e f) (leading f) (number-from to) (at-next 0 f e (omega (arith, to .within)))
+  not-a-number h = whole-left numberParser f (drop e f) (leading f) (number-from to) (at-next 0 f e (omega (arith, to .within)))
 
 -- ---- what a caller learns of the field by the answer
 

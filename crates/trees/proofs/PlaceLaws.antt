@@ -14,7 +14,7 @@ use Rattle.laws.proofs.Tests.{and-true}
 use Rattle.sheet.specs.Lines.{Shape, Line, nodeLine}
 use Rattle.sheet.specs.Sheet.{Current, Sheet, added, operandsOf}
 use Rattle.sheet.specs.Refusals.{isNode, formWithin, twoVariables, formKnown, withinLimits, blockOf, nextNode, numbered, inOrder, partsKnown, suits, treeHolds}
-use Rattle.sheet.specs.Reading.{next, refuse, must, stepLine}
+use Rattle.sheet.specs.Reading.{taken, refuse, must, stepLine}
 use Rattle.tables.specs.Layout.{Holds, HoldsOpen, closed, opened, Fine, moved-stop}
 use Rattle.tables.specs.declared.Counts.{Counts}
 use Rattle.tables.specs.declared.Step.the-variants as code
@@ -113,7 +113,7 @@ module _ (s : Sheet) (k : ℕ) (l : Line) where
     unfolding stepLine must
     stop-8 e = rw (a, b, c, d, e)
 
-    pub go-on : treeHolds s l ≡ true → stepLine s k l ≡ next (added s k l)
+    pub go-on : treeHolds s l ≡ true → stepLine s k l ≡ taken (added s k l)
     unfolding stepLine must
     go-on e = rw (a, b, c, d, e)
 

@@ -8,7 +8,7 @@ use native.Mathlib.Omega.{arith}
 use lib.Dec.{eqb}
 use Rattle.laws.proofs.Tests.{test-true, test-fails}
 use Rattle.ocl.specs.Types.{Simple, any, boolean, integer, class, void, simple, Parents, up, height, simpleCode, sameSimple, climbs, simpleSubtype, subtype, firstAbove, simpleJoin, join}
-use Rattle.ocl.proofs.Types.{top, climb→simpleSubtype, class-not-boolean, class-not-integer, boolean-not-class, integer-not-class}
+use Rattle.ocl.proofs.SimpleTypes.{top, climb→simpleSubtype, class-not-boolean, class-not-integer, boolean-not-class, integer-not-class}
 use Rattle.types.specs.declared.Base.{Base}
 use Rattle.types.specs.declared.Base.the-variants as b
 use Rattle.types.specs.Flat.{parentsIn, baseType, baseTag, baseClass}

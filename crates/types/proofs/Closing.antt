@@ -11,7 +11,7 @@ use lib.ListN.{length, getD, take, drop, drop-of-length-le, length-append, take-
 use Rattle.laws.specs.Choice.{if_then_else_, onSome, mapSome}
 use Rattle.laws.proofs.Tests.{and-true, if-same}
 use Rattle.laws.proofs.Parts.{at-next, part-all}
-use Rattle.sheet.specs.Text.{Bytes, isDigit, digits, afterDigits, number, whole, after}
+use Rattle.sheet.specs.Text.{Bytes, isDigit, digits, afterDigits, numberParser, whole, after}
 use Rattle.sheet.specs.Lines.{is}
 use Rattle.sheet.proofs.Numbers.{digits-split}
 use Rattle.text.specs.Numbers.{leading}
@@ -151,12 +151,12 @@ module _ (d : ℕ) (q : Bytes) (e : closes d q ≡ true) where
   unfolding leading
   leading-before p = rw (digits-before p)
 
-  number-whole : (p : Bytes) → numberBefore d (p ++ q) ≡ whole number p
+  number-whole : (p : Bytes) → numberBefore d (p ++ q) ≡ whole numberParser p
   number-whole p = number-by d (p ++ q) ∙ rw (rest-before p, leading-before p) (go (afterDigits p) refl)
     where
-      go : (r : Bytes) → afterDigits p ≡ r → (if closes d (r ++ q) then leading p else none) ≡ whole number p
-      go [] z = rw e (sym (whole-read number p (afterDigits p) (leading p) (number-leading p) z))
-      go (b ∷ r) z = rw (closes-off d (b ∷ r ++ q) (λ n. omega (arith, closes-length d q e, length-append r q))) (sym (whole-left number p (afterDigits p) (leading p) (number-leading p) z))
+      go : (r : Bytes) → afterDigits p ≡ r → (if closes d (r ++ q) then leading p else none) ≡ whole numberParser p
+      go [] z = rw e (sym (whole-read numberParser p (afterDigits p) (leading p) (number-leading p) z))
+      go (b ∷ r) z = rw (closes-off d (b ∷ r ++ q) (λ n. omega (arith, closes-length d q e, length-append r q))) (sym (whole-left numberParser p (afterDigits p) (leading p) (number-leading p) z))
 
-pub number-closed : (d e : ℕ) (s : Bytes) → closes d (drop e s) ≡ true → numberBefore d s ≡ whole number (take e s)
+pub number-closed : (d e : ℕ) (s : Bytes) → closes d (drop e s) ≡ true → numberBefore d s ≡ whole numberParser (take e s)
 number-closed d e s h = ap (numberBefore d) (sym (take-append-drop e s)) ∙ number-whole d (drop e s) h (take e s)

@@ -12,7 +12,7 @@ use Rattle.laws.specs.Choice.{if_then_else_}
 use Rattle.laws.proofs.Tests.{test-true, test-same}
 use Rattle.ocl.specs.Types.{Simple, any, class, Parents, parentOr, up, height, simpleCode, sameSimple, climbs, simpleSubtype, firstAbove, simpleJoin}
 use Rattle.ocl.specs.Laws.{Small}
-use Rattle.ocl.proofs.Types.{here, height-zero, height-up, climbs→climb, climb→climbs, simpleSubtype→climb, climb→simpleSubtype}
+use Rattle.ocl.proofs.SimpleTypes.{here, height-zero, height-up, climbs→climb, climb→climbs, simpleSubtype→climb, climb→simpleSubtype}
 use Rattle.types.specs.Flat.{parentWord, parentOf, parentsIn}
 
 -- ---- a class's word

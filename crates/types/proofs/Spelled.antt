@@ -13,8 +13,8 @@ use Rattle.laws.proofs.Tests.{if-same}
 use Rattle.laws.proofs.Options.{orElse-none, orElse-assoc}
 use Rattle.laws.specs.Choice.{if_then_else_, orElse, onSome, mapSome}
 use Rattle.ocl.specs.Types.{set, sequence, bag, Letter, collection, exactly, Ty, void, around, Any, Boolean, Integer, Class}
-use Rattle.sheet.specs.Text.{Bytes, bytes, Parser, nothing, after, literal, behind, _or_, _then_, given, atEnd, whole, isDigit, digits, plain, number}
-use Rattle.sheet.specs.Spelling.{collectionType, typeWithin, readType}
+use Rattle.sheet.specs.Text.{Bytes, bytes, Parser, nothing, after, literal, behind, _or_, _then_, mapped, atEnd, whole, isDigit, digits, plain, numberParser}
+use Rattle.sheet.specs.Spelling.{collectionType, typeParser, readType}
 use Rattle.types.specs.Flat.{letterOf}
 use Rattle.types.specs.Reading.{closes, closed, spells, base, baseBefore, hashBefore, numberBefore, byteCode, lettered, typeBefore}
 use Rattle.types.proofs.Closing.{literal-closed}
@@ -26,15 +26,15 @@ collections : Parser Ty → Parser Ty
 collections p = collectionType "S(" (exactly set) p or collectionType "Q(" (exactly sequence) p or collectionType "B(" (exactly bag) p or collectionType "C(" collection p
 
 -- a base, or a collection type
-type-parts : (n : ℕ) (s : Bytes) → typeWithin (suc n) s ≡ orElse (base s) (collections (typeWithin n) s)
-unfolding typeWithin base collections _or_
+type-parts : (n : ℕ) (s : Bytes) → typeParser (suc n) s ≡ orElse (base s) (collections (typeParser n) s)
+unfolding typeParser base collections _or_
 type-parts n s =
     let v = literal "Void" void s in
     let b = literal "Bool" Boolean s in
     let i = literal "Int" Integer s in
     let a = literal "Any" Any s in
-    let h = behind "#" (given Class number) s in
-    let c = collections (typeWithin n) s in
+    let h = behind "#" (mapped Class numberParser) s in
+    let c = collections (typeParser n) s in
     sym (orElse-assoc v (orElse b (orElse i (orElse a h))) c ∙ ap (orElse v) (orElse-assoc b (orElse i (orElse a h)) c ∙ ap (orElse b) (orElse-assoc i (orElse a h) c ∙ ap (orElse i) (orElse-assoc a h c))))
 
 -- no letter is read where no bracket is second
@@ -55,11 +55,11 @@ word-open : {A : Type 0} (k m a : ℕ) (w s : Bytes) (x : A) → eqb m 40 ≡ fa
 unfolding after mapSome
 word-open {A} k m a w s x h = rw h (ap (mapSome {B = A × Bytes} (λ (r : Bytes). (x, r))) (if-same (eqb k a) none))
 
-hash-open : (a : ℕ) (s : Bytes) → behind "#" (given Class number) (a ∷ 40 ∷ s) ≡ none
-unfolding behind bytes after given onSome mapSome number digits plain isDigit
+hash-open : (a : ℕ) (s : Bytes) → behind "#" (mapped Class numberParser) (a ∷ 40 ∷ s) ≡ none
+unfolding behind bytes after mapped onSome mapSome numberParser digits plain isDigit
 hash-open a s = go (eqb 35 a)
   where
-    go : (t : Bool) → onSome (if t then some (40 ∷ s) else none) (given Class number) ≡ none
+    go : (t : Bool) → onSome (if t then some (40 ∷ s) else none) (mapped Class numberParser) ≡ none
     go true = refl
     go false = refl
 
@@ -134,8 +134,8 @@ unfolding hashBefore behind bytes after onSome
 hash-off d b s h = rw (ne-eqb 35 b (λ e. h (sym e)))
 
 pub hash-on : (d b : ℕ) (s : Bytes) → b ≡ 35 → hashBefore d (b ∷ s) ≡ mapSome Class (numberBefore d s)
-unfolding hashBefore behind bytes after onSome given numberBefore
-hash-on d b s e = rw e (given-closed Class d (number s))
+unfolding hashBefore behind bytes after onSome mapped numberBefore
+hash-on d b s e = rw e (given-closed Class d (numberParser s))
 
 -- ---- the whole
 
@@ -147,21 +147,21 @@ after-nil : (k : ℕ) → after (k ∷ 40 ∷ []) [] ≡ none
 unfolding after
 after-nil k = refl
 
-type-zero : (s : Bytes) → typeWithin zero s ≡ none
-unfolding typeWithin nothing
+type-zero : (s : Bytes) → typeParser zero s ≡ none
+unfolding typeParser nothing
 type-zero s = refl
 
-type-law : (n d : ℕ) (s : Bytes) → length s ≤ n → onSome (typeWithin n s) (closed d) ≡ typeBefore d s
+type-law : (n d : ℕ) (s : Bytes) → length s ≤ n → onSome (typeParser n s) (closed d) ≡ typeBefore d s
 unfolding typeBefore baseBefore onSome orElse
 type-law zero d [] h = ap (λ (o : Option (Ty × Bytes)). onSome o (closed d)) (type-zero [])
 type-law zero d (b ∷ s) h = absurd (omega arith)
-type-law (suc n) d [] h = ap (λ (o : Option (Ty × Bytes)). onSome o (closed d)) (type-parts n []) ∙ rw (base-nil, letters-off (typeWithin n) [] after-nil)
-type-law (suc n) d (a ∷ []) h = ap (λ (o : Option (Ty × Bytes)). onSome o (closed d)) (type-parts n (a ∷ [])) ∙ rw (letters-off (typeWithin n) (a ∷ []) (λ k. pair-end k a), orElse-none (base (a ∷ [])))
+type-law (suc n) d [] h = ap (λ (o : Option (Ty × Bytes)). onSome o (closed d)) (type-parts n []) ∙ rw (base-nil, letters-off (typeParser n) [] after-nil)
+type-law (suc n) d (a ∷ []) h = ap (λ (o : Option (Ty × Bytes)). onSome o (closed d)) (type-parts n (a ∷ [])) ∙ rw (letters-off (typeParser n) (a ∷ []) (λ k. pair-end k a), orElse-none (base (a ∷ [])))
 type-law (suc n) d (a ∷ b ∷ s) h = ap (λ (o : Option (Ty × Bytes)). onSome o (closed d)) (type-parts n (a ∷ b ∷ s)) ∙ by (ℕ-discrete b 40) (type-law n (suc d) s (omega arith))
   where
-    by : Dec (b ≡ 40) → onSome (typeWithin n s) (closed (suc d)) ≡ typeBefore (suc d) s → onSome (orElse (base (a ∷ b ∷ s)) (collections (typeWithin n) (a ∷ b ∷ s))) (closed d) ≡ (if eqb b 40 then lettered a (typeBefore (suc d) s) else onSome (base (a ∷ b ∷ s)) (closed d))
-    by (yes e) ih = rw (e, base-open a s) (letters-on (typeWithin n) d a s ∙ ap (lettered a) ih)
-    by (no k) ih = rw (ne-eqb b 40 k, letters-off (typeWithin n) (a ∷ b ∷ s) (λ m. pair-off m a b s k), orElse-none (base (a ∷ b ∷ s)))
+    by : Dec (b ≡ 40) → onSome (typeParser n s) (closed (suc d)) ≡ typeBefore (suc d) s → onSome (orElse (base (a ∷ b ∷ s)) (collections (typeParser n) (a ∷ b ∷ s))) (closed d) ≡ (if eqb b 40 then lettered a (typeBefore (suc d) s) else onSome (base (a ∷ b ∷ s)) (closed d))
+    by (yes e) ih = rw (e, base-open a s) (letters-on (typeParser n) d a s ∙ ap (lettered a) ih)
+    by (no k) ih = rw (ne-eqb b 40 k, letters-off (typeParser n) (a ∷ b ∷ s) (λ m. pair-off m a b s k), orElse-none (base (a ∷ b ∷ s)))
 
 end-closed : {A : Type 0} (o : Option (A × Bytes)) → onSome o (λ x. atEnd (x .0) (x .1)) ≡ onSome o (closed 0)
 unfolding onSome atEnd closed closes
@@ -171,4 +171,4 @@ end-closed (some (x, b ∷ s)) = refl
 
 pub read-law : (f : Bytes) → readType f ≡ typeBefore 0 f
 unfolding readType whole
-read-law f = end-closed (typeWithin (length f) f) ∙ type-law (length f) 0 f (omega arith)
+read-law f = end-closed (typeParser (length f) f) ∙ type-law (length f) 0 f (omega arith)

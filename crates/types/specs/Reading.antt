@@ -9,7 +9,7 @@ use lib.ListN.{length}
 use lib.Dec.{eqb, ltb}
 use Rattle.laws.specs.Choice.{if_then_else_, onSome, mapSome}
 use Rattle.ocl.specs.Types.{Letter, Ty, void, around, Any, Boolean, Integer, Class, depth}
-use Rattle.sheet.specs.Text.{Bytes, byte, Parser, literal, behind, _or_, given, number}
+use Rattle.sheet.specs.Text.{Bytes, byte, Parser, literal, behind, _or_, mapped, numberParser}
 use Rattle.sheet.specs.Refusals.{typeWithin}
 use Rattle.text.specs.declared.numbers.Num.{Num}
 use Rattle.text.specs.declared.numbers.Num.the-variants as n
@@ -53,17 +53,17 @@ spells (p ∷ ps) d (b ∷ s) = eqb p b && spells ps d s
 
 -- the base types
 unfoldable pub base : Parser Ty
-base = literal "Void" void or literal "Bool" Boolean or literal "Int" Integer or literal "Any" Any or behind "#" (given Class number)
+base = literal "Void" void or literal "Bool" Boolean or literal "Int" Integer or literal "Any" Any or behind "#" (mapped Class numberParser)
 
 unfoldable pub baseBefore : ℕ → Bytes → Option Ty
 baseBefore d s = onSome (base s) (closed d)
 
 -- a class, and its number, then d closing brackets
 unfoldable pub hashBefore : ℕ → Bytes → Option Ty
-hashBefore d s = onSome (behind "#" (given Class number) s) (closed d)
+hashBefore d s = onSome (behind "#" (mapped Class numberParser) s) (closed d)
 
 unfoldable pub numberBefore : ℕ → Bytes → Option ℕ
-numberBefore d s = onSome (number s) (closed d)
+numberBefore d s = onSome (numberParser s) (closed d)
 
 -- the code of a letter, 0 for a byte that is none
 unfoldable pub byteCode : ℕ → ℕ

@@ -12,7 +12,7 @@ use borrow.Author.Tests.{eqb-true, eqb-false}
 use Rattle.laws.specs.Choice.{if_then_else_}
 use Rattle.ocl.specs.Types.{Ty, Class}
 use Rattle.ocl.specs.Environment.{Env, extend, start}
-use Rattle.ocl.specs.Typing.{typed, refused, bound}
+use Rattle.ocl.specs.Typing.{typed, refused, boundType}
 use Rattle.types.specs.declared.FlatType.{FlatType}
 use Rattle.types.specs.Flat.{tyOf}
 use Rattle.typing.specs.declared.Slot.{Slot}
@@ -21,12 +21,12 @@ use Rattle.typing.specs.Replies.{freeSlot, slotType, envOf}
 -- ---- a variable
 
 module _ (n i : ℕ) (env : List Slot) where
-  pub is-bound : getD env i freeSlot .bound ≡ true → typed (tyOf (getD env i freeSlot .«type_of»)) ≡ bound n (envOf env i)
-  unfolding bound envOf slotType
+  pub is-bound : getD env i freeSlot .bound ≡ true → typed (tyOf (getD env i freeSlot .«type_of»)) ≡ boundType n (envOf env i)
+  unfolding boundType envOf slotType
   is-bound h = rw h
 
-  pub is-free : getD env i freeSlot .bound ≡ false → refused 9 n ≡ bound n (envOf env i)
-  unfolding bound envOf slotType
+  pub is-free : getD env i freeSlot .bound ≡ false → refused 9 n ≡ boundType n (envOf env i)
+  unfolding boundType envOf slotType
   is-free h = rw h
 
 -- ---- a binding

@@ -10,7 +10,7 @@ use Rattle.laws.specs.Choice.{if_then_else_}
 use Rattle.ocl.specs.Types.{any, boolean, integer, class, Kind, set, sequence, bag, kindCode, sameKind, Letter, collection, exactly, Ty, void, simple, around, Boolean, Integer, Class, depth, Parents, simpleSubtype, subtype, join}
 use Rattle.ocl.specs.Environment.{Env}
 use Rattle.ocl.specs.Model.{Model}
-use Rattle.ocl.specs.Typing.{Answer, typed, refused, below, common, wrap, onCollection, onKind, bound, leafType, castType, unaryType, bothBelow, binaryType, conditionalType}
+use Rattle.ocl.specs.Typing.{Answer, typed, refused, below, common, wrap, onCollection, onKind, boundType, leafType, castType, unaryType, bothBelow, binaryType, conditionalType}
 use Rattle.types.specs.declared.FlatType.{FlatType}
 use Rattle.types.specs.declared.Joined.{Joined}
 use Rattle.types.specs.declared.Joined.the-variants as j
@@ -79,11 +79,11 @@ module _ (n : ℕ) (w : ℕ → ℕ) (Γ : Env Ty) where
   unfolding leafType leafOf
   leaf-number k q e = rw q (ap typed e)
 
-  pub leaf-self : (k : ℕ) {a : Answer} → k ≡ 4 → a ≡ bound n (Γ 0) → a ≡ leafType n (leafOf k w) Γ
+  pub leaf-self : (k : ℕ) {a : Answer} → k ≡ 4 → a ≡ boundType n (Γ 0) → a ≡ leafType n (leafOf k w) Γ
   unfolding leafType leafOf
   leaf-self k q e = rw q e
 
-  pub leaf-var : (k : ℕ) {a : Answer} → k ≡ 5 → a ≡ bound n (Γ (variable (w 1))) → a ≡ leafType n (leafOf k w) Γ
+  pub leaf-var : (k : ℕ) {a : Answer} → k ≡ 5 → a ≡ boundType n (Γ (variable (w 1))) → a ≡ leafType n (leafOf k w) Γ
   unfolding leafType leafOf
   leaf-var k q e = rw q e
 

@@ -7,7 +7,7 @@ ghost use Rattle.ocl.specs.Types.{Boolean, Integer};
 ghost use Rattle.ocl.specs.Types.{join as joinOf};
 ghost use Rattle.ocl.specs.Model.{Model};
 ghost use Rattle.ocl.specs.Typing.{typed, refused, below, common, onCollection, castType, bothBelow, leafType, unaryType, binaryType};
-ghost use Rattle.ocl.specs.Typing.{bound as boundType};
+ghost use Rattle.ocl.specs.Typing.{boundType};
 ghost use Rattle.ocl.specs.Typing.{wrap as wrapType};
 ghost use Rattle.types.specs.Flat.{parentsIn, tyOf, letterOf};
 ghost use Rattle.nodes.specs.Nodes.{word, leafOf, unaryOf, binaryOf};

@@ -2,7 +2,7 @@
 use mathlib.Core.Path.{ap, _∙_}
 use native.Mathlib.Omega.{arith}
 use Rattle.typing.proofs.FormTypes.{leaf-truth, leaf-void, leaf-number, leaf-self, leaf-var, leaf-all}
-use Rattle.ocl.specs.Typing.{bound}
+use Rattle.ocl.specs.Typing.{boundType}
 use Rattle.ocl.specs.Types.{around, exactly, set, Class}
 use Rattle.typing.specs.Replies.{envOf}
 use Prim.Native.Nat.{ℕ, _%_}
@@ -47,7 +47,7 @@ returns-3 : tie.Need-returns-3
 returns-3 c = leaf-self _ _ _ _ (c .before .match .keys3) (c .bound .ensures)
 
 returns-4 : tie.Need-returns-4
-returns-4 c = leaf-var _ _ _ _ (c .before .before .before .match .keys4) (c .bound2 .ensures ∙ ap (λ (i : ℕ). bound (c .before .before .before .before .before .args .n) (envOf (c .before .before .before .before .before .args .env) (i % 16))) (c .before .wide .ensures ∙ c .before .before .node-word .ensures))
+returns-4 c = leaf-var _ _ _ _ (c .before .before .before .match .keys4) (c .bound2 .ensures ∙ ap (λ (i : ℕ). boundType (c .before .before .before .before .before .args .n) (envOf (c .before .before .before .before .before .args .env) (i % 16))) (c .before .wide .ensures ∙ c .before .before .node-word .ensures))
 
 returns-5 : tie.Need-returns-5
 returns-5 c = leaf-truth _ _ _ _ (omega arith) (c .plain3 .ensures)

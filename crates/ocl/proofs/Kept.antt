@@ -1,0 +1,207 @@
+-- What holds of every value that evaluation ends in: any property that each piece of evaluation keeps. One induction over the forms.
+-- Assumes nothing.
+use mathlib.Core.Path.{_≡_}
+use mathlib.Core.Bool.{Bool, true, false, not, Bool·beq}
+use mathlib.Core.Option.{Option, some}
+use mathlib.Core.List.{_++_}
+use Prim.Native.Nat.{ℕ, _≤_}
+use lib.IntN.{ℤ, pos}
+use lib.Dec.{T, eqb}
+use Rattle.laws.specs.Choice.{if_then_else_}
+use Rattle.laws.specs.Lists.{Each}
+use Rattle.ocl.specs.Types.{class, Kind, set, sameKind}
+use Rattle.ocl.specs.Values.{Value, bool, int, obj, coll, Values, nil, count, size, orderInt, same, has, add, addAll}
+use Rattle.ocl.specs.Model.{Model, isA}
+use Rattle.ocl.specs.Environment.{Env, extend, start}
+use Rattle.ocl.specs.Forms.{Connective, Quantifier, Leaf, truth, undef, number, self, var, all, Unary, negation, sizeOf, convert, castTo, Binary, equal, less, arith, includes, including, union, Expr, node, Form, leaf, unary, binary, connective, isUndef, conditional, letIn, attribute, quantified, iterate, collect, Operands, noOperand, operand, leafLiterals, literals, literalsIn, literalsOf}
+use Rattle.ocl.specs.Evaluation.{value, Run, isLess, inRange, instances, leafRun, cast, unaryApply, unaryRun, leftFits, binaryApply, binaryRun, decides, connectiveRun, isUndefRun, conditionalRun, letRun, attributeRun, quantifiedRun, iterateRun, Gather, noOperandRun, operandRun, collectRun, evaluation, formRun, operandsRun, evaluateRule}
+use Rattle.laws.proofs.Tests.{All?, all-none, all-some, all-imp, all-self}
+use Rattle.laws.proofs.Lists.{each-head, each-left, each-right}
+use Rattle.ocl.proofs.Values.{Every, every-nil, every-cons}
+use Rattle.ocl.proofs.Ends.{Ends, ends-value, ends-undefined, ends-stuck, ends-at, ends-resume, ends-bind, ends-if, ends-tick, ends-form, ends-given, ends-bound, ends-bool, ends-int, ends-obj, ends-coll, ends-search, ends-fold, arithmetic-all}
+
+-- P of a value, and Held of the members of a collection that is being gathered
+pub record Keeps (s : Model) (P : Value → Type 0) (Held : Kind → Values → Type 0) : Type 0 where
+  pub of-bool : (b : Bool) → P (bool b)
+  pub of-object : (o : ℕ) → P (obj o)
+  pub of-integer : (z : ℤ) → T (inRange z) → P (int z)
+  pub of-stored : (o i : ℕ) (v : Value) → s .valueOf o i ≡ some v → P v
+  -- a collection says so much of its members, and of how many there are
+  pub of-count : {k : Kind} {vs : Values} → P (coll k vs) → P (int (pos (count vs)))
+  pub of-members : {k : Kind} {vs : Values} → P (coll k vs) → Every P vs
+  pub held : {k : Kind} {vs : Values} → P (coll k vs) → Held k vs
+  -- and is formed of as many as are allowed
+  pub formed : {k : Kind} {vs : Values} → Held k vs → size (coll k vs) ≤ 128 → P (coll k vs)
+  pub of-none : {k : Kind} → Held k nil
+  pub of-added : {vs : Values} (k : Kind) (v : Value) → P v → Held k vs → Held k (add k v vs)
+  pub of-instances : (c n : ℕ) → Held set (instances s c n)
+
+-- each variable's value has it
+pub record Bound (P : Value → Type 0) (ρ : Env Value) : Type 0 where
+  pub variable : (i : ℕ) → All? P (ρ i)
+
+module _ {s : Model} {P : Value → Type 0} {Held : Kind → Values → Type 0} (ok : Keeps s P Held) where
+  -- a run that ends in such values, from an environment of such values
+  record Kept (f : Run) : Type 0 where
+    run : (ρ : Env Value) → Bound P ρ → (n : ℕ) → Ends P (f ρ n)
+
+  -- the same of a collection's members, after those that are held
+  record Gathers (g : Gather) : Type 0 where
+    runs : (k : Kind) (vs : Values) → Held k vs → Kept (g k vs)
+
+  extend-at : {x : Value} {o : Option Value} (b : Bool) → P x → All? P o → All? P (if b then some x else o)
+  extend-at true p h = all-some p
+  extend-at false p h = h
+
+  extend-bound : {ρ : Env Value} (i : ℕ) {x : Value} → Bound P ρ → P x → Bound P (extend ρ i x)
+  unfolding extend
+  extend-bound i h p = record { variable = λ j. extend-at (eqb j i) p (h .variable j) }
+
+  -- ---- pieces
+
+  give-bool : {n : ℕ} (b : Bool) → Ends P (value (bool b) n)
+  give-bool b = ends-value (ok .of-bool b)
+
+  all-held : (k : Kind) {ws vs : Values} → Every P ws → Held k vs → Held k (addAll k ws vs)
+  unfolding addAll
+  all-held k every-nil h = h
+  all-held k (every-cons {v} p e) h = all-held k e (ok .of-added k v p h)
+
+  value-kept : (o i : ℕ) → All? P (s .valueOf o i)
+  value-kept o i = all-imp (λ v e. ok .of-stored o i v e) (all-self (s .valueOf o i))
+
+  -- ---- each form
+
+  leaf-kept : (l : Leaf) → Each (λ z. P (int z)) (leafLiterals l) → Kept (leafRun s l)
+  unfolding leafRun leafLiterals
+  leaf-kept (truth b) h = record { run = λ ρ r n. give-bool b }
+  leaf-kept undef h = record { run = λ ρ r n. ends-undefined }
+  leaf-kept (number z) h = record { run = λ ρ r n. ends-value (each-head h) }
+  leaf-kept self h = record { run = λ ρ r n. ends-bound n (r .variable 0) }
+  leaf-kept (var i) h = record { run = λ ρ r n. ends-bound n (r .variable i) }
+  leaf-kept (all c) h = record { run = λ ρ r n. ends-form _ n (ok .formed (ok .of-instances c (s .objectCount))) }
+
+  cast-ends : (c n : ℕ) (v : Value) → Ends P (cast s c v n)
+  unfolding cast
+  cast-ends c n (bool b) = ends-undefined
+  cast-ends c n (int z) = ends-undefined
+  cast-ends c n (obj o) = ends-if (isA s o (class c)) (ends-value (ok .of-object o)) ends-undefined
+  cast-ends c n (coll k vs) = ends-stuck
+
+  unary-ends : (op : Unary) (v : Value) (n : ℕ) → P v → Ends P (unaryApply s op v n)
+  unfolding unaryApply
+  unary-ends negation v n p = ends-bool v (λ b. give-bool (not b))
+  unary-ends sizeOf v n p = ends-coll P v p (λ k vs h. ends-value (ok .of-count h))
+  unary-ends (convert k) v n p = ends-coll P v p (λ j vs h. ends-form _ n (ok .formed (all-held k (ok .of-members h) (ok .of-none))))
+  unary-ends (castTo c) v n p = cast-ends c n v
+
+  unary-kept : (op : Unary) {f : Run} → Kept f → Kept (unaryRun s op f)
+  unfolding unaryRun
+  unary-kept op h = record { run = λ ρ r n. ends-bind (h .run ρ r n) (unary-ends op) }
+
+  binary-ends : (op : Binary) (v w : Value) (n : ℕ) → P v → P w → Ends P (binaryApply op v w n)
+  unfolding binaryApply
+  binary-ends equal v w n p q = give-bool (same v w)
+  binary-ends less v w n p q = ends-int v (λ x. ends-int w (λ y. give-bool (isLess (orderInt x y))))
+  binary-ends (arith o) v w n p q = ends-int v (λ x. ends-int w (λ y. ends-given n (arithmetic-all P (ok .of-integer) o x y)))
+  binary-ends includes v w n p q = ends-coll P v p (λ k vs h. give-bool (has w vs))
+  binary-ends including v w n p q = ends-coll P v p (λ k vs h. ends-form _ n (ok .formed (ok .of-added k w q (ok .held h))))
+  binary-ends union v w n p q = ends-coll P v p (λ j vs h. ends-coll P w q (λ k ws g. ends-if (sameKind j k) (ends-form _ n (ok .formed (all-held j (ok .of-members g) (ok .held h)))) ends-stuck))
+
+  binary-kept : (op : Binary) {f g : Run} → Kept f → Kept g → Kept (binaryRun op f g)
+  unfolding binaryRun
+  binary-kept op hf hg = record {
+    run = λ ρ r n. ends-bind (hf .run ρ r n) (λ v m p. ends-if (leftFits op v) (ends-bind (hg .run ρ r m) (λ w l q. binary-ends op v w l p q)) ends-stuck);
+  }
+
+  connective-kept : (c : Connective) {f g : Run} → Kept f → Kept g → Kept (connectiveRun c f g)
+  unfolding connectiveRun
+  connective-kept c hf hg = record {
+    run = λ ρ r n. ends-resume (hf .run ρ r n)
+        (λ v m p. ends-bool v (λ a. ends-if (Bool·beq a (decides c)) (give-bool a) (ends-bind (hg .run ρ r m) (λ w l q. ends-bool w (λ b. give-bool b)))))
+        (λ m. ends-bind (hg .run ρ r m) (λ w l q. ends-bool w (λ b. ends-if (Bool·beq b (decides c)) (give-bool b) ends-undefined)));
+  }
+
+  isUndef-kept : {f : Run} → Kept f → Kept (isUndefRun f)
+  unfolding isUndefRun
+  isUndef-kept h = record { run = λ ρ r n. ends-resume (h .run ρ r n) (λ v m p. give-bool false) (λ m. give-bool true) }
+
+  conditional-kept : {f g h : Run} → Kept f → Kept g → Kept h → Kept (conditionalRun f g h)
+  unfolding conditionalRun
+  conditional-kept hf hg hh = record {
+    run = λ ρ r n. ends-bind (hf .run ρ r n) (λ v m p. ends-bool v (λ b. ends-if b (hg .run ρ r m) (hh .run ρ r m)));
+  }
+
+  let-kept : (i : ℕ) {f g : Run} → Kept f → Kept g → Kept (letRun i f g)
+  unfolding letRun
+  let-kept i hf hg = record { run = λ ρ r n. ends-bind (hf .run ρ r n) (λ v m p. hg .run (extend ρ i v) (extend-bound i r p) m) }
+
+  attribute-kept : (i : ℕ) {f : Run} → Kept f → Kept (attributeRun s i f)
+  unfolding attributeRun
+  attribute-kept i h = record {
+    run = λ ρ r n. ends-bind (h .run ρ r n)
+        (λ v m p. ends-obj v (λ o. ends-if (isA s o (class (s .row i .owner))) (ends-given m (value-kept o i)) ends-stuck));
+  }
+
+  quantified-kept : (q : Quantifier) (i : ℕ) {f g : Run} → Kept f → Kept g → Kept (quantifiedRun q i f g)
+  unfolding quantifiedRun
+  quantified-kept q i hf hg = record {
+    run = λ ρ r n. ends-bind (hf .run ρ r n) (λ v m p. ends-coll P v p (λ k vs h.
+        ends-search q m (ok .of-members h) (ok .of-bool) (λ x l y. hg .run (extend ρ i x) (extend-bound i r y) l)));
+  }
+
+  iterate-kept : (i j : ℕ) {f g h : Run} → Kept f → Kept g → Kept h → Kept (iterateRun i j f g h)
+  unfolding iterateRun
+  iterate-kept i j hf hg hh = record {
+    run = λ ρ r n. ends-bind (hf .run ρ r n) (λ v m p. ends-coll P v p (λ k vs h. ends-bind (hg .run ρ r m) (λ a l q.
+        ends-fold a l (ok .of-members h) q (λ x y o c d. hh .run (extend (extend ρ i x) j y) (extend-bound j (extend-bound i r c) d) o))));
+  }
+
+  no-operand-gathers : Gathers noOperandRun
+  unfolding noOperandRun
+  no-operand-gathers = record { runs = λ k vs h. record { run = λ ρ r n. ends-form _ n (ok .formed h) } }
+
+  operand-gathers : {f : Run} {g : Gather} → Kept f → Gathers g → Gathers (operandRun f g)
+  unfolding operandRun
+  operand-gathers hf hg = record {
+    runs = λ k vs h. record { run = λ ρ r n. ends-bind (hf .run ρ r n) (λ v m p. hg .runs k (add k v vs) (ok .of-added k v p h) .run ρ r m) };
+  }
+
+  collect-kept : (k : Kind) {g : Gather} → Gathers g → Kept (collectRun k g)
+  unfolding collectRun
+  collect-kept k h = record { run = λ ρ r n. h .runs k nil (ok .of-none) .run ρ r n }
+
+  -- ---- the induction
+
+  module _ (mark : ℕ → ℕ) where
+    mutual
+      unfolding evaluation literals
+
+      all-kept : (e : Expr) → Each (λ z. P (int z)) (literals e) → Kept (evaluation s mark e)
+      all-kept (node p f) h = record { run = λ ρ r n. ends-tick (formRun s mark p f) ρ n (form-kept p f h .run ρ r) }
+
+      form-kept : (p : ℕ) (f : Form) → Each (λ z. P (int z)) (literalsIn f) → Kept (formRun s mark p f)
+      form-kept p (leaf l) h = leaf-kept l h
+      form-kept p (unary op a) h = unary-kept op (all-kept a h)
+      form-kept p (binary op a b) h = binary-kept op (all-kept a (each-left (literals a) (literals b) h)) (all-kept b (each-right (literals a) h))
+      form-kept p (connective c a b) h = connective-kept c (all-kept a (each-left (literals a) (literals b) h)) (all-kept b (each-right (literals a) h))
+      form-kept p (isUndef a) h = isUndef-kept (all-kept a h)
+      form-kept p (conditional c a b) h = let l = each-right (literals c) h in
+          conditional-kept (all-kept c (each-left (literals c) (literals a ++ literals b) h)) (all-kept a (each-left (literals a) (literals b) l)) (all-kept b (each-right (literals a) l))
+      form-kept p (letIn i a b) h = let-kept i (all-kept a (each-left (literals a) (literals b) h)) (all-kept b (each-right (literals a) h))
+      form-kept p (attribute name a) h = attribute-kept (mark p) (all-kept a h)
+      form-kept p (quantified q i a b) h = quantified-kept q i (all-kept a (each-left (literals a) (literals b) h)) (all-kept b (each-right (literals a) h))
+      form-kept p (iterate i j t a e b) h = let l = each-right (literals a) h in
+          iterate-kept i j (all-kept a (each-left (literals a) (literals e ++ literals b) h)) (all-kept e (each-left (literals e) (literals b) l)) (all-kept b (each-right (literals e) l))
+      form-kept p (collect k es) h = collect-kept k (operands-gather es h)
+
+      operands-gather : (es : Operands) → Each (λ z. P (int z)) (literalsOf es) → Gathers (operandsRun s mark es)
+      operands-gather noOperand h = no-operand-gathers
+      operands-gather (operand e es) h = operand-gathers (all-kept e (each-left (literals e) (literalsOf es) h)) (operands-gather es (each-right (literals e) h))
+
+    pub kept-ends : (e : Expr) → Each (λ z. P (int z)) (literals e) → (ρ : Env Value) → Bound P ρ → (n m : ℕ) (v : Value) → evaluation s mark e ρ n ≡ value v m → P v
+    kept-ends e h ρ r n m v q = ends-at (all-kept e h .run ρ r n) q
+
+    pub kept-rule : (e : Expr) → Each (λ z. P (int z)) (literals e) → (o m : ℕ) (v : Value) → evaluateRule s mark e o ≡ value v m → P v
+    unfolding evaluateRule start
+    kept-rule e h o m v q = kept-ends e h (start (obj o)) (extend-bound 0 (record { variable = λ i. all-none }) (ok .of-object o)) 0 m v q
