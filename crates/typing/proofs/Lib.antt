@@ -3,6 +3,8 @@ pub mod Environments
 pub mod FormTypes
 pub mod Attributes
 pub mod NodeTypings
+pub mod Joins
+pub mod Members
 pub mod RuleTypings
 pub mod AllRules
 pub mod Models

@@ -4,46 +4,33 @@
 ghost use mathlib.Core.Path.{_≡_};
 ghost use Prim.Native.Nat.{_+_, _<_, _≤_};
 ghost use lib.ListN.{length};
-ghost use Rattle.ocl.specs.Environment.{extend};
 ghost use Rattle.types.specs.Flat.{tyOf};
 ghost use Rattle.nodes.specs.Nodes.{word};
 ghost use Rattle.nodes.specs.Nodes.{variable as variableIn};
-ghost use Rattle.typing.specs.Replies.{envOf};
-ghost use Rattle.typing.specs.Tables.{Room, Types, TypesTwo, nodeAt, operandAt, membersAt, unaryAt, binaryAt, connectiveAt, isUndefAt, conditionalAt, letAt, attributeAt, quantifiedAt, iterateAt, bodyAt, collectAt};
+ghost use Rattle.typing.specs.Tables.{Room, Types, TypesTwo, nodeAt, operandAt, unaryAt, binaryAt, connectiveAt, isUndefAt, conditionalAt, letAt, attributeAt, quantifiedAt, iterateAt, bodyAt, collectAt};
 use super::PairReply;
 use super::Reply;
 use super::Slot;
+use super::environment::bind;
+use super::forms::around_common;
 use super::forms::binary_type;
 use super::forms::both_below;
-use super::forms::common_type;
 use super::forms::condition;
+use super::forms::join_more;
 use super::forms::leaf_type;
 use super::forms::unary_type;
-use super::forms::wrapped;
 use super::others::attribute_type;
 use super::others::conditional_type;
 use nodes::node_word;
 use types::Base;
 use types::FlatType;
+use types::Joined;
 use types::classes::wide;
 use types::order::subtype;
 use types::parts::member_type;
 use types::parts::outer_code;
 use types::parts::plain;
 use types::word::unpack;
-
-// The environment with variable i of type t; the caller keeps its own.
-pub fn bind(env: [Slot; 16], i: usize, t: FlatType) -> [Slot; 16]
-    requires { ⌜ i < 16 ⌝ }
-    ensures { λ r. ⌜ envOf r ≡ extend (envOf env) i (tyOf t) ⌝ }
-{
-    let mut inner = env;
-    inner[i] = Slot {
-        bound: true,
-        type_of: t,
-    };
-    inner
-}
 
 // The variable that word k of node n names.
 fn variable(nodes: &[u64], n: usize, k: usize) -> usize
@@ -360,7 +347,8 @@ fn accumulated(
     Reply::No(11, n as u64)
 }
 
-// `coll`: the letter around the common type of the members; over four, which no accepted sheet has, counts as `undef`.
+// `coll`: the letter around the common type of the members, all of which are typed before a missing one is refused; over four
+// members, which no accepted sheet has, count as `undef`.
 fn collect(
     nodes: &[u64],
     parents: &[u64],
@@ -379,49 +367,15 @@ fn collect(
     if 4 < count {
         return Reply::Is(plain(Base::Void));
     }
-    let first = members_type(nodes, parents, tables, rows, n, count, 1, env, marks);
-    let Reply::Is(t) = first else {
-        return first;
-    };
-    wrapped(n as u64, form - 25, t)
-}
-
-// The common type of so many operands from word k on, Void where there is none; all are typed before common types are taken.
-fn members_type(
-    nodes: &[u64],
-    parents: &[u64],
-    tables: &[u64],
-    rows: usize,
-    n: usize,
-    count: usize,
-    k: usize,
-    env: [Slot; 16],
-    marks: &mut [u64],
-) -> Reply
-    requires { ⌜ k + count < 8 ⌝ }
-    requires { ⌜ Room n rows (length (now tables)) (length (now nodes)) (length (now marks)) ⌝ }
-    ensures { λ r. ⌜ Types (now (parents .entry)) (now (tables .entry)) rows (membersAt (now (nodes .entry)) n count k) env (now (marks .entry)) (now (marks .exit)) r ⌝ }
-{
-    if count == 0 {
-        return Reply::Is(plain(Base::Void));
+    let mut common = Joined::Is(plain(Base::Void));
+    let mut i: usize = 0;
+    while i < count {
+        let member = operand(nodes, parents, tables, rows, n, i + 1, env, marks);
+        let Reply::Is(t) = member else {
+            return member;
+        };
+        common = join_more(parents, common, t);
+        i += 1;
     }
-    let first = operand(nodes, parents, tables, rows, n, k, env, marks);
-    let Reply::Is(t) = first else {
-        return first;
-    };
-    let others = members_type(
-        nodes,
-        parents,
-        tables,
-        rows,
-        n,
-        count - 1,
-        k + 1,
-        env,
-        marks,
-    );
-    let Reply::Is(u) = others else {
-        return others;
-    };
-    common_type(parents, n as u64, t, u)
+    around_common(n as u64, form - 25, common)
 }

@@ -7,8 +7,8 @@ use Rattle.ocl.specs.Typing.{typed, isUndefTyping}
 use Rattle.types.proofs.parts.plain.Reads as plain-reads
 use Rattle.typing.proofs.walk.is_undef.Reads as is-undef
 use Rattle.typing.proofs.walk.operand.Reads as operand
-use Rattle.typing.proofs.walk.+accumulated+attribute+binary+collect+conditional+connective+is_undef+iterate+let_in+members_type+node+operand+pair+quantified+unary.Lts-is_undef as lts
-use Rattle.typing.proofs.walk.+accumulated+attribute+binary+collect+conditional+connective+is_undef+iterate+let_in+members_type+node+operand+pair+quantified+unary.Proof.Base.{is-undef-at, operand-below}
+use Rattle.typing.proofs.walk.+accumulated+attribute+binary+collect+conditional+connective+is_undef+iterate+let_in+node+operand+pair+quantified+unary.Lts-is_undef as lts
+use Rattle.typing.proofs.walk.+accumulated+attribute+binary+collect+conditional+connective+is_undef+iterate+let_in+node+operand+pair+quantified+unary.Proof.Base.{is-undef-at, operand-below}
 
 module _ (t : ℕ) where
   abbrev calls : lts.Claims

@@ -20,8 +20,6 @@ use Rattle.typing.proofs.walk.iterate.Reads as iterate
 use Rattle.typing.proofs.walk.iterate.Kinds as iterate-kinds
 use Rattle.typing.proofs.walk.let_in.Reads as let-in
 use Rattle.typing.proofs.walk.let_in.Kinds as let-in-kinds
-use Rattle.typing.proofs.walk.members_type.Reads as members-type
-use Rattle.typing.proofs.walk.members_type.Kinds as members-type-kinds
 use Rattle.typing.proofs.walk.node.Reads as node
 use Rattle.typing.proofs.walk.node.Kinds as node-kinds
 use Rattle.typing.proofs.walk.operand.Reads as operand
@@ -113,15 +111,6 @@ let-in-at t = and 4 let-in-kinds.ps (is 4 let-in-kinds.ps μ-let-in t) let-in.Pr
 
 abbrev pub let-in-below : ℕ → In 4 let-in-kinds.ps
 let-in-below t = and 4 let-in-kinds.ps (falls 4 let-in-kinds.ps _<_ μ-let-in t) let-in.Pre
-
-abbrev pub μ-members-type : Measures 4 members-type-kinds.ps ℕ
-μ-members-type κs a = 16 * a .1 .1 .1 .1 .0 + 1 + a .1 .1 .1 .1 .1 .0
-
-abbrev pub members-type-at : ℕ → In 4 members-type-kinds.ps
-members-type-at t = and 4 members-type-kinds.ps (is 4 members-type-kinds.ps μ-members-type t) members-type.Pre
-
-abbrev pub members-type-below : ℕ → In 4 members-type-kinds.ps
-members-type-below t = and 4 members-type-kinds.ps (falls 4 members-type-kinds.ps _<_ μ-members-type t) members-type.Pre
 
 abbrev pub μ-node : Measures 4 node-kinds.ps ℕ
 μ-node κs a = 16 * a .1 .1 .1 .1 .0 + 11

@@ -7,8 +7,8 @@ use Rattle.typing.proofs.others.attribute_type.Reads as attribute-type-
 use Rattle.nodes.proofs.node_word.Reads as node-word-reads
 use Rattle.typing.proofs.walk.attribute.Reads as attribute
 use Rattle.typing.proofs.walk.operand.Reads as operand
-use Rattle.typing.proofs.walk.+accumulated+attribute+binary+collect+conditional+connective+is_undef+iterate+let_in+members_type+node+operand+pair+quantified+unary.Lts-attribute as lts
-use Rattle.typing.proofs.walk.+accumulated+attribute+binary+collect+conditional+connective+is_undef+iterate+let_in+members_type+node+operand+pair+quantified+unary.Proof.Base.{attribute-at, operand-below}
+use Rattle.typing.proofs.walk.+accumulated+attribute+binary+collect+conditional+connective+is_undef+iterate+let_in+node+operand+pair+quantified+unary.Lts-attribute as lts
+use Rattle.typing.proofs.walk.+accumulated+attribute+binary+collect+conditional+connective+is_undef+iterate+let_in+node+operand+pair+quantified+unary.Proof.Base.{attribute-at, operand-below}
 
 module _ (t : ℕ) where
   abbrev calls : lts.Claims

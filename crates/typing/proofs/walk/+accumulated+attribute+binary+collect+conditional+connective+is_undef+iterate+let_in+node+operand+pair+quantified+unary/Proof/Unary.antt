@@ -6,8 +6,8 @@ use Rattle.ocl.specs.Typing.{unaryTyping}
 use Rattle.typing.proofs.forms.unary_type.Reads as unary-type-reads
 use Rattle.typing.proofs.walk.operand.Reads as operand
 use Rattle.typing.proofs.walk.unary.Reads as unary
-use Rattle.typing.proofs.walk.+accumulated+attribute+binary+collect+conditional+connective+is_undef+iterate+let_in+members_type+node+operand+pair+quantified+unary.Lts-unary as lts
-use Rattle.typing.proofs.walk.+accumulated+attribute+binary+collect+conditional+connective+is_undef+iterate+let_in+members_type+node+operand+pair+quantified+unary.Proof.Base.{unary-at, operand-below}
+use Rattle.typing.proofs.walk.+accumulated+attribute+binary+collect+conditional+connective+is_undef+iterate+let_in+node+operand+pair+quantified+unary.Lts-unary as lts
+use Rattle.typing.proofs.walk.+accumulated+attribute+binary+collect+conditional+connective+is_undef+iterate+let_in+node+operand+pair+quantified+unary.Proof.Base.{unary-at, operand-below}
 
 module _ (t : ℕ) where
   abbrev calls : lts.Claims

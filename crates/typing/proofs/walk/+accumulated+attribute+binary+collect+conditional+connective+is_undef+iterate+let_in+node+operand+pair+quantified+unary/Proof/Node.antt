@@ -18,8 +18,8 @@ use Rattle.typing.proofs.walk.let_in.Reads as let-in
 use Rattle.typing.proofs.walk.node.Reads as node
 use Rattle.typing.proofs.walk.quantified.Reads as quantified
 use Rattle.typing.proofs.walk.unary.Reads as unary
-use Rattle.typing.proofs.walk.+accumulated+attribute+binary+collect+conditional+connective+is_undef+iterate+let_in+members_type+node+operand+pair+quantified+unary.Lts-node as lts
-use Rattle.typing.proofs.walk.+accumulated+attribute+binary+collect+conditional+connective+is_undef+iterate+let_in+members_type+node+operand+pair+quantified+unary.Proof.Base.{node-at, attribute-below, binary-below, collect-below, conditional-below, connective-below, is-undef-below, iterate-below, let-in-below, quantified-below, unary-below}
+use Rattle.typing.proofs.walk.+accumulated+attribute+binary+collect+conditional+connective+is_undef+iterate+let_in+node+operand+pair+quantified+unary.Lts-node as lts
+use Rattle.typing.proofs.walk.+accumulated+attribute+binary+collect+conditional+connective+is_undef+iterate+let_in+node+operand+pair+quantified+unary.Proof.Base.{node-at, attribute-below, binary-below, collect-below, conditional-below, connective-below, is-undef-below, iterate-below, let-in-below, quantified-below, unary-below}
 
 module _ (t : ℕ) where
   abbrev calls : lts.Claims

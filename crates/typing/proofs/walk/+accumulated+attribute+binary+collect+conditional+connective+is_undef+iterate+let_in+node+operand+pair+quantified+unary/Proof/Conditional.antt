@@ -7,8 +7,8 @@ use Rattle.typing.proofs.others.conditional_type.Reads as conditional-t
 use Rattle.typing.proofs.walk.conditional.Reads as conditional
 use Rattle.typing.proofs.walk.operand.Reads as operand
 use Rattle.typing.proofs.walk.pair.Reads as pair
-use Rattle.typing.proofs.walk.+accumulated+attribute+binary+collect+conditional+connective+is_undef+iterate+let_in+members_type+node+operand+pair+quantified+unary.Lts-conditional as lts
-use Rattle.typing.proofs.walk.+accumulated+attribute+binary+collect+conditional+connective+is_undef+iterate+let_in+members_type+node+operand+pair+quantified+unary.Proof.Base.{conditional-at, operand-below, pair-below}
+use Rattle.typing.proofs.walk.+accumulated+attribute+binary+collect+conditional+connective+is_undef+iterate+let_in+node+operand+pair+quantified+unary.Lts-conditional as lts
+use Rattle.typing.proofs.walk.+accumulated+attribute+binary+collect+conditional+connective+is_undef+iterate+let_in+node+operand+pair+quantified+unary.Proof.Base.{conditional-at, operand-below, pair-below}
 
 module _ (t : ℕ) where
   abbrev calls : lts.Claims

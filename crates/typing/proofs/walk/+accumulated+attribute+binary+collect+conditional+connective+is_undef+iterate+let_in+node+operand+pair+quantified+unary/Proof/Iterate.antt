@@ -5,7 +5,7 @@ use native.Mathlib.Omega.{arith}
 use borrow.Author.Needs.{needs}
 use Rattle.typing.proofs.NodeTypings.{iter-rest, iter-source, iter-start, iter-body}
 use Rattle.types.specs.Word.{typeIn}
-use Rattle.typing.proofs.walk.bind.Reads as bind-reads
+use Rattle.typing.proofs.environment.bind.Reads as bind-reads
 use Rattle.types.proofs.parts.member_type.Reads as member-type-reads
 use Rattle.nodes.proofs.node_word.Reads as node-word-reads
 use Rattle.types.proofs.parts.outer_code.Reads as outer-code-reads
@@ -15,8 +15,8 @@ use Rattle.typing.proofs.walk.variable.Reads as variable-reads
 use Rattle.typing.proofs.walk.accumulated.Reads as accumulated
 use Rattle.typing.proofs.walk.iterate.Reads as iterate
 use Rattle.typing.proofs.walk.pair.Reads as pair
-use Rattle.typing.proofs.walk.+accumulated+attribute+binary+collect+conditional+connective+is_undef+iterate+let_in+members_type+node+operand+pair+quantified+unary.Lts-iterate as lts
-use Rattle.typing.proofs.walk.+accumulated+attribute+binary+collect+conditional+connective+is_undef+iterate+let_in+members_type+node+operand+pair+quantified+unary.Proof.Base.{iterate-at, accumulated-below, pair-below}
+use Rattle.typing.proofs.walk.+accumulated+attribute+binary+collect+conditional+connective+is_undef+iterate+let_in+node+operand+pair+quantified+unary.Lts-iterate as lts
+use Rattle.typing.proofs.walk.+accumulated+attribute+binary+collect+conditional+connective+is_undef+iterate+let_in+node+operand+pair+quantified+unary.Proof.Base.{iterate-at, accumulated-below, pair-below}
 
 module _ (t : ℕ) where
   abbrev calls : lts.Claims
