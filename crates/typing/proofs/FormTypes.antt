@@ -20,6 +20,7 @@ use Rattle.types.specs.Flat.{parentsIn, letterOf, tyOf, joinedType}
 use Rattle.types.specs.Parts.{codeOf, outerCode, memberType, simpleClass, classOf, isAny, classNumber}
 use Rattle.types.proofs.Members.{no-collection, is-collection}
 use Rattle.nodes.specs.Nodes.{variable, leafOf, unaryOf, binaryOf}
+use Rattle.typing.proofs.Joins.{joined-yes, joined-no}
 
 -- ---- collections and kinds
 
@@ -61,17 +62,6 @@ module _ (n d : ℕ) (l : Letter) (t : Ty) (h : d ≡ depth t) where
   pub wrap-no : 2 < d → refused 13 n ≡ wrap n l t
   unfolding wrap
   wrap-no k = rw (← h, lt-leb d 2 k)
-
--- ---- a common type that the code found, or found not to be there
-
-module _ (n : ℕ) (k : Ty → Answer) (x : Joined) where
-  pub joined-yes : {w : FlatType} {a : Answer} → x ≡ j.Is w → a ≡ k (tyOf w) → a ≡ common n (joinedType x) k
-  unfolding common joinedType
-  joined-yes q p = rw q p
-
-  pub joined-no : x ≡ j.Nothing → refused 10 n ≡ common n (joinedType x) k
-  unfolding common joinedType
-  joined-no q = rw q
 
 -- ---- forms with no operand
 

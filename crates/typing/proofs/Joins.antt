@@ -1,16 +1,30 @@
--- The common type of several types: it does not matter which two are taken first. Assumes nothing.
+-- The common type of two types as the code found it, and of several: it does not matter which two are taken first. Assumes
+-- nothing.
 use mathlib.Core.Path.{_≡_, refl, ap, _∙_, fun-ext}
 use mathlib.Core.Option.{Option, none, some, Option·none-ne-some, Option·some-injective}
+use Prim.Native.Nat.{ℕ}
 use Rattle.laws.specs.Choice.{onSome}
 use Rattle.laws.proofs.Options.{onSome-some, nowhere}
 use Rattle.ocl.specs.Types.{Ty, void, simple, around, Parents, Subtype, transitive, join}
 use Rattle.ocl.specs.Laws.{Small}
+use Rattle.ocl.specs.Typing.{Answer, refused, common}
 use Rattle.ocl.proofs.Subtyping.{subtyping, common-type}
 use Rattle.types.specs.declared.FlatType.{FlatType}
 use Rattle.types.specs.declared.Joined.{Joined}
 use Rattle.types.specs.declared.Joined.the-variants as j
 use Rattle.types.specs.Flat.{tyOf, joinedType}
 use Rattle.typing.specs.Replies.{joinMore}
+
+-- ---- a common type that the code found, or found not to be there
+
+module _ (n : ℕ) (k : Ty → Answer) (x : Joined) where
+  pub joined-yes : {w : FlatType} {a : Answer} → x ≡ j.Is w → a ≡ k (tyOf w) → a ≡ common n (joinedType x) k
+  unfolding common joinedType
+  joined-yes q p = rw q p
+
+  pub joined-no : x ≡ j.Nothing → refused 10 n ≡ common n (joinedType x) k
+  unfolding common joinedType
+  joined-no q = rw q
 
 -- ---- one more
 

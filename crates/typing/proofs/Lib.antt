@@ -1,9 +1,9 @@
 pub mod Composition
 pub mod Environments
+pub mod Joins
 pub mod FormTypes
 pub mod Attributes
 pub mod NodeTypings
-pub mod Joins
 pub mod Members
 pub mod RuleTypings
 pub mod AllRules

@@ -1,5 +1,5 @@
 -- `around_common` meets its contract. Assumes nothing.
-use Rattle.typing.proofs.FormTypes.{joined-yes, joined-no}
+use Rattle.typing.proofs.Joins.{joined-yes, joined-no}
 use borrow.Author.Needs.{needs}
 use Rattle.typing.proofs.forms.around_common.Statement.{statement}
 use Rattle.typing.proofs.forms.around_common.Tie as tie
