@@ -1,12 +1,12 @@
 -- Answers and marks, composed as the definition composes typings. Assumes nothing.
 use mathlib.Core.Path.{_≡_, refl, sym, ap, _∙_}
-use mathlib.Core.List.{List, [], _∷_, _++_}
+use mathlib.Core.List.{List, [], _∷_, _++_, append-assoc}
 use Prim.Native.Nat.{ℕ}
 use native.Mathlib.Omega.{arith}
 use lib.ListN.{set}
 use Rattle.ocl.specs.Types.{Ty}
 use Rattle.ocl.specs.Environment.{Env}
-use Rattle.ocl.specs.Typing.{Answer, Marks, Typed, Typing, pure, thenFor, andThen}
+use Rattle.ocl.specs.Typing.{Answer, typed, refused, Marks, Typed, Typing, pure, thenFor, andThen}
 use Rattle.types.specs.declared.FlatType.{FlatType}
 use Rattle.types.specs.Flat.{tyOf}
 use Rattle.typing.specs.declared.Reply.{Reply}
@@ -18,6 +18,21 @@ pub write-append : (l : List ℕ) (a c : Marks) → writeMarks l (a ++ c) ≡ wr
 unfolding writeMarks
 write-append l [] c = refl
 write-append l (x ∷ a) c = write-append (set l (x .0) (x .1)) a c
+
+-- what follows a typing that follows another
+split-for : (a : Answer) (b c : Marks) (k : Ty → Typed) → thenFor a (b ++ c) k ≡ record { answer = thenFor a c k .answer; marks = b ++ thenFor a c k .marks }
+unfolding thenFor
+split-for (typed t) b c k = ap (λ (l : Marks). record { answer = k t .answer; marks = l }) (append-assoc b c (k t .marks))
+split-for (refused n p) b c k = refl
+
+then-for : (a : Answer) (b : Marks) (f g : Ty → Typed) → andThen (thenFor a b f) g ≡ thenFor a b (λ t. andThen (f t) g)
+unfolding andThen thenFor
+then-for (typed t) b f g = split-for (f t .answer) b (f t .marks) g
+then-for (refused n p) b f g = refl
+
+pub then-then : (x : Typed) (f g : Ty → Typed) → andThen (andThen x f) g ≡ andThen x (λ t. andThen (f t) g)
+unfolding andThen
+then-then x f g = then-for (x .answer) (x .marks) f g
 
 -- a refusal ends what follows it
 pub early : {x : Typed} {B A : List ℕ} {r : Reply} {c p : ℕ} (k : Ty → Typed) → Tells x B A r → r ≡ reply.No c p → Tells (andThen x k) B A r

@@ -1,9 +1,10 @@
--- An array of slots as an environment: a slot set is a binding, and a rule's start binds `self` alone. Assumes nothing.
+-- A slot holds each type, and an array of slots is an environment: a slot set is a binding, and a rule's start binds `self`
+-- alone. Assumes nothing.
 use mathlib.Core.Path.{_≡_, refl, ap, _∙_, fun-ext}
 use mathlib.Core.Bool.{Bool, true, false}
 use mathlib.Core.Option.{none, some}
 use mathlib.Core.List.{List}
-use Prim.Native.Nat.{ℕ, zero, suc, _<_}
+use Prim.Native.Nat.{ℕ, zero, suc, _<_, _≤_}
 use native.Mathlib.Omega.{arith}
 use lib.ListN.{length, getD, set, replicate}
 use lib.Seq.{getD-set-same, getD-set-other}
@@ -13,15 +14,48 @@ use Rattle.laws.specs.Choice.{if_then_else_}
 use Rattle.ocl.specs.Types.{Ty, Class}
 use Rattle.ocl.specs.Environment.{Env, extend, start}
 use Rattle.ocl.specs.Typing.{typed, refused, boundType}
+use Rattle.types.specs.declared.Base.{Base}
+use Rattle.types.specs.declared.Base.the-variants as b
 use Rattle.types.specs.declared.FlatType.{FlatType}
-use Rattle.types.specs.Flat.{tyOf}
+use Rattle.types.specs.Flat.{baseTag, baseClass, layer, tyOf}
+use Rattle.types.proofs.Words.{bits-high}
 use Rattle.typing.specs.declared.Slot.{Slot}
-use Rattle.typing.specs.Replies.{freeSlot, slotType, envOf}
+use Rattle.typing.specs.Replies.{freeSlot, baseOf, flatOf, slotType, envOf}
+
+-- ---- a slot
+
+-- a byte that counts as C stands for each code over it
+pub high-code : (k : ℕ) (base under : Ty) → 256 ≤ k → layer 1 base under ≡ layer k base under
+high-code k base under h = bits-high k (omega arith) .same base under
+
+base-back : (a : Base) → baseOf (baseTag a) (baseClass a) ≡ a
+unfolding baseOf
+base-back b.Void = refl
+base-back b.Bool = refl
+base-back b.Int = refl
+base-back b.Any = refl
+base-back (b.Class c) = refl
+
+pub base-class : (n c : ℕ) → 4 ≤ n → b.Class c ≡ baseOf n c
+unfolding baseOf
+base-class zero c h = absurd (omega arith)
+base-class (suc zero) c h = absurd (omega arith)
+base-class (suc (suc zero)) c h = absurd (omega arith)
+base-class (suc (suc (suc zero))) c h = absurd (omega arith)
+base-class (suc (suc (suc (suc n)))) c h = refl
+
+pub slot-law : (t : FlatType) (g c o m i : ℕ) → g ≡ baseTag (t .base) → c ≡ baseClass (t .base)
+    → ((base under : Ty) → layer o base under ≡ layer (t .outer) base under)
+    → ((base under : Ty) → layer m base under ≡ layer (t .middle) base under)
+    → ((base under : Ty) → layer i base under ≡ layer (t .inner) base under)
+    → slotType (record { bound = true; tag = g; outer = o; middle = m; inner = i; class = c }) ≡ some (tyOf t)
+unfolding slotType
+slot-law t g c o m i e f p q r = rw (e, f, base-back (t .base), p, q, r)
 
 -- ---- a variable
 
 module _ (n i : ℕ) (env : List Slot) where
-  pub is-bound : getD env i freeSlot .bound ≡ true → typed (tyOf (getD env i freeSlot .«type_of»)) ≡ boundType n (envOf env i)
+  pub is-bound : getD env i freeSlot .bound ≡ true → typed (tyOf (flatOf (getD env i freeSlot))) ≡ boundType n (envOf env i)
   unfolding boundType envOf slotType
   is-bound h = rw h
 
@@ -31,15 +65,14 @@ module _ (n i : ℕ) (env : List Slot) where
 
 -- ---- a binding
 
-slot-by : (env : List Slot) (i j : ℕ) (t : FlatType) → i < length env → (x : Bool) → eqb j i ≡ x
-    → slotType (getD (set env i (record { bound = true; «type_of» = t })) j freeSlot) ≡ (if x then some (tyOf t) else slotType (getD env j freeSlot))
-unfolding slotType
-slot-by env i j t h true e = rw (eqb-true j i e, getD-set-same env i (record { bound = true; «type_of» = t }) freeSlot h)
-slot-by env i j t h false e = rw (getD-set-other env i j (record { bound = true; «type_of» = t }) freeSlot (eqb-false j i e))
+slot-by : (env : List Slot) (i j : ℕ) (s : Slot) (t : Ty) → slotType s ≡ some t → i < length env → (x : Bool) → eqb j i ≡ x
+    → slotType (getD (set env i s) j freeSlot) ≡ (if x then some t else slotType (getD env j freeSlot))
+slot-by env i j s t k h true e = rw (eqb-true j i e, getD-set-same env i s freeSlot h) k
+slot-by env i j s t k h false e = rw (getD-set-other env i j s freeSlot (eqb-false j i e))
 
-pub env-set : (env : List Slot) (i : ℕ) (t : FlatType) → length env ≡ 16 → i < 16 → envOf (set env i (record { bound = true; «type_of» = t })) ≡ extend (envOf env) i (tyOf t)
+pub env-set : (env : List Slot) (i : ℕ) (s : Slot) (t : Ty) → slotType s ≡ some t → length env ≡ 16 → i < 16 → envOf (set env i s) ≡ extend (envOf env) i t
 unfolding envOf extend
-env-set env i t n h = fun-ext (λ j. slot-by env i j t (omega arith) (eqb j i) refl)
+env-set env i s t k n h = fun-ext (λ j. slot-by env i j s t k (omega arith) (eqb j i) refl)
 
 -- ---- the start
 
@@ -49,11 +82,7 @@ same-at s zero j h = refl
 same-at s (suc m) zero h = h
 same-at s (suc m) (suc j) h = same-at s m j h
 
--- sixteen slots that bind nothing, but for `self`
-pub start-env : (c : ℕ) (x y : FlatType) → tyOf y ≡ Class c
-    → envOf (set (replicate 16 (record { bound = false; «type_of» = x })) 0 (record { bound = true; «type_of» = y })) ≡ start (Class c)
+-- slots that bind nothing, but for `self`
+pub start-env : {ρ : Env Ty} {t : Ty} (c : ℕ) → ρ ≡ extend (envOf (replicate 16 freeSlot)) 0 t → t ≡ Class c → ρ ≡ start (Class c)
 unfolding start envOf slotType
-start-env c x y h =
-    env-set (replicate 16 (record { bound = false; «type_of» = x })) 0 y refl (omega arith)
-    ∙ ap (λ (t : Ty). extend (envOf (replicate 16 (record { bound = false; «type_of» = x }))) 0 t) h
-    ∙ ap (λ (ρ : Env Ty). extend ρ 0 (Class c)) (fun-ext (λ j. same-at (record { bound = false; «type_of» = x }) 16 j refl))
+start-env {ρ} {t} c e h = e ∙ ap (extend (envOf (replicate 16 freeSlot)) 0) h ∙ ap (λ (σ : Env Ty). extend σ 0 (Class c)) (fun-ext (λ j. same-at freeSlot 16 j refl))

@@ -20,6 +20,7 @@ use Rattle.types.specs.Flat.{parentsIn, letterOf, tyOf, joinedType}
 use Rattle.types.specs.Parts.{codeOf, outerCode, memberType, simpleClass, classOf, isAny, classNumber}
 use Rattle.types.proofs.Members.{no-collection, is-collection}
 use Rattle.nodes.specs.Nodes.{variable, leafOf, unaryOf, binaryOf}
+use Rattle.typing.proofs.Joins.{joined-yes, joined-no}
 
 -- ---- collections and kinds
 
@@ -126,13 +127,14 @@ module _ (m : Model) (ps : List ℕ) (e : m .parent ≡ parentsIn ps) (n : ℕ) 
 
   -- the common type, and whatever it leads to
   module _ (t u : Ty) (k : Ty → Answer) (x : Joined) (h : joinedType x ≡ join (parentsIn ps) t u) where
+    pub common-of : {a : Answer} → a ≡ common n (joinedType x) k → a ≡ common n (join (m .parent) t u) k
+    common-of p = rw (e, ← h) p
+
     pub common-yes : {w : FlatType} {a : Answer} → x ≡ j.Is w → a ≡ k (tyOf w) → a ≡ common n (join (m .parent) t u) k
-    unfolding common joinedType
-    common-yes q p = rw (e, ← h, q) p
+    common-yes q p = common-of (joined-yes n k x q p)
 
     pub common-no : x ≡ j.Nothing → refused 10 n ≡ common n (join (m .parent) t u) k
-    unfolding common joinedType
-    common-no q = rw (e, ← h, q)
+    common-no q = common-of (joined-no n k x q)
 
   -- `if`
   pub choice-yes : (c t u : Ty) {w : Ty} {a : Answer} → w ≡ Boolean → true ≡ subtype (parentsIn ps) c w → a ≡ common n (join (m .parent) t u) typed → a ≡ conditionalType m n c t u

@@ -1,31 +1,30 @@
 -- What the recursion's contracts come to: each node by the range of its code, each operand, and what follows the operands of the
--- forms that bind, collect or iterate. Assumes nothing.
+-- forms that bind. Assumes nothing.
 use mathlib.Core.Path.{_≡_, refl, sym, ap, _∙_}
 use mathlib.Core.Bool.{Bool, true, false}
 use mathlib.Core.List.{List}
-use Prim.Native.Nat.{ℕ, zero, suc, _+_, _-_, _<_, _≤_}
+use Prim.Native.Nat.{ℕ, _<_, _≤_}
 use native.Mathlib.Omega.{arith}
 use lib.Dec.{ltb}
-use borrow.Author.Tests.{lt-ltb, le-ltb, ltb-true, ltb-false}
+use borrow.Author.Tests.{ltb-true, ltb-false}
 use Rattle.laws.specs.Choice.{if_then_else_}
-use Rattle.ocl.specs.Types.{exactly, Letter, Ty, void, Parents, subtype}
+use Rattle.ocl.specs.Types.{Letter, Ty, void, Parents, subtype}
 use Rattle.ocl.specs.Environment.{Env, extend}
 use Rattle.ocl.specs.Forms.{undef}
 use Rattle.ocl.specs.Model.{Model}
-use Rattle.ocl.specs.Typing.{typed, refused, Typed, pure, andThen, wrap, onCollection, leafType, leafTyping, iterateTyping, noOperandTyping, collectTyping, operandsTyping}
-use Rattle.ocl.specs.Typing.{operandTyping as memberTyping}
+use Rattle.ocl.specs.Typing.{typed, refused, Typed, pure, andThen, onCollection, leafType, leafTyping, iterateTyping}
 use Rattle.types.specs.declared.FlatType.{FlatType}
 use Rattle.types.specs.Flat.{parentsIn, letterOf, tyOf}
 use Rattle.types.specs.Parts.{outerCode, memberType}
 use Rattle.types.specs.Word.{typeIn}
 use Rattle.types.proofs.Members.{no-collection, is-collection}
-use Rattle.nodes.specs.Nodes.{word, variable, leafOf, kindOf, operandsIn}
+use Rattle.nodes.specs.Nodes.{word, variable, leafOf}
 use Rattle.nodes.proofs.Typing.{operandTyping, leaf-typing, unary-typing, binary-typing, connective-typing, quantified-typing, collect-typing, isUndef-typing, conditional-typing, let-typing, attribute-typing, iterate-typing, over-typing, none-typing, operand-typing, late-typing}
 use Rattle.typing.specs.declared.Reply.{Reply}
 use Rattle.typing.specs.declared.Reply.the-variants as reply
-use Rattle.typing.specs.Replies.{meaning, Tells}
+use Rattle.typing.specs.Replies.{Tells}
 use Rattle.typing.specs.Tables.{nodeAt, operandAt, membersAt, unaryAt, binaryAt, connectiveAt, isUndefAt, conditionalAt, letAt, attributeAt, quantifiedAt, iterateAt, bodyAt, collectAt}
-use Rattle.typing.proofs.Composition.{early, after, done}
+use Rattle.typing.proofs.Composition.{done}
 
 -- ---- a node by its code
 
@@ -139,44 +138,3 @@ module _ (m : Model) (ps : List ℕ) (q : m .parent ≡ parentsIn ps) (t : List 
   unfolding iterRest
   iter-body z v p y o g d =
       on-source _ s h _ z (if-yes _ (subtype (m .parent) e (typeIn (word t n 6))) (p ∙ ap (subtype (parentsIn ps) e) v ∙ ap (λ (f : Parents). subtype f e (typeIn (word t n 6))) (sym q)) (rw (← v, ← y, ← o, ← g) d))
-
--- ---- `coll`
-
-kind-by : (i : ℕ) → i < 3 → letterOf (2 + i) ≡ exactly (kindOf (27 + i))
-unfolding letterOf kindOf
-kind-by zero h = refl
-kind-by (suc zero) h = refl
-kind-by (suc (suc zero)) h = refl
-kind-by (suc (suc (suc i))) h = absurd (omega arith)
-
--- codes 27 to 29 are the letters of codes 2 to 4
-kind-letter : (k : ℕ) → 27 ≤ k → k < 30 → letterOf (k - 25) ≡ exactly (kindOf k)
-kind-letter k l h =
-    let x : k - 25 ≡ 2 + (k - 27) = omega arith in
-    let y : 27 + (k - 27) ≡ k = omega arith in
-    ap letterOf x ∙ kind-by (k - 27) (omega arith) ∙ ap (λ (z : ℕ). exactly (kindOf z)) y
-
-module _ (m : Model) (t : List ℕ) (n k : ℕ) (Γ : Env Ty) {c : ℕ} (e : c ≡ word t n 5) where
-  pub collect-over : {B : List ℕ} {r : FlatType} → 4 < c → tyOf r ≡ void → Tells (collectAt t n k m Γ) B B (reply.Is r)
-  unfolding collectAt
-  collect-over h v = rw (← e, lt-ltb 4 c h) (undef-done n Γ v)
-
-  module _ {B A : List ℕ} {r : Reply} (h : c ≤ 4) (d : Tells (membersAt t n c 1 m Γ) B A r) where
-    pub collect-first : {a p : ℕ} → r ≡ reply.No a p → Tells (collectAt t n k m Γ) B A r
-    unfolding collectAt collectTyping
-    collect-first q = rw (← e, le-ltb 4 c h) (early _ d q)
-
-    pub collect-done : {u : FlatType} {x : Reply} → 27 ≤ k → k < 30 → r ≡ reply.Is u → meaning x ≡ wrap n (letterOf (k - 25)) (tyOf u) → Tells (collectAt t n k m Γ) B A x
-    unfolding collectAt collectTyping
-    collect-done {u} l g q v = rw (← e, le-ltb 4 c h) (after _ d q (done (v ∙ ap (λ (z : Letter). wrap n z (tyOf u)) (kind-letter k l g))))
-
-pub members-none : {B : List ℕ} {r : FlatType} (m : Model) (t : List ℕ) (n c k : ℕ) (Γ : Env Ty) → c ≡ 0 → tyOf r ≡ void → Tells (membersAt t n c k m Γ) B B (reply.Is r)
-unfolding membersAt operandsIn operandsTyping noOperandTyping
-members-none m t n c k Γ e h = rw e (done (ap typed h))
-
-members-by : (m : Model) (t : List ℕ) (n c k d : ℕ) → c ≡ suc d → membersAt t n c k m ≡ memberTyping m n (operandAt t n k m) (membersAt t n d (k + 1) m)
-unfolding membersAt operandsIn operandsTyping operandAt
-members-by m t n c k d e = rw e
-
-pub members-law : (m : Model) (t : List ℕ) (n c k : ℕ) → (c ≡ 0 → ⊥) → membersAt t n c k m ≡ memberTyping m n (operandAt t n k m) (membersAt t n (c - 1) (k + 1) m)
-members-law m t n c k h = members-by m t n c k (c - 1) (omega arith)

@@ -10,19 +10,18 @@ use lib.Dec.{eqb}
 use borrow.Author.Tests.{eqb-true, eqb-false}
 use Rattle.laws.specs.Choice.{if_then_else_}
 use Rattle.laws.proofs.Parts.{at-next}
-use Rattle.ocl.specs.Types.{Class}
+use Rattle.ocl.specs.Types.{Ty, Class}
+use Rattle.ocl.specs.Environment.{Env, start}
 use Rattle.ocl.specs.Model.{Model}
 use Rattle.ocl.specs.Typing.{Answer, Marks, typeRule, markOr, markOf}
 use Rattle.types.specs.declared.FlatType.{FlatType}
-use Rattle.types.specs.Flat.{tyOf}
 use Rattle.nodes.specs.Nodes.{treeAt}
 use Rattle.typing.specs.declared.Reply.{Reply}
 use Rattle.typing.specs.declared.Reply.the-variants as reply
 use Rattle.typing.specs.declared.AllTyped.the-variants as all
-use Rattle.typing.specs.Replies.{meaning, envOf, writeMarks, Tells}
+use Rattle.typing.specs.Replies.{meaning, writeMarks, Tells}
 use Rattle.typing.specs.Tables.{Reads, nodeAt}
 use Rattle.typing.specs.Rules.{Kept, TypesRule, pairs, orRefusal, firstRefusal, refusalIn, TypesAll}
-use Rattle.typing.proofs.Environments.{start-env}
 
 -- ---- a cleared table
 
@@ -44,12 +43,9 @@ mark-at (x ∷ m) l p h =
 
 -- ---- a rule
 
--- the environment that the code starts with binds `self` alone
-pub started : {B A : List ℕ} {r : Reply} (m : Model) (t : List ℕ) (n c : ℕ) (x y : FlatType) → tyOf y ≡ Class c
-    → Tells (nodeAt t n m (envOf (set (replicate 16 (record { bound = false; «type_of» = x })) 0 (record { bound = true; «type_of» = y })))) B A r
-    → Tells (typeRule m c (treeAt t n)) B A r
+pub started : {B A : List ℕ} {r : Reply} {Γ : Env Ty} (m : Model) (t : List ℕ) (n c : ℕ) → Γ ≡ start (Class c) → Tells (nodeAt t n m Γ) B A r → Tells (typeRule m c (treeAt t n)) B A r
 unfolding typeRule
-started m t n c x y h d = rw (start-env c x y h) at d
+started m t n c h d = rw h at d
 
 module _ (tables : List ℕ) (classes rows : ℕ) (nodes : List ℕ) (context root : ℕ) (before part : List ℕ) (r : Reply) where
   -- what is said of the first 768 words, of the whole

@@ -7,13 +7,13 @@ ghost use Rattle.ocl.specs.Types.{Boolean, Integer};
 ghost use Rattle.ocl.specs.Types.{join as joinOf};
 ghost use Rattle.ocl.specs.Model.{Model};
 ghost use Rattle.ocl.specs.Typing.{typed, refused, below, common, onCollection, castType, bothBelow, leafType, unaryType, binaryType};
-ghost use Rattle.ocl.specs.Typing.{boundType};
 ghost use Rattle.ocl.specs.Typing.{wrap as wrapType};
-ghost use Rattle.types.specs.Flat.{parentsIn, tyOf, letterOf};
+ghost use Rattle.types.specs.Flat.{parentsIn, tyOf, letterOf, joinedType};
 ghost use Rattle.nodes.specs.Nodes.{word, leafOf, unaryOf, binaryOf};
-ghost use Rattle.typing.specs.Replies.{meaning, envOf};
+ghost use Rattle.typing.specs.Replies.{meaning, envOf, joinMore};
 use super::Reply;
 use super::Slot;
+use super::environment::bound;
 use nodes::node_word;
 use types::Base;
 use types::ClassNumber;
@@ -33,19 +33,6 @@ use types::parts::set_of_class;
 use types::parts::wrap;
 
 // ---- what several forms ask
-
-// The variable i: its type where it is bound, else 9. `self` is variable 0.
-fn bound(n: u64, i: usize, env: [Slot; 16]) -> Reply
-    requires { ⌜ i < 16 ⌝ }
-    ensures { λ r. ⌜ meaning r ≡ boundType n (envOf env i) ⌝ }
-{
-    let s = env[i];
-    if s.bound {
-        let t = s.type_of;
-        return Reply::Is(t);
-    }
-    Reply::No(9, n)
-}
 
 // A condition is below Bool, else 11.
 pub fn condition(parents: &[u64], n: u64, t: FlatType) -> Reply
@@ -98,7 +85,7 @@ fn comparable(parents: &[u64], n: u64, t: FlatType, u: FlatType) -> Reply
 }
 
 // The letter of the code around t, unless that is over three deep (13).
-pub fn wrapped(n: u64, code: u64, t: FlatType) -> Reply
+fn wrapped(n: u64, code: u64, t: FlatType) -> Reply
     requires { ⌜ 0 < code ⌝ }
     ensures { λ r. ⌜ meaning r ≡ wrapType n (letterOf code) (tyOf t) ⌝ }
 {
@@ -108,12 +95,22 @@ pub fn wrapped(n: u64, code: u64, t: FlatType) -> Reply
     Reply::No(13, n)
 }
 
-// The letter of the code around the common type of t and u.
-fn around_common(parents: &[u64], n: u64, code: u64, t: FlatType, u: FlatType) -> Reply
-    requires { ⌜ 0 < code ⌝ }
-    ensures { λ r. ⌜ ((m : Model) → m .parent ≡ parentsIn (now (parents .entry)) → meaning r ≡ common n (joinOf (m .parent) (tyOf t) (tyOf u)) (wrapType n (letterOf code))) ⌝ }
+// The common type with one type more, where there is one of those before it.
+pub fn join_more(parents: &[u64], common: Joined, t: FlatType) -> Joined
+    ensures { λ r. ⌜ joinedType r ≡ joinMore (parentsIn (now (parents .entry))) (joinedType common) (tyOf t) ⌝ }
 {
-    let Joined::Is(w) = join(parents, t, u) else {
+    let Joined::Is(s) = common else {
+        return common;
+    };
+    join(parents, s, t)
+}
+
+// The letter of the code around a common type, else 10.
+pub fn around_common(n: u64, code: u64, joined: Joined) -> Reply
+    requires { ⌜ 0 < code ⌝ }
+    ensures { λ r. ⌜ meaning r ≡ common n (joinedType joined) (wrapType n (letterOf code)) ⌝ }
+{
+    let Joined::Is(w) = joined else {
         return Reply::No(10, n);
     };
     wrapped(n, code, w)
@@ -209,7 +206,7 @@ fn including_type(parents: &[u64], n: u64, t: FlatType, u: FlatType) -> Reply
     if code <= 1 {
         return Reply::No(11, n);
     }
-    around_common(parents, n, code, member_type(t), u)
+    around_common(n, code, join(parents, member_type(t), u))
 }
 
 // `union`: both S, both Q or both B, else 11, around the common type of their members.
@@ -223,7 +220,7 @@ fn union_type(parents: &[u64], n: u64, t: FlatType, u: FlatType) -> Reply
     if outer_code(u) != code {
         return Reply::No(11, n);
     }
-    around_common(parents, n, code, member_type(t), member_type(u))
+    around_common(n, code, join(parents, member_type(t), member_type(u)))
 }
 
 pub fn binary_type(parents: &[u64], form: u64, n: u64, t: FlatType, u: FlatType) -> Reply

@@ -10,11 +10,9 @@ ghost use Rattle.typing.specs.Tables.{Reads, Room};
 ghost use Rattle.typing.specs.Rules.{Lent, TypesRule, TypesAll};
 use super::AllTyped;
 use super::Reply;
-use super::Slot;
+use super::environment::start_env;
 use super::walk::node;
-use types::Base;
 use types::classes::wide;
-use types::parts::plain;
 
 // Every word 0: no node is marked.
 fn clear(marks: &mut [u64])
@@ -41,15 +39,7 @@ fn root_type(
     ensures { λ r. ⌜ ((m : Model) → Reads (now (parents .entry)) (now (tables .entry)) rows m → Tells (typeRule m context (treeAt (now (nodes .entry)) root)) (replicate (length (now (marks .entry))) 0) (now (marks .exit)) r) ⌝ }
 {
     clear(marks);
-    let free = Slot {
-        bound: false,
-        type_of: plain(Base::Void),
-    };
-    let mut env = [free; 16];
-    env[0] = Slot {
-        bound: true,
-        type_of: plain(Base::Class(context)),
-    };
+    let env = start_env(context);
     node(nodes, parents, tables, rows, root, env, marks)
 }
 

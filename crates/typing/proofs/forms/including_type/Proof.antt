@@ -1,5 +1,5 @@
 -- `including_type` meets its contract. Assumes nothing.
-use Rattle.typing.proofs.FormTypes.{including-no, including-yes}
+use Rattle.typing.proofs.FormTypes.{common-of, including-no, including-yes}
 use borrow.Author.Needs.{needs}
 use Rattle.typing.proofs.forms.including_type.Statement.{statement}
 use Rattle.typing.proofs.forms.including_type.Tie as tie
@@ -13,13 +13,16 @@ returns c = λ m e. including-no m _ _ _ _ (c .before .outer-code .ensures) (c .
 member-type-requires : tie.Need-member-type-requires
 member-type-requires c κs = search needs
 
+join-requires : tie.Need-join-requires
+join-requires c κs = search needs
+
 around-common-requires : tie.Need-around-common-requires
 around-common-requires c κs = search needs
 
 returns-2 : tie.Need-returns-2
-returns-2 c = λ m e. including-yes m _ _ _ _ (c .before .before .before .outer-code .ensures) (c .before .before .if1 .left) (c .before .member-type .ensures) (c .around-common .ensures m e)
+returns-2 c = λ m e. including-yes m _ _ _ _ (c .before .before .before .before .outer-code .ensures) (c .before .before .before .if1 .left) (c .before .before .member-type .ensures) (common-of m _ e _ _ _ _ _ (c .before .join .ensures) (c .around-common .ensures))
 
 pub including-type-spec : {M : Type 1} → statement M
 including-type-spec =
     tie.close
-    (tie.spec outer-code-requires returns member-type-requires around-common-requires returns-2)
+    (tie.spec outer-code-requires returns member-type-requires join-requires around-common-requires returns-2)

@@ -1,5 +1,5 @@
 -- `union_type` meets its contract. Assumes nothing.
-use Rattle.typing.proofs.FormTypes.{union-no, union-other, union-yes}
+use Rattle.typing.proofs.FormTypes.{common-of, union-no, union-other, union-yes}
 use borrow.Author.Needs.{needs}
 use Rattle.typing.proofs.forms.union_type.Statement.{statement}
 use Rattle.typing.proofs.forms.union_type.Tie as tie
@@ -22,11 +22,14 @@ member-type-requires c κs = search needs
 member-type-requires-2 : tie.Need-member-type-requires-2
 member-type-requires-2 c κs = search needs
 
+join-requires : tie.Need-join-requires
+join-requires c κs = search needs
+
 around-common-requires : tie.Need-around-common-requires
 around-common-requires c κs = search needs
 
 returns-3 : tie.Need-returns-3
-returns-3 c = λ m e. union-yes m _ _ _ _ (c .before .before .before .before .before .before .outer-code .ensures) _ (c .before .before .before .before .outer-code2 .ensures) (c .before .before .before .before .before .if1 .left) (c .before .before .before .if2 .left) (c .before .before .member-type .ensures) (c .before .member-type2 .ensures) (c .around-common .ensures m e)
+returns-3 c = λ m e. union-yes m _ _ _ _ (c .before .before .before .before .before .before .before .outer-code .ensures) _ (c .before .before .before .before .before .outer-code2 .ensures) (c .before .before .before .before .before .before .if1 .left) (c .before .before .before .before .if2 .left) (c .before .before .before .member-type .ensures) (c .before .before .member-type2 .ensures) (common-of m _ e _ _ _ _ _ (c .before .join .ensures) (c .around-common .ensures))
 
 pub union-type-spec : {M : Type 1} → statement M
 union-type-spec =
@@ -38,5 +41,6 @@ union-type-spec =
     returns-2
     member-type-requires
     member-type-requires-2
+    join-requires
     around-common-requires
     returns-3)

@@ -7,14 +7,8 @@ use Rattle.typing.proofs.rules.root_type.Tie as tie
 clear-requires : tie.Need-clear-requires
 clear-requires c κs = search needs
 
-plain-requires : tie.Need-plain-requires
-plain-requires c κs = search needs
-
-plain-requires-2 : tie.Need-plain-requires-2
-plain-requires-2 c κs = search needs
-
-array-set-from-env : tie.Need-array-set-from-env
-array-set-from-env c = search needs
+start-env-requires : tie.Need-start-env-requires
+start-env-requires c κs = search needs
 
 node-requires : tie.Need-node-requires
 node-requires c κs = search needs
@@ -23,16 +17,14 @@ same-length : tie.Need-same-length
 same-length c = search needs
 
 returns : tie.Need-returns
-returns c = λ m h. rw (c .before .before .before .before .before .before .before .before .clear .ensures) at (started m _ _ _ _ _ (c .before .before .before .before .plain2 .ensures) (c .before .before .node .ensures m h))
+returns c = λ m h. rw (c .before .before .before .before .before .before .before .clear .ensures) at (started m _ _ _ (c .before .before .before .before .start-env .ensures) (c .before .before .node .ensures m h))
 
 pub root-type-spec : {M : Type 1} → statement M
 root-type-spec =
     tie.close
     (tie.spec
     clear-requires
-    plain-requires
-    plain-requires-2
-    array-set-from-env
+    start-env-requires
     node-requires
     same-length
     returns)

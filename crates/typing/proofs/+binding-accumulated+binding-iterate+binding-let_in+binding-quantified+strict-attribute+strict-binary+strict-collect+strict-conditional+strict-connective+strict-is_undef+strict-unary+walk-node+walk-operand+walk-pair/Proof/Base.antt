@@ -2,36 +2,34 @@
 use Prim.Native.Nat.{ℕ, _+_, _*_, _<_}
 use borrow.Fn.Kinds.{In}
 use borrow.Fn.PlainCycle.{Measures, is, falls, and}
-use Rattle.typing.proofs.walk.accumulated.Reads as accumulated
-use Rattle.typing.proofs.walk.accumulated.Kinds as accumulated-kinds
-use Rattle.typing.proofs.walk.attribute.Reads as attribute
-use Rattle.typing.proofs.walk.attribute.Kinds as attribute-kinds
-use Rattle.typing.proofs.walk.binary.Reads as binary
-use Rattle.typing.proofs.walk.binary.Kinds as binary-kinds
-use Rattle.typing.proofs.walk.collect.Reads as collect
-use Rattle.typing.proofs.walk.collect.Kinds as collect-kinds
-use Rattle.typing.proofs.walk.conditional.Reads as conditional
-use Rattle.typing.proofs.walk.conditional.Kinds as conditional-kinds
-use Rattle.typing.proofs.walk.connective.Reads as connective
-use Rattle.typing.proofs.walk.connective.Kinds as connective-kinds
-use Rattle.typing.proofs.walk.is_undef.Reads as is-undef
-use Rattle.typing.proofs.walk.is_undef.Kinds as is-undef-kinds
-use Rattle.typing.proofs.walk.iterate.Reads as iterate
-use Rattle.typing.proofs.walk.iterate.Kinds as iterate-kinds
-use Rattle.typing.proofs.walk.let_in.Reads as let-in
-use Rattle.typing.proofs.walk.let_in.Kinds as let-in-kinds
-use Rattle.typing.proofs.walk.members_type.Reads as members-type
-use Rattle.typing.proofs.walk.members_type.Kinds as members-type-kinds
+use Rattle.typing.proofs.binding.accumulated.Reads as accumulated
+use Rattle.typing.proofs.binding.accumulated.Kinds as accumulated-kinds
+use Rattle.typing.proofs.strict.attribute.Reads as attribute
+use Rattle.typing.proofs.strict.attribute.Kinds as attribute-kinds
+use Rattle.typing.proofs.strict.binary.Reads as binary
+use Rattle.typing.proofs.strict.binary.Kinds as binary-kinds
+use Rattle.typing.proofs.strict.collect.Reads as collect
+use Rattle.typing.proofs.strict.collect.Kinds as collect-kinds
+use Rattle.typing.proofs.strict.conditional.Reads as conditional
+use Rattle.typing.proofs.strict.conditional.Kinds as conditional-kinds
+use Rattle.typing.proofs.strict.connective.Reads as connective
+use Rattle.typing.proofs.strict.connective.Kinds as connective-kinds
+use Rattle.typing.proofs.strict.is_undef.Reads as is-undef
+use Rattle.typing.proofs.strict.is_undef.Kinds as is-undef-kinds
+use Rattle.typing.proofs.binding.iterate.Reads as iterate
+use Rattle.typing.proofs.binding.iterate.Kinds as iterate-kinds
+use Rattle.typing.proofs.binding.let_in.Reads as let-in
+use Rattle.typing.proofs.binding.let_in.Kinds as let-in-kinds
 use Rattle.typing.proofs.walk.node.Reads as node
 use Rattle.typing.proofs.walk.node.Kinds as node-kinds
 use Rattle.typing.proofs.walk.operand.Reads as operand
 use Rattle.typing.proofs.walk.operand.Kinds as operand-kinds
 use Rattle.typing.proofs.walk.pair.Reads as pair
 use Rattle.typing.proofs.walk.pair.Kinds as pair-kinds
-use Rattle.typing.proofs.walk.quantified.Reads as quantified
-use Rattle.typing.proofs.walk.quantified.Kinds as quantified-kinds
-use Rattle.typing.proofs.walk.unary.Reads as unary
-use Rattle.typing.proofs.walk.unary.Kinds as unary-kinds
+use Rattle.typing.proofs.binding.quantified.Reads as quantified
+use Rattle.typing.proofs.binding.quantified.Kinds as quantified-kinds
+use Rattle.typing.proofs.strict.unary.Reads as unary
+use Rattle.typing.proofs.strict.unary.Kinds as unary-kinds
 
 abbrev pub μ-accumulated : Measures 4 accumulated-kinds.ps ℕ
 μ-accumulated κs a = 16 * a .1 .1 .1 .1 .0 + 1
@@ -113,15 +111,6 @@ let-in-at t = and 4 let-in-kinds.ps (is 4 let-in-kinds.ps μ-let-in t) let-in.Pr
 
 abbrev pub let-in-below : ℕ → In 4 let-in-kinds.ps
 let-in-below t = and 4 let-in-kinds.ps (falls 4 let-in-kinds.ps _<_ μ-let-in t) let-in.Pre
-
-abbrev pub μ-members-type : Measures 4 members-type-kinds.ps ℕ
-μ-members-type κs a = 16 * a .1 .1 .1 .1 .0 + 1 + a .1 .1 .1 .1 .1 .0
-
-abbrev pub members-type-at : ℕ → In 4 members-type-kinds.ps
-members-type-at t = and 4 members-type-kinds.ps (is 4 members-type-kinds.ps μ-members-type t) members-type.Pre
-
-abbrev pub members-type-below : ℕ → In 4 members-type-kinds.ps
-members-type-below t = and 4 members-type-kinds.ps (falls 4 members-type-kinds.ps _<_ μ-members-type t) members-type.Pre
 
 abbrev pub μ-node : Measures 4 node-kinds.ps ℕ
 μ-node κs a = 16 * a .1 .1 .1 .1 .0 + 11

@@ -5,18 +5,18 @@ use native.Mathlib.Omega.{arith}
 use borrow.Author.Needs.{needs}
 use Rattle.typing.proofs.NodeTypings.{iter-rest, iter-source, iter-start, iter-body}
 use Rattle.types.specs.Word.{typeIn}
-use Rattle.typing.proofs.walk.bind.Reads as bind-reads
+use Rattle.typing.proofs.environment.bind.Reads as bind-reads
 use Rattle.types.proofs.parts.member_type.Reads as member-type-reads
 use Rattle.nodes.proofs.node_word.Reads as node-word-reads
 use Rattle.types.proofs.parts.outer_code.Reads as outer-code-reads
 use Rattle.types.proofs.order.subtype.Reads as subtype-reads
 use Rattle.types.proofs.word.unpack.Reads as unpack-reads
-use Rattle.typing.proofs.walk.variable.Reads as variable-reads
-use Rattle.typing.proofs.walk.accumulated.Reads as accumulated
-use Rattle.typing.proofs.walk.iterate.Reads as iterate
+use Rattle.typing.proofs.binding.variable.Reads as variable-reads
+use Rattle.typing.proofs.binding.accumulated.Reads as accumulated
+use Rattle.typing.proofs.binding.iterate.Reads as iterate
 use Rattle.typing.proofs.walk.pair.Reads as pair
-use Rattle.typing.proofs.walk.+accumulated+attribute+binary+collect+conditional+connective+is_undef+iterate+let_in+members_type+node+operand+pair+quantified+unary.Lts-iterate as lts
-use Rattle.typing.proofs.walk.+accumulated+attribute+binary+collect+conditional+connective+is_undef+iterate+let_in+members_type+node+operand+pair+quantified+unary.Proof.Base.{iterate-at, accumulated-below, pair-below}
+use Rattle.typing.proofs.+binding-accumulated+binding-iterate+binding-let_in+binding-quantified+strict-attribute+strict-binary+strict-collect+strict-conditional+strict-connective+strict-is_undef+strict-unary+walk-node+walk-operand+walk-pair.Lts-binding-iterate as lts
+use Rattle.typing.proofs.+binding-accumulated+binding-iterate+binding-let_in+binding-quantified+strict-attribute+strict-binary+strict-collect+strict-conditional+strict-connective+strict-is_undef+strict-unary+walk-node+walk-operand+walk-pair.Proof.Base.{iterate-at, accumulated-below, pair-below}
 
 module _ (t : ℕ) where
   abbrev calls : lts.Claims

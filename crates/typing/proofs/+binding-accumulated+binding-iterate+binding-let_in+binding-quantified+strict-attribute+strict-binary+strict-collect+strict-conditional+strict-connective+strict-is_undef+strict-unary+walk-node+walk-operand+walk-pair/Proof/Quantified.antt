@@ -5,15 +5,15 @@ use borrow.Author.Needs.{needs}
 use Rattle.typing.proofs.Composition.{early, after, done}
 use Rattle.typing.proofs.NodeTypings.{in-env, no-source, on-source}
 use Rattle.ocl.specs.Typing.{quantifiedTyping}
-use Rattle.typing.proofs.walk.bind.Reads as bind-reads
+use Rattle.typing.proofs.environment.bind.Reads as bind-reads
 use Rattle.typing.proofs.forms.condition.Reads as condition-reads
 use Rattle.types.proofs.parts.member_type.Reads as member-type-reads
 use Rattle.types.proofs.parts.outer_code.Reads as outer-code-reads
-use Rattle.typing.proofs.walk.variable.Reads as variable-reads
+use Rattle.typing.proofs.binding.variable.Reads as variable-reads
 use Rattle.typing.proofs.walk.operand.Reads as operand
-use Rattle.typing.proofs.walk.quantified.Reads as quantified
-use Rattle.typing.proofs.walk.+accumulated+attribute+binary+collect+conditional+connective+is_undef+iterate+let_in+members_type+node+operand+pair+quantified+unary.Lts-quantified as lts
-use Rattle.typing.proofs.walk.+accumulated+attribute+binary+collect+conditional+connective+is_undef+iterate+let_in+members_type+node+operand+pair+quantified+unary.Proof.Base.{quantified-at, operand-below}
+use Rattle.typing.proofs.binding.quantified.Reads as quantified
+use Rattle.typing.proofs.+binding-accumulated+binding-iterate+binding-let_in+binding-quantified+strict-attribute+strict-binary+strict-collect+strict-conditional+strict-connective+strict-is_undef+strict-unary+walk-node+walk-operand+walk-pair.Lts-binding-quantified as lts
+use Rattle.typing.proofs.+binding-accumulated+binding-iterate+binding-let_in+binding-quantified+strict-attribute+strict-binary+strict-collect+strict-conditional+strict-connective+strict-is_undef+strict-unary+walk-node+walk-operand+walk-pair.Proof.Base.{quantified-at, operand-below}
 
 module _ (t : ℕ) where
   abbrev calls : lts.Claims

@@ -6,13 +6,13 @@ use Rattle.typing.proofs.Composition.{early, after, done}
 use Rattle.typing.proofs.NodeTypings.{in-env}
 use Rattle.typing.proofs.FormTypes.{below-yes, below-no}
 use Rattle.typing.specs.Tables.{bodyAt}
-use Rattle.typing.proofs.walk.bind.Reads as bind-reads
+use Rattle.typing.proofs.environment.bind.Reads as bind-reads
 use Rattle.types.proofs.order.subtype.Reads as subtype-reads
-use Rattle.typing.proofs.walk.variable.Reads as variable-reads
-use Rattle.typing.proofs.walk.accumulated.Reads as accumulated
+use Rattle.typing.proofs.binding.variable.Reads as variable-reads
+use Rattle.typing.proofs.binding.accumulated.Reads as accumulated
 use Rattle.typing.proofs.walk.operand.Reads as operand
-use Rattle.typing.proofs.walk.+accumulated+attribute+binary+collect+conditional+connective+is_undef+iterate+let_in+members_type+node+operand+pair+quantified+unary.Lts-accumulated as lts
-use Rattle.typing.proofs.walk.+accumulated+attribute+binary+collect+conditional+connective+is_undef+iterate+let_in+members_type+node+operand+pair+quantified+unary.Proof.Base.{accumulated-at, operand-below}
+use Rattle.typing.proofs.+binding-accumulated+binding-iterate+binding-let_in+binding-quantified+strict-attribute+strict-binary+strict-collect+strict-conditional+strict-connective+strict-is_undef+strict-unary+walk-node+walk-operand+walk-pair.Lts-binding-accumulated as lts
+use Rattle.typing.proofs.+binding-accumulated+binding-iterate+binding-let_in+binding-quantified+strict-attribute+strict-binary+strict-collect+strict-conditional+strict-connective+strict-is_undef+strict-unary+walk-node+walk-operand+walk-pair.Proof.Base.{accumulated-at, operand-below}
 
 module _ (t : ℕ) where
   abbrev calls : lts.Claims

@@ -1,0 +1,182 @@
+// The forms that bind nothing: all their operands are typed, in the node's own environment, before the node is judged.
+// Parameters as in walk.rt.
+ghost use Prim.Native.Nat.{_<_, _≤_};
+ghost use lib.ListN.{length};
+ghost use Rattle.typing.specs.Tables.{Room, Types, unaryAt, binaryAt, connectiveAt, isUndefAt, conditionalAt, attributeAt, collectAt};
+use super::PairReply;
+use super::Reply;
+use super::Slot;
+use super::forms::around_common;
+use super::forms::binary_type;
+use super::forms::both_below;
+use super::forms::join_more;
+use super::forms::unary_type;
+use super::others::attribute_type;
+use super::others::conditional_type;
+use super::walk::operand;
+use super::walk::pair;
+use nodes::node_word;
+use types::Base;
+use types::Joined;
+use types::classes::wide;
+use types::parts::plain;
+
+pub fn unary(
+    nodes: &[u64],
+    parents: &[u64],
+    tables: &[u64],
+    rows: usize,
+    n: usize,
+    form: u64,
+    env: [Slot; 16],
+    marks: &mut [u64],
+) -> Reply
+    requires { ⌜ Room n rows (length (now tables)) (length (now nodes)) (length (now marks)) ⌝ }
+    ensures { λ r. ⌜ Types (now (parents .entry)) (now (tables .entry)) rows (unaryAt (now (nodes .entry)) n form) env (now (marks .entry)) (now (marks .exit)) r ⌝ }
+{
+    let first = operand(nodes, parents, tables, rows, n, 1, env, marks);
+    let Reply::Is(t) = first else {
+        return first;
+    };
+    unary_type(parents, nodes, form, n, t)
+}
+
+pub fn binary(
+    nodes: &[u64],
+    parents: &[u64],
+    tables: &[u64],
+    rows: usize,
+    n: usize,
+    form: u64,
+    env: [Slot; 16],
+    marks: &mut [u64],
+) -> Reply
+    requires { ⌜ 13 ≤ form ⌝ }
+    requires { ⌜ Room n rows (length (now tables)) (length (now nodes)) (length (now marks)) ⌝ }
+    ensures { λ r. ⌜ Types (now (parents .entry)) (now (tables .entry)) rows (binaryAt (now (nodes .entry)) n form) env (now (marks .entry)) (now (marks .exit)) r ⌝ }
+{
+    let both = pair(nodes, parents, tables, rows, n, env, marks);
+    match both {
+        PairReply::Are(t, u) => binary_type(parents, form, n as u64, t, u),
+        PairReply::Refused(r) => r,
+    }
+}
+
+// `and`, `or`: both below Bool.
+pub fn connective(
+    nodes: &[u64],
+    parents: &[u64],
+    tables: &[u64],
+    rows: usize,
+    n: usize,
+    env: [Slot; 16],
+    marks: &mut [u64],
+) -> Reply
+    requires { ⌜ Room n rows (length (now tables)) (length (now nodes)) (length (now marks)) ⌝ }
+    ensures { λ r. ⌜ Types (now (parents .entry)) (now (tables .entry)) rows (connectiveAt (now (nodes .entry)) n) env (now (marks .entry)) (now (marks .exit)) r ⌝ }
+{
+    let both = pair(nodes, parents, tables, rows, n, env, marks);
+    let bool = plain(Base::Bool);
+    match both {
+        PairReply::Are(t, u) => both_below(parents, n as u64, bool, bool, t, u),
+        PairReply::Refused(r) => r,
+    }
+}
+
+pub fn is_undef(
+    nodes: &[u64],
+    parents: &[u64],
+    tables: &[u64],
+    rows: usize,
+    n: usize,
+    env: [Slot; 16],
+    marks: &mut [u64],
+) -> Reply
+    requires { ⌜ Room n rows (length (now tables)) (length (now nodes)) (length (now marks)) ⌝ }
+    ensures { λ r. ⌜ Types (now (parents .entry)) (now (tables .entry)) rows (isUndefAt (now (nodes .entry)) n) env (now (marks .entry)) (now (marks .exit)) r ⌝ }
+{
+    let first = operand(nodes, parents, tables, rows, n, 1, env, marks);
+    let Reply::Is(t) = first else {
+        return first;
+    };
+    Reply::Is(plain(Base::Bool))
+}
+
+// `if`: the condition, then both branches.
+pub fn conditional(
+    nodes: &[u64],
+    parents: &[u64],
+    tables: &[u64],
+    rows: usize,
+    n: usize,
+    env: [Slot; 16],
+    marks: &mut [u64],
+) -> Reply
+    requires { ⌜ Room n rows (length (now tables)) (length (now nodes)) (length (now marks)) ⌝ }
+    ensures { λ r. ⌜ Types (now (parents .entry)) (now (tables .entry)) rows (conditionalAt (now (nodes .entry)) n) env (now (marks .entry)) (now (marks .exit)) r ⌝ }
+{
+    let both = pair(nodes, parents, tables, rows, n, env, marks);
+    match both {
+        PairReply::Are(c, t) => {
+            let third = operand(nodes, parents, tables, rows, n, 3, env, marks);
+            let Reply::Is(u) = third else {
+                return third;
+            };
+            conditional_type(parents, n as u64, c, t, u)
+        }
+        PairReply::Refused(r) => r,
+    }
+}
+
+pub fn attribute(
+    nodes: &[u64],
+    parents: &[u64],
+    tables: &[u64],
+    rows: usize,
+    n: usize,
+    env: [Slot; 16],
+    marks: &mut [u64],
+) -> Reply
+    requires { ⌜ Room n rows (length (now tables)) (length (now nodes)) (length (now marks)) ⌝ }
+    ensures { λ r. ⌜ Types (now (parents .entry)) (now (tables .entry)) rows (attributeAt (now (nodes .entry)) n) env (now (marks .entry)) (now (marks .exit)) r ⌝ }
+{
+    let first = operand(nodes, parents, tables, rows, n, 1, env, marks);
+    let Reply::Is(t) = first else {
+        return first;
+    };
+    let name = node_word(nodes, n, 2);
+    attribute_type(parents, tables, rows, n, name, t, marks)
+}
+
+// `coll`: the letter around the common type of the members, all of which are typed before a missing one is refused; over four
+// members, which no accepted sheet has, count as `undef`.
+pub fn collect(
+    nodes: &[u64],
+    parents: &[u64],
+    tables: &[u64],
+    rows: usize,
+    n: usize,
+    form: u64,
+    env: [Slot; 16],
+    marks: &mut [u64],
+) -> Reply
+    requires { ⌜ (27 ≤ form) × (form < 30) ⌝ }
+    requires { ⌜ Room n rows (length (now tables)) (length (now nodes)) (length (now marks)) ⌝ }
+    ensures { λ r. ⌜ Types (now (parents .entry)) (now (tables .entry)) rows (collectAt (now (nodes .entry)) n form) env (now (marks .entry)) (now (marks .exit)) r ⌝ }
+{
+    let count = wide(node_word(nodes, n, 5));
+    if 4 < count {
+        return Reply::Is(plain(Base::Void));
+    }
+    let mut common = Joined::Is(plain(Base::Void));
+    let mut i: usize = 0;
+    while i < count {
+        let member = operand(nodes, parents, tables, rows, n, i + 1, env, marks);
+        let Reply::Is(t) = member else {
+            return member;
+        };
+        common = join_more(parents, common, t);
+        i += 1;
+    }
+    around_common(n as u64, form - 25, common)
+}
