@@ -1,7 +1,6 @@
 // The evaluation of a rule for an object: a recursion over operand nodes, whose number falls, with the values on a stack of
 // lent words. Document 01, Evaluation. What a form does once its operands have values is in `operations`.
 pub mod rule; // a rule for an object
-pub mod walk; // the recursion: operands and nodes
-pub mod strict; // strict forms over their operands
+pub mod walk; // the recursion: operands, nodes, and forms that run each operand once
 pub mod lazy; // forms that are not strict
-pub mod loops; // forms that run a body for each member
+pub mod bind; // forms that bind variables in a body

@@ -1,5 +1,5 @@
 // A rule for an object: the recursion from the rule's root, with nothing bound but `self`.
-use crate::walk::packed;
+use crate::walk::word;
 use operations::Ended;
 use operations::answers::unpack;
 use tables::Counts;
@@ -27,5 +27,5 @@ pub fn evaluate_rule(
     push(stack, 0, Simple::Object { number: object });
     let mut env = [0usize; 16];
     env[0] = 1;
-    unpack(packed(tables, st, nodes, root, env, stack, 1, 19, 0))
+    unpack(word(tables, st, nodes, root, env, stack, 1, 19, 0))
 }

@@ -11,8 +11,8 @@ push-requires c κs = search needs
 array-write-env : tie.Need-array-write-env
 array-write-env c = search needs
 
-packed-requires : tie.Need-packed-requires
-packed-requires c κs = search needs
+word-requires : tie.Need-word-requires
+word-requires c κs = search needs
 
 unpack-requires : tie.Need-unpack-requires
 unpack-requires c κs = search needs
@@ -21,8 +21,8 @@ same-length : tie.Need-same-length
 same-length c = search needs
 
 returns : tie.Need-returns
-returns c = rw (c .unpack .ensures) (rule-done _ _ _ (c .before .before .before .before .before .before .before .before .before .before .before .before .args .stack .now) (omega (arith, c .before .before .before .before .before .before .before .before .before .before .before .before .pre)) (c .before .before .before .before .before .before .before .before .before .before .before .before .pre .1 .1) (c .before .before .before .before .before .before .before .push .ensures) (c .before .before .before .packed .ensures))
+returns c = rw (c .unpack .ensures) (rule-done _ _ _ (c .before .before .before .before .before .before .before .before .before .before .before .before .args .stack .now) (omega (arith, c .before .before .before .before .before .before .before .before .before .before .before .before .pre)) (c .before .before .before .before .before .before .before .before .before .before .before .before .pre .1 .1) (c .before .before .before .before .before .before .before .push .ensures) (c .before .before .before .word .ensures))
 
 pub evaluate-rule-spec : {M : Type 1} → statement M
 evaluate-rule-spec =
-    tie.close (tie.spec push-requires array-write-env packed-requires unpack-requires same-length returns)
+    tie.close (tie.spec push-requires array-write-env word-requires unpack-requires same-length returns)

@@ -1,4 +1,4 @@
--- The needs of `collection`.
+-- The needs of `coll`.
 use mathlib.Core.Path.{_∙_}
 use Prim.Native.Nat.{_+_, _-_}
 use Rattle.nodes.specs.Nodes.{kindOf}
@@ -11,12 +11,12 @@ use borrow.Author.Needs.{needs}
 use native.Mathlib.Omega.{arith}
 use Rattle.evaluation.proofs.walk.below.Reads as below
 use Rattle.values.proofs.collect.collect.Reads as collect-reads
-use Rattle.evaluation.proofs.strict.collection.Reads as collection
+use Rattle.evaluation.proofs.walk.coll.Reads as coll
 use Rattle.operations.proofs.answers.formed.Reads as formed-reads
 use Rattle.nodes.proofs.node_word.Reads as node-word-reads
 use Rattle.types.proofs.classes.wide.Reads as wide-reads
-use Rattle.evaluation.proofs.+lazy-conditional+lazy-connective+lazy-is_undef+lazy-right+loops-fold+loops-iterate+loops-quantified+loops-search+strict-attribute+strict-binary+strict-collection+strict-let_in+strict-unary+walk-below+walk-node+walk-packed.Lts-strict-collection as lts
-use Rattle.evaluation.proofs.+lazy-conditional+lazy-connective+lazy-is_undef+lazy-right+loops-fold+loops-iterate+loops-quantified+loops-search+strict-attribute+strict-binary+strict-collection+strict-let_in+strict-unary+walk-below+walk-node+walk-packed.Proof.Base.{below-below, collection-at}
+use Rattle.evaluation.proofs.+bind-fold+bind-iter+bind-let_in+bind-quantified+bind-search+lazy-conditional+lazy-connective+lazy-is_undef+lazy-right+walk-attr+walk-below+walk-binary+walk-coll+walk-node+walk-unary+walk-word.Lts-walk-coll as lts
+use Rattle.evaluation.proofs.+bind-fold+bind-iter+bind-let_in+bind-quantified+bind-search+lazy-conditional+lazy-connective+lazy-is_undef+lazy-right+walk-attr+walk-below+walk-binary+walk-coll+walk-node+walk-unary+walk-word.Proof.Base.{below-below, coll-at}
 
 module _ (t : ℕ) where
   abbrev calls : lts.Claims
@@ -28,59 +28,59 @@ module _ (t : ℕ) where
   abbrev μ : lts.MeasureT-loop
   μ tables st nodes n form env stack₀ sp left steps count end₀ s₀ k₀ stack end s k = count - k
 
-  node-word-requires : lts.Need-node-word-requires calls (collection-at t) collection.Post Inv μ
+  node-word-requires : lts.Need-node-word-requires calls (coll-at t) coll.Post Inv μ
   node-word-requires c κs = search needs
 
-  wide-requires : lts.Need-wide-requires calls (collection-at t) collection.Post Inv μ
+  wide-requires : lts.Need-wide-requires calls (coll-at t) coll.Post Inv μ
   wide-requires c κs = search needs
 
-  returns : lts.Need-returns calls (collection-at t) collection.Post Inv μ
+  returns : lts.Need-returns calls (coll-at t) coll.Post Inv μ
   returns c = collect-over _ _ _ (c .before .wide .ensures ∙ c .before .before .node-word .ensures) (c .if1 .taken)
 
-  loop-holds : lts.Need-loop-holds calls (collection-at t) collection.Post Inv μ
+  loop-holds : lts.Need-loop-holds calls (coll-at t) coll.Post Inv μ
   loop-holds c = gather-starts
 
-  add-below : lts.Need-add-below calls (collection-at t) collection.Post Inv μ
+  add-below : lts.Need-add-below calls (coll-at t) coll.Post Inv μ
   add-below c = search needs
 
-  below-requires : lts.Need-below-requires calls (collection-at t) collection.Post Inv μ
+  below-requires : lts.Need-below-requires calls (coll-at t) coll.Post Inv μ
   below-requires c κs = omega (arith, c .before .before .before .before .before .before .before .before .before .pre .0, c .before .before .before .before .before .before .before .before .before .pre .1 .0, c .before .before .loop .inv .long, c .before .before .loop .inv .near, c .before .loop-test .taken, c .before .before .before .if1 .left, c .before .before .before .before .before .before .before .before .before .pre .1 .1 .2 .members (omega (arith, c .before .before .before .before .wide .ensures, c .before .before .before .before .before .node-word .ensures, c .before .before .before .if1 .left)) (c .before .before .loop .k) (omega (arith, c .before .before .before .before .wide .ensures, c .before .before .before .before .before .node-word .ensures, c .before .loop-test .taken)))
 
-  enum-known-member : lts.Need-enum-known-member calls (collection-at t) collection.Post Inv μ
+  enum-known-member : lts.Need-enum-known-member calls (coll-at t) coll.Post Inv μ
   enum-known-member c = search needs
 
-  same-length : lts.Need-same-length calls (collection-at t) collection.Post Inv μ
+  same-length : lts.Need-same-length calls (coll-at t) coll.Post Inv μ
   same-length c = (c .before .before .before .below .kept .1 .1 .1 .1 .1 .1 .0) ∙ c .before .before .before .before .before .before .loop .inv .long
 
-  returns-2 : lts.Need-returns-2 calls (collection-at t) collection.Post Inv μ
+  returns-2 : lts.Need-returns-2 calls (coll-at t) coll.Post Inv μ
   returns-2 c = collect-early _ _ _ (c .before .before .before .before .before .before .before .before .wide .ensures ∙ c .before .before .before .before .before .before .before .before .before .node-word .ensures) (c .before .before .before .before .before .before .before .if1 .left) (c .before .before .before .before .before .before .loop .inv) (c .before .before .before .before .before .loop-test .taken) (c .before .before .before .below .ensures) (c .match .keys2)
 
-  add-end : lts.Need-add-end calls (collection-at t) collection.Post Inv μ
+  add-end : lts.Need-add-end calls (coll-at t) coll.Post Inv μ
   add-end c = omega (arith, bounds (c .before .before .before .before .before .below .ensures .small) (c .before .member .given .1), c .before .before .before .before .before .before .before .before .loop .inv .room, c .before .before .before .before .before .before .before .before .before .before .before .before .before .before .before .pre .1 .0)
 
-  add-k : lts.Need-add-k calls (collection-at t) collection.Post Inv μ
+  add-k : lts.Need-add-k calls (coll-at t) coll.Post Inv μ
   add-k c = search needs
 
-  loop-less : lts.Need-loop-less calls (collection-at t) collection.Post Inv μ
+  loop-less : lts.Need-loop-less calls (coll-at t) coll.Post Inv μ
   loop-less c = omega (arith, c .before .before .before .before .before .before .before .loop-test .taken)
 
-  loop-again : lts.Need-loop-again calls (collection-at t) collection.Post Inv μ
+  loop-again : lts.Need-loop-again calls (coll-at t) coll.Post Inv μ
   loop-again c = collect-again _ _ _ (c .before .before .before .before .before .before .before .before .before .before .wide .ensures ∙ c .before .before .before .before .before .before .before .before .before .before .before .node-word .ensures) (c .before .before .before .before .before .before .before .before .before .if1 .left) (c .before .before .before .before .before .before .before .before .loop .inv) (c .before .before .before .before .before .before .before .loop-test .taken) (c .before .before .before .before .before .below .ensures) (c .before .member .given .1) (c .before .before .before .before .before .below .kept .1 .1 .1 .1 .1 .1 .0) (omega (arith, some-level (operandAt (c .before .before .before .before .before .before .before .before .before .before .before .before .before .before .before .args .nodes .now) (c .before .before .before .before .before .before .before .before .before .before .before .before .before .before .before .args .n) (c .before .before .before .before .before .before .before .before .loop .k + 1)), c .before .before .before .before .before .before .before .before .before .before .before .before .before .before .before .pre .1 .1 .2 .members (omega (arith, c .before .before .before .before .before .before .before .before .before .before .wide .ensures, c .before .before .before .before .before .before .before .before .before .before .before .node-word .ensures, c .before .before .before .before .before .before .before .before .before .if1 .left)) (c .before .before .before .before .before .before .before .before .loop .k) (omega (arith, c .before .before .before .before .before .before .before .before .before .before .wide .ensures, c .before .before .before .before .before .before .before .before .before .before .before .node-word .ensures, c .before .before .before .before .before .before .before .loop-test .taken)))) (omega (arith, c .before .before .before .before .before .before .before .before .loop .inv .long, c .before .before .before .before .before .before .before .before .loop .inv .room, c .before .before .before .before .before .before .before .before .before .before .before .before .before .before .before .pre .1 .0, (c .before .before .before .before .before .below .kept .1 .1 .1 .1 .1 .1 .0)))
 
-  sub-collect : lts.Need-sub-collect calls (collection-at t) collection.Post Inv μ
+  sub-collect : lts.Need-sub-collect calls (coll-at t) coll.Post Inv μ
   sub-collect c = search needs
 
-  collect-requires : lts.Need-collect-requires calls (collection-at t) collection.Post Inv μ
+  collect-requires : lts.Need-collect-requires calls (coll-at t) coll.Post Inv μ
   collect-requires c κs = omega (arith, c .before .before .loop .inv .long, c .before .before .loop .inv .room, c .before .before .loop .inv .up, c .before .before .before .before .before .before .before .before .before .pre .1 .0, c .before .before .before .before .before .before .before .before .before .pre .1 .1 .0, c .before .before .before .before .before .before .before .before .before .pre .1 .1 .1)
 
-  formed-requires : lts.Need-formed-requires calls (collection-at t) collection.Post Inv μ
+  formed-requires : lts.Need-formed-requires calls (coll-at t) coll.Post Inv μ
   formed-requires c κs = search needs
 
-  same-length-2 : lts.Need-same-length-2 calls (collection-at t) collection.Post Inv μ
+  same-length-2 : lts.Need-same-length-2 calls (coll-at t) coll.Post Inv μ
   same-length-2 c = c .before .before .before .collect .kept .0 ∙ c .before .before .before .before .before .before .loop .inv .long
 
-  returns-3 : lts.Need-returns-3 calls (collection-at t) collection.Post Inv μ
+  returns-3 : lts.Need-returns-3 calls (coll-at t) coll.Post Inv μ
   returns-3 c = collect-done _ _ _ (c .before .before .before .before .before .before .before .before .wide .ensures ∙ c .before .before .before .before .before .before .before .before .before .node-word .ensures) (c .before .before .before .before .before .before .before .if1 .left) (c .before .before .before .before .before .before .loop .inv) _ (c .before .before .before .before .before .loop-test .left) (kind-number (c .before .before .before .before .before .before .before .before .before .before .before .before .before .args .form) (c .before .before .before .before .before .before .before .before .before .before .before .before .before .pre .1 .1 .0) (c .before .before .before .before .before .before .before .before .before .before .before .before .before .pre .1 .1 .1)) (omega (arith, c .before .before .before .before .before .before .loop .inv .long, c .before .before .before .before .before .before .before .before .before .before .before .before .before .pre .1 .0)) (c .before .before .before .collect .ensures) (c .formed .ensures)
 
-  pub closed : {M : Type 1} → lts.Closed calls (collection-at t) collection.Post M
-  closed = lts.spec calls (collection-at t) collection.Post Inv μ node-word-requires wide-requires returns loop-holds add-below below-requires enum-known-member same-length returns-2 add-end add-k loop-less loop-again sub-collect collect-requires formed-requires same-length-2 returns-3
+  pub closed : {M : Type 1} → lts.Closed calls (coll-at t) coll.Post M
+  closed = lts.spec calls (coll-at t) coll.Post Inv μ node-word-requires wide-requires returns loop-holds add-below below-requires enum-known-member same-length returns-2 add-end add-k loop-less loop-again sub-collect collect-requires formed-requires same-length-2 returns-3

@@ -2,47 +2,47 @@
 use Prim.Native.Nat.{ℕ, _+_, _*_, _<_}
 use borrow.Fn.Kinds.{In}
 use borrow.Fn.PlainCycle.{Measures, is, falls, and}
-use Rattle.evaluation.proofs.strict.attribute.Reads as attribute
-use Rattle.evaluation.proofs.strict.attribute.Kinds as attribute-kinds
+use Rattle.evaluation.proofs.walk.attr.Reads as attr
+use Rattle.evaluation.proofs.walk.attr.Kinds as attr-kinds
 use Rattle.evaluation.proofs.walk.below.Reads as below
 use Rattle.evaluation.proofs.walk.below.Kinds as below-kinds
-use Rattle.evaluation.proofs.strict.binary.Reads as binary
-use Rattle.evaluation.proofs.strict.binary.Kinds as binary-kinds
-use Rattle.evaluation.proofs.strict.collection.Reads as collection
-use Rattle.evaluation.proofs.strict.collection.Kinds as collection-kinds
+use Rattle.evaluation.proofs.walk.binary.Reads as binary
+use Rattle.evaluation.proofs.walk.binary.Kinds as binary-kinds
+use Rattle.evaluation.proofs.walk.coll.Reads as coll
+use Rattle.evaluation.proofs.walk.coll.Kinds as coll-kinds
 use Rattle.evaluation.proofs.lazy.conditional.Reads as conditional
 use Rattle.evaluation.proofs.lazy.conditional.Kinds as conditional-kinds
 use Rattle.evaluation.proofs.lazy.connective.Reads as connective
 use Rattle.evaluation.proofs.lazy.connective.Kinds as connective-kinds
-use Rattle.evaluation.proofs.loops.fold.Reads as fold
-use Rattle.evaluation.proofs.loops.fold.Kinds as fold-kinds
+use Rattle.evaluation.proofs.bind.fold.Reads as fold
+use Rattle.evaluation.proofs.bind.fold.Kinds as fold-kinds
 use Rattle.evaluation.proofs.lazy.is_undef.Reads as is-undef
 use Rattle.evaluation.proofs.lazy.is_undef.Kinds as is-undef-kinds
-use Rattle.evaluation.proofs.loops.iterate.Reads as iterate
-use Rattle.evaluation.proofs.loops.iterate.Kinds as iterate-kinds
-use Rattle.evaluation.proofs.strict.let_in.Reads as let-in
-use Rattle.evaluation.proofs.strict.let_in.Kinds as let-in-kinds
+use Rattle.evaluation.proofs.bind.iter.Reads as iter
+use Rattle.evaluation.proofs.bind.iter.Kinds as iter-kinds
+use Rattle.evaluation.proofs.bind.let_in.Reads as let-in
+use Rattle.evaluation.proofs.bind.let_in.Kinds as let-in-kinds
 use Rattle.evaluation.proofs.walk.node.Reads as node
 use Rattle.evaluation.proofs.walk.node.Kinds as node-kinds
-use Rattle.evaluation.proofs.walk.packed.Reads as packed
-use Rattle.evaluation.proofs.walk.packed.Kinds as packed-kinds
-use Rattle.evaluation.proofs.loops.quantified.Reads as quantified
-use Rattle.evaluation.proofs.loops.quantified.Kinds as quantified-kinds
+use Rattle.evaluation.proofs.walk.word.Reads as word
+use Rattle.evaluation.proofs.walk.word.Kinds as word-kinds
+use Rattle.evaluation.proofs.bind.quantified.Reads as quantified
+use Rattle.evaluation.proofs.bind.quantified.Kinds as quantified-kinds
 use Rattle.evaluation.proofs.lazy.right.Reads as right
 use Rattle.evaluation.proofs.lazy.right.Kinds as right-kinds
-use Rattle.evaluation.proofs.loops.search.Reads as searching
-use Rattle.evaluation.proofs.loops.search.Kinds as search-kinds
-use Rattle.evaluation.proofs.strict.unary.Reads as unary
-use Rattle.evaluation.proofs.strict.unary.Kinds as unary-kinds
+use Rattle.evaluation.proofs.bind.search.Reads as searching
+use Rattle.evaluation.proofs.bind.search.Kinds as search-kinds
+use Rattle.evaluation.proofs.walk.unary.Reads as unary
+use Rattle.evaluation.proofs.walk.unary.Kinds as unary-kinds
 
-abbrev pub μ-attribute : Measures 3 attribute-kinds.ps ℕ
-μ-attribute κs a = 5 * a .1 .1 .1 .0 + 2
+abbrev pub μ-attr : Measures 3 attr-kinds.ps ℕ
+μ-attr κs a = 5 * a .1 .1 .1 .0 + 2
 
-abbrev pub attribute-at : ℕ → In 3 attribute-kinds.ps
-attribute-at t = and 3 attribute-kinds.ps (is 3 attribute-kinds.ps μ-attribute t) attribute.Pre
+abbrev pub attr-at : ℕ → In 3 attr-kinds.ps
+attr-at t = and 3 attr-kinds.ps (is 3 attr-kinds.ps μ-attr t) attr.Pre
 
-abbrev pub attribute-below : ℕ → In 3 attribute-kinds.ps
-attribute-below t = and 3 attribute-kinds.ps (falls 3 attribute-kinds.ps _<_ μ-attribute t) attribute.Pre
+abbrev pub attr-below : ℕ → In 3 attr-kinds.ps
+attr-below t = and 3 attr-kinds.ps (falls 3 attr-kinds.ps _<_ μ-attr t) attr.Pre
 
 abbrev pub μ-below : Measures 3 below-kinds.ps ℕ
 μ-below κs a = 5 * a .1 .1 .1 .0
@@ -62,14 +62,14 @@ binary-at t = and 3 binary-kinds.ps (is 3 binary-kinds.ps μ-binary t) binary.Pr
 abbrev pub binary-below : ℕ → In 3 binary-kinds.ps
 binary-below t = and 3 binary-kinds.ps (falls 3 binary-kinds.ps _<_ μ-binary t) binary.Pre
 
-abbrev pub μ-collection : Measures 3 collection-kinds.ps ℕ
-μ-collection κs a = 5 * a .1 .1 .1 .0 + 2
+abbrev pub μ-coll : Measures 3 coll-kinds.ps ℕ
+μ-coll κs a = 5 * a .1 .1 .1 .0 + 2
 
-abbrev pub collection-at : ℕ → In 3 collection-kinds.ps
-collection-at t = and 3 collection-kinds.ps (is 3 collection-kinds.ps μ-collection t) collection.Pre
+abbrev pub coll-at : ℕ → In 3 coll-kinds.ps
+coll-at t = and 3 coll-kinds.ps (is 3 coll-kinds.ps μ-coll t) coll.Pre
 
-abbrev pub collection-below : ℕ → In 3 collection-kinds.ps
-collection-below t = and 3 collection-kinds.ps (falls 3 collection-kinds.ps _<_ μ-collection t) collection.Pre
+abbrev pub coll-below : ℕ → In 3 coll-kinds.ps
+coll-below t = and 3 coll-kinds.ps (falls 3 coll-kinds.ps _<_ μ-coll t) coll.Pre
 
 abbrev pub μ-conditional : Measures 3 conditional-kinds.ps ℕ
 μ-conditional κs a = 5 * a .1 .1 .1 .0 + 2
@@ -107,14 +107,14 @@ is-undef-at t = and 3 is-undef-kinds.ps (is 3 is-undef-kinds.ps μ-is-undef t) i
 abbrev pub is-undef-below : ℕ → In 3 is-undef-kinds.ps
 is-undef-below t = and 3 is-undef-kinds.ps (falls 3 is-undef-kinds.ps _<_ μ-is-undef t) is-undef.Pre
 
-abbrev pub μ-iterate : Measures 3 iterate-kinds.ps ℕ
-μ-iterate κs a = 5 * a .1 .1 .1 .0 + 2
+abbrev pub μ-iter : Measures 3 iter-kinds.ps ℕ
+μ-iter κs a = 5 * a .1 .1 .1 .0 + 2
 
-abbrev pub iterate-at : ℕ → In 3 iterate-kinds.ps
-iterate-at t = and 3 iterate-kinds.ps (is 3 iterate-kinds.ps μ-iterate t) iterate.Pre
+abbrev pub iter-at : ℕ → In 3 iter-kinds.ps
+iter-at t = and 3 iter-kinds.ps (is 3 iter-kinds.ps μ-iter t) iter.Pre
 
-abbrev pub iterate-below : ℕ → In 3 iterate-kinds.ps
-iterate-below t = and 3 iterate-kinds.ps (falls 3 iterate-kinds.ps _<_ μ-iterate t) iterate.Pre
+abbrev pub iter-below : ℕ → In 3 iter-kinds.ps
+iter-below t = and 3 iter-kinds.ps (falls 3 iter-kinds.ps _<_ μ-iter t) iter.Pre
 
 abbrev pub μ-let-in : Measures 3 let-in-kinds.ps ℕ
 μ-let-in κs a = 5 * a .1 .1 .1 .0 + 2
@@ -134,14 +134,14 @@ node-at t = and 3 node-kinds.ps (is 3 node-kinds.ps μ-node t) node.Pre
 abbrev pub node-below : ℕ → In 3 node-kinds.ps
 node-below t = and 3 node-kinds.ps (falls 3 node-kinds.ps _<_ μ-node t) node.Pre
 
-abbrev pub μ-packed : Measures 3 packed-kinds.ps ℕ
-μ-packed κs a = 5 * a .1 .1 .1 .0 + 4
+abbrev pub μ-word : Measures 3 word-kinds.ps ℕ
+μ-word κs a = 5 * a .1 .1 .1 .0 + 4
 
-abbrev pub packed-at : ℕ → In 3 packed-kinds.ps
-packed-at t = and 3 packed-kinds.ps (is 3 packed-kinds.ps μ-packed t) packed.Pre
+abbrev pub word-at : ℕ → In 3 word-kinds.ps
+word-at t = and 3 word-kinds.ps (is 3 word-kinds.ps μ-word t) word.Pre
 
-abbrev pub packed-below : ℕ → In 3 packed-kinds.ps
-packed-below t = and 3 packed-kinds.ps (falls 3 packed-kinds.ps _<_ μ-packed t) packed.Pre
+abbrev pub word-below : ℕ → In 3 word-kinds.ps
+word-below t = and 3 word-kinds.ps (falls 3 word-kinds.ps _<_ μ-word t) word.Pre
 
 abbrev pub μ-quantified : Measures 3 quantified-kinds.ps ℕ
 μ-quantified κs a = 5 * a .1 .1 .1 .0 + 2

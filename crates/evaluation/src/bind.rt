@@ -1,4 +1,4 @@
-// Forms that run a body for each member: `forAll`, `exists`, `iter`.
+// Forms that bind variables in a body: `let`, `forAll`, `exists`, `iter`.
 use crate::walk::below;
 use nodes::node_word;
 use operations::Ended;
@@ -16,10 +16,42 @@ ghost use lib.ListN.{length};
 ghost use Rattle.ocl.specs.Forms.{levels};
 ghost use Rattle.nodes.specs.Nodes.{word, variable, quantifierOf};
 ghost use Rattle.operations.specs.Runs.{Evals};
-ghost use Rattle.evaluation.specs.Evaluating.{Reads, Room, operandAt, operandFor, quantifiedNode, iterateNode, Searches, Folds};
+ghost use Rattle.evaluation.specs.Evaluating.{Reads, Room, operandAt, operandFor, letNode, quantifiedNode, iterateNode, Searches, Folds};
 
 // Collections' sorts start here.
 const SET: u64 = 3;
+
+// `let`: the body's value is moved down over the bound one.
+pub fn let_in(
+    tables: &[u64],
+    st: Counts,
+    nodes: &[u64],
+    n: usize,
+    env: [usize; 16],
+    stack: &mut [u64],
+    sp: usize,
+    left: usize,
+    steps: u64,
+) -> Ended
+    requires { ⌜ Room st (length (now tables)) (length (now nodes)) (length (now stack)) n sp (left + 1) ⌝ }
+    requires { ⌜ (levels (operandAt (now nodes) n 1) ≤ left) × (levels (operandAt (now nodes) n 2) ≤ left) ⌝ }
+    ensures { λ r. ⌜ Evals (Reads st (now (tables .entry)) (now (nodes .entry))) (letNode (now (nodes .entry)) n) env sp steps (now (stack .entry)) (now (stack .exit)) r ⌝ }
+{
+    let i = wide(node_word(nodes, n, 3) % 16);
+    let bound = below(tables, st, nodes, n, 1, env, stack, sp, left, steps);
+    let Ended::Value { len: la, steps: sa } = bound else {
+        return bound;
+    };
+    let mid = sp + la;
+    let mut inner = env;
+    inner[i] = sp + 1;
+    let second = below(tables, st, nodes, n, 2, inner, stack, mid, left, sa);
+    let Ended::Value { len: lb, steps: sb } = second else {
+        return second;
+    };
+    slide(stack, mid, sp, lb);
+    Ended::Value { len: lb, steps: sb }
+}
 
 // `forAll` and `exists`: the source, then its members.
 pub fn quantified(
@@ -94,7 +126,7 @@ fn search(
 }
 
 // `iter`: the source, the accumulator's first value after it, then the members.
-pub fn iterate(
+pub fn iter(
     tables: &[u64],
     st: Counts,
     nodes: &[u64],

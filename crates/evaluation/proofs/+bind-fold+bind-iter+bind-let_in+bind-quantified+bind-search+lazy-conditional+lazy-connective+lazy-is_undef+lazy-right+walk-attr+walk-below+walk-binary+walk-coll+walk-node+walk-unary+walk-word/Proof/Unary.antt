@@ -6,10 +6,10 @@ use borrow.Author.Needs.{needs}
 use native.Mathlib.Omega.{arith}
 use Rattle.evaluation.proofs.walk.below.Reads as below
 use Rattle.nodes.proofs.node_word.Reads as node-word-reads
-use Rattle.evaluation.proofs.strict.unary.Reads as unary
+use Rattle.evaluation.proofs.walk.unary.Reads as unary
 use Rattle.operations.proofs.apply.unary_apply.Reads as unary-apply-reads
-use Rattle.evaluation.proofs.+lazy-conditional+lazy-connective+lazy-is_undef+lazy-right+loops-fold+loops-iterate+loops-quantified+loops-search+strict-attribute+strict-binary+strict-collection+strict-let_in+strict-unary+walk-below+walk-node+walk-packed.Lts-strict-unary as lts
-use Rattle.evaluation.proofs.+lazy-conditional+lazy-connective+lazy-is_undef+lazy-right+loops-fold+loops-iterate+loops-quantified+loops-search+strict-attribute+strict-binary+strict-collection+strict-let_in+strict-unary+walk-below+walk-node+walk-packed.Proof.Base.{below-below, unary-at}
+use Rattle.evaluation.proofs.+bind-fold+bind-iter+bind-let_in+bind-quantified+bind-search+lazy-conditional+lazy-connective+lazy-is_undef+lazy-right+walk-attr+walk-below+walk-binary+walk-coll+walk-node+walk-unary+walk-word.Lts-walk-unary as lts
+use Rattle.evaluation.proofs.+bind-fold+bind-iter+bind-let_in+bind-quantified+bind-search+lazy-conditional+lazy-connective+lazy-is_undef+lazy-right+walk-attr+walk-below+walk-binary+walk-coll+walk-node+walk-unary+walk-word.Proof.Base.{below-below, unary-at}
 
 module _ (t : ℕ) where
   abbrev calls : lts.Claims

@@ -5,11 +5,11 @@ use Prim.Native.Nat.{ℕ}
 use borrow.Author.Needs.{needs}
 use native.Mathlib.Omega.{arith}
 use Rattle.evaluation.proofs.walk.below.Reads as below
-use Rattle.evaluation.proofs.loops.quantified.Reads as quantified
-use Rattle.evaluation.proofs.loops.search.Reads as searching
+use Rattle.evaluation.proofs.bind.quantified.Reads as quantified
+use Rattle.evaluation.proofs.bind.search.Reads as searching
 use Rattle.values.proofs.cells.sort_of.Reads as sort-of-reads
-use Rattle.evaluation.proofs.+lazy-conditional+lazy-connective+lazy-is_undef+lazy-right+loops-fold+loops-iterate+loops-quantified+loops-search+strict-attribute+strict-binary+strict-collection+strict-let_in+strict-unary+walk-below+walk-node+walk-packed.Lts-loops-quantified as lts
-use Rattle.evaluation.proofs.+lazy-conditional+lazy-connective+lazy-is_undef+lazy-right+loops-fold+loops-iterate+loops-quantified+loops-search+strict-attribute+strict-binary+strict-collection+strict-let_in+strict-unary+walk-below+walk-node+walk-packed.Proof.Base.{below-below, quantified-at, search-below}
+use Rattle.evaluation.proofs.+bind-fold+bind-iter+bind-let_in+bind-quantified+bind-search+lazy-conditional+lazy-connective+lazy-is_undef+lazy-right+walk-attr+walk-below+walk-binary+walk-coll+walk-node+walk-unary+walk-word.Lts-bind-quantified as lts
+use Rattle.evaluation.proofs.+bind-fold+bind-iter+bind-let_in+bind-quantified+bind-search+lazy-conditional+lazy-connective+lazy-is_undef+lazy-right+walk-attr+walk-below+walk-binary+walk-coll+walk-node+walk-unary+walk-word.Proof.Base.{below-below, quantified-at, search-below}
 
 module _ (t : ℕ) where
   abbrev calls : lts.Claims

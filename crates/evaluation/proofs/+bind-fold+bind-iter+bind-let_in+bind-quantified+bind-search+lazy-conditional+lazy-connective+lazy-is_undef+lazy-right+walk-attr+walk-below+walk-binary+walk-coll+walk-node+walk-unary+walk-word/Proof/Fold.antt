@@ -10,11 +10,11 @@ use Prim.Native.Nat.{ℕ}
 use borrow.Author.Needs.{needs}
 use native.Mathlib.Omega.{arith}
 use Rattle.evaluation.proofs.walk.below.Reads as below
-use Rattle.evaluation.proofs.loops.fold.Reads as fold
+use Rattle.evaluation.proofs.bind.fold.Reads as fold
 use Rattle.values.proofs.cells.skip.Reads as skip-reads
 use Rattle.values.proofs.cells.slide.Reads as slide-reads
-use Rattle.evaluation.proofs.+lazy-conditional+lazy-connective+lazy-is_undef+lazy-right+loops-fold+loops-iterate+loops-quantified+loops-search+strict-attribute+strict-binary+strict-collection+strict-let_in+strict-unary+walk-below+walk-node+walk-packed.Lts-loops-fold as lts
-use Rattle.evaluation.proofs.+lazy-conditional+lazy-connective+lazy-is_undef+lazy-right+loops-fold+loops-iterate+loops-quantified+loops-search+strict-attribute+strict-binary+strict-collection+strict-let_in+strict-unary+walk-below+walk-node+walk-packed.Proof.Base.{below-below, fold-at}
+use Rattle.evaluation.proofs.+bind-fold+bind-iter+bind-let_in+bind-quantified+bind-search+lazy-conditional+lazy-connective+lazy-is_undef+lazy-right+walk-attr+walk-below+walk-binary+walk-coll+walk-node+walk-unary+walk-word.Lts-bind-fold as lts
+use Rattle.evaluation.proofs.+bind-fold+bind-iter+bind-let_in+bind-quantified+bind-search+lazy-conditional+lazy-connective+lazy-is_undef+lazy-right+walk-attr+walk-below+walk-binary+walk-coll+walk-node+walk-unary+walk-word.Proof.Base.{below-below, fold-at}
 
 module _ (t : ℕ) where
   abbrev calls : lts.Claims

@@ -7,26 +7,26 @@ use Rattle.evaluation.proofs.NodeLaws.{node-leaf, node-unary, node-bina
 use Prim.Native.Nat.{ℕ}
 use borrow.Author.Needs.{needs}
 use native.Mathlib.Omega.{arith}
-use Rattle.evaluation.proofs.strict.attribute.Reads as attribute
-use Rattle.evaluation.proofs.strict.binary.Reads as binary
-use Rattle.evaluation.proofs.strict.collection.Reads as collection
+use Rattle.evaluation.proofs.walk.attr.Reads as attr
+use Rattle.evaluation.proofs.walk.binary.Reads as binary
+use Rattle.evaluation.proofs.walk.coll.Reads as coll
 use Rattle.evaluation.proofs.lazy.conditional.Reads as conditional
 use Rattle.evaluation.proofs.lazy.connective.Reads as connective
 use Rattle.evaluation.proofs.lazy.is_undef.Reads as is-undef
-use Rattle.evaluation.proofs.loops.iterate.Reads as iterate
+use Rattle.evaluation.proofs.bind.iter.Reads as iter
 use Rattle.operations.proofs.leaves.leaf.Reads as leaf-reads
-use Rattle.evaluation.proofs.strict.let_in.Reads as let-in
+use Rattle.evaluation.proofs.bind.let_in.Reads as let-in
 use Rattle.evaluation.proofs.walk.node.Reads as node
 use Rattle.nodes.proofs.node_word.Reads as node-word-reads
-use Rattle.evaluation.proofs.loops.quantified.Reads as quantified
-use Rattle.evaluation.proofs.strict.unary.Reads as unary
+use Rattle.evaluation.proofs.bind.quantified.Reads as quantified
+use Rattle.evaluation.proofs.walk.unary.Reads as unary
 use Rattle.types.proofs.classes.wide.Reads as wide-reads
-use Rattle.evaluation.proofs.+lazy-conditional+lazy-connective+lazy-is_undef+lazy-right+loops-fold+loops-iterate+loops-quantified+loops-search+strict-attribute+strict-binary+strict-collection+strict-let_in+strict-unary+walk-below+walk-node+walk-packed.Lts-walk-node as lts
-use Rattle.evaluation.proofs.+lazy-conditional+lazy-connective+lazy-is_undef+lazy-right+loops-fold+loops-iterate+loops-quantified+loops-search+strict-attribute+strict-binary+strict-collection+strict-let_in+strict-unary+walk-below+walk-node+walk-packed.Proof.Base.{attribute-below, binary-below, collection-below, conditional-below, connective-below, is-undef-below, iterate-below, let-in-below, node-at, quantified-below, unary-below}
+use Rattle.evaluation.proofs.+bind-fold+bind-iter+bind-let_in+bind-quantified+bind-search+lazy-conditional+lazy-connective+lazy-is_undef+lazy-right+walk-attr+walk-below+walk-binary+walk-coll+walk-node+walk-unary+walk-word.Lts-walk-node as lts
+use Rattle.evaluation.proofs.+bind-fold+bind-iter+bind-let_in+bind-quantified+bind-search+lazy-conditional+lazy-connective+lazy-is_undef+lazy-right+walk-attr+walk-below+walk-binary+walk-coll+walk-node+walk-unary+walk-word.Proof.Base.{attr-below, binary-below, coll-below, conditional-below, connective-below, is-undef-below, iter-below, let-in-below, node-at, quantified-below, unary-below}
 
 module _ (t : ℕ) where
   abbrev calls : lts.Claims
-  calls = (node-word-reads.Asked, node-word-reads.Learnt, is-undef-below t, is-undef.Post, conditional-below t, conditional.Post, let-in-below t, let-in.Post, attribute-below t, attribute.Post, iterate-below t, iterate.Post, leaf-reads.Asked, leaf-reads.Learnt, unary-below t, unary.Post, binary-below t, binary.Post, connective-below t, connective.Post, wide-reads.Asked, wide-reads.Learnt, quantified-below t, quantified.Post, collection-below t, collection.Post)
+  calls = (node-word-reads.Asked, node-word-reads.Learnt, is-undef-below t, is-undef.Post, conditional-below t, conditional.Post, let-in-below t, let-in.Post, attr-below t, attr.Post, iter-below t, iter.Post, leaf-reads.Asked, leaf-reads.Learnt, unary-below t, unary.Post, binary-below t, binary.Post, connective-below t, connective.Post, wide-reads.Asked, wide-reads.Learnt, quantified-below t, quantified.Post, coll-below t, coll.Post)
 
   add-s : lts.Need-add-s calls (node-at t) node.Post
   add-s c = search needs
@@ -46,11 +46,11 @@ module _ (t : ℕ) where
   let-in-requires : lts.Need-let-in-requires calls (node-at t) node.Post
   let-in-requires c κs = omega (arith, c .before .before .before .before .before .before .pre, some-level (treeAt (c .before .before .before .before .before .before .args .nodes .now) (c .before .before .before .before .before .before .args .n)), let-levels (c .before .before .before .before .before .before .args .nodes .now) (c .before .before .before .before .before .before .args .n) (c .before .before .node-word .result) (c .before .before .node-word .ensures) (c .before .match .keys3))
 
-  attribute-requires : lts.Need-attribute-requires calls (node-at t) node.Post
-  attribute-requires c κs = omega (arith, c .before .before .before .before .before .before .pre, some-level (treeAt (c .before .before .before .before .before .before .args .nodes .now) (c .before .before .before .before .before .before .args .n)), attribute-levels (c .before .before .before .before .before .before .args .nodes .now) (c .before .before .before .before .before .before .args .n) (c .before .before .node-word .result) (c .before .before .node-word .ensures) (c .before .match .keys4))
+  attr-requires : lts.Need-attr-requires calls (node-at t) node.Post
+  attr-requires c κs = omega (arith, c .before .before .before .before .before .before .pre, some-level (treeAt (c .before .before .before .before .before .before .args .nodes .now) (c .before .before .before .before .before .before .args .n)), attribute-levels (c .before .before .before .before .before .before .args .nodes .now) (c .before .before .before .before .before .before .args .n) (c .before .before .node-word .result) (c .before .before .node-word .ensures) (c .before .match .keys4))
 
-  iterate-requires : lts.Need-iterate-requires calls (node-at t) node.Post
-  iterate-requires c κs = omega (arith, c .before .before .before .before .before .before .pre, some-level (treeAt (c .before .before .before .before .before .before .args .nodes .now) (c .before .before .before .before .before .before .args .n)), iterate-levels (c .before .before .before .before .before .before .args .nodes .now) (c .before .before .before .before .before .before .args .n) (c .before .before .node-word .result) (c .before .before .node-word .ensures) (c .before .match .keys5))
+  iter-requires : lts.Need-iter-requires calls (node-at t) node.Post
+  iter-requires c κs = omega (arith, c .before .before .before .before .before .before .pre, some-level (treeAt (c .before .before .before .before .before .before .args .nodes .now) (c .before .before .before .before .before .before .args .n)), iterate-levels (c .before .before .before .before .before .before .args .nodes .now) (c .before .before .before .before .before .before .args .n) (c .before .before .node-word .result) (c .before .before .node-word .ensures) (c .before .match .keys5))
 
   node-word-requires-2 : lts.Need-node-word-requires-2 calls (node-at t) node.Post
   node-word-requires-2 c κs = search needs
@@ -76,8 +76,8 @@ module _ (t : ℕ) where
   quantified-requires : lts.Need-quantified-requires calls (node-at t) node.Post
   quantified-requires c κs = omega (arith, c .before .wide .ensures, c .before .before .node-word3 .ensures, c .before .before .before .before .before .before .before .before .before .before .before .before .before .pre, some-level (treeAt (c .before .before .before .before .before .before .before .before .before .before .before .before .before .args .nodes .now) (c .before .before .before .before .before .before .before .before .before .before .before .before .before .args .n)), c .before .before .before .before .if4 .left, c .before .before .before .if5 .taken, quantified-levels (c .before .before .before .before .before .before .before .before .before .before .before .before .before .args .nodes .now) (c .before .before .before .before .before .before .before .before .before .before .before .before .before .args .n) (c .before .before .before .before .before .before .before .before .before .node-word .result) (c .before .before .before .before .before .before .before .before .before .node-word .ensures) (c .before .before .before .before .if4 .left) (omega (arith, c .before .before .before .if5 .taken)))
 
-  collection-requires : lts.Need-collection-requires calls (node-at t) node.Post
-  collection-requires c κs = (omega (arith, c .before .before .before .before .before .before .before .before .before .before .before .before .pre), (omega (arith, c .before .before .before .before .before .before .before .before .before .before .before .before .pre, some-level (treeAt (c .before .before .before .before .before .before .before .before .before .before .before .before .args .nodes .now) (c .before .before .before .before .before .before .before .before .before .before .before .before .args .n))), (c .before .before .if5 .left, omega (arith, c .before .if6 .taken), shallow (c .before .before .before .before .before .before .before .before .before .before .before .before .args .nodes .now) (c .before .before .before .before .before .before .before .before .before .before .before .before .args .n) (c .before .before .before .before .before .before .before .before .node-word .result) (c .before .before .before .before .before .before .before .before .before .before .before .before .args .left - 1) (c .before .before .before .before .before .before .before .before .node-word .ensures) (c .before .before .if5 .left) (omega (arith, c .before .if6 .taken)) (omega (arith, c .before .before .before .before .before .before .before .before .before .before .before .before .pre, some-level (treeAt (c .before .before .before .before .before .before .before .before .before .before .before .before .args .nodes .now) (c .before .before .before .before .before .before .before .before .before .before .before .before .args .n)))))))
+  coll-requires : lts.Need-coll-requires calls (node-at t) node.Post
+  coll-requires c κs = (omega (arith, c .before .before .before .before .before .before .before .before .before .before .before .before .pre), (omega (arith, c .before .before .before .before .before .before .before .before .before .before .before .before .pre, some-level (treeAt (c .before .before .before .before .before .before .before .before .before .before .before .before .args .nodes .now) (c .before .before .before .before .before .before .before .before .before .before .before .before .args .n))), (c .before .before .if5 .left, omega (arith, c .before .if6 .taken), shallow (c .before .before .before .before .before .before .before .before .before .before .before .before .args .nodes .now) (c .before .before .before .before .before .before .before .before .before .before .before .before .args .n) (c .before .before .before .before .before .before .before .before .node-word .result) (c .before .before .before .before .before .before .before .before .before .before .before .before .args .left - 1) (c .before .before .before .before .before .before .before .before .node-word .ensures) (c .before .before .if5 .left) (omega (arith, c .before .if6 .taken)) (omega (arith, c .before .before .before .before .before .before .before .before .before .before .before .before .pre, some-level (treeAt (c .before .before .before .before .before .before .before .before .before .before .before .before .args .nodes .now) (c .before .before .before .before .before .before .before .before .before .before .before .before .args .n)))))))
 
   same-length : lts.Need-same-length calls (node-at t) node.Post
   same-length c = search needs
@@ -101,13 +101,13 @@ module _ (t : ℕ) where
   same-length-4 c = search needs
 
   returns-4 : lts.Need-returns-4 calls (node-at t) node.Post
-  returns-4 c = node-attribute _ _ _ (c .before .before .before .before .before .node-word .ensures) (c .before .before .before .before .before .before .before .before .before .pre .1 .1 .1) (c .before .before .before .before .match .keys4) (c .before .before .attribute .ensures)
+  returns-4 c = node-attribute _ _ _ (c .before .before .before .before .before .node-word .ensures) (c .before .before .before .before .before .before .before .before .before .pre .1 .1 .1) (c .before .before .before .before .match .keys4) (c .before .before .attr .ensures)
 
   same-length-5 : lts.Need-same-length-5 calls (node-at t) node.Post
   same-length-5 c = search needs
 
   returns-5 : lts.Need-returns-5 calls (node-at t) node.Post
-  returns-5 c = node-iterate _ _ _ (c .before .before .before .before .before .node-word .ensures) (c .before .before .before .before .before .before .before .before .before .pre .1 .1 .1) (c .before .before .before .before .match .keys5) (c .before .before .iterate .ensures)
+  returns-5 c = node-iterate _ _ _ (c .before .before .before .before .before .node-word .ensures) (c .before .before .before .before .before .before .before .before .before .pre .1 .1 .1) (c .before .before .before .before .match .keys5) (c .before .before .iter .ensures)
 
   same-length-6 : lts.Need-same-length-6 calls (node-at t) node.Post
   same-length-6 c = search needs
@@ -143,10 +143,10 @@ module _ (t : ℕ) where
   same-length-11 c = search needs
 
   returns-11 : lts.Need-returns-11 calls (node-at t) node.Post
-  returns-11 c = node-collect _ _ _ (c .before .before .before .before .before .before .before .before .before .before .before .node-word .ensures) (c .before .before .before .before .before .before .before .before .before .before .before .before .before .before .before .pre .1 .1 .1) (c .before .before .before .before .before .if5 .left) (omega (arith, c .before .before .before .before .if6 .taken)) (c .before .before .collection .ensures)
+  returns-11 c = node-collect _ _ _ (c .before .before .before .before .before .before .before .before .before .before .before .node-word .ensures) (c .before .before .before .before .before .before .before .before .before .before .before .before .before .before .before .pre .1 .1 .1) (c .before .before .before .before .before .if5 .left) (omega (arith, c .before .before .before .before .if6 .taken)) (c .before .before .coll .ensures)
 
   returns-12 : lts.Need-returns-12 calls (node-at t) node.Post
   returns-12 c = node-none _ _ _ (c .before .before .before .before .before .before .before .node-word .ensures) (c .before .before .before .before .before .before .before .before .before .before .before .pre .1 .1 .1) (over-34 _ (c .if6 .left) (c .before .before .before .before .before .before .match .rest .0 .0 .0 .0 .1) (c .before .before .before .before .before .before .match .rest .0 .0 .0 .1) (c .before .before .before .before .before .before .match .rest .0 .0 .1) (c .before .before .before .before .before .before .match .rest .0 .1) (c .before .before .before .before .before .before .match .rest .1))
 
   pub closed : {M : Type 1} → lts.Closed calls (node-at t) node.Post M
-  closed = lts.spec calls (node-at t) node.Post add-s sub-deeper node-word-requires is-undef-requires conditional-requires let-in-requires attribute-requires iterate-requires node-word-requires-2 leaf-requires unary-requires binary-requires connective-requires node-word-requires-3 wide-requires quantified-requires collection-requires same-length returns same-length-2 returns-2 same-length-3 returns-3 same-length-4 returns-4 same-length-5 returns-5 same-length-6 returns-6 same-length-7 returns-7 same-length-8 returns-8 same-length-9 returns-9 same-length-10 returns-10 same-length-11 returns-11 returns-12
+  closed = lts.spec calls (node-at t) node.Post add-s sub-deeper node-word-requires is-undef-requires conditional-requires let-in-requires attr-requires iter-requires node-word-requires-2 leaf-requires unary-requires binary-requires connective-requires node-word-requires-3 wide-requires quantified-requires coll-requires same-length returns same-length-2 returns-2 same-length-3 returns-3 same-length-4 returns-4 same-length-5 returns-5 same-length-6 returns-6 same-length-7 returns-7 same-length-8 returns-8 same-length-9 returns-9 same-length-10 returns-10 same-length-11 returns-11 returns-12

@@ -5,11 +5,11 @@ use Prim.Native.Nat.{ℕ}
 use borrow.Author.Needs.{needs}
 use native.Mathlib.Omega.{arith}
 use Rattle.evaluation.proofs.walk.below.Reads as below
-use Rattle.evaluation.proofs.strict.binary.Reads as binary
+use Rattle.evaluation.proofs.walk.binary.Reads as binary
 use Rattle.operations.proofs.apply.binary_apply.Reads as binary-apply-reads
 use Rattle.operations.proofs.apply.left_fits.Reads as left-fits-reads
-use Rattle.evaluation.proofs.+lazy-conditional+lazy-connective+lazy-is_undef+lazy-right+loops-fold+loops-iterate+loops-quantified+loops-search+strict-attribute+strict-binary+strict-collection+strict-let_in+strict-unary+walk-below+walk-node+walk-packed.Lts-strict-binary as lts
-use Rattle.evaluation.proofs.+lazy-conditional+lazy-connective+lazy-is_undef+lazy-right+loops-fold+loops-iterate+loops-quantified+loops-search+strict-attribute+strict-binary+strict-collection+strict-let_in+strict-unary+walk-below+walk-node+walk-packed.Proof.Base.{below-below, binary-at}
+use Rattle.evaluation.proofs.+bind-fold+bind-iter+bind-let_in+bind-quantified+bind-search+lazy-conditional+lazy-connective+lazy-is_undef+lazy-right+walk-attr+walk-below+walk-binary+walk-coll+walk-node+walk-unary+walk-word.Lts-walk-binary as lts
+use Rattle.evaluation.proofs.+bind-fold+bind-iter+bind-let_in+bind-quantified+bind-search+lazy-conditional+lazy-connective+lazy-is_undef+lazy-right+walk-attr+walk-below+walk-binary+walk-coll+walk-node+walk-unary+walk-word.Proof.Base.{below-below, binary-at}
 
 module _ (t : ℕ) where
   abbrev calls : lts.Claims
