@@ -14,7 +14,7 @@ use Rattle.typing.specs.declared.Reply.the-variants as reply
 use Rattle.typing.specs.declared.PairReply.the-variants as two
 use Rattle.typing.specs.Replies.{meaning, writeMarks, Tells, TellsTwo}
 
-pub write-append : (l : List ℕ) (a c : Marks) → writeMarks l (a ++ c) ≡ writeMarks (writeMarks l a) c
+write-append : (l : List ℕ) (a c : Marks) → writeMarks l (a ++ c) ≡ writeMarks (writeMarks l a) c
 unfolding writeMarks
 write-append l [] c = refl
 write-append l (x ∷ a) c = write-append (set l (x .0) (x .1)) a c

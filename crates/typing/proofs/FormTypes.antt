@@ -42,7 +42,7 @@ no-kind no11 k (around (exactly sequence) t) h = absurd (omega arith)
 no-kind no11 k (around (exactly bag) t) h = absurd (omega arith)
 
 -- and for one of a kind, whose code is at least 2
-pub on-kind : {a : Answer} (no11 : Answer) (k : Kind → Ty → Answer) (t : Ty) → 1 < outerCode t
+on-kind : {a : Answer} (no11 : Answer) (k : Kind → Ty → Answer) (t : Ty) → 1 < outerCode t
     → ((c : Kind) → letterOf (outerCode t) ≡ exactly c → kindCode c + 2 ≡ outerCode t → a ≡ k c (memberType t)) → a ≡ onCollection t no11 (λ l x. onKind l no11 (λ c. k c x))
 unfolding onCollection onKind outerCode codeOf memberType letterOf kindCode
 on-kind no11 k void h f = absurd (omega arith)

@@ -34,7 +34,7 @@ set-at : (l : List ℕ) (i p v : ℕ) → p < length l → (b : Bool) → eqb p 
 set-at l i p v h true e = let q = eqb-true p i e in rw q (getD-set-same l i v 0 (omega arith))
 set-at l i p v h false e = getD-set-other l i p v 0 (eqb-false p i e)
 
-pub mark-at : (m : Marks) (l : List ℕ) (p : ℕ) → p < length l → getD (writeMarks l m) p 0 ≡ markOr (getD l p 0) m p
+mark-at : (m : Marks) (l : List ℕ) (p : ℕ) → p < length l → getD (writeMarks l m) p 0 ≡ markOr (getD l p 0) m p
 unfolding writeMarks markOr
 mark-at [] l p h = refl
 mark-at (x ∷ m) l p h =

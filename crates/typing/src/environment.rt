@@ -26,7 +26,7 @@ fn byte_code(k: u64) -> u8
 }
 
 // The slot of a variable of type t, whatever the type.
-pub fn slot_of(t: FlatType) -> Slot
+fn slot_of(t: FlatType) -> Slot
     ensures { λ r. ⌜ slotType r ≡ some (tyOf t) ⌝ }
 {
     let b = t.base;

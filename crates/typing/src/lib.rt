@@ -4,8 +4,8 @@
 pub mod environment; // the types of the variables, sixteen slots by value
 pub mod forms; // the type of each form with no operand or strict operands, given their types
 pub mod others; // the same for `if` and `attr`
-pub mod strict; // the recursion at forms that bind nothing
-pub mod binding; // the recursion at forms that bind a variable in a body
+pub mod apply; // the recursion at forms that bind nothing
+pub mod scope; // the recursion at forms that bind a variable in a body
 pub mod walk; // the recursion over operand nodes
 pub mod rules; // a rule, and all rules in order
 

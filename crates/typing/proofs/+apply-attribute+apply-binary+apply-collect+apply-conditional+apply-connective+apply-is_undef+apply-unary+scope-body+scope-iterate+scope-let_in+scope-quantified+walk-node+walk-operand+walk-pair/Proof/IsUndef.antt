@@ -5,10 +5,10 @@ use borrow.Author.Needs.{needs}
 use Rattle.typing.proofs.Composition.{early, after, done}
 use Rattle.ocl.specs.Typing.{typed, isUndefTyping}
 use Rattle.types.proofs.parts.plain.Reads as plain-reads
-use Rattle.typing.proofs.strict.is_undef.Reads as is-undef
+use Rattle.typing.proofs.apply.is_undef.Reads as is-undef
 use Rattle.typing.proofs.walk.operand.Reads as operand
-use Rattle.typing.proofs.+binding-accumulated+binding-iterate+binding-let_in+binding-quantified+strict-attribute+strict-binary+strict-collect+strict-conditional+strict-connective+strict-is_undef+strict-unary+walk-node+walk-operand+walk-pair.Lts-strict-is_undef as lts
-use Rattle.typing.proofs.+binding-accumulated+binding-iterate+binding-let_in+binding-quantified+strict-attribute+strict-binary+strict-collect+strict-conditional+strict-connective+strict-is_undef+strict-unary+walk-node+walk-operand+walk-pair.Proof.Base.{is-undef-at, operand-below}
+use Rattle.typing.proofs.+apply-attribute+apply-binary+apply-collect+apply-conditional+apply-connective+apply-is_undef+apply-unary+scope-body+scope-iterate+scope-let_in+scope-quantified+walk-node+walk-operand+walk-pair.Lts-apply-is_undef as lts
+use Rattle.typing.proofs.+apply-attribute+apply-binary+apply-collect+apply-conditional+apply-connective+apply-is_undef+apply-unary+scope-body+scope-iterate+scope-let_in+scope-quantified+walk-node+walk-operand+walk-pair.Proof.Base.{is-undef-at, operand-below}
 
 module _ (t : ℕ) where
   abbrev calls : lts.Claims

@@ -2,43 +2,43 @@
 use Prim.Native.Nat.{ℕ, _+_, _*_, _<_}
 use borrow.Fn.Kinds.{In}
 use borrow.Fn.PlainCycle.{Measures, is, falls, and}
-use Rattle.typing.proofs.binding.accumulated.Reads as accumulated
-use Rattle.typing.proofs.binding.accumulated.Kinds as accumulated-kinds
-use Rattle.typing.proofs.strict.attribute.Reads as attribute
-use Rattle.typing.proofs.strict.attribute.Kinds as attribute-kinds
-use Rattle.typing.proofs.strict.binary.Reads as binary
-use Rattle.typing.proofs.strict.binary.Kinds as binary-kinds
-use Rattle.typing.proofs.strict.collect.Reads as collect
-use Rattle.typing.proofs.strict.collect.Kinds as collect-kinds
-use Rattle.typing.proofs.strict.conditional.Reads as conditional
-use Rattle.typing.proofs.strict.conditional.Kinds as conditional-kinds
-use Rattle.typing.proofs.strict.connective.Reads as connective
-use Rattle.typing.proofs.strict.connective.Kinds as connective-kinds
-use Rattle.typing.proofs.strict.is_undef.Reads as is-undef
-use Rattle.typing.proofs.strict.is_undef.Kinds as is-undef-kinds
-use Rattle.typing.proofs.binding.iterate.Reads as iterate
-use Rattle.typing.proofs.binding.iterate.Kinds as iterate-kinds
-use Rattle.typing.proofs.binding.let_in.Reads as let-in
-use Rattle.typing.proofs.binding.let_in.Kinds as let-in-kinds
+use Rattle.typing.proofs.scope.body.Reads as body
+use Rattle.typing.proofs.scope.body.Kinds as body-kinds
+use Rattle.typing.proofs.apply.attribute.Reads as attribute
+use Rattle.typing.proofs.apply.attribute.Kinds as attribute-kinds
+use Rattle.typing.proofs.apply.binary.Reads as binary
+use Rattle.typing.proofs.apply.binary.Kinds as binary-kinds
+use Rattle.typing.proofs.apply.collect.Reads as collect
+use Rattle.typing.proofs.apply.collect.Kinds as collect-kinds
+use Rattle.typing.proofs.apply.conditional.Reads as conditional
+use Rattle.typing.proofs.apply.conditional.Kinds as conditional-kinds
+use Rattle.typing.proofs.apply.connective.Reads as connective
+use Rattle.typing.proofs.apply.connective.Kinds as connective-kinds
+use Rattle.typing.proofs.apply.is_undef.Reads as is-undef
+use Rattle.typing.proofs.apply.is_undef.Kinds as is-undef-kinds
+use Rattle.typing.proofs.scope.iterate.Reads as iterate
+use Rattle.typing.proofs.scope.iterate.Kinds as iterate-kinds
+use Rattle.typing.proofs.scope.let_in.Reads as let-in
+use Rattle.typing.proofs.scope.let_in.Kinds as let-in-kinds
 use Rattle.typing.proofs.walk.node.Reads as node
 use Rattle.typing.proofs.walk.node.Kinds as node-kinds
 use Rattle.typing.proofs.walk.operand.Reads as operand
 use Rattle.typing.proofs.walk.operand.Kinds as operand-kinds
 use Rattle.typing.proofs.walk.pair.Reads as pair
 use Rattle.typing.proofs.walk.pair.Kinds as pair-kinds
-use Rattle.typing.proofs.binding.quantified.Reads as quantified
-use Rattle.typing.proofs.binding.quantified.Kinds as quantified-kinds
-use Rattle.typing.proofs.strict.unary.Reads as unary
-use Rattle.typing.proofs.strict.unary.Kinds as unary-kinds
+use Rattle.typing.proofs.scope.quantified.Reads as quantified
+use Rattle.typing.proofs.scope.quantified.Kinds as quantified-kinds
+use Rattle.typing.proofs.apply.unary.Reads as unary
+use Rattle.typing.proofs.apply.unary.Kinds as unary-kinds
 
-abbrev pub μ-accumulated : Measures 4 accumulated-kinds.ps ℕ
-μ-accumulated κs a = 16 * a .1 .1 .1 .1 .0 + 1
+abbrev pub μ-body : Measures 4 body-kinds.ps ℕ
+μ-body κs a = 16 * a .1 .1 .1 .1 .0 + 1
 
-abbrev pub accumulated-at : ℕ → In 4 accumulated-kinds.ps
-accumulated-at t = and 4 accumulated-kinds.ps (is 4 accumulated-kinds.ps μ-accumulated t) accumulated.Pre
+abbrev pub body-at : ℕ → In 4 body-kinds.ps
+body-at t = and 4 body-kinds.ps (is 4 body-kinds.ps μ-body t) body.Pre
 
-abbrev pub accumulated-below : ℕ → In 4 accumulated-kinds.ps
-accumulated-below t = and 4 accumulated-kinds.ps (falls 4 accumulated-kinds.ps _<_ μ-accumulated t) accumulated.Pre
+abbrev pub body-below : ℕ → In 4 body-kinds.ps
+body-below t = and 4 body-kinds.ps (falls 4 body-kinds.ps _<_ μ-body t) body.Pre
 
 abbrev pub μ-attribute : Measures 4 attribute-kinds.ps ℕ
 μ-attribute κs a = 16 * a .1 .1 .1 .1 .0 + 10

@@ -6,11 +6,11 @@ use Rattle.typing.proofs.Composition.{early, after}
 use Rattle.typing.proofs.NodeTypings.{in-env}
 use Rattle.ocl.specs.Typing.{letTyping}
 use Rattle.typing.proofs.environment.bind.Reads as bind-reads
-use Rattle.typing.proofs.binding.variable.Reads as variable-reads
-use Rattle.typing.proofs.binding.let_in.Reads as let-in
+use Rattle.typing.proofs.scope.variable.Reads as variable-reads
+use Rattle.typing.proofs.scope.let_in.Reads as let-in
 use Rattle.typing.proofs.walk.operand.Reads as operand
-use Rattle.typing.proofs.+binding-accumulated+binding-iterate+binding-let_in+binding-quantified+strict-attribute+strict-binary+strict-collect+strict-conditional+strict-connective+strict-is_undef+strict-unary+walk-node+walk-operand+walk-pair.Lts-binding-let_in as lts
-use Rattle.typing.proofs.+binding-accumulated+binding-iterate+binding-let_in+binding-quantified+strict-attribute+strict-binary+strict-collect+strict-conditional+strict-connective+strict-is_undef+strict-unary+walk-node+walk-operand+walk-pair.Proof.Base.{let-in-at, operand-below}
+use Rattle.typing.proofs.+apply-attribute+apply-binary+apply-collect+apply-conditional+apply-connective+apply-is_undef+apply-unary+scope-body+scope-iterate+scope-let_in+scope-quantified+walk-node+walk-operand+walk-pair.Lts-scope-let_in as lts
+use Rattle.typing.proofs.+apply-attribute+apply-binary+apply-collect+apply-conditional+apply-connective+apply-is_undef+apply-unary+scope-body+scope-iterate+scope-let_in+scope-quantified+walk-node+walk-operand+walk-pair.Proof.Base.{let-in-at, operand-below}
 
 module _ (t : ℕ) where
   abbrev calls : lts.Claims

@@ -7,19 +7,19 @@ use Rattle.ocl.specs.Typing.{leafTyping}
 use Rattle.typing.proofs.forms.leaf_type.Reads as leaf-type-reads
 use Rattle.nodes.proofs.node_word.Reads as node-word-reads
 use Rattle.types.proofs.parts.plain.Reads as plain-reads
-use Rattle.typing.proofs.strict.attribute.Reads as attribute
-use Rattle.typing.proofs.strict.binary.Reads as binary
-use Rattle.typing.proofs.strict.collect.Reads as collect
-use Rattle.typing.proofs.strict.conditional.Reads as conditional
-use Rattle.typing.proofs.strict.connective.Reads as connective
-use Rattle.typing.proofs.strict.is_undef.Reads as is-undef
-use Rattle.typing.proofs.binding.iterate.Reads as iterate
-use Rattle.typing.proofs.binding.let_in.Reads as let-in
+use Rattle.typing.proofs.apply.attribute.Reads as attribute
+use Rattle.typing.proofs.apply.binary.Reads as binary
+use Rattle.typing.proofs.apply.collect.Reads as collect
+use Rattle.typing.proofs.apply.conditional.Reads as conditional
+use Rattle.typing.proofs.apply.connective.Reads as connective
+use Rattle.typing.proofs.apply.is_undef.Reads as is-undef
+use Rattle.typing.proofs.scope.iterate.Reads as iterate
+use Rattle.typing.proofs.scope.let_in.Reads as let-in
 use Rattle.typing.proofs.walk.node.Reads as node
-use Rattle.typing.proofs.binding.quantified.Reads as quantified
-use Rattle.typing.proofs.strict.unary.Reads as unary
-use Rattle.typing.proofs.+binding-accumulated+binding-iterate+binding-let_in+binding-quantified+strict-attribute+strict-binary+strict-collect+strict-conditional+strict-connective+strict-is_undef+strict-unary+walk-node+walk-operand+walk-pair.Lts-walk-node as lts
-use Rattle.typing.proofs.+binding-accumulated+binding-iterate+binding-let_in+binding-quantified+strict-attribute+strict-binary+strict-collect+strict-conditional+strict-connective+strict-is_undef+strict-unary+walk-node+walk-operand+walk-pair.Proof.Base.{node-at, attribute-below, binary-below, collect-below, conditional-below, connective-below, is-undef-below, iterate-below, let-in-below, quantified-below, unary-below}
+use Rattle.typing.proofs.scope.quantified.Reads as quantified
+use Rattle.typing.proofs.apply.unary.Reads as unary
+use Rattle.typing.proofs.+apply-attribute+apply-binary+apply-collect+apply-conditional+apply-connective+apply-is_undef+apply-unary+scope-body+scope-iterate+scope-let_in+scope-quantified+walk-node+walk-operand+walk-pair.Lts-walk-node as lts
+use Rattle.typing.proofs.+apply-attribute+apply-binary+apply-collect+apply-conditional+apply-connective+apply-is_undef+apply-unary+scope-body+scope-iterate+scope-let_in+scope-quantified+walk-node+walk-operand+walk-pair.Proof.Base.{node-at, attribute-below, binary-below, collect-below, conditional-below, connective-below, is-undef-below, iterate-below, let-in-below, quantified-below, unary-below}
 
 module _ (t : ℕ) where
   abbrev calls : lts.Claims

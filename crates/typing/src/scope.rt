@@ -101,7 +101,7 @@ pub fn iterate(
             }
             if subtype(parents, start, t) {
                 let inner = bind(env, variable(nodes, n, 4), member_type(source));
-                return accumulated(nodes, parents, tables, rows, n, t, inner, marks);
+                return body(nodes, parents, tables, rows, n, t, inner, marks);
             }
             Reply::No(11, n as u64)
         }
@@ -110,7 +110,7 @@ pub fn iterate(
 }
 
 // The body of `iter`, with the member bound already: it is below the accumulator's type t, else 11.
-fn accumulated(
+fn body(
     nodes: &[u64],
     parents: &[u64],
     tables: &[u64],

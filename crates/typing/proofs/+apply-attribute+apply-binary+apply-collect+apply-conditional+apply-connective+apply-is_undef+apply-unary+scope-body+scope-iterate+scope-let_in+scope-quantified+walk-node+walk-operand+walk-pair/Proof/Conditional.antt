@@ -4,11 +4,11 @@ use borrow.Author.Needs.{needs}
 use Rattle.typing.proofs.Composition.{early, after, done}
 use Rattle.ocl.specs.Typing.{conditionalTyping}
 use Rattle.typing.proofs.others.conditional_type.Reads as conditional-type-reads
-use Rattle.typing.proofs.strict.conditional.Reads as conditional
+use Rattle.typing.proofs.apply.conditional.Reads as conditional
 use Rattle.typing.proofs.walk.operand.Reads as operand
 use Rattle.typing.proofs.walk.pair.Reads as pair
-use Rattle.typing.proofs.+binding-accumulated+binding-iterate+binding-let_in+binding-quantified+strict-attribute+strict-binary+strict-collect+strict-conditional+strict-connective+strict-is_undef+strict-unary+walk-node+walk-operand+walk-pair.Lts-strict-conditional as lts
-use Rattle.typing.proofs.+binding-accumulated+binding-iterate+binding-let_in+binding-quantified+strict-attribute+strict-binary+strict-collect+strict-conditional+strict-connective+strict-is_undef+strict-unary+walk-node+walk-operand+walk-pair.Proof.Base.{conditional-at, operand-below, pair-below}
+use Rattle.typing.proofs.+apply-attribute+apply-binary+apply-collect+apply-conditional+apply-connective+apply-is_undef+apply-unary+scope-body+scope-iterate+scope-let_in+scope-quantified+walk-node+walk-operand+walk-pair.Lts-apply-conditional as lts
+use Rattle.typing.proofs.+apply-attribute+apply-binary+apply-collect+apply-conditional+apply-connective+apply-is_undef+apply-unary+scope-body+scope-iterate+scope-let_in+scope-quantified+walk-node+walk-operand+walk-pair.Proof.Base.{conditional-at, operand-below, pair-below}
 
 module _ (t : ℕ) where
   abbrev calls : lts.Claims

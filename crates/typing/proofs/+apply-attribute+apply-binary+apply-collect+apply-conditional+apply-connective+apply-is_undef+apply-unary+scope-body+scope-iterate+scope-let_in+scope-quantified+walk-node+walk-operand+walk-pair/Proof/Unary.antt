@@ -5,9 +5,9 @@ use Rattle.typing.proofs.Composition.{early, after, done}
 use Rattle.ocl.specs.Typing.{unaryTyping}
 use Rattle.typing.proofs.forms.unary_type.Reads as unary-type-reads
 use Rattle.typing.proofs.walk.operand.Reads as operand
-use Rattle.typing.proofs.strict.unary.Reads as unary
-use Rattle.typing.proofs.+binding-accumulated+binding-iterate+binding-let_in+binding-quantified+strict-attribute+strict-binary+strict-collect+strict-conditional+strict-connective+strict-is_undef+strict-unary+walk-node+walk-operand+walk-pair.Lts-strict-unary as lts
-use Rattle.typing.proofs.+binding-accumulated+binding-iterate+binding-let_in+binding-quantified+strict-attribute+strict-binary+strict-collect+strict-conditional+strict-connective+strict-is_undef+strict-unary+walk-node+walk-operand+walk-pair.Proof.Base.{unary-at, operand-below}
+use Rattle.typing.proofs.apply.unary.Reads as unary
+use Rattle.typing.proofs.+apply-attribute+apply-binary+apply-collect+apply-conditional+apply-connective+apply-is_undef+apply-unary+scope-body+scope-iterate+scope-let_in+scope-quantified+walk-node+walk-operand+walk-pair.Lts-apply-unary as lts
+use Rattle.typing.proofs.+apply-attribute+apply-binary+apply-collect+apply-conditional+apply-connective+apply-is_undef+apply-unary+scope-body+scope-iterate+scope-let_in+scope-quantified+walk-node+walk-operand+walk-pair.Proof.Base.{unary-at, operand-below}
 
 module _ (t : ℕ) where
   abbrev calls : lts.Claims

@@ -5,10 +5,10 @@ use Rattle.typing.proofs.Composition.{early, after}
 use Rattle.ocl.specs.Typing.{attributeTyping}
 use Rattle.typing.proofs.others.attribute_type.Reads as attribute-type-reads
 use Rattle.nodes.proofs.node_word.Reads as node-word-reads
-use Rattle.typing.proofs.strict.attribute.Reads as attribute
+use Rattle.typing.proofs.apply.attribute.Reads as attribute
 use Rattle.typing.proofs.walk.operand.Reads as operand
-use Rattle.typing.proofs.+binding-accumulated+binding-iterate+binding-let_in+binding-quantified+strict-attribute+strict-binary+strict-collect+strict-conditional+strict-connective+strict-is_undef+strict-unary+walk-node+walk-operand+walk-pair.Lts-strict-attribute as lts
-use Rattle.typing.proofs.+binding-accumulated+binding-iterate+binding-let_in+binding-quantified+strict-attribute+strict-binary+strict-collect+strict-conditional+strict-connective+strict-is_undef+strict-unary+walk-node+walk-operand+walk-pair.Proof.Base.{attribute-at, operand-below}
+use Rattle.typing.proofs.+apply-attribute+apply-binary+apply-collect+apply-conditional+apply-connective+apply-is_undef+apply-unary+scope-body+scope-iterate+scope-let_in+scope-quantified+walk-node+walk-operand+walk-pair.Lts-apply-attribute as lts
+use Rattle.typing.proofs.+apply-attribute+apply-binary+apply-collect+apply-conditional+apply-connective+apply-is_undef+apply-unary+scope-body+scope-iterate+scope-let_in+scope-quantified+walk-node+walk-operand+walk-pair.Proof.Base.{attribute-at, operand-below}
 
 module _ (t : ℕ) where
   abbrev calls : lts.Claims

@@ -11,16 +11,16 @@ use Rattle.nodes.proofs.node_word.Reads as node-word-reads
 use Rattle.types.proofs.parts.outer_code.Reads as outer-code-reads
 use Rattle.types.proofs.order.subtype.Reads as subtype-reads
 use Rattle.types.proofs.word.unpack.Reads as unpack-reads
-use Rattle.typing.proofs.binding.variable.Reads as variable-reads
-use Rattle.typing.proofs.binding.accumulated.Reads as accumulated
-use Rattle.typing.proofs.binding.iterate.Reads as iterate
+use Rattle.typing.proofs.scope.variable.Reads as variable-reads
+use Rattle.typing.proofs.scope.body.Reads as body
+use Rattle.typing.proofs.scope.iterate.Reads as iterate
 use Rattle.typing.proofs.walk.pair.Reads as pair
-use Rattle.typing.proofs.+binding-accumulated+binding-iterate+binding-let_in+binding-quantified+strict-attribute+strict-binary+strict-collect+strict-conditional+strict-connective+strict-is_undef+strict-unary+walk-node+walk-operand+walk-pair.Lts-binding-iterate as lts
-use Rattle.typing.proofs.+binding-accumulated+binding-iterate+binding-let_in+binding-quantified+strict-attribute+strict-binary+strict-collect+strict-conditional+strict-connective+strict-is_undef+strict-unary+walk-node+walk-operand+walk-pair.Proof.Base.{iterate-at, accumulated-below, pair-below}
+use Rattle.typing.proofs.+apply-attribute+apply-binary+apply-collect+apply-conditional+apply-connective+apply-is_undef+apply-unary+scope-body+scope-iterate+scope-let_in+scope-quantified+walk-node+walk-operand+walk-pair.Lts-scope-iterate as lts
+use Rattle.typing.proofs.+apply-attribute+apply-binary+apply-collect+apply-conditional+apply-connective+apply-is_undef+apply-unary+scope-body+scope-iterate+scope-let_in+scope-quantified+walk-node+walk-operand+walk-pair.Proof.Base.{iterate-at, body-below, pair-below}
 
 module _ (t : ℕ) where
   abbrev calls : lts.Claims
-  calls = (pair-below t, pair.Post, node-word-reads.Asked, node-word-reads.Learnt, unpack-reads.Asked, unpack-reads.Learnt, outer-code-reads.Asked, outer-code-reads.Learnt, subtype-reads.Asked, subtype-reads.Learnt, variable-reads.Asked, variable-reads.Learnt, member-type-reads.Asked, member-type-reads.Learnt, bind-reads.Asked, bind-reads.Learnt, accumulated-below t, accumulated.Post)
+  calls = (pair-below t, pair.Post, node-word-reads.Asked, node-word-reads.Learnt, unpack-reads.Asked, unpack-reads.Learnt, outer-code-reads.Asked, outer-code-reads.Learnt, subtype-reads.Asked, subtype-reads.Learnt, variable-reads.Asked, variable-reads.Learnt, member-type-reads.Asked, member-type-reads.Learnt, bind-reads.Asked, bind-reads.Learnt, body-below t, body.Post)
 
   pair-requires : lts.Need-pair-requires calls (iterate-at t) iterate.Post
   pair-requires c κs = search needs
@@ -55,14 +55,14 @@ module _ (t : ℕ) where
   bind-requires : lts.Need-bind-requires calls (iterate-at t) iterate.Post
   bind-requires c κs = search needs
 
-  accumulated-requires : lts.Need-accumulated-requires calls (iterate-at t) iterate.Post
-  accumulated-requires c κs = omega (arith, c .before .before .before .before .before .before .before .before .before .before .before .before .before .before .before .before .before .before .before .before .before, c .before .before .before .before .before .before .before .before .before .before .before .before .before .before .before .pair)
+  body-requires : lts.Need-body-requires calls (iterate-at t) iterate.Post
+  body-requires c κs = omega (arith, c .before .before .before .before .before .before .before .before .before .before .before .before .before .before .before .before .before .before .before .before .before, c .before .before .before .before .before .before .before .before .before .before .before .before .before .before .before .pair)
 
   same-length-2 : lts.Need-same-length-2 calls (iterate-at t) iterate.Post
-  same-length-2 c = omega (arith, c .before .before .before .before .before .before .before .before .before .before .before .before .before .before .before .before .before .before .before .before .before .before .before .before, c .before .before .before .before .before .before .before .before .before .before .before .before .before .before .before .before .before .before .pair, c .before .before .accumulated)
+  same-length-2 c = omega (arith, c .before .before .before .before .before .before .before .before .before .before .before .before .before .before .before .before .before .before .before .before .before .before .before .before, c .before .before .before .before .before .before .before .before .before .before .before .before .before .before .before .before .before .before .pair, c .before .before .body)
 
   returns-2 : lts.Need-returns-2 calls (iterate-at t) iterate.Post
-  returns-2 c = λ m h. iter-rest m _ _ _ (c .before .before .before .before .before .before .before .before .before .before .before .before .before .before .before .before .before .before .pair .ensures m h .goes (c .before .before .before .before .before .before .before .before .before .before .before .before .before .before .both .given .1) _ (iter-body m _ (h .classes .parent) _ _ _ _ _ (c .before .before .before .before .before .before .before .before .before .before .outer-code .ensures) (c .before .before .before .before .before .before .before .before .before .if1 .left) (c .before .before .before .before .before .before .before .before .before .before .before .unpack .ensures ∙ ap typeIn (c .before .before .before .before .before .before .before .before .before .before .before .before .node-word .ensures)) (sym (c .before .before .before .before .before .before .before .if2 .taken) ∙ c .before .before .before .before .before .before .before .before .subtype .ensures) (c .before .before .before .before .before .member-type .ensures) (c .before .before .before .before .before .before .variable .ensures .1) (c .before .before .before .before .bind .ensures) (c .before .before .accumulated .ensures m h)))
+  returns-2 c = λ m h. iter-rest m _ _ _ (c .before .before .before .before .before .before .before .before .before .before .before .before .before .before .before .before .before .before .pair .ensures m h .goes (c .before .before .before .before .before .before .before .before .before .before .before .before .before .before .both .given .1) _ (iter-body m _ (h .classes .parent) _ _ _ _ _ (c .before .before .before .before .before .before .before .before .before .before .outer-code .ensures) (c .before .before .before .before .before .before .before .before .before .if1 .left) (c .before .before .before .before .before .before .before .before .before .before .before .unpack .ensures ∙ ap typeIn (c .before .before .before .before .before .before .before .before .before .before .before .before .node-word .ensures)) (sym (c .before .before .before .before .before .before .before .if2 .taken) ∙ c .before .before .before .before .before .before .before .before .subtype .ensures) (c .before .before .before .before .before .member-type .ensures) (c .before .before .before .before .before .before .variable .ensures .1) (c .before .before .before .before .bind .ensures) (c .before .before .body .ensures m h)))
 
   enum-known-both-2 : lts.Need-enum-known-both-2 calls (iterate-at t) iterate.Post
   enum-known-both-2 c = search needs
@@ -80,4 +80,4 @@ module _ (t : ℕ) where
   returns-4 c = λ m h. iter-rest m _ _ _ (c .before .before .before .before .before .pair .ensures m h .ends (c .before .both2 .given .1) _)
 
   pub closed : {M : Type 1} → lts.Closed calls (iterate-at t) iterate.Post M
-  closed = lts.spec calls (iterate-at t) iterate.Post pair-requires enum-known-both node-word-requires unpack-requires outer-code-requires same-length returns subtype-requires variable-requires member-type-requires bind-requires accumulated-requires same-length-2 returns-2 enum-known-both-2 same-length-3 returns-3 same-length-4 returns-4
+  closed = lts.spec calls (iterate-at t) iterate.Post pair-requires enum-known-both node-word-requires unpack-requires outer-code-requires same-length returns subtype-requires variable-requires member-type-requires bind-requires body-requires same-length-2 returns-2 enum-known-both-2 same-length-3 returns-3 same-length-4 returns-4

@@ -4,10 +4,10 @@ use borrow.Author.Needs.{needs}
 use Rattle.typing.proofs.Composition.{done}
 use Rattle.ocl.specs.Typing.{binaryTyping}
 use Rattle.typing.proofs.forms.binary_type.Reads as binary-type-reads
-use Rattle.typing.proofs.strict.binary.Reads as binary
+use Rattle.typing.proofs.apply.binary.Reads as binary
 use Rattle.typing.proofs.walk.pair.Reads as pair
-use Rattle.typing.proofs.+binding-accumulated+binding-iterate+binding-let_in+binding-quantified+strict-attribute+strict-binary+strict-collect+strict-conditional+strict-connective+strict-is_undef+strict-unary+walk-node+walk-operand+walk-pair.Lts-strict-binary as lts
-use Rattle.typing.proofs.+binding-accumulated+binding-iterate+binding-let_in+binding-quantified+strict-attribute+strict-binary+strict-collect+strict-conditional+strict-connective+strict-is_undef+strict-unary+walk-node+walk-operand+walk-pair.Proof.Base.{binary-at, pair-below}
+use Rattle.typing.proofs.+apply-attribute+apply-binary+apply-collect+apply-conditional+apply-connective+apply-is_undef+apply-unary+scope-body+scope-iterate+scope-let_in+scope-quantified+walk-node+walk-operand+walk-pair.Lts-apply-binary as lts
+use Rattle.typing.proofs.+apply-attribute+apply-binary+apply-collect+apply-conditional+apply-connective+apply-is_undef+apply-unary+scope-body+scope-iterate+scope-let_in+scope-quantified+walk-node+walk-operand+walk-pair.Proof.Base.{binary-at, pair-below}
 
 module _ (t : ℕ) where
   abbrev calls : lts.Claims

@@ -9,11 +9,11 @@ use Rattle.typing.proofs.environment.bind.Reads as bind-reads
 use Rattle.typing.proofs.forms.condition.Reads as condition-reads
 use Rattle.types.proofs.parts.member_type.Reads as member-type-reads
 use Rattle.types.proofs.parts.outer_code.Reads as outer-code-reads
-use Rattle.typing.proofs.binding.variable.Reads as variable-reads
+use Rattle.typing.proofs.scope.variable.Reads as variable-reads
 use Rattle.typing.proofs.walk.operand.Reads as operand
-use Rattle.typing.proofs.binding.quantified.Reads as quantified
-use Rattle.typing.proofs.+binding-accumulated+binding-iterate+binding-let_in+binding-quantified+strict-attribute+strict-binary+strict-collect+strict-conditional+strict-connective+strict-is_undef+strict-unary+walk-node+walk-operand+walk-pair.Lts-binding-quantified as lts
-use Rattle.typing.proofs.+binding-accumulated+binding-iterate+binding-let_in+binding-quantified+strict-attribute+strict-binary+strict-collect+strict-conditional+strict-connective+strict-is_undef+strict-unary+walk-node+walk-operand+walk-pair.Proof.Base.{quantified-at, operand-below}
+use Rattle.typing.proofs.scope.quantified.Reads as quantified
+use Rattle.typing.proofs.+apply-attribute+apply-binary+apply-collect+apply-conditional+apply-connective+apply-is_undef+apply-unary+scope-body+scope-iterate+scope-let_in+scope-quantified+walk-node+walk-operand+walk-pair.Lts-scope-quantified as lts
+use Rattle.typing.proofs.+apply-attribute+apply-binary+apply-collect+apply-conditional+apply-connective+apply-is_undef+apply-unary+scope-body+scope-iterate+scope-let_in+scope-quantified+walk-node+walk-operand+walk-pair.Proof.Base.{quantified-at, operand-below}
 
 module _ (t : ℕ) where
   abbrev calls : lts.Claims
