@@ -13,8 +13,7 @@ use std::io::IsTerminal;
 use std::ops::Range;
 use std::path::PathBuf;
 use std::process::ExitCode;
-use std::sync::atomic::{AtomicUsize, Ordering};
-use std::sync::Mutex;
+use std::sync::atomic::{AtomicBool, AtomicUsize, Ordering};
 use std::thread;
 
 /// Where the sheet of a difference is written.
@@ -94,20 +93,22 @@ impl Comparison {
         }
     }
 
-    /// Compares all cases, one after the other on each processor, up to a
-    /// difference.
-    fn all(&self, cases: &Cases) -> Result<Tally, (Case, Difference)> {
+    /// Compares all cases, spread over the processors, up to a difference, which
+    /// is printed.
+    fn all(&self, cases: &Cases) -> Option<Tally> {
         let next = AtomicUsize::new(0);
-        let found = Mutex::new(None);
+        let differs = AtomicBool::new(false);
         let work = || {
             let mut tally = Tally::default();
-            while found.lock().expect("no thread panics with it").is_none() {
+            while !differs.load(Ordering::Relaxed) {
                 let Some(case) = cases.case(next.fetch_add(1, Ordering::Relaxed)) else {
                     break;
                 };
                 if let Err(difference) = self.case(&case, &mut tally) {
-                    let mut found = found.lock().expect("no thread panics with it");
-                    found.get_or_insert((case, difference));
+                    // Only the first one is printed.
+                    if !differs.swap(true, Ordering::Relaxed) {
+                        print_difference(&case, &difference);
+                    }
                 }
             }
             tally
@@ -120,20 +121,18 @@ impl Comparison {
                 tally.join(worker.join().expect("a comparison does not panic"));
             }
         });
-        found
-            .into_inner()
-            .expect("no thread panics with it")
-            .map_or(Ok(tally), Err)
+        (!differs.into_inner()).then_some(tally)
     }
 }
 
-fn print_difference(Case { name, seed, .. }: Case, Difference { text, ask, how }: Difference) {
-    match ask {
+fn print_difference(case: &Case, difference: &Difference) {
+    let Case { name, seed, .. } = case;
+    match difference.ask {
         Some(ask) => println!("{name} differs in {ask:?}, garbage of seed {seed}:"),
         None => println!("{name} differs in what the program prints:"),
     }
-    println!("{how}");
-    match std::fs::write(DIFFERENCE, &text) {
+    println!("{}", difference.how);
+    match std::fs::write(DIFFERENCE, &difference.text) {
         Ok(()) => println!("The sheet, shortened, is in {DIFFERENCE}."),
         Err(error) => println!("The sheet could not be written: {error}"),
     }
@@ -181,12 +180,8 @@ fn main() -> ExitCode {
         long: long_texts(),
         seeds,
     };
-    let tally = match comparison.all(&cases) {
-        Ok(tally) => tally,
-        Err((case, difference)) => {
-            print_difference(case, difference);
-            return ExitCode::FAILURE;
-        }
+    let Some(tally) = comparison.all(&cases) else {
+        return ExitCode::FAILURE;
     };
     let (vectors, sheets) = (cases.vectors.len(), cases.seeds.end - cases.seeds.start);
     println!("No difference in {vectors} vectors and {sheets} sheets.");
