@@ -174,8 +174,8 @@ impl Evaluation<'_> {
         outcome
     }
 
-    /// `and` and `or`: the deciding truth on either side decides, a deciding
-    /// left side leaves the right unrun, else undefined on either side is undefined.
+    /// `and` and `or`: the deciding truth decides wherever it stands. If it stands
+    /// on the left, the right side is not run; if nowhere, undefined goes on.
     fn connective(&mut self, operands: &[Node], deciding: bool) -> Outcome {
         let left = self.truth(&operands[0]);
         match left {

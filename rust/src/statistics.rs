@@ -1,8 +1,9 @@
 //! How often the generated sheets reach each refusal, form, outcome and value kind.
 
-use crate::calls::{self, Answer, LEAST_WORDS, LONGEST_SHEET};
+use crate::calls::{Answer, LEAST_WORDS, LONGEST_SHEET};
 use crate::eval::{evaluate, Stop};
-use crate::generate::{asks, sheet, Ask, Call};
+use crate::generate::{asks, sheet, Ask};
+use crate::harness::second;
 use crate::read::read;
 use crate::tree::Node;
 use crate::types::Kind;
@@ -128,18 +129,11 @@ impl Statistics {
 }
 
 /// The second evaluator's answer, what it writes left aside.
-pub fn answer(text: &[u8], ask: Ask) -> Answer {
+fn answer(text: &[u8], ask: Ask) -> Answer {
     let mut slices: [Vec<u64>; 3] = ask.words.map(|length| vec![0; length.min(LEAST_WORDS)]);
     let words = slices.each_mut().map(Vec::as_mut_slice);
     let mut out = vec![0; ask.out];
-    match ask.call {
-        Call::Read => calls::read_sheet(text, words),
-        Call::Type { rule } => calls::type_rule(text, rule, words, &mut out),
-        Call::Evaluate { rule, object } => {
-            calls::evaluate_rule(text, rule, object, words, &mut out)
-        }
-        Call::Report => calls::report(text, words, &mut out),
-    }
+    second(ask.call, text, words, &mut out)
 }
 
 fn kind(value: &Value) -> &'static str {

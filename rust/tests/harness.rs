@@ -1,11 +1,15 @@
 //! The comparison finds every fault of a stand-in, and none where there is none.
 
+use second_evaluator::calls::{Answer, Words};
 use second_evaluator::generate::{self, Ask, Call};
 use second_evaluator::harness::compare::compare;
 use second_evaluator::harness::run;
 use second_evaluator::harness::shrink::shrink;
 use second_evaluator::harness::standin::{Fault, StandIn};
 use second_evaluator::harness::tally::Tally;
+use second_evaluator::harness::{second, Calls};
+use std::collections::BTreeSet;
+use std::sync::Mutex;
 
 fn first_difference(fault: Fault, sheets: u64) -> Option<run::Difference> {
     let standin = StandIn { fault };
@@ -52,6 +56,59 @@ fn what_was_never_compared_is_missing() {
     let missing = tally.missing();
     assert!(missing.contains(&"read 8".to_string()), "{missing:?}");
     assert!(!missing.contains(&"read 9".to_string()), "{missing:?}");
+}
+
+#[test]
+fn tallies_add_up() {
+    let answer = |number| Answer {
+        number,
+        ..Answer::default()
+    };
+    let (mut one, mut other) = (Tally::default(), Tally::default());
+    one.add(Call::Read, answer(7));
+    other.add(Call::Read, answer(8));
+    other.add(Call::Report, answer(18));
+    one.join(other);
+    let missing = one.missing();
+    for reached in ["read 7", "read 8", "report 18"] {
+        assert!(!missing.contains(&reached.to_string()), "{reached}");
+    }
+}
+
+/// Keeps what each call is lent, before it runs.
+#[derive(Default)]
+struct Keeper {
+    slices: Mutex<Vec<Vec<u64>>>,
+    outs: Mutex<Vec<Vec<u8>>>,
+}
+
+impl Calls for Keeper {
+    fn stack(&self) -> usize {
+        2 * 1024 * 1024
+    }
+
+    fn call(&self, call: Call, text: &[u8], words: Words, out: &mut [u8]) -> Answer {
+        let slices = words.iter().map(|slice| slice.to_vec());
+        self.slices.lock().unwrap().extend(slices);
+        self.outs.lock().unwrap().push(out.to_vec());
+        second(call, text, words, out)
+    }
+}
+
+#[test]
+fn every_slice_of_every_call_is_lent_with_other_garbage() {
+    let keeper = Keeper::default();
+    let ask = Ask {
+        call: Call::Report,
+        words: [8_192; 3],
+        out: 2_048,
+    };
+    let result = run::sheet(&keeper, b"", 7, &[ask; 9], &mut Tally::default());
+    assert!(result.is_ok());
+    let slices: BTreeSet<Vec<u64>> = keeper.slices.into_inner().unwrap().into_iter().collect();
+    let outs: BTreeSet<Vec<u8>> = keeper.outs.into_inner().unwrap().into_iter().collect();
+    assert_eq!((slices.len(), outs.len()), (27, 9));
+    assert!(slices.iter().flatten().all(|word| *word != 0));
 }
 
 #[test]

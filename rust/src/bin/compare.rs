@@ -1,7 +1,7 @@
 //! `compare FIRST COUNT`: compares the linked calls, and the program that
 //! CHECKER_PROGRAM names, with the second evaluator over the vectors and the
-//! sheets of COUNT seeds from FIRST on. `--stand-in` compares the second
-//! evaluator with itself in place of the linked calls.
+//! sheets of COUNT seeds from FIRST on, on all processors. `--stand-in` compares
+//! the second evaluator with itself in place of the linked calls.
 
 use second_evaluator::generate::{asks, sheet, vector_asks, Ask};
 use second_evaluator::harness::program::long_texts;
@@ -10,41 +10,131 @@ use second_evaluator::harness::standin::{Fault, StandIn};
 use second_evaluator::harness::tally::Tally;
 use second_evaluator::harness::Calls;
 use std::io::IsTerminal;
+use std::ops::Range;
 use std::path::PathBuf;
 use std::process::ExitCode;
+use std::sync::atomic::{AtomicBool, AtomicUsize, Ordering};
+use std::thread;
 
 /// Where the sheet of a difference is written.
 const DIFFERENCE: &str = "difference.sheet";
 
+/// A sheet, what is asked about it, and the seed of the garbage that is lent.
+struct Case {
+    name: String,
+    text: Vec<u8>,
+    asks: Vec<Ask>,
+    seed: u64,
+}
+
+/// The vectors, then texts that are only about their length, then the sheets of
+/// the seeds.
+struct Cases {
+    vectors: Vec<Vector>,
+    long: Vec<Vec<u8>>,
+    seeds: Range<u64>,
+}
+
+impl Cases {
+    fn case(&self, at: usize) -> Option<Case> {
+        if let Some(Vector { name, text, .. }) = self.vectors.get(at) {
+            return Some(Case {
+                name: format!("vector {name}"),
+                text: text.clone(),
+                asks: vector_asks(at as u64, text),
+                seed: at as u64,
+            });
+        }
+        let at = at - self.vectors.len();
+        let (name, seed, text) = if let Some(text) = self.long.get(at) {
+            let bytes = text.len();
+            (
+                format!("a text of {bytes} bytes"),
+                bytes as u64,
+                text.clone(),
+            )
+        } else {
+            let seed = self.seeds.clone().nth(at - self.long.len())?;
+            self.show(seed);
+            (format!("seed {seed}"), seed, sheet(seed))
+        };
+        let asks = asks(seed, &text);
+        Some(Case {
+            name,
+            text,
+            asks,
+            seed,
+        })
+    }
+
+    /// Should a call end the process, the last seed shown is near.
+    fn show(&self, seed: u64) {
+        if std::io::stderr().is_terminal() || (seed - self.seeds.start) % 1_000 == 0 {
+            eprint!("seed {seed}\r");
+        }
+    }
+}
+
 struct Comparison {
     calls: Option<Box<dyn Calls>>,
     program: Option<PathBuf>,
-    tally: Tally,
 }
 
 impl Comparison {
-    /// Whether the sheet shows no difference; a difference is printed.
-    fn sheet(&mut self, name: &str, seed: u64, text: &[u8], asks: &[Ask]) -> bool {
-        let mut result = Ok(());
+    fn case(&self, case: &Case, tally: &mut Tally) -> Result<(), Difference> {
         if let Some(calls) = &self.calls {
-            result = run::sheet(&**calls, text, seed, asks, &mut self.tally);
+            run::sheet(&**calls, &case.text, case.seed, &case.asks, tally)?;
         }
-        if let (Ok(()), Some(program)) = (&result, &self.program) {
-            result = run::program_sheet(program, text).expect("the program can be run");
+        match &self.program {
+            Some(program) => {
+                run::program_sheet(program, &case.text).expect("the program can be run")
+            }
+            None => Ok(()),
         }
-        let Err(Difference { text, ask, how }) = result else {
-            return true;
+    }
+
+    /// Compares all cases, spread over the processors, up to a difference, which
+    /// is printed.
+    fn all(&self, cases: &Cases) -> Option<Tally> {
+        let next = AtomicUsize::new(0);
+        let differs = AtomicBool::new(false);
+        let work = || {
+            let mut tally = Tally::default();
+            while !differs.load(Ordering::Relaxed) {
+                let Some(case) = cases.case(next.fetch_add(1, Ordering::Relaxed)) else {
+                    break;
+                };
+                if let Err(difference) = self.case(&case, &mut tally) {
+                    // Only the first one is printed.
+                    if !differs.swap(true, Ordering::Relaxed) {
+                        print_difference(&case, &difference);
+                    }
+                }
+            }
+            tally
         };
-        match ask {
-            Some(ask) => println!("{name} differs in {ask:?}, garbage of seed {seed}:"),
-            None => println!("{name} differs in what the program prints:"),
-        }
-        println!("{how}");
-        match std::fs::write(DIFFERENCE, &text) {
-            Ok(()) => println!("The sheet, shortened, is in {DIFFERENCE}."),
-            Err(error) => println!("The sheet could not be written: {error}"),
-        }
-        false
+        let processors = thread::available_parallelism().map_or(1, usize::from);
+        let mut tally = Tally::default();
+        thread::scope(|scope| {
+            let workers: Vec<_> = (0..processors).map(|_| scope.spawn(work)).collect();
+            for worker in workers {
+                tally.join(worker.join().expect("a comparison does not panic"));
+            }
+        });
+        (!differs.into_inner()).then_some(tally)
+    }
+}
+
+fn print_difference(case: &Case, difference: &Difference) {
+    let Case { name, seed, .. } = case;
+    match difference.ask {
+        Some(ask) => println!("{name} differs in {ask:?}, garbage of seed {seed}:"),
+        None => println!("{name} differs in what the program prints:"),
+    }
+    println!("{}", difference.how);
+    match std::fs::write(DIFFERENCE, &difference.text) {
+        Ok(()) => println!("The sheet, shortened, is in {DIFFERENCE}."),
+        Err(error) => println!("The sheet could not be written: {error}"),
     }
 }
 
@@ -56,70 +146,50 @@ fn linked() -> Option<Box<dyn Calls>> {
     None
 }
 
+/// Whether the second evaluator stands in, and the seeds.
+fn arguments() -> Option<(bool, Range<u64>)> {
+    let mut words: Vec<String> = std::env::args().skip(1).collect();
+    let stand_in = words.first().is_some_and(|word| word == "--stand-in");
+    words.drain(..usize::from(stand_in));
+    let [first, count] = words.as_slice() else {
+        return None;
+    };
+    let (first, count): (u64, u64) = (first.parse().ok()?, count.parse().ok()?);
+    Some((stand_in, first..first.checked_add(count)?))
+}
+
 fn main() -> ExitCode {
-    let (options, numbers): (Vec<String>, Vec<String>) = std::env::args()
-        .skip(1)
-        .partition(|arg| arg.starts_with("--"));
-    let numbers: Option<Vec<u64>> = numbers.iter().map(|arg| arg.parse().ok()).collect();
-    let (Some([first, count]), true) = (
-        numbers.as_deref(),
-        options.iter().all(|option| option == "--stand-in"),
-    ) else {
+    let Some((stand_in, seeds)) = arguments() else {
         eprintln!("usage: compare [--stand-in] FIRST COUNT");
         return ExitCode::from(2);
     };
-    let mut comparison = Comparison {
-        calls: if options.is_empty() {
-            linked()
-        } else {
+    let comparison = Comparison {
+        calls: if stand_in {
             Some(Box::new(StandIn { fault: Fault::None }))
+        } else {
+            linked()
         },
         program: std::env::var_os("CHECKER_PROGRAM").map(PathBuf::from),
-        tally: Tally::default(),
     };
     if comparison.calls.is_none() && comparison.program.is_none() {
         eprintln!("The calls are not linked and CHECKER_PROGRAM is not set: nothing to compare.");
         return ExitCode::from(2);
     }
-
-    let vectors = run::vectors().expect("the vectors can be read");
-    for (seed, Vector { name, text, .. }) in (0..).zip(&vectors) {
-        let asks = vector_asks(seed, text);
-        if !comparison.sheet(&format!("vector {name}"), seed, text, &asks) {
-            return ExitCode::FAILURE;
-        }
-    }
-    for text in long_texts() {
-        let name = format!("a text of {} bytes", text.len());
-        let seed = text.len() as u64;
-        if !comparison.sheet(&name, seed, &text, &asks(seed, &text)) {
-            return ExitCode::FAILURE;
-        }
-    }
-    // Should a call end the process, the last seed shown is near.
-    let often = if std::io::stderr().is_terminal() {
-        1
-    } else {
-        1_000
+    let cases = Cases {
+        vectors: run::vectors().expect("the vectors can be read"),
+        long: long_texts(),
+        seeds,
     };
-    for seed in (*first..).take(*count as usize) {
-        if (seed - first) % often == 0 {
-            eprint!("seed {seed}\r");
-        }
-        let text = sheet(seed);
-        if !comparison.sheet(&format!("seed {seed}"), seed, &text, &asks(seed, &text)) {
-            return ExitCode::FAILURE;
-        }
-    }
-    println!(
-        "No difference in {} vectors and {count} sheets.",
-        vectors.len()
-    );
+    let Some(tally) = comparison.all(&cases) else {
+        return ExitCode::FAILURE;
+    };
+    let (vectors, sheets) = (cases.vectors.len(), cases.seeds.end - cases.seeds.start);
+    println!("No difference in {vectors} vectors and {sheets} sheets.");
     if comparison.calls.is_none() {
         return ExitCode::SUCCESS;
     }
-    println!("{}", comparison.tally);
-    let missing = comparison.tally.missing();
+    println!("{tally}");
+    let missing = tally.missing();
     if missing.is_empty() {
         return ExitCode::SUCCESS;
     }

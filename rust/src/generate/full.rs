@@ -18,8 +18,7 @@ fn widen(text: &str, bytes: usize) -> String {
     out
 }
 
-/// V lines at both their limits, lines and sizes, then one rule of `groups`
-/// collections (a power of two) joined in pairs.
+/// V lines at both their limits, lines and sizes, then one rule of so many groups.
 pub fn full(bytes: usize, groups: usize) -> Vec<u8> {
     let mut text = "C\t0\t-\nC\t1\t-\nA\t0\t0\t255\tQ(Int)\n".to_string();
     for row in 1..64 {
@@ -41,11 +40,18 @@ pub fn full(bytes: usize, groups: usize) -> Vec<u8> {
         }
     }
     text += "R\t0\t0\n";
+    text += &collections(groups, "?");
+    widen(&text, bytes).into_bytes()
+}
+
+/// N lines of so many Sequences of the Integer, four times each, and their union.
+pub fn collections(groups: usize, integer: &str) -> String {
+    let mut text = String::new();
     let mut tops = Vec::new();
     let mut node = 0;
     for _ in 0..groups {
         for _ in 0..4 {
-            text += &format!("N\t{node}\tint\t?\n");
+            text += &format!("N\t{node}\tint\t{integer}\n");
             node += 1;
         }
         let (a, b, c, d) = (node - 4, node - 3, node - 2, node - 1);
@@ -53,13 +59,25 @@ pub fn full(bytes: usize, groups: usize) -> Vec<u8> {
         tops.push(node);
         node += 1;
     }
+    text + &joined("union", node, tops)
+}
+
+/// N lines, from this node on, that join the tops in pairs down to one.
+pub fn joined(form: &str, mut node: usize, mut tops: Vec<usize>) -> String {
+    let mut text = String::new();
     while tops.len() > 1 {
-        let pairs = std::mem::take(&mut tops);
-        for pair in pairs.chunks(2) {
-            text += &format!("N\t{node}\tunion\t{}\t{}\n", pair[0], pair[1]);
-            tops.push(node);
-            node += 1;
+        let mut next = Vec::new();
+        for pair in tops.chunks(2) {
+            match pair {
+                [left, right] => {
+                    text += &format!("N\t{node}\t{form}\t{left}\t{right}\n");
+                    next.push(node);
+                    node += 1;
+                }
+                _ => next.push(pair[0]),
+            }
         }
+        tops = next;
     }
-    widen(&text, bytes).into_bytes()
+    text
 }

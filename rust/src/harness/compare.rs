@@ -2,13 +2,30 @@
 //! and bytes around them.
 
 use super::{second, Calls};
-use crate::calls::{Answer, Words};
+use crate::calls::{Answer, Words, PROGRAM_OUTPUT};
 use crate::generate::random::Random;
 use crate::generate::{Ask, Call};
+use std::sync::LazyLock;
 use std::thread;
 
 /// Words and bytes around each slice that no call may touch.
 const MARGIN: usize = 16;
+
+/// The garbage that all of what is lent is cut from, made once: several times
+/// the longest slice, so that two cuts are hardly ever the same.
+static GARBAGE: LazyLock<(Vec<u64>, Vec<u8>)> = LazyLock::new(|| {
+    let mut random = Random::new(0);
+    let words: Vec<u64> = (0..PROGRAM_OUTPUT).map(|_| random.word()).collect();
+    let bytes = words.iter().flat_map(|word| word.to_ne_bytes()).collect();
+    (words, bytes)
+});
+
+/// A piece of the garbage as long as a slice with its margins, from anywhere.
+fn cut<T: Clone>(random: &mut Random, garbage: &[T], length: usize) -> Vec<T> {
+    let length = length + 2 * MARGIN;
+    let start = random.below(garbage.len() - length);
+    garbage[start..start + length].to_vec()
+}
 
 /// What is lent, in the middle of what is not, all of it garbage.
 #[derive(Clone, PartialEq, Eq)]
@@ -20,14 +37,11 @@ struct Lent {
 impl Lent {
     fn garbage(seed: u64, ask: Ask) -> Lent {
         let mut random = Random::new(seed);
-        let words = ask.words.map(|length| {
-            let whole = 0..length + 2 * MARGIN;
-            whole.map(|_| random.word()).collect()
-        });
-        let out = (0..ask.out + 2 * MARGIN)
-            .map(|_| random.word() as u8)
-            .collect();
-        Lent { words, out }
+        let (words, bytes) = &*GARBAGE;
+        Lent {
+            words: ask.words.map(|length| cut(&mut random, words, length)),
+            out: cut(&mut random, bytes, ask.out),
+        }
     }
 
     fn slices(&mut self) -> (Words<'_>, &mut [u8]) {

@@ -6,6 +6,7 @@ use super::shrink::shrink;
 use super::tally::Tally;
 use super::Calls;
 use crate::calls;
+use crate::generate::random::Random;
 use crate::generate::Ask;
 use std::fs;
 use std::io;
@@ -19,7 +20,8 @@ pub struct Difference {
     pub how: String,
 }
 
-/// What is asked about one sheet, with garbage by the seed.
+/// What is asked about one sheet. The garbage, another one for each call, follows
+/// from the seed.
 pub fn sheet(
     calls: &dyn Calls,
     text: &[u8],
@@ -27,7 +29,9 @@ pub fn sheet(
     asks: &[Ask],
     tally: &mut Tally,
 ) -> Result<(), Difference> {
+    let mut garbage = Random::new(seed);
     for ask in asks.iter().copied() {
+        let seed = garbage.word();
         let compared = compare(calls, text, ask, seed);
         tally.add(ask.call, compared.answer);
         if compared.difference.is_some() {

@@ -78,40 +78,9 @@ impl Calls for StandIn {
     fn call(&self, call: Call, text: &[u8], words: Words, out: &mut [u8]) -> Answer {
         let [first, middle, last] = words;
         let left = middle.get(LEAST_WORDS - 1).copied();
-        let call = match (self.fault, call) {
-            (Fault::RuleCut, Call::Type { rule }) => Call::Type {
-                rule: rule as u32 as u64,
-            },
-            (Fault::ObjectCut, Call::Evaluate { rule, object }) => Call::Evaluate {
-                rule,
-                object: object as u8 as u64,
-            },
-            _ => call,
-        };
-        let mut answer = match self.fault {
-            Fault::ShortWords if last.len() == LEAST_WORDS - 1 => {
-                let mut longer = vec![0; LEAST_WORDS];
-                let answer = second(call, text, [&mut *first, &mut *middle, &mut longer], out);
-                last.fill(0);
-                answer
-            }
-            Fault::ShortOutput if out.len() == LEAST_OUTPUT - 1 => {
-                let mut longer = vec![0; LEAST_OUTPUT];
-                let words = [&mut *first, &mut *middle, &mut *last];
-                let answer = second(call, text, words, &mut longer);
-                out[..answer.length as usize].copy_from_slice(&longer[..answer.length as usize]);
-                answer
-            }
-            Fault::ReportRoom if call == Call::Report && out.len() > LEAST_OUTPUT => {
-                let words = [&mut *first, &mut *middle, &mut *last];
-                let room = out.len() - 1;
-                second(call, text, words, &mut out[..room])
-            }
-            _ => {
-                let words = [&mut *first, &mut *middle, &mut *last];
-                second(call, text, words, out)
-            }
-        };
+        let call = self.cut(call);
+        let words = [&mut *first, &mut *middle, &mut *last];
+        let mut answer = self.answer(call, text, words, out);
         let number = answer.number;
         let length = answer.length as usize;
         match self.fault {
@@ -130,5 +99,46 @@ impl Calls for StandIn {
             _ => {}
         }
         answer
+    }
+}
+
+impl StandIn {
+    /// The call with its numbers as the fault reads them.
+    fn cut(&self, call: Call) -> Call {
+        match (self.fault, call) {
+            (Fault::RuleCut, Call::Type { rule }) => Call::Type {
+                rule: rule as u32 as u64,
+            },
+            (Fault::ObjectCut, Call::Evaluate { rule, object }) => Call::Evaluate {
+                rule,
+                object: object as u8 as u64,
+            },
+            _ => call,
+        }
+    }
+
+    /// The second evaluator's answer within the lengths that the fault takes for
+    /// lent.
+    fn answer(&self, call: Call, text: &[u8], words: Words, out: &mut [u8]) -> Answer {
+        match self.fault {
+            Fault::ShortWords if words[2].len() == LEAST_WORDS - 1 => {
+                let [first, middle, last] = words;
+                let mut longer = vec![0; LEAST_WORDS];
+                last.fill(0);
+                second(call, text, [first, middle, &mut longer], out)
+            }
+            Fault::ShortOutput if out.len() == LEAST_OUTPUT - 1 => {
+                let mut longer = vec![0; LEAST_OUTPUT];
+                let answer = second(call, text, words, &mut longer);
+                let length = answer.length as usize;
+                out[..length].copy_from_slice(&longer[..length]);
+                answer
+            }
+            Fault::ReportRoom if call == Call::Report && out.len() > LEAST_OUTPUT => {
+                let room = out.len() - 1;
+                second(call, text, words, &mut out[..room])
+            }
+            _ => second(call, text, words, out),
+        }
     }
 }

@@ -45,6 +45,14 @@ impl Tally {
         self.0[position(call)][answer.number as usize] += 1;
     }
 
+    /// Adds what another one has counted.
+    pub fn join(&mut self, other: Tally) {
+        let counts = self.0.iter_mut().flatten();
+        for (count, more) in counts.zip(other.0.into_iter().flatten()) {
+            *count += more;
+        }
+    }
+
     /// The numbers a call can answer with and never did.
     pub fn missing(&self) -> Vec<String> {
         let mut missing = Vec::new();

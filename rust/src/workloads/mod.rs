@@ -1,0 +1,127 @@
+//! What the benchmark runs: each workload small and about ten times as large.
+
+mod cap;
+mod sheets;
+
+use crate::calls::Answer;
+use crate::generate::full::full;
+use crate::generate::Call;
+use cap::cap;
+use sheets::{bags, iterations, nodes, nodes_of, quantifiers, sets, types, values};
+
+/// What a workload's time is divided by.
+#[derive(Clone, Copy, PartialEq, Eq, Debug)]
+pub enum Unit {
+    Byte,
+    Node,
+    Step,
+    Line,
+    /// A step, once for each of the members that collections have.
+    Member,
+}
+
+pub struct Workload {
+    pub name: &'static str,
+    pub unit: Unit,
+    /// The small job and the large one: the texts a call is made for.
+    pub jobs: [Vec<Vec<u8>>; 2],
+    pub call: Call,
+}
+
+impl Workload {
+    /// The units of a text that the call answered and wrote the output for.
+    pub fn units(&self, text: &[u8], answer: Answer, out: &[u8]) -> usize {
+        let lines = |bytes: &[u8], start: &[u8]| {
+            let lines = bytes.split_inclusive(|byte| *byte == b'\n');
+            lines.filter(|line| line.starts_with(start)).count()
+        };
+        let steps = answer.steps as usize;
+        match self.unit {
+            Unit::Byte => text.len(),
+            Unit::Node => lines(text, b"N"),
+            Unit::Step => steps,
+            Unit::Line => lines(&out[..answer.length as usize], b""),
+            Unit::Member => steps * members(text),
+        }
+    }
+}
+
+/// The members of the last value on the sheet.
+fn members(text: &[u8]) -> usize {
+    let mut lines = text.split(|byte| *byte == b'\n');
+    let last = lines.rfind(|line| line.starts_with(b"V"));
+    let commas = last
+        .unwrap_or_default()
+        .iter()
+        .filter(|byte| **byte == b',');
+    commas.count() + 1
+}
+
+const EVALUATE: Call = Call::Evaluate { rule: 0, object: 0 };
+
+pub fn workloads() -> Vec<Workload> {
+    let workload = |name, unit, call, jobs: [Vec<Vec<u8>>; 2]| Workload {
+        name,
+        unit,
+        call,
+        jobs,
+    };
+    let one = |small: Vec<u8>, large: Vec<u8>| [vec![small], vec![large]];
+    let typing = Call::Type { rule: 0 };
+    vec![
+        workload(
+            "reading, values",
+            Unit::Byte,
+            Call::Read,
+            one(values(2, 50), values(16, 63)),
+        ),
+        workload(
+            "reading, nodes",
+            Unit::Byte,
+            Call::Read,
+            one(nodes(12), nodes(128)),
+        ),
+        workload(
+            "reading, a full sheet",
+            Unit::Byte,
+            Call::Read,
+            one([values(2, 50), nodes_of(12, 1)].concat(), full(49_152, 128)),
+        ),
+        workload("typing", Unit::Node, typing, one(types(10), types(96))),
+        workload(
+            "a day of 400 cap sheets",
+            Unit::Line,
+            Call::Report,
+            [40, 400].map(|sheets| (0..sheets).map(cap).collect()),
+        ),
+        workload(
+            "steps, forAll in forAll",
+            Unit::Step,
+            EVALUATE,
+            one(quantifiers(44), quantifiers(96)),
+        ),
+        workload(
+            "steps, iter in iter",
+            Unit::Step,
+            EVALUATE,
+            one(iterations(31), iterations(68)),
+        ),
+        workload(
+            "values, Sets",
+            Unit::Member,
+            EVALUATE,
+            one(sets(12), sets(120)),
+        ),
+        workload(
+            "values, Bags",
+            Unit::Member,
+            EVALUATE,
+            one(bags(6), bags(60)),
+        ),
+    ]
+}
+
+/// A sheet from lines with a space for each tab and a bar for each line feed.
+fn sheet(lines: String) -> Vec<u8> {
+    lines.replace(' ', "\t").replace('|', "\n").into_bytes()
+}

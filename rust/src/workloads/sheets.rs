@@ -1,0 +1,116 @@
+//! Sheets that are all about one thing: reading, typing, steps or values.
+
+use super::sheet;
+use crate::generate::full::{collections, joined};
+use crate::generate::limits::sequence;
+
+/// So many objects with a Sequence of 60 Integers and so many single ones.
+pub fn values(objects: usize, integers: usize) -> Vec<u8> {
+    let mut text = "C 0 -|C 1 -|A 0 0 0 Q(Int)|".to_string();
+    for row in 1..=integers {
+        text += &format!("A {row} 0 {row} Int|");
+    }
+    for object in 0..objects {
+        text += &format!("O {object} 0|");
+    }
+    let long = ["-2147483648"; 60].join(",");
+    for object in 0..objects {
+        text += &format!("V {object} 0 Q({long})|");
+        for row in 1..=integers {
+            text += &format!("V {object} {row} -2147483648|");
+        }
+    }
+    sheet(text)
+}
+
+/// A sheet of one rule: so many collections of four Integers, joined.
+pub fn nodes(groups: usize) -> Vec<u8> {
+    [sheet("C 0 -|O 0 0|".to_string()), nodes_of(groups, 0)].concat()
+}
+
+/// The rule alone, its class given.
+pub fn nodes_of(groups: usize, class: usize) -> Vec<u8> {
+    let nodes = collections(groups, "-2147483648");
+    sheet(format!("R 0 {class}|{nodes}"))
+}
+
+/// Attributes found far up a long chain of classes, compared in so many pairs.
+pub fn types(pairs: usize) -> Vec<u8> {
+    let mut text = "C 0 -|".to_string();
+    for class in 1..64 {
+        text += &format!("C {class} {}|", class - 1);
+    }
+    for row in 0..64 {
+        text += &format!("A {row} 0 {row} #{}|", 63 - row);
+    }
+    text += "O 0 63|R 0 63|";
+    let mut tops = Vec::new();
+    let mut node = 0;
+    for pair in 0..pairs {
+        for side in 0..2 {
+            let class = 63 - (pair + side) % 8;
+            let name = (pair * 7 + side * 31) % 64;
+            text += &format!("N {node} self|N {} as {node} {class}|", node + 1);
+            text += &format!("N {} attr {} {name}|", node + 2, node + 1);
+            node += 3;
+        }
+        text += &format!("N {node} eq {} {}|", node - 4, node - 1);
+        tops.push(node);
+        node += 1;
+    }
+    text += &joined("and", node, tops);
+    sheet(text)
+}
+
+fn objects(count: usize) -> String {
+    let lines = (0..count).map(|object| format!("O {object} {}|", usize::from(object > 0)));
+    "C 1 0|".to_string() + &lines.collect::<String>()
+}
+
+/// Three quantifiers inside each other over so many objects.
+pub fn quantifiers(count: usize) -> Vec<u8> {
+    let nodes = "N 0 all 0|N 1 all 0|N 2 all 0|N 3 true|\
+        N 4 forAll 2 3 3|N 5 forAll 1 2 4|N 6 forAll 0 1 5|";
+    sheet(format!("C 0 -|{}R 0 0|{nodes}", objects(count)))
+}
+
+/// Three iterations inside each other over so many objects, counting them.
+pub fn iterations(count: usize) -> Vec<u8> {
+    let nodes = "N 0 all 0|N 1 int 0|N 2 all 0|N 3 int 0|N 4 all 0|N 5 int 0|\
+        N 6 var 6|N 7 int 1|N 8 plus 6 7|N 9 iter 4 5 6 Int 5 8|\
+        N 10 var 4|N 11 plus 10 9|N 12 iter 2 3 4 Int 3 11|\
+        N 13 var 2|N 14 plus 13 12|N 15 iter 0 1 2 Int 1 14|";
+    sheet(format!("C 0 -|{}R 0 0|{nodes}", objects(count)))
+}
+
+/// A hundred times a hundred unions and inclusions in a Set of so many members.
+pub fn sets(members: usize) -> Vec<u8> {
+    let full = sequence(members).replacen('Q', "S", 1);
+    repeated(
+        "S",
+        &full,
+        "N 4 var 2|N 5 self|N 6 attr 5 1|N 7 union 4 6|N 8 var 1|N 9 including 7 8|",
+    )
+}
+
+/// A hundred times a hundred unions and conversions of a Bag of so many members.
+pub fn bags(members: usize) -> Vec<u8> {
+    let full = sequence(members).replacen('Q', "B", 1);
+    repeated(
+        "B",
+        &full,
+        "N 4 var 2|N 5 self|N 6 attr 5 1|N 7 union 4 6|N 8 asSet 7|N 9 asBag 8|",
+    )
+}
+
+/// A body, its root node 9, run in an iteration inside a quantifier.
+fn repeated(letter: &str, full: &str, body: &str) -> Vec<u8> {
+    let times: Vec<String> = (0..100).map(|n| (n % 10).to_string()).collect();
+    sheet(format!(
+        "C 0 -|A 0 0 0 Q(Int)|A 1 0 1 {letter}(Int)|O 0 0|V 0 0 Q({})|V 0 1 {full}|R 0 0|\
+        N 0 self|N 1 attr 0 0|N 2 self|N 3 attr 2 1|{body}\
+        N 10 iter 1 1 2 {letter}(Int) 3 9|N 11 size 10|N 12 int 0|N 13 less 12 11|\
+        N 14 self|N 15 attr 14 0|N 16 forAll 15 3 13|",
+        times.join(",")
+    ))
+}
