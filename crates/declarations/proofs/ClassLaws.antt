@@ -28,7 +28,7 @@ use Rattle.tables.proofs.Steps.{over-limits, out-of-order, unknown-part, steps-
 use Rattle.tables.proofs.LineFields.{word-is, takes-none, takes-more, field-bad, field-some, fields-done, the, num-some, num-exact}
 use Rattle.declarations.specs.Fields.{parentNum}
 use Rattle.declarations.specs.Taken.{Lettered, TookLine}
-use Rattle.declarations.proofs.TakenLaws.{stopped, taken}
+use Rattle.declarations.proofs.TakenLaws.{stopped, passed}
 use Rattle.declarations.proofs.ParentLaws.{theParent, parent-some, parent-exact, parent-bad, code-of, code-within, code-smaller, code-not-smaller}
 
 -- ---- the fields
@@ -166,7 +166,7 @@ module _ (st : Counts) (k : ℕ) (w0 w1 : List ℕ) (n q : ℕ) (low : n < 64) (
       pub class-put : Fine st → 8192 ≤ length w0 → q ≤ n → TookLine st k (classLine n (parentOf q)) (Next (classCounts st n)) w0 w1 (set w0 n q) w1
       unfolding partsKnown suits treeHolds
       class-put fine room smaller =
-          taken st k w0 w1 _ (classCounts st n) _ (kept-set w0 n q (omega arith)) (search needs) (λ s h. (
+          passed st k w0 w1 _ (classCounts st n) _ (kept-set w0 n q (omega arith)) (search needs) (λ s h. (
             steps-on s k (classLine n (parentOf q)) (within s) (in-order s (h .counted)) (code-smaller n q smaller) refl refl,
             class-held st k n (parentOf q) (set w0 n q) w1 s in-block is-next (rw length-set (omega arith))
                 (getD-set-same w0 n q 0 (omega arith) ∙ sym (code-of q))

@@ -19,7 +19,7 @@ use Rattle.tables.proofs.Tables.{kept-set}
 use Rattle.tables.proofs.Entries.{length-more, tab-next, holds-kept, spare-object, open-kept}
 use Rattle.tables.proofs.Steps.{out-of-order, unknown-part, steps-on}
 use Rattle.declarations.specs.Taken.{TookLine}
-use Rattle.declarations.proofs.TakenLaws.{stopped, taken}
+use Rattle.declarations.proofs.TakenLaws.{stopped, passed}
 
 -- the counts with object n
 abbrev pub objectCounts : Counts → ℕ → Counts
@@ -107,7 +107,7 @@ module _ (st : Counts) (k : ℕ) (w0 w1 : List ℕ) (n c : ℕ) (low : n < 96) (
       pub object-put : Fine st → 8192 ≤ length w0 → c < st .classes → TookLine st k (objectLine n c) (Next (objectCounts st n)) w0 w1 (set w0 (256 + n) c) w1
       unfolding partsKnown suits treeHolds
       object-put fine room known =
-          taken st k w0 w1 _ (objectCounts st n) _ (kept-set w0 (256 + n) c (omega arith)) (search needs) (λ s h. (
+          passed st k w0 w1 _ (objectCounts st n) _ (kept-set w0 (256 + n) c (omega arith)) (search needs) (λ s h. (
             steps-on s k (objectLine n c) (within s) (in-order s (h .counted)) (lt-ltb c (length (s .parents)) (omega (arith, h .counted .classes))) refl refl,
             object-held st k n c (set w0 (256 + n) c) w1 s is-next (rw length-set (omega arith)) (getD-set-same w0 (256 + n) c 0 (omega arith))
                 (holds-kept c (rw is-next (spare-object fine (h .counted) (omega arith))) h),

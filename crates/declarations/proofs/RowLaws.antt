@@ -24,7 +24,7 @@ use Rattle.tables.proofs.Entries.{length-more, tab-more-of, tab-more-by, holds-
 use Rattle.tables.proofs.Steps.{over-limits, out-of-order, unknown-part, steps-on}
 use Rattle.declarations.specs.Fields.{namedIn}
 use Rattle.declarations.specs.Taken.{TookLine}
-use Rattle.declarations.proofs.TakenLaws.{stopped, taken}
+use Rattle.declarations.proofs.TakenLaws.{stopped, passed}
 use Rattle.declarations.proofs.KnownLaws.{declares-rows}
 
 -- ---- the limits
@@ -196,7 +196,7 @@ module _ (st : Counts) (k : ℕ) (w0 w1 : List ℕ) (n c name : ℕ) (t : Ty) (l
           unfolding partsKnown suits treeHolds
           row-put p y packed fine room =
               let small : n < 64 = are-low n c name low .number in
-              taken st k w0 w1 _ (rowCounts st n) _ (words-kept w0 n c name p small room) (search needs) (λ s h. (
+              passed st k w0 w1 _ (rowCounts st n) _ (words-kept w0 n c name p small room) (search needs) (λ s h. (
                 steps-on s k (rowLine n c name t) (within s) (in-order s h)
                     (rw (lt-ltb c (length (s .parents)) (omega (arith, h .counted .classes)), ← h .counted .classes, ← told, y)) refl refl,
                 row-held st k n c name t (rowWords w0 n c name p) w1 s is-next

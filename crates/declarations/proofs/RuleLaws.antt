@@ -18,7 +18,7 @@ use Rattle.tables.specs.Layout.{HoldsCurrent, opened, Counted, Holds, Fine}
 use Rattle.tables.proofs.Tables.{kept-refl}
 use Rattle.tables.proofs.Steps.{out-of-order, unknown-part, steps-on}
 use Rattle.declarations.specs.Taken.{TookLine}
-use Rattle.declarations.proofs.TakenLaws.{stopped, taken}
+use Rattle.declarations.proofs.TakenLaws.{stopped, passed}
 
 -- the counts with a rule of context c open
 abbrev pub ruleCounts : Counts → ℕ → Counts
@@ -113,7 +113,7 @@ module _ (st : Counts) (k : ℕ) (w0 w1 : List ℕ) (n c : ℕ) (low : n < 64) (
       pub rule-put : Fine st → c < st .classes → TookLine st k (ruleLine n c) (Next (ruleCounts st c)) w0 w1 w0 w1
       unfolding partsKnown suits treeHolds
       rule-put fine known =
-          taken st k w0 w1 _ (ruleCounts st c) _ (kept-refl w0) (search needs) (λ s h. (
+          passed st k w0 w1 _ (ruleCounts st c) _ (kept-refl w0) (search needs) (λ s h. (
             steps-on s k (ruleLine n c) (within s) (in-order s (h .counted)) (lt-ltb c (length (s .parents)) (omega (arith, h .counted .classes))) refl refl,
             rule-held st k n c w0 w1 s h,
           ))

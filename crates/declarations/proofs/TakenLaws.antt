@@ -19,9 +19,9 @@ module _ (st : Counts) (k : ℕ) (w0 w1 : List ℕ) where
   pub stopped : (l : Line) (n : ℕ) → ((s : Sheet) → Holds st w0 w1 s → stepLine s k l ≡ refuse n) → TookLine st k l (Stop n) w0 w1 w0 w1
   stopped l n all = record { is = λ s h. rw (all s h) moved-stop; kept0 = kept-refl w0; kept1 = kept-refl w1 }
 
-  pub taken : (l : Line) (su : Counts) (v0 : List ℕ) → Kept w0 v0 → Fine su
+  pub passed : (l : Line) (su : Counts) (v0 : List ℕ) → Kept w0 v0 → Fine su
       → ((s : Sheet) → Holds st w0 w1 s → (stepLine s k l ≡ taken (added s k l)) × Holds su v0 w1 (added s k l)) → TookLine st k l (Next su) w0 w1 v0 w1
-  taken l su v0 kept fine all =
+  passed l su v0 kept fine all =
       record { is = λ s h. rw (all s h .0) (moved-next {st = su} fine (all s h .1)); kept0 = kept; kept1 = kept-refl w1 }
 
   pub unspelled : (line : Bytes) → lineOf (fieldsOf line) ≡ none → Took st k line (Stop 3) w0 w1 w0 w1
