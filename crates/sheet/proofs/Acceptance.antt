@@ -10,7 +10,7 @@ use lib.ListN.{length, getD}
 use lib.Dec.{T, eqb, eqb→eq, ltb, leb, leb→le}
 use Rattle.laws.specs.Choice.{if_then_else_, onSome}
 use Rattle.laws.specs.Lists.{Each, each-nil, each-cons, Distinct}
-use Rattle.laws.proofs.Tests.{and-r, by-if}
+use Rattle.laws.proofs.Tests.{and-r, by-if, All?, all-none, all-some}
 use Rattle.laws.proofs.Lists.{each-append}
 use Rattle.ocl.specs.Values.{Value, size}
 use Rattle.ocl.specs.Model.{Model, every, belongs}
@@ -44,18 +44,13 @@ rule-ok n c body h e l = let r = last-tree (c .trees) body e in record {
   shallow = l;
 }
 
--- a sheet, if there is one, is good
-data GoodEnd : Option Sheet → Type 0 where
-  bad-end : GoodEnd none
-  good-end : {s : Sheet} → Good s → GoodEnd (some s)
-
 good-body : (s : Sheet) (c : Current) → Good s → CurrentOk (length (s .lines)) c → (o : Option Expr) → lastTree (c .trees) ≡ o
-    → GoodEnd (onSome o (λ body. if allUsed (c .used) (length (c .trees) - 1) && leb (levels body) 12 then some (withRule s (c .context) body) else none))
+    → All? Good (onSome o (λ body. if allUsed (c .used) (length (c .trees) - 1) && leb (levels body) 12 then some (withRule s (c .context) body) else none))
 unfolding onSome withRule plain
-good-body s c g h none e = bad-end
+good-body s c g h none e = all-none
 good-body s c g h (some body) e =
-    by-if GoodEnd (allUsed (c .used) (length (c .trees) - 1) && leb (levels body) 12) _ none
-    (λ t. good-end (record {
+    by-if (All? Good) (allUsed (c .used) (length (c .trees) - 1) && leb (levels body) 12) _ none
+    (λ t. all-some (record {
       parents = g .parents;
       early = g .early;
       slots = g .slots;
@@ -64,21 +59,22 @@ good-body s c g h (some body) e =
           each-append (g .rules)
           (each-cons (rule-ok (length (s .lines)) c body h e (leb→le (levels body) 12 (and-r (allUsed (c .used) (length (c .trees) - 1)) _ t))) each-nil);
       current = no-rule;
+      room = λ d e. absurd (let z : _≡_ {A = ℕ} 0 1 = cc in omega arith);
     }))
-    (λ t. bad-end)
+    (λ t. all-none)
 
-good-close : (s : Sheet) → Good s → (o : Option Current) → OpenOk (length (s .lines)) o → GoodEnd (endFor s o)
+good-close : (s : Sheet) → Good s → (o : Option Current) → OpenOk (length (s .lines)) o → All? Good (endFor s o)
 unfolding endFor endOf
-good-close s g none no-rule = good-end g
+good-close s g none no-rule = all-some g
 good-close s g (some c) (open-rule h) = good-body s c g h (lastTree (c .trees)) refl
 
-good-endRule : (s : Sheet) → Good s → GoodEnd (endRule s)
+pub good-endRule : (s : Sheet) → Good s → All? Good (endRule s)
 unfolding endRule
 good-endRule s g = good-close s g (s .current) (g .current)
 
 -- ---- a line, and a whole text
 
-data GoodStep : Step → Type 0 where
+pub data GoodStep : Step → Type 0 where
   no-step : {n : ℕ} → GoodStep (refuse n)
   good-step : {s : Sheet} → Good s → GoodStep (next s)
 
@@ -99,6 +95,10 @@ unfolding stepSpelled
 good-spelled s k none g = no-step
 good-spelled s k (some l) g = good-line s k l g
 
+pub good-fields : (s : Sheet) (k : ℕ) (fs : List Bytes) → Good s → GoodStep (step s k fs)
+unfolding step
+good-fields s k fs g = good-spelled s k (lineOf fs) g
+
 -- a reading that accepts, accepts a good sheet
 data GoodReading : Reading → Type 0 where
   no-reading : {n k : ℕ} → GoodReading (refused n k)
@@ -109,10 +109,10 @@ unfolding onStep
 on-step k no-step h = no-reading
 on-step k (good-step {s} g) h = h s g
 
-on-end : {o : Option Sheet} (k : ℕ) {f : Sheet → Reading} → GoodEnd o → ((s : Sheet) → Good s → GoodReading (f s)) → GoodReading (onEnd o k f)
+on-end : {o : Option Sheet} (k : ℕ) {f : Sheet → Reading} → All? Good o → ((s : Sheet) → Good s → GoodReading (f s)) → GoodReading (onEnd o k f)
 unfolding onEnd
-on-end k bad-end h = no-reading
-on-end k (good-end {s} g) h = h s g
+on-end k all-none h = no-reading
+on-end k (all-some {x = s} g) h = h s g
 
 on-closing : (s : Sheet) (k : ℕ) (fs : List Bytes) {f : Sheet → Reading} → Good s → ((s : Sheet) → Good s → GoodReading (f s)) → GoodReading (closing s k fs f)
 unfolding closing
@@ -124,11 +124,11 @@ on-last k [] s g = good-reading g
 on-last k (b ∷ l) s g = no-reading
 
 good-lines : (s : Sheet) (k : ℕ) (ls : List Bytes) → Good s → GoodReading (readLines s k ls)
-unfolding readLines step
+unfolding readLines
 good-lines s k [] g = good-reading g
 good-lines s k (l ∷ []) g = on-closing s k (fieldsOf l) g (on-last k l)
 good-lines s k (l ∷ m ∷ ls) g =
-    on-closing s k (fieldsOf l) g (λ t h. on-step (suc k) (good-spelled t (suc k) (lineOf (fieldsOf l)) h) (λ u i. good-lines u (suc k) (m ∷ ls) i))
+    on-closing s k (fieldsOf l) g (λ t h. on-step (suc k) (good-fields t (suc k) (fieldsOf l) h) (λ u i. good-lines u (suc k) (m ∷ ls) i))
 
 good-text : (text : Bytes) → GoodReading (readText text)
 unfolding readText

@@ -1,5 +1,5 @@
 -- What holds of a sheet after every line that is taken: parents that are smaller, slots that ascend, values that belong to their rows'
--- types, rules of at most 12 levels, and a forest of the open rule's nodes. One law for each line kind. Assumes nothing.
+-- types, rules of at most 12 levels, a forest of the open rule's nodes, and room for that rule. One law for each line kind. Assumes nothing.
 use mathlib.Core.Path.{_≡_, refl, sym, ap, _∙_, subst}
 use mathlib.Core.Bool.{Bool, true, false, _&&_}
 use mathlib.Core.Option.{Option, none, some}
@@ -88,6 +88,8 @@ pub record Good (s : Sheet) : Type 0 where
   pub ascending : Ascending (s .slots)
   pub rules : Each (RuleOk (length (s .lines))) (s .rules)
   pub current : OpenOk (length (s .lines)) (s .current)
+  -- there is room for the rule that is open
+  pub room : (c : Current) → s .current ≡ some c → length (s .rules) < 64
 
 pub good-empty : Good empty
 unfolding empty
@@ -98,6 +100,7 @@ good-empty = record {
   ascending = ascending-nil;
   rules = each-nil;
   current = no-rule;
+  room = λ c e. absurd (let z : _≡_ {A = ℕ} 0 1 = cc in omega arith);
 }
 
 -- ---- each line kind
@@ -168,6 +171,7 @@ good-class s k n p g m = let e = no-slot s (classLine n p) g m (omega arith) in 
   ascending = g .ascending;
   rules = g .rules;
   current = g .current;
+  room = g .room;
 }
 
 good-row : (s : Sheet) (k n c name : ℕ) (t : Ty) → Good s → Met s (rowLine n c name t) → Good (added s k (rowLine n c name t))
@@ -179,6 +183,7 @@ good-row s k n c name t g m = let e = no-slot s (rowLine n c name t) g m (omega 
   ascending = g .ascending;
   rules = g .rules;
   current = g .current;
+  room = g .room;
 }
 
 good-object : (s : Sheet) (k n c : ℕ) → Good s → Met s (objectLine n c) → Good (added s k (objectLine n c))
@@ -190,6 +195,7 @@ good-object s k n c g m = let e = no-slot s (objectLine n c) g m (omega arith) i
   ascending = g .ascending;
   rules = g .rules;
   current = g .current;
+  room = g .room;
 }
 
 -- the value of a V line belongs to its row's type, and is small
@@ -212,17 +218,19 @@ good-value s k o a v g m = record {
   ascending = ascending-more (s .slots) (record { object = o; row = a; value = v }) (g .ascending) (and-l (afterSlots (s .slots) o a) (ordered v) (met-numbered s (valueLine o a v) m));
   rules = g .rules;
   current = g .current;
+  room = g .room;
 }
 
-good-rule : (s : Sheet) (k n c : ℕ) → Good s → Good (added s k (ruleLine n c))
-unfolding added plain
-good-rule s k n c g = record {
+good-rule : (s : Sheet) (k n c : ℕ) → Good s → Met s (ruleLine n c) → Good (added s k (ruleLine n c))
+unfolding added plain withinLimits numbered
+good-rule s k n c g m = record {
   parents = g .parents;
   early = λ h. absurd (omega arith);
   slots = g .slots;
   ascending = g .ascending;
   rules = g .rules;
   current = open-rule (record { forest = forest-empty (length (s .lines)); count = omega arith });
+  room = λ d e. omega (arith, eqb→eq n (length (s .rules)) (met-numbered s (ruleLine n c) m), ltb→lt n 64 (and-l (ltb n 64) _ (m .limits)));
 }
 
 -- ---- a node line
@@ -238,6 +246,12 @@ current-more n x (open-rule {c} r) h = open-rule (record {
   count = omega (arith, r .count, length-one (c .trees) (node (c .first + length (c .trees)) (grow (treeOf (c .trees)) x)));
 })
 
+-- a rule was open already
+was-open : (o : Option Current) (f : Current → Current) (c : Current) → onSome o (λ d. some (f d)) ≡ some c → (d : Current) × (o ≡ some d)
+unfolding onSome
+was-open none f c e = absurd (let z : _≡_ {A = ℕ} 0 1 = cc in omega arith)
+was-open (some d) f c e = (d, refl)
+
 good-node : (s : Sheet) (k n : ℕ) (x : Shape) → Good s → Met s (nodeLine n x) → Good (added s k (nodeLine n x))
 unfolding added plain treeHolds
 good-node s k n x g m = let e = length-one (s .lines) k in record {
@@ -247,6 +261,7 @@ good-node s k n x g m = let e = length-one (s .lines) k in record {
   ascending = g .ascending;
   rules = subst (λ i. Each (RuleOk i) (s .rules)) (sym e) (rules-more (g .rules));
   current = subst (λ i. OpenOk i (onSome (s .current) (λ c. some (withNode c x)))) (sym e) (current-more (length (s .lines)) x (g .current) (m .tree));
+  room = λ c q. let d = was-open (s .current) (λ d. withNode d x) c q in g .room (d .0) (d .1);
 }
 
 pub good-added : (s : Sheet) (k : ℕ) (l : Line) → Good s → Met s l → Good (added s k l)
@@ -254,5 +269,5 @@ good-added s k (classLine n p) g m = good-class s k n p g m
 good-added s k (rowLine n c name t) g m = good-row s k n c name t g m
 good-added s k (objectLine n c) g m = good-object s k n c g m
 good-added s k (valueLine o a v) g m = good-value s k o a v g m
-good-added s k (ruleLine n c) g m = good-rule s k n c g
+good-added s k (ruleLine n c) g m = good-rule s k n c g m
 good-added s k (nodeLine n x) g m = good-node s k n x g m
