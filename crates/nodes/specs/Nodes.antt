@@ -1,8 +1,8 @@
 -- The node table: 8 words to a node, counted through all rules. Word 0 is the form's code, one range of codes to one form of
 -- crates/ocl; then operands, by their numbers through all rules, and what else the form holds; word 7 is the line.
-use mathlib.Core.Bool.{Bool, true, false}
+use mathlib.Core.Bool.{true, false}
 use mathlib.Core.List.{List, [], _∷_}
-use Prim.Native.Nat.{ℕ, zero, suc, _+_, _-_, _*_, _%_}
+use Prim.Native.Nat.{ℕ, zero, suc, _+_, _*_, _%_}
 use lib.ListN.{length, getD}
 use lib.Dec.{eqb, ltb}
 use Rattle.laws.specs.Choice.{if_then_else_}

@@ -1,7 +1,7 @@
 -- A line, the end of a rule before it and the text's end, put together as reading is defined. Assumes nothing.
-use mathlib.Core.Path.{_≡_, refl, sym, ap, _∙_, subst}
+use mathlib.Core.Path.{_≡_, refl, _∙_, subst}
 use mathlib.Core.Logic.{_≢_}
-use mathlib.Core.Bool.{Bool, true, false}
+use mathlib.Core.Bool.{true, false}
 use mathlib.Core.Option.{Option, none, some}
 use mathlib.Core.List.{List, [], _∷_}
 use Prim.Native.Nat.{ℕ, suc, _+_, _<_}
@@ -9,13 +9,12 @@ use native.Mathlib.Numerals.{add-one}
 use native.Mathlib.Omega.{arith}
 use borrow.Author.Tests.{eq-eqb, ne-eqb}
 use lib.ListN.{length, getD}
-use lib.Dec.{eqb}
 use Rattle.laws.specs.Choice.{if_then_else_}
-use Rattle.sheet.specs.Text.{Bytes, bytes, split, linesOf, fieldsOf}
+use Rattle.sheet.specs.Text.{Bytes, bytes, split, fieldsOf}
 use Rattle.sheet.specs.Lines.{is, lineOf, firstIsN}
-use Rattle.laws.proofs.Tests.{All?, all-none, all-some}
+use Rattle.laws.proofs.Tests.{All?, all-some}
 use Rattle.sheet.specs.Sheet.{Current, Sheet}
-use Rattle.sheet.specs.Reading.{Step, next, refuse, step, Reading, accepted, refused, onStep, onEnd, closing, readLast, readLines}
+use Rattle.sheet.specs.Reading.{Step, step, Reading, accepted, refused, onStep, onEnd, closing, readLast, readLines}
 use Rattle.text.specs.Words.{byteKind, letterOf}
 use Rattle.text.proofs.WordLaws.{is-class-line, is-row-line, is-object-line, is-value-line, is-rule-line, is-node-line}
 use Rattle.tables.specs.declared.Counts.{Counts}
@@ -27,7 +26,6 @@ use Rattle.slots.specs.Slots.{TookSlot}
 use Rattle.trees.specs.Rules.{RuleRoom, EndMoved, ended, Ended}
 use Rattle.reader.specs.Contracts.{placedAt, Tame, GoesOn, goes-on, refuses, TookLine, TookWhole, EndsAs, a-sheet, a-refusal, TookLast}
 use Rattle.reader.proofs.Tame.{TameStep, tame-next, tame-stop, tame-step, tame-end}
-use Rattle.reader.specs.declared.LineRead.{LineRead}
 use Rattle.reader.specs.declared.LineRead.the-variants as line-code
 use Rattle.reader.specs.declared.SheetRead.{SheetRead}
 use Rattle.reader.specs.declared.SheetRead.the-variants as sheet

@@ -1,8 +1,6 @@
 -- The loop over the lines of a text: what has been read and what is left are, read on, the whole. Assumes nothing.
 use mathlib.Core.Path.{_≡_, refl, sym, ap, _∙_, subst}
-use mathlib.Core.Bool.{true, false}
-use mathlib.Core.Option.{Option, none, some}
-use mathlib.Core.List.{List, [], _∷_, map}
+use mathlib.Core.List.{List, [], _∷_}
 use Prim.Native.Nat.{ℕ, suc, _+_, _-_, _≤_, _<_}
 use native.Mathlib.Numerals.{add-one}
 use native.Mathlib.Omega.{arith}
@@ -17,11 +15,10 @@ use Rattle.sheet.proofs.Split.{split-laws}
 use Rattle.text.specs.Parts.{Ends}
 use Rattle.text.proofs.PartLaws.{first-part, only-part}
 use Rattle.tables.specs.declared.Counts.{Counts}
-use Rattle.tables.specs.Layout.{Holds, HoldsTables, HoldsRules, HoldsOpen, closed, Counted, Fine, Kept, noCounts, startsFrom, cellsOf, linesIn}
+use Rattle.tables.specs.Layout.{Holds, closed, Kept, noCounts, startsFrom, cellsOf, linesIn}
 use Rattle.tables.proofs.Tables.{kept-refl, kept-then}
 use Rattle.reader.specs.Contracts.{Held, GoesOn, goes-on, refuses, TookWhole, EndsAs, a-refusal, TookLast, ReadsTo}
 use Rattle.reader.proofs.Tame.{tame-empty}
-use Rattle.reader.specs.declared.LineRead.{LineRead}
 use Rattle.reader.specs.declared.LineRead.the-variants as line
 use Rattle.reader.specs.declared.SheetRead.{SheetRead}
 use Rattle.reader.specs.declared.SheetRead.the-variants as sheet

@@ -1,19 +1,19 @@
 -- What every sheet on the way has, besides what the words hold: it stays so line by line and at a rule's end. Assumes nothing.
-use mathlib.Core.Path.{_≡_, refl, sym, ap, _∙_}
+use mathlib.Core.Path.{_≡_, refl}
 use mathlib.Core.Bool.{Bool, true, false, _&&_}
 use mathlib.Core.Option.{Option, none, some}
-use mathlib.Core.List.{List, [], _∷_, _++_}
+use mathlib.Core.List.{List}
 use Prim.Native.Nat.{ℕ, _-_, _<_}
 use native.Mathlib.Omega.{arith}
 use lib.ListN.{length}
-use lib.Dec.{T, eqb, eqb→eq, leb, ltb, ltb→lt}
+use lib.Dec.{T, eqb→eq, leb, ltb, ltb→lt}
 use Rattle.laws.specs.Choice.{if_then_else_, onSome}
 use Rattle.laws.proofs.Tests.{and-l, and-r, by-if, All?, all-none, all-some}
 use Rattle.ocl.specs.Forms.{Expr, levels}
 use Rattle.sheet.specs.Text.{Bytes}
 use Rattle.sheet.specs.Lines.{Line, classLine, rowLine, objectLine, valueLine, ruleLine, nodeLine, lineOf}
-use Rattle.sheet.specs.Sheet.{Rule, Current, Sheet, empty, withNode, added, lastTree, allUsed, withRule, endOf, endFor, endRule}
-use Rattle.sheet.specs.Refusals.{isClass, withinLimits, blockOf, numbered, inOrder, partsKnown, suits, treeHolds}
+use Rattle.sheet.specs.Sheet.{Current, Sheet, empty, withNode, added, lastTree, allUsed, withRule, endOf, endFor, endRule}
+use Rattle.sheet.specs.Refusals.{withinLimits, blockOf, numbered, inOrder, partsKnown, suits, treeHolds}
 use Rattle.sheet.specs.Reading.{Step, next, refuse, must, stepLine, stepSpelled, step}
 use Rattle.slots.specs.Slots.{SmallRows}
 use Rattle.slots.proofs.RowLaws.{rows-empty, RowsStep, rows-next, rows-stop, rows-step, rows-end}

@@ -6,7 +6,7 @@ use mathlib.Core.List.{List, [], _∷_}
 use Prim.Native.Nat.{ℕ, suc, _<_}
 use lib.ListN.{length}
 use Rattle.sheet.specs.Text.{Bytes, linesOf, fieldsOf}
-use Rattle.sheet.specs.Sheet.{Rule, Current, Sheet, empty}
+use Rattle.sheet.specs.Sheet.{Current, Sheet, empty}
 use Rattle.sheet.specs.Reading.{Reading, accepted, refused, step, onStep, closing, readLines}
 use Rattle.tables.specs.declared.Counts.{Counts}
 use Rattle.tables.specs.declared.Step.{Step as CodeStep}

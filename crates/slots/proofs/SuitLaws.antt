@@ -8,7 +8,6 @@ use lib.ListN.{length, getD}
 use lib.Seq.{slice, slice-cons}
 use lib.Dec.{eqb}
 use borrow.Author.Tests.{ne-eqb}
-use Rattle.laws.proofs.Tests.{test-same}
 use Rattle.laws.proofs.Slices.{split-right}
 use Rattle.ocl.specs.Types.{any, boolean, integer, class, Kind, set, sequence, bag, kindCode, sameKind, Letter, collection, exactly, Ty, simple, around, Parents, up, height, simpleCode, sameSimple, climbs, simpleSubtype, letterSubtype}
 use Rattle.ocl.specs.Values.{Value, bool, int, obj, coll, Values, sort, members}

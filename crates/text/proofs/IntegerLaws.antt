@@ -19,7 +19,7 @@ use Rattle.ocl.specs.Evaluation.{inRange}
 pub use Rattle.ocl.proofs.Ranges.{unbias-bias, bias-unbias, unbias-ranged, bias-small}
 use Rattle.sheet.specs.Text.{Bytes, bytes, after, behind, _or_, _then_, given, isDigit, digits, afterDigits, plain, valueOfDigits, number, minus, integer}
 use Rattle.sheet.specs.Lines.{anInteger}
-use Rattle.laws.specs.Integers.{bias, unbias}
+use Rattle.laws.specs.Integers.{bias}
 use Rattle.text.specs.Numbers.{leading, DigitsEnd, DigitsRead, IntegerEnd, IntegerRead, ranged, wholeOf, minusAt, signed, leadingInteger}
 use Rattle.text.specs.declared.numbers.Digits.{Digits}
 use Rattle.text.specs.declared.numbers.Whole.the-variants.{Bad, Out, Is}

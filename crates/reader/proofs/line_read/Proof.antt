@@ -1,11 +1,10 @@
 use borrow.Author.Needs.{needs}
-use mathlib.Core.Path.{_≡_, refl, sym, ap, _∙_, subst}
+use mathlib.Core.Path.{ap, _∙_}
 use native.Mathlib.Omega.{arith}
 use Prim.Native.Nat.{_+_}
 use Rattle.sheet.specs.Text.{fieldsOf}
 use Rattle.text.specs.Words.{byteKind, letterOf}
 use Rattle.text.proofs.PartLaws.{counted-some}
-use Rattle.reader.specs.Contracts.{placedAt}
 use Rattle.reader.proofs.Laws.{is-node, is-other, rule-room, ended-fine, node-whole, stop-whole, next-whole}
 use Rattle.reader.proofs.line_read.Statement.{statement}
 use Rattle.reader.proofs.line_read.Tie as tie

@@ -1,5 +1,5 @@
 use borrow.Author.Needs.{needs}
-use mathlib.Core.Path.{_≡_, sym, ap}
+use mathlib.Core.Path.{sym, ap}
 use Rattle.reader.specs.Contracts.{placedAt}
 use Rattle.reader.proofs.placed.Statement.{statement}
 use Rattle.reader.proofs.placed.Tie as tie
