@@ -14,7 +14,7 @@ use Rattle.sheet.specs.Lines.{classLine, is, next, done, aNumber, aParent, line
 use Rattle.sheet.specs.Sheet.{Sheet, added}
 use Rattle.sheet.specs.Refusals.{isClass, parentWithin, withinLimits, blockOf, numbered, inOrder, partsKnown, suits, treeHolds}
 use Rattle.types.specs.Flat.{parentOf}
-use Rattle.text.specs.Numbers.{numOf}
+use Rattle.text.specs.Numbers.{cutNum}
 use Rattle.text.specs.declared.parts.Fields.{Fields}
 use Rattle.text.specs.declared.numbers.Num.the-variants as num
 use Rattle.text.proofs.NumberLaws.{num-bad}
@@ -27,7 +27,7 @@ use Rattle.tables.proofs.Entries.{length-more, tab-more-of, holds-kept, spare-p
 use Rattle.tables.proofs.Steps.{over-limits, out-of-order, unknown-part, steps-on}
 use Rattle.tables.proofs.LineFields.{word-is, takes-none, takes-more, field-bad, field-some, fields-done, the, num-some, num-exact}
 use Rattle.declarations.specs.Fields.{parentNum}
-use Rattle.declarations.specs.Taken.{Lettered, TookLine}
+use Rattle.declarations.specs.Taken.{Lettered, TookSpelled}
 use Rattle.declarations.proofs.TakenLaws.{stopped, taken}
 use Rattle.declarations.proofs.ParentLaws.{theParent, parent-some, parent-exact, parent-bad, code-of, code-within, code-smaller, code-not-smaller}
 
@@ -52,10 +52,10 @@ module _ {line : Bytes} {f : Fields} (so : Lettered "C" line f) where
     long : length (fieldsOf line) ≡ 3
     long = counted-exact (so .cut) (omega arith) ∙ three
 
-    pub class-number : {x : Bytes} → x ≡ getD (fieldsOf line) 1 [] → num.Bad ≡ numOf (aNumber x) → lineOf (fieldsOf line) ≡ none
+    pub class-number : {x : Bytes} → x ≡ getD (fieldsOf line) 1 [] → num.Bad ≡ cutNum (aNumber x) → lineOf (fieldsOf line) ≡ none
     class-number {x} e h = reads ∙ field-bad aNumber _ (fieldsOf line) 1 (omega (arith, long)) (rw (← e) (num-bad (aNumber x) h))
 
-    module _ {x y : Bytes} (at1 : x ≡ getD (fieldsOf line) 1 []) (at2 : y ≡ getD (fieldsOf line) 2 []) {n : ℕ} (number : num.Is n ≡ numOf (aNumber x)) where
+    module _ {x y : Bytes} (at1 : x ≡ getD (fieldsOf line) 1 []) (at2 : y ≡ getD (fieldsOf line) 2 []) {n : ℕ} (number : num.Is n ≡ cutNum (aNumber x)) where
       first : lineOf (fieldsOf line) ≡ next aParent (λ p. done (classLine (the (aNumber x)) p)) (drop 2 (fieldsOf line))
       first = reads ∙ field-some aNumber _ (fieldsOf line) 1 (omega (arith, long)) (rw (← at1) (num-some (aNumber x) number))
 
@@ -76,11 +76,11 @@ module _ {line : Bytes} {f : Fields} (so : Lettered "C" line f) where
 
 -- numbers over their limits
 module _ (st : Counts) (k : ℕ) (w0 w1 : List ℕ) (n : ℕ) (p : Option ℕ) {m : ℕ} (cut : m ≡ min n 1000000) where
-  pub class-over : 64 ≤ m → TookLine st k (classLine n p) (Stop 4) w0 w1 w0 w1
+  pub class-over : 64 ≤ m → TookSpelled st k (classLine n p) (Stop 4) w0 w1 w0 w1
   unfolding withinLimits isClass
   class-over h = stopped st k w0 w1 _ 4 (λ s _. over-limits s k _ (rw (le-ltb n 64 (omega arith))))
 
-  pub class-over-parent : m < 64 → parentWithin p ≡ false → TookLine st k (classLine n p) (Stop 4) w0 w1 w0 w1
+  pub class-over-parent : m < 64 → parentWithin p ≡ false → TookSpelled st k (classLine n p) (Stop 4) w0 w1 w0 w1
   unfolding withinLimits isClass
   class-over-parent l h = stopped st k w0 w1 _ 4 (λ s _. over-limits s k _ (rw (lt-ltb n 64 (omega arith), h)))
 
@@ -140,13 +140,13 @@ module _ (st : Counts) (k : ℕ) (w0 w1 : List ℕ) (n q : ℕ) (low : n < 64) (
   unfolding withinLimits isClass
   within s = rw (lt-ltb n 64 low, code-within q high)
 
-  pub class-block : 0 < st .block → TookLine st k (classLine n (parentOf q)) (Stop 5) w0 w1 w0 w1
+  pub class-block : 0 < st .block → TookSpelled st k (classLine n (parentOf q)) (Stop 5) w0 w1 w0 w1
   unfolding inOrder blockOf
   class-block b =
       stopped st k w0 w1 _ 5 (λ s h. out-of-order s k _ (within s) (rw (lt-leb (s .block) 0 (omega (arith, h .counted .block)))))
 
   module _ (in-block : st .block ≤ 0) where
-    pub class-gap : (n ≡ st .classes → ⊥) → TookLine st k (classLine n (parentOf q)) (Stop 5) w0 w1 w0 w1
+    pub class-gap : (n ≡ st .classes → ⊥) → TookSpelled st k (classLine n (parentOf q)) (Stop 5) w0 w1 w0 w1
     unfolding inOrder blockOf numbered
     class-gap o =
         stopped st k w0 w1 _ 5 (λ s h.
@@ -158,12 +158,12 @@ module _ (st : Counts) (k : ℕ) (w0 w1 : List ℕ) (n q : ℕ) (low : n < 64) (
       unfolding inOrder blockOf numbered
       in-order s h = rw (le-leb (s .block) 0 (omega (arith, h .block)), eq-eqb n (length (s .parents)) (is-next ∙ h .classes))
 
-      pub class-unknown : n < q → TookLine st k (classLine n (parentOf q)) (Stop 6) w0 w1 w0 w1
+      pub class-unknown : n < q → TookSpelled st k (classLine n (parentOf q)) (Stop 6) w0 w1 w0 w1
       unfolding partsKnown
       class-unknown u =
           stopped st k w0 w1 _ 6 (λ s h. unknown-part s k _ (within s) (in-order s (h .counted)) (code-not-smaller n q u))
 
-      pub class-put : Fine st → 8192 ≤ length w0 → q ≤ n → TookLine st k (classLine n (parentOf q)) (Next (classCounts st n)) w0 w1 (set w0 n q) w1
+      pub class-put : Fine st → 8192 ≤ length w0 → q ≤ n → TookSpelled st k (classLine n (parentOf q)) (Next (classCounts st n)) w0 w1 (set w0 n q) w1
       unfolding partsKnown suits treeHolds
       class-put fine room smaller =
           taken st k w0 w1 _ (classCounts st n) _ (kept-set w0 n q (omega arith)) (search needs) (λ s h. (

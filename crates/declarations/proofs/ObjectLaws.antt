@@ -18,7 +18,7 @@ use Rattle.tables.specs.Layout.{Counted, Holds, Fine}
 use Rattle.tables.proofs.Tables.{kept-set}
 use Rattle.tables.proofs.Entries.{length-more, tab-next, holds-kept, spare-object, open-kept}
 use Rattle.tables.proofs.Steps.{out-of-order, unknown-part, steps-on}
-use Rattle.declarations.specs.Taken.{TookLine}
+use Rattle.declarations.specs.Taken.{TookSpelled}
 use Rattle.declarations.proofs.TakenLaws.{stopped, taken}
 
 -- the counts with object n
@@ -80,13 +80,13 @@ module _ (st : Counts) (k : ℕ) (w0 w1 : List ℕ) (n c : ℕ) (low : n < 96) (
   unfolding withinLimits isClass
   within s = rw (lt-ltb n 96 low, lt-ltb c 64 class)
 
-  pub object-block : 2 < st .block → TookLine st k (objectLine n c) (Stop 5) w0 w1 w0 w1
+  pub object-block : 2 < st .block → TookSpelled st k (objectLine n c) (Stop 5) w0 w1 w0 w1
   unfolding inOrder blockOf
   object-block b =
       stopped st k w0 w1 _ 5 (λ s h. out-of-order s k _ (within s) (rw (lt-leb (s .block) 2 (omega (arith, h .counted .block)))))
 
   module _ (in-block : st .block ≤ 2) where
-    pub object-gap : (n ≡ st .objects → ⊥) → TookLine st k (objectLine n c) (Stop 5) w0 w1 w0 w1
+    pub object-gap : (n ≡ st .objects → ⊥) → TookSpelled st k (objectLine n c) (Stop 5) w0 w1 w0 w1
     unfolding inOrder blockOf numbered
     object-gap o =
         stopped st k w0 w1 _ 5 (λ s h.
@@ -98,13 +98,13 @@ module _ (st : Counts) (k : ℕ) (w0 w1 : List ℕ) (n c : ℕ) (low : n < 96) (
       unfolding inOrder blockOf numbered
       in-order s h = rw (le-leb (s .block) 2 (omega (arith, h .block)), eq-eqb n (length (s .objects)) (is-next ∙ h .objects))
 
-      pub object-unknown : st .classes ≤ c → TookLine st k (objectLine n c) (Stop 6) w0 w1 w0 w1
+      pub object-unknown : st .classes ≤ c → TookSpelled st k (objectLine n c) (Stop 6) w0 w1 w0 w1
       unfolding partsKnown
       object-unknown u =
           stopped st k w0 w1 _ 6 (λ s h.
           unknown-part s k _ (within s) (in-order s (h .counted)) (rw (le-ltb c (length (s .parents)) (omega (arith, h .counted .classes)))))
 
-      pub object-put : Fine st → 8192 ≤ length w0 → c < st .classes → TookLine st k (objectLine n c) (Next (objectCounts st n)) w0 w1 (set w0 (256 + n) c) w1
+      pub object-put : Fine st → 8192 ≤ length w0 → c < st .classes → TookSpelled st k (objectLine n c) (Next (objectCounts st n)) w0 w1 (set w0 (256 + n) c) w1
       unfolding partsKnown suits treeHolds
       object-put fine room known =
           taken st k w0 w1 _ (objectCounts st n) _ (kept-set w0 (256 + n) c (omega arith)) (search needs) (λ s h. (

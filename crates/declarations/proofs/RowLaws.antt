@@ -23,7 +23,7 @@ use Rattle.tables.proofs.Tables.{kept-set, kept-then}
 use Rattle.tables.proofs.Entries.{length-more, tab-more-of, tab-more-by, holds-kept, spare-owner, spare-name, spare-type, open-kept}
 use Rattle.tables.proofs.Steps.{over-limits, out-of-order, unknown-part, steps-on}
 use Rattle.declarations.specs.Fields.{namedIn}
-use Rattle.declarations.specs.Taken.{TookLine}
+use Rattle.declarations.specs.Taken.{TookSpelled}
 use Rattle.declarations.proofs.TakenLaws.{stopped, taken}
 use Rattle.declarations.proofs.KnownLaws.{declares-rows}
 
@@ -50,14 +50,14 @@ are-low n c name h = go (ltb n 64) refl (ltb c 64) refl (ltb name 256) refl h
 module _ (st : Counts) (k : ℕ) (w0 w1 : List ℕ) (n c name : ℕ) (t : Ty) where
   -- by the numbers as they are read
   pub row-over : {m d e : ℕ} → m ≡ min n 1000000 → d ≡ min c 1000000 → e ≡ min name 1000000 → allLow m d e ≡ false
-      → TookLine st k (rowLine n c name t) (Stop 4) w0 w1 w0 w1
+      → TookSpelled st k (rowLine n c name t) (Stop 4) w0 w1 w0 w1
   unfolding withinLimits isClass
   row-over p q r h =
       stopped st k w0 w1 _ 4 (λ s _.
       over-limits s k _
       (rw (rw (p, q, r, cut-lt n 1000000 64 (omega arith), cut-lt c 1000000 64 (omega arith), cut-lt name 1000000 256 (omega arith)) at h)))
 
-  pub row-over-type : typeWithin t ≡ false → TookLine st k (rowLine n c name t) (Stop 4) w0 w1 w0 w1
+  pub row-over-type : typeWithin t ≡ false → TookSpelled st k (rowLine n c name t) (Stop 4) w0 w1 w0 w1
   unfolding withinLimits
   row-over-type h = stopped st k w0 w1 _ 4 (λ s _. over-limits s k _ (rw (h, and-false)))
 
@@ -144,13 +144,13 @@ module _ (st : Counts) (k : ℕ) (w0 w1 : List ℕ) (n c name : ℕ) (t : Ty) (l
   unfolding withinLimits
   within s = rw (low, typed)
 
-  pub row-block : 1 < st .block → TookLine st k (rowLine n c name t) (Stop 5) w0 w1 w0 w1
+  pub row-block : 1 < st .block → TookSpelled st k (rowLine n c name t) (Stop 5) w0 w1 w0 w1
   unfolding inOrder blockOf
   row-block b =
       stopped st k w0 w1 _ 5 (λ s h. out-of-order s k _ (within s) (rw (lt-leb (s .block) 1 (omega (arith, h .counted .block)))))
 
   module _ (in-block : st .block ≤ 1) where
-    pub row-gap : (n ≡ st .rows → ⊥) → TookLine st k (rowLine n c name t) (Stop 5) w0 w1 w0 w1
+    pub row-gap : (n ≡ st .rows → ⊥) → TookSpelled st k (rowLine n c name t) (Stop 5) w0 w1 w0 w1
     unfolding inOrder blockOf numbered
     row-gap o =
         stopped st k w0 w1 _ 5 (λ s h.
@@ -164,7 +164,7 @@ module _ (st : Counts) (k : ℕ) (w0 w1 : List ℕ) (n c name : ℕ) (t : Ty) (l
           let long : n ≡ length (s .rows) = is-next ∙ h .counted .rows in
           sym (declares-rows (s .rows) c name) ∙ sym (declared ∙ rw (long, h .tables .owners, h .tables .names))
 
-      pub row-twice : d ≡ true → TookLine st k (rowLine n c name t) (Stop 5) w0 w1 w0 w1
+      pub row-twice : d ≡ true → TookSpelled st k (rowLine n c name t) (Stop 5) w0 w1 w0 w1
       unfolding inOrder blockOf numbered
       row-twice y =
           stopped st k w0 w1 _ 5 (λ s h.
@@ -177,14 +177,14 @@ module _ (st : Counts) (k : ℕ) (w0 w1 : List ℕ) (n c name : ℕ) (t : Ty) (l
         in-order s h =
             rw (le-leb (s .block) 1 (omega (arith, h .counted .block)), eq-eqb n (length (s .rows)) (is-next ∙ h .counted .rows), by-rows s h, once)
 
-        pub row-unknown : st .classes ≤ c → TookLine st k (rowLine n c name t) (Stop 6) w0 w1 w0 w1
+        pub row-unknown : st .classes ≤ c → TookSpelled st k (rowLine n c name t) (Stop 6) w0 w1 w0 w1
         unfolding partsKnown
         row-unknown u =
             stopped st k w0 w1 _ 6 (λ s h.
             unknown-part s k _ (within s) (in-order s h) (rw (le-ltb c (length (s .parents)) (omega (arith, h .counted .classes)))))
 
         module _ (known : c < st .classes) {b : Bool} (told : b ≡ classBelow (st .classes) t) where
-          pub row-unknown-type : b ≡ false → TookLine st k (rowLine n c name t) (Stop 6) w0 w1 w0 w1
+          pub row-unknown-type : b ≡ false → TookSpelled st k (rowLine n c name t) (Stop 6) w0 w1 w0 w1
           unfolding partsKnown
           row-unknown-type u =
               stopped st k w0 w1 _ 6 (λ s h.
@@ -192,7 +192,7 @@ module _ (st : Counts) (k : ℕ) (w0 w1 : List ℕ) (n c name : ℕ) (t : Ty) (l
               (rw (lt-ltb c (length (s .parents)) (omega (arith, h .counted .classes)), ← h .counted .classes, ← told, u)))
 
           pub row-put : (p : ℕ) → b ≡ true → typeIn p ≡ t → Fine st → 8192 ≤ length w0
-              → TookLine st k (rowLine n c name t) (Next (rowCounts st n)) w0 w1 (rowWords w0 n c name p) w1
+              → TookSpelled st k (rowLine n c name t) (Next (rowCounts st n)) w0 w1 (rowWords w0 n c name p) w1
           unfolding partsKnown suits treeHolds
           row-put p y packed fine room =
               let small : n < 64 = are-low n c name low .number in

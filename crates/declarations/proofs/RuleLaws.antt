@@ -17,7 +17,7 @@ use Rattle.tables.specs.declared.Step.the-variants.{Next, Stop}
 use Rattle.tables.specs.Layout.{HoldsCurrent, opened, Counted, Holds, Fine}
 use Rattle.tables.proofs.Tables.{kept-refl}
 use Rattle.tables.proofs.Steps.{out-of-order, unknown-part, steps-on}
-use Rattle.declarations.specs.Taken.{TookLine}
+use Rattle.declarations.specs.Taken.{TookSpelled}
 use Rattle.declarations.proofs.TakenLaws.{stopped, taken}
 
 -- the counts with a rule of context c open
@@ -86,13 +86,13 @@ module _ (st : Counts) (k : ℕ) (w0 w1 : List ℕ) (n c : ℕ) (low : n < 64) (
   unfolding isClass
   within s = rule-limits s n c ∙ rw (lt-ltb n 64 low, lt-ltb c 64 class)
 
-  pub rule-block : 4 < st .block → TookLine st k (ruleLine n c) (Stop 5) w0 w1 w0 w1
+  pub rule-block : 4 < st .block → TookSpelled st k (ruleLine n c) (Stop 5) w0 w1 w0 w1
   unfolding inOrder blockOf
   rule-block b =
       stopped st k w0 w1 _ 5 (λ s h. out-of-order s k _ (within s) (rw (lt-leb (s .block) 4 (omega (arith, h .counted .block)))))
 
   module _ (in-block : st .block ≤ 4) where
-    pub rule-gap : (n ≡ st .rules → ⊥) → TookLine st k (ruleLine n c) (Stop 5) w0 w1 w0 w1
+    pub rule-gap : (n ≡ st .rules → ⊥) → TookSpelled st k (ruleLine n c) (Stop 5) w0 w1 w0 w1
     unfolding inOrder blockOf numbered
     rule-gap o =
         stopped st k w0 w1 _ 5 (λ s h.
@@ -104,13 +104,13 @@ module _ (st : Counts) (k : ℕ) (w0 w1 : List ℕ) (n c : ℕ) (low : n < 64) (
       unfolding inOrder blockOf numbered
       in-order s h = rw (le-leb (s .block) 4 (omega (arith, h .block)), eq-eqb n (length (s .rules)) (is-next ∙ h .rules))
 
-      pub rule-unknown : st .classes ≤ c → TookLine st k (ruleLine n c) (Stop 6) w0 w1 w0 w1
+      pub rule-unknown : st .classes ≤ c → TookSpelled st k (ruleLine n c) (Stop 6) w0 w1 w0 w1
       unfolding partsKnown
       rule-unknown u =
           stopped st k w0 w1 _ 6 (λ s h.
           unknown-part s k _ (within s) (in-order s (h .counted)) (rw (le-ltb c (length (s .parents)) (omega (arith, h .counted .classes)))))
 
-      pub rule-put : Fine st → c < st .classes → TookLine st k (ruleLine n c) (Next (ruleCounts st c)) w0 w1 w0 w1
+      pub rule-put : Fine st → c < st .classes → TookSpelled st k (ruleLine n c) (Next (ruleCounts st c)) w0 w1 w0 w1
       unfolding partsKnown suits treeHolds
       rule-put fine known =
           taken st k w0 w1 _ (ruleCounts st c) _ (kept-refl w0) (search needs) (λ s h. (

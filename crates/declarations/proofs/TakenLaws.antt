@@ -13,14 +13,14 @@ use Rattle.tables.specs.declared.Step.the-variants.{Next, Stop}
 use Rattle.tables.specs.Layout.{Holds, Fine, Kept, moved-next, moved-stop, Took}
 use Rattle.tables.proofs.Tables.{kept-refl}
 use Rattle.tables.proofs.Steps.{step-bad, step-line}
-use Rattle.declarations.specs.Taken.{TookLine}
+use Rattle.declarations.specs.Taken.{TookSpelled}
 
 module _ (st : Counts) (k : ℕ) (w0 w1 : List ℕ) where
-  pub stopped : (l : Line) (n : ℕ) → ((s : Sheet) → Holds st w0 w1 s → stepLine s k l ≡ refuse n) → TookLine st k l (Stop n) w0 w1 w0 w1
+  pub stopped : (l : Line) (n : ℕ) → ((s : Sheet) → Holds st w0 w1 s → stepLine s k l ≡ refuse n) → TookSpelled st k l (Stop n) w0 w1 w0 w1
   stopped l n all = record { is = λ s h. rw (all s h) moved-stop; kept0 = kept-refl w0; kept1 = kept-refl w1 }
 
   pub taken : (l : Line) (su : Counts) (v0 : List ℕ) → Kept w0 v0 → Fine su
-      → ((s : Sheet) → Holds st w0 w1 s → (stepLine s k l ≡ next (added s k l)) × Holds su v0 w1 (added s k l)) → TookLine st k l (Next su) w0 w1 v0 w1
+      → ((s : Sheet) → Holds st w0 w1 s → (stepLine s k l ≡ next (added s k l)) × Holds su v0 w1 (added s k l)) → TookSpelled st k l (Next su) w0 w1 v0 w1
   taken l su v0 kept fine all =
       record { is = λ s h. rw (all s h .0) (moved-next {st = su} fine (all s h .1)); kept0 = kept; kept1 = kept-refl w1 }
 
@@ -28,5 +28,5 @@ module _ (st : Counts) (k : ℕ) (w0 w1 : List ℕ) where
   unspelled line h = record { is = λ s _. rw (step-bad s k (fieldsOf line) h) moved-stop; kept0 = kept-refl w0; kept1 = kept-refl w1 }
 
 pub spelled : {st : Counts} {k : ℕ} (line : Bytes) {l : Line} {r : Step} {w0 w1 v0 v1 : List ℕ}
-    → lineOf (fieldsOf line) ≡ some l → TookLine st k l r w0 w1 v0 v1 → Took st k line r w0 w1 v0 v1
+    → lineOf (fieldsOf line) ≡ some l → TookSpelled st k l r w0 w1 v0 v1 → Took st k line r w0 w1 v0 v1
 spelled {k = k} line h t = record { is = λ s q. rw (step-line s k (fieldsOf line) h) (t .is s q); kept0 = t .kept0; kept1 = t .kept1 }

@@ -15,7 +15,7 @@ use Rattle.sheet.specs.Lines.{is, lineOf, firstIsN}
 use Rattle.laws.proofs.Tests.{All?, all-some}
 use Rattle.sheet.specs.Sheet.{Current, Sheet}
 use Rattle.sheet.specs.Reading.{Step, step, Reading, accepted, refused, onStep, onEnd, closing, readLast, readLines}
-use Rattle.text.specs.Words.{byteKind, letterOf}
+use Rattle.text.specs.Words.{byteKind, onlyByte}
 use Rattle.text.proofs.WordLaws.{is-class-line, is-row-line, is-object-line, is-value-line, is-rule-line, is-node-line}
 use Rattle.tables.specs.declared.Counts.{Counts}
 use Rattle.tables.specs.declared.Step.{Step as CodeStep}
@@ -37,7 +37,7 @@ unfolding firstIsN is bytes
 first-is [] = refl
 first-is (w ∷ fs) = refl
 
-module _ (fs : List Bytes) (kind : ℕ) (e : kind ≡ byteKind (letterOf (getD fs 0 []))) where
+module _ (fs : List Bytes) (kind : ℕ) (e : kind ≡ byteKind (onlyByte (getD fs 0 []))) where
   pub is-node : kind ≡ 6 → firstIsN fs ≡ true
   is-node h = first-is fs ∙ is-node-line (getD fs 0 []) ∙ rw (← e) (eq-eqb kind 6 h)
 
@@ -69,7 +69,7 @@ unfolding lineOf
 no-line [] a b c d e f = refl
 no-line (w ∷ fs) a b c d e f = rw (a, b, c, d, e, f)
 
-pub unknown-line : (fs : List Bytes) (kind : ℕ) → kind ≡ byteKind (letterOf (getD fs 0 [])) → kind ≢ 1 → kind ≢ 2 → kind ≢ 3 → kind ≢ 4 → kind ≢ 5 → kind ≢ 6 → lineOf fs ≡ none
+pub unknown-line : (fs : List Bytes) (kind : ℕ) → kind ≡ byteKind (onlyByte (getD fs 0 [])) → kind ≢ 1 → kind ≢ 2 → kind ≢ 3 → kind ≢ 4 → kind ≢ 5 → kind ≢ 6 → lineOf fs ≡ none
 unknown-line fs kind e a b c d f g = no-line fs
     (is-class-line (getD fs 0 []) ∙ rw (← e) (ne-eqb kind 1 a)) (is-row-line (getD fs 0 []) ∙ rw (← e) (ne-eqb kind 2 b))
     (is-object-line (getD fs 0 []) ∙ rw (← e) (ne-eqb kind 3 c)) (is-value-line (getD fs 0 []) ∙ rw (← e) (ne-eqb kind 4 d))

@@ -13,7 +13,7 @@ use Rattle.ocl.specs.Forms.{Expr, levels}
 use Rattle.ocl.specs.Values.{size}
 use Rattle.sheet.specs.Text.{Bytes}
 use Rattle.sheet.specs.Lines.{Line, classLine, rowLine, objectLine, valueLine, ruleLine, nodeLine, lineOf}
-use Rattle.sheet.specs.Sheet.{Current, Sheet, empty, added, lastTree, allUsed, withRule, endOf, endFor, endRule}
+use Rattle.sheet.specs.Sheet.{Current, Sheet, empty, added, lastTree, allUsed, withRule, partEnd, endFor, endRule}
 use Rattle.sheet.specs.Refusals.{totalSize, valueWithin, withinLimits, inOrder, partsKnown, suits, treeHolds}
 use Rattle.sheet.specs.Reading.{Step, next, refuse, must, stepLine, stepSpelled, step}
 use Rattle.slots.specs.Slots.{SmallRows}
@@ -54,7 +54,7 @@ rows-step s k fields m = go (lineOf fields)
     go (some l) = rows-must (withinLimits s l) 4 (λ t. rows-must (inOrder s l) 5 (λ _. rows-must (partsKnown s l) 6 (λ _. rows-must (suits s l) 7 (λ _. rows-must (treeHolds s l) 8 (λ _. rows-next (rows-added s k l m t))))))
 
 pub rows-end : (s : Sheet) → SmallRows s → All? SmallRows (endRule s)
-unfolding endRule endFor endOf onSome withRule
+unfolding endRule endFor partEnd onSome withRule
 rows-end s m = go (s .current)
   where
     body : (c : Current) (o : Option Expr) → All? SmallRows (onSome o (λ e. if allUsed (c .used) (length (c .trees) - 1) && leb (levels e) 12 then some (withRule s (c .context) e) else none))

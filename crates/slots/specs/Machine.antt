@@ -104,7 +104,7 @@ pub data Sound : List Frame → Type 0 where
       → Sound fs → Sound (x ∷ fs)
 
 -- the cells of the open collections lie in front, and X after them
-pub record Lies (cells : List ℕ) (o : Open) (fs : List Frame) (X : List ℕ) : Type 0 where
+pub record InFront (cells : List ℕ) (o : Open) (fs : List Frame) (X : List ℕ) : Type 0 where
   pub small : o .size ≤ 128
   pub room : o .size ≤ length cells
   pub laid : take (o .size) cells ≡ laid fs ++ X
@@ -114,7 +114,7 @@ pub record Lies (cells : List ℕ) (o : Open) (fs : List Frame) (X : List ℕ) :
 pub record Sure (f : Bytes) (cells : List ℕ) (o : Open) (fs : List Frame) (X : List ℕ) : Type 0 where
   pub depth : o .depth ≡ length fs
   pub over : 128 < o .size → Never f (length cells)
-  pub fine : o .size ≤ 128 → Lies cells o fs X
+  pub fine : o .size ≤ 128 → InFront cells o fs X
 
 -- ---- where the reading stands
 

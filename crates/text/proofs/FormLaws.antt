@@ -89,7 +89,7 @@ unfolding moderate allOf forms bytes
 all-moderate = refl
 
 -- a number that is at least k, and not k
-above : {n k : ℕ} → k ≤ n → (n ≡ k → ⊥) → k + 1 ≤ n
+pub above : {n k : ℕ} → k ≤ n → (n ≡ k → ⊥) → k + 1 ≤ n
 above p h = omega arith
 
 -- no word has the length of w

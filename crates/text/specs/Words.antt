@@ -21,10 +21,10 @@ byteKind b =
     else 0
 
 -- the byte of a field that has one
-unfoldable pub letterOf : Bytes → ℕ
-letterOf [] = 0
-letterOf (b ∷ []) = b
-letterOf (b ∷ c ∷ s) = 0
+unfoldable pub onlyByte : Bytes → ℕ
+onlyByte [] = 0
+onlyByte (b ∷ []) = b
+onlyByte (b ∷ c ∷ s) = 0
 
 -- the code of w among words of its length, with a byte after each
 unfoldable pub codeAmong : Bytes → Bytes → Bytes → ℕ

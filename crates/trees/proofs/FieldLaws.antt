@@ -13,7 +13,7 @@ use Rattle.laws.proofs.Parts.{at-next, part-next, part-none, part-all}
 use Rattle.laws.proofs.Tests.{Any?, any-some}
 use Rattle.sheet.specs.Text.{Bytes, fieldsOf}
 use Rattle.sheet.specs.Lines.{each, aNumber}
-use Rattle.text.specs.Numbers.{numOf}
+use Rattle.text.specs.Numbers.{cutNum}
 use Rattle.text.specs.Parts.{Cut}
 use Rattle.text.specs.declared.numbers.Num.the-variants as num
 use Rattle.text.specs.declared.parts.Fields.{Fields}
@@ -74,14 +74,14 @@ module _ {fs : List Bytes} {from to i : ℕ} {at : List ℕ} (so : ReadTo fs fro
       rw (e, q) (record { is = read refl (so .held); small = λ k. rw (so .held) (four-small (so .seen) k); size = ap length (so .held) })
 
   module _ (more : i < to) (within : to ≤ length fs) where
-    pub read-bad : {r : Numbers} → num.Bad ≡ numOf (aNumber (getD fs i [])) → NumbersRead none r → NumbersRead (each aNumber (take (to - from) (drop from fs))) r
+    pub read-bad : {r : Numbers} → num.Bad ≡ cutNum (aNumber (getD fs i [])) → NumbersRead none r → NumbersRead (each aNumber (take (to - from) (drop from fs))) r
     unfolding each mapSome onSome
     read-bad h d =
         let e : each aNumber (take (to - from) (drop from fs)) ≡ none
         = so .whole ∙ rw (part-next [] fs i to more within, num-bad (aNumber (getD fs i [])) h) in
         rw e d
 
-    pub read-next : {m : ℕ} → num.Is m ≡ numOf (aNumber (getD fs i [])) → to ≤ from + 4 → ReadTo fs from to (i + 1) (set at (i - from) m)
+    pub read-next : {m : ℕ} → num.Is m ≡ cutNum (aNumber (getD fs i [])) → to ≤ from + 4 → ReadTo fs from to (i + 1) (set at (i - from) m)
     unfolding each mapSome onSome
     read-next {m} h room = go (aNumber (getD fs i [])) refl (num-is (aNumber (getD fs i [])) h)
       where

@@ -26,8 +26,8 @@ use Rattle.tables.specs.declared.Step.the-variants as code
 use Rattle.tables.proofs.Tables.{kept-set, kept-then}
 use Rattle.trees.specs.declared.Parsed.{Parsed}
 use Rattle.trees.specs.Fields.{cut}
-use Rattle.trees.specs.Forms.{operandsAt, Stands}
-use Rattle.trees.specs.Operands.{broken, deepest, depthAt, marking, shifted, Wrote}
+use Rattle.trees.specs.Forms.{operandsAt, StandsFor}
+use Rattle.trees.specs.Operands.{broken, deepest, depthAt, marking, shifted, WroteWords}
 use Rattle.trees.specs.Rules.{next-room, stop-room, limits, order, withNode, Placed}
 use Rattle.trees.proofs.MarkLaws.{wordsOf, depthOf, Framed, mark-frame, mark-small, Depths, deepestOf, Marks, marks-law, fresh-low, broken-fresh, deepest-fresh}
 use Rattle.trees.proofs.ShapeLaws.{grow-same, grow-depth, shape-shifted, shape-line}
@@ -64,7 +64,7 @@ lines-keep w v (suc n) h = rw (h (8 * n + 7) (omega arith), lines-keep w v n (λ
 -- ---- the tables with one node more: node m, of rule c, with the words v1
 
 module _ {st : Counts} {line : ℕ} {p : Parsed} {w0 w1 v1 : List ℕ} {s : Sheet} {x : Shape} (i : ℕ) (d : ℕ)
-    (h : Holds st w0 w1 s) (fine : Fine st) (o : OpenRule st w1 s) (z : Stands line x p) (within : formWithin x ≡ true) (few : length (operandsOf x) ≤ 4)
+    (h : Holds st w0 w1 s) (fine : Fine st) (o : OpenRule st w1 s) (z : StandsFor line x p) (within : formWithin x ≡ true) (few : length (operandsOf x) ≤ 4)
     (smaller : Each (λ a. a < length (o .rule .trees)) (operandsOf x))
     (deep : d ≡ max 0 (deepestOf (λ a. levels (treeOf (o .rule .trees) a)) (operandsOf x)))
     (low : (j : ℕ) → j < 8 * length (s .lines) → getD v1 j 0 ≡ getD w1 j 0)
@@ -175,7 +175,7 @@ module _ (st : Counts) (n : ℕ) (p : Parsed) (w1 : List ℕ) (fine : Fine st) (
   room : st .first + n ≤ 768
   room = place-room st n p fine ok ordered
 
-  module _ {line : ℕ} {w0 : List ℕ} {s : Sheet} {x : Shape} (i : ℕ) (u : n ≡ cut i) (z : Stands line x p) (h : Holds st w0 w1 s) (o : OpenRule st w1 s) where
+  module _ {line : ℕ} {w0 : List ℕ} {s : Sheet} {x : Shape} (i : ℕ) (u : n ≡ cut i) (z : StandsFor line x p) (h : Holds st w0 w1 s) (o : OpenRule st w1 s) where
     its-number : n ≡ length (o .rule .trees)
     its-number = omega (arith, is-next st n p ordered, o .holds .count, o .holds .first, h .counted .nodes)
 
@@ -206,7 +206,7 @@ module _ (st : Counts) (n : ℕ) (p : Parsed) (w1 : List ℕ) (fine : Fine st) (
     room = λ r. stop-room;
   }
 
-  module _ {d : ℕ} {u v : List ℕ} (e : deepest d u ≡ marking (st .first) n 0 (operandsAt (p .words) (p .count)) w1) (wrote : Wrote (8 * st .nodes) 8 (shifted (p .words) (p .count) (st .first)) u v) where
+  module _ {d : ℕ} {u v : List ℕ} (e : deepest d u ≡ marking (st .first) n 0 (operandsAt (p .words) (p .count)) w1) (wrote : WroteWords (8 * st .nodes) 8 (shifted (p .words) (p .count) (st .first)) u v) where
     framed : Framed w1 u
     unfolding wordsOf
     framed = rw (ap wordsOf e) (mark-frame (st .first) n room (operandsAt (p .words) (p .count)) 0 w1)
@@ -244,7 +244,7 @@ module _ (st : Counts) (n : ℕ) (p : Parsed) (w1 : List ℕ) (fine : Fine st) (
       first = omega (arith, fine .first);
     }
 
-    module _ {line : ℕ} {w0 : List ℕ} {s : Sheet} {x : Shape} (i : ℕ) (few : p .count ≤ 4) (number : n ≡ cut i) (z : Stands line x p) (h : Holds st w0 w1 s) (o : OpenRule st w1 s) where
+    module _ {line : ℕ} {w0 : List ℕ} {s : Sheet} {x : Shape} (i : ℕ) (few : p .count ≤ 4) (number : n ≡ cut i) (z : StandsFor line x p) (h : Holds st w0 w1 s) (o : OpenRule st w1 s) where
       told : (fresh (length (o .rule .trees)) (o .rule .used) (operandsOf x) ≡ true) × (d ≡ max 0 (deepestOf (λ a. levels (treeOf (o .rule .trees) a)) (operandsOf x)))
           × Depths (o .rule .first) (length (o .rule .trees)) (λ a. levels (treeOf (o .rule .trees) a)) (o .rule .used ++ operandsOf x) u
       told = deepest-fresh (marks i number z h o) (e ∙ marking-same i number z h o)

@@ -21,7 +21,7 @@ use Rattle.tables.specs.declared.Step.the-variants as code
 use Rattle.tables.proofs.Tables.{kept-refl}
 use Rattle.trees.specs.declared.Parsed.{Parsed}
 use Rattle.trees.specs.Fields.{cut}
-use Rattle.trees.specs.Forms.{operandsAt, Stands}
+use Rattle.trees.specs.Forms.{operandsAt, StandsFor}
 use Rattle.trees.specs.Rules.{stop-room, limits, order, Placed}
 use Rattle.trees.proofs.FormLaws.{nodes-small}
 
@@ -125,7 +125,7 @@ nodes-cut [] = refl
 nodes-cut (a ∷ l) = rw (cut-lt a 1000000 768 (omega arith), nodes-cut l)
 
 module _ {st : Counts} {n line : ℕ} {p : Parsed} {w0 w1 : List ℕ} {s : Sheet} {x : Shape} (i : ℕ)
-    (number : n ≡ cut i) (z : Stands line x p) (h : Holds st w0 w1 s) where
+    (number : n ≡ cut i) (z : StandsFor line x p) (h : Holds st w0 w1 s) where
   pub limits-same : limits st n p ≡ withinLimits s (nodeLine i x)
   unfolding limits withinLimits isNode
   limits-same = rw (number, cut-lt i 1000000 768 (omega arith), z .within, z .operands, nodes-cut (operandsOf x), h .counted .nodes)

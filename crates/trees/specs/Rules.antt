@@ -18,7 +18,7 @@ use Rattle.tables.specs.declared.Step.{Step}
 use Rattle.tables.specs.declared.Step.the-variants as code
 use Rattle.trees.specs.declared.Parsed.{Parsed}
 use Rattle.trees.specs.Fields.{cut}
-use Rattle.trees.specs.Forms.{operandsAt, Stands}
+use Rattle.trees.specs.Forms.{operandsAt, StandsFor}
 use Rattle.trees.specs.Operands.{depthAt}
 
 -- an open rule has a number below 64: an R line was held to that
@@ -57,7 +57,7 @@ withNode st = record {
 
 -- a line that spells a node: the words were w1 and are v1
 pub record Placed (st : Counts) (n : ℕ) (p : Parsed) (r : Step) (w1 v1 : List ℕ) : Type 0 where
-  pub is : (line : ℕ) (w0 : List ℕ) (s : Sheet) (i : ℕ) (x : Shape) → n ≡ cut i → Stands line x p → Holds st w0 w1 s → Moved w0 v1 r (stepLine s line (nodeLine i x))
+  pub is : (line : ℕ) (w0 : List ℕ) (s : Sheet) (i : ℕ) (x : Shape) → n ≡ cut i → StandsFor line x p → Holds st w0 w1 s → Moved w0 v1 r (stepLine s line (nodeLine i x))
   pub kept : Kept w1 v1
   pub room : RuleRoom st → StepRoom r
 

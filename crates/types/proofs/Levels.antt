@@ -15,6 +15,7 @@ use Rattle.types.specs.declared.FlatType.{FlatType}
 use Rattle.types.specs.declared.Joined.{Joined}
 use Rattle.types.specs.declared.Joined.the-variants as j
 use Rattle.types.specs.Flat.{baseType, baseTag, letterOf, layer, tyOf, under, bare, level, joinedType, typeTo, joinedTo, JoinsOneMore}
+use Rattle.types.proofs.Cases.{by-base}
 
 -- ---- letters
 
@@ -138,11 +139,7 @@ void-end parent (b.Class n) l u = refl
 
 collection-end : (parent : Parents) (x : Base) (k : Letter) (t : Ty) → false ≡ subtype parent (around k t) (baseType x)
 unfolding subtype
-collection-end parent b.Void l u = refl
-collection-end parent b.Bool l u = refl
-collection-end parent b.Int l u = refl
-collection-end parent b.Any l u = refl
-collection-end parent (b.Class n) l u = refl
+collection-end parent x k t = by-base (λ u. false ≡ subtype parent (around k t) u) refl (λ s. refl) x
 
 level-law : (parent : Parents) (a x : Base) (k l : ℕ) (t u : Ty) → level (baseTag a) k l (subtype parent (baseType a) (baseType x)) (subtype parent t u) ≡ subtype parent (layer k (baseType a) t) (layer l (baseType x) u)
 unfolding level layer subtype

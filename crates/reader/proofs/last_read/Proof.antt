@@ -2,7 +2,7 @@ use borrow.Author.Needs.{needs}
 use mathlib.Core.Path.{ap, _∙_}
 use native.Mathlib.Omega.{arith}
 use Rattle.sheet.specs.Text.{fieldsOf}
-use Rattle.text.specs.Words.{byteKind, letterOf}
+use Rattle.text.specs.Words.{byteKind, onlyByte}
 use Rattle.text.proofs.PartLaws.{counted-some}
 use Rattle.reader.proofs.Laws.{is-node, is-other, rule-room, node-last, stop-last, sheet-last, left-last}
 use Rattle.reader.proofs.last_read.Statement.{statement}
@@ -30,7 +30,7 @@ add-t13 c = search needs
 
 -- src/lib.rt:127:9
 returns : tie.Need-returns
-returns c = node-last (c .before .before .before .before .before .before .before .before .args .st) (c .before .before .before .before .before .before .before .before .args .k) (c .before .before .before .before .before .before .before .before .args .part .now) (is-node (fieldsOf (c .before .before .before .before .before .before .before .before .args .part .now)) (c .before .byte-kind .result) (c .before .byte-kind .ensures ∙ ap byteKind (c .before .before .letter .ensures ∙ ap letterOf (c .before .before .before .field .ensures))) (c .if1 .taken))
+returns c = node-last (c .before .before .before .before .before .before .before .before .args .st) (c .before .before .before .before .before .before .before .before .args .k) (c .before .before .before .before .before .before .before .before .args .part .now) (is-node (fieldsOf (c .before .before .before .before .before .before .before .before .args .part .now)) (c .before .byte-kind .result) (c .before .byte-kind .ensures ∙ ap byteKind (c .before .before .letter .ensures ∙ ap onlyByte (c .before .before .before .field .ensures))) (c .if1 .taken))
 
 -- src/lib.rt:129:11
 end-rule-requires : tie.Need-end-rule-requires
@@ -54,7 +54,7 @@ same-length c = search needs
 
 -- src/lib.rt:120:1
 returns-2 : tie.Need-returns-2
-returns-2 c = stop-last (c .before .before .before .before .before .before .before .before .before .before .before .before .before .before .before .args .st) (c .before .before .before .before .before .before .before .before .before .before .before .before .before .before .before .args .k) (c .before .before .before .before .before .before .before .before .before .before .before .before .before .before .before .args .part .now) (is-other (fieldsOf (c .before .before .before .before .before .before .before .before .before .before .before .before .before .before .before .args .part .now)) (c .before .before .before .before .before .before .before .before .byte-kind .result) (c .before .before .before .before .before .before .before .before .byte-kind .ensures ∙ ap byteKind (c .before .before .before .before .before .before .before .before .before .letter .ensures ∙ ap letterOf (c .before .before .before .before .before .before .before .before .before .before .field .ensures))) (c .before .before .before .before .before .before .before .if1 .left)) (rw (c .before .n .given .1) at (c .before .before .before .before .before .end-rule .ensures))
+returns-2 c = stop-last (c .before .before .before .before .before .before .before .before .before .before .before .before .before .before .before .args .st) (c .before .before .before .before .before .before .before .before .before .before .before .before .before .before .before .args .k) (c .before .before .before .before .before .before .before .before .before .before .before .before .before .before .before .args .part .now) (is-other (fieldsOf (c .before .before .before .before .before .before .before .before .before .before .before .before .before .before .before .args .part .now)) (c .before .before .before .before .before .before .before .before .byte-kind .result) (c .before .before .before .before .before .before .before .before .byte-kind .ensures ∙ ap byteKind (c .before .before .before .before .before .before .before .before .before .letter .ensures ∙ ap onlyByte (c .before .before .before .before .before .before .before .before .before .before .field .ensures))) (c .before .before .before .before .before .before .before .if1 .left)) (rw (c .before .n .given .1) at (c .before .before .before .before .before .end-rule .ensures))
 
 -- src/lib.rt:120:1
 same-length-2 : tie.Need-same-length-2
@@ -62,7 +62,7 @@ same-length-2 c = search needs
 
 -- src/lib.rt:120:1
 returns-3 : tie.Need-returns-3
-returns-3 c = sheet-last (c .before .before .before .before .before .before .before .before .before .before .before .before .before .before .before .before .args .st) (c .before .before .before .before .before .before .before .before .before .before .before .before .before .before .before .before .args .k) (c .before .before .before .before .before .before .before .before .before .before .before .before .before .before .before .before .args .part .now) (is-other (fieldsOf (c .before .before .before .before .before .before .before .before .before .before .before .before .before .before .before .before .args .part .now)) (c .before .before .before .before .before .before .before .before .before .byte-kind .result) (c .before .before .before .before .before .before .before .before .before .byte-kind .ensures ∙ ap byteKind (c .before .before .before .before .before .before .before .before .before .before .letter .ensures ∙ ap letterOf (c .before .before .before .before .before .before .before .before .before .before .before .field .ensures))) (c .before .before .before .before .before .before .before .before .if1 .left)) (rw (c .before .before .next .given .1) at (c .before .before .before .before .before .before .end-rule .ensures)) (c .if2 .taken)
+returns-3 c = sheet-last (c .before .before .before .before .before .before .before .before .before .before .before .before .before .before .before .before .args .st) (c .before .before .before .before .before .before .before .before .before .before .before .before .before .before .before .before .args .k) (c .before .before .before .before .before .before .before .before .before .before .before .before .before .before .before .before .args .part .now) (is-other (fieldsOf (c .before .before .before .before .before .before .before .before .before .before .before .before .before .before .before .before .args .part .now)) (c .before .before .before .before .before .before .before .before .before .byte-kind .result) (c .before .before .before .before .before .before .before .before .before .byte-kind .ensures ∙ ap byteKind (c .before .before .before .before .before .before .before .before .before .before .letter .ensures ∙ ap onlyByte (c .before .before .before .before .before .before .before .before .before .before .before .field .ensures))) (c .before .before .before .before .before .before .before .before .if1 .left)) (rw (c .before .before .next .given .1) at (c .before .before .before .before .before .before .end-rule .ensures)) (c .if2 .taken)
 
 -- src/lib.rt:120:1
 same-length-3 : tie.Need-same-length-3
@@ -70,7 +70,7 @@ same-length-3 c = search needs
 
 -- src/lib.rt:120:1
 returns-4 : tie.Need-returns-4
-returns-4 c = left-last (c .before .before .before .before .before .before .before .before .before .before .before .before .before .before .before .before .args .st) (c .before .before .before .before .before .before .before .before .before .before .before .before .before .before .before .before .args .k) (c .before .before .before .before .before .before .before .before .before .before .before .before .before .before .before .before .args .part .now) (is-other (fieldsOf (c .before .before .before .before .before .before .before .before .before .before .before .before .before .before .before .before .args .part .now)) (c .before .before .before .before .before .before .before .before .before .byte-kind .result) (c .before .before .before .before .before .before .before .before .before .byte-kind .ensures ∙ ap byteKind (c .before .before .before .before .before .before .before .before .before .before .letter .ensures ∙ ap letterOf (c .before .before .before .before .before .before .before .before .before .before .before .field .ensures))) (c .before .before .before .before .before .before .before .before .if1 .left)) (rw (c .before .before .next .given .1) at (c .before .before .before .before .before .before .end-rule .ensures)) (c .if2 .left)
+returns-4 c = left-last (c .before .before .before .before .before .before .before .before .before .before .before .before .before .before .before .before .args .st) (c .before .before .before .before .before .before .before .before .before .before .before .before .before .before .before .before .args .k) (c .before .before .before .before .before .before .before .before .before .before .before .before .before .before .before .before .args .part .now) (is-other (fieldsOf (c .before .before .before .before .before .before .before .before .before .before .before .before .before .before .before .before .args .part .now)) (c .before .before .before .before .before .before .before .before .before .byte-kind .result) (c .before .before .before .before .before .before .before .before .before .byte-kind .ensures ∙ ap byteKind (c .before .before .before .before .before .before .before .before .before .before .letter .ensures ∙ ap onlyByte (c .before .before .before .before .before .before .before .before .before .before .before .field .ensures))) (c .before .before .before .before .before .before .before .before .if1 .left)) (rw (c .before .before .next .given .1) at (c .before .before .before .before .before .before .end-rule .ensures)) (c .if2 .left)
 
 pub last-read-spec : {M : Type 1} → statement M
 last-read-spec =
