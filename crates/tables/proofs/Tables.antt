@@ -15,10 +15,6 @@ module _ (off n : ℕ) (w : List ℕ) where
   pub tab-at : (i : ℕ) → i < n → getD (tab off n w) i 0 ≡ getD w (off + i) 0
   tab-at i h = getD-take n (drop off w) i 0 h ∙ getD-drop off w i 0
 
-  -- the next entry
-  pub tab-more : (x : ℕ) → off + n < length w → tab off (suc n) (set w (off + n) x) ≡ tab off n w ++ (x ∷ [])
-  tab-more x h = ap (take (suc n)) (drop-set-add off w n x) ∙ take-suc-set (drop off w) n x (let e = length-drop off w in omega arith)
-
   -- an entry before the table, and one after it
   pub tab-before : (i x : ℕ) → i < off → tab off n (set w i x) ≡ tab off n w
   tab-before i x h = ap (take n) (drop-set-lt off w i x h)

@@ -20,8 +20,7 @@ use Rattle.sheet.specs.Lines.{Shape, leaf, unary, binary, connective, isUndef, 
 use Rattle.sheet.specs.Sheet.{operandsOf}
 use Rattle.sheet.specs.Refusals.{isNode, isVariable, leafWithin, unaryWithin, formWithin, twoVariables, leafKnown, unaryKnown, formKnown}
 use Rattle.text.specs.Forms.{shapeBy}
-use Rattle.nodes.specs.Nodes.{leafWords, unaryWords, binaryCode, arithCode, connectiveCode, shapeWords}
-use Rattle.nodes.proofs.Shapes.{TypeSaid}
+use Rattle.nodes.specs.Nodes.{TypeSaid, leafWords, unaryWords, binaryCode, arithCode, connectiveCode, shapeWords}
 use Rattle.trees.specs.declared.Parsed.{Parsed}
 use Rattle.trees.specs.declared.numbers.Numbers.{Numbers}
 use Rattle.trees.specs.Fields.{cut, four, exact, Read, unread, read, NumbersRead}

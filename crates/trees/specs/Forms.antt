@@ -12,8 +12,7 @@ use Rattle.sheet.specs.Text.{byte}
 use Rattle.sheet.specs.Lines.{Shape}
 use Rattle.sheet.specs.Sheet.{operandsOf}
 use Rattle.sheet.specs.Refusals.{isNode, formWithin, twoVariables, formKnown}
-use Rattle.nodes.specs.Nodes.{shapeWords}
-use Rattle.nodes.proofs.Shapes.{TypeSaid}
+use Rattle.nodes.specs.Nodes.{TypeSaid, shapeWords}
 use Rattle.trees.specs.declared.Parsed.{Parsed}
 use Rattle.trees.specs.Fields.{cut}
 

@@ -2,7 +2,7 @@
 use mathlib.Core.Path.{_≡_, refl}
 use Prim.Native.Nat.{ℕ, zero, suc}
 use native.Mathlib.Omega.{arith}
-use Rattle.ocl.specs.Types.{Simple, any, boolean, integer, class, Letter, collection, Ty, void, simple}
+use Rattle.ocl.specs.Types.{Simple, any, boolean, integer, class, collection, Ty, void, simple}
 use Rattle.types.specs.declared.Base.{Base}
 use Rattle.types.specs.declared.Base.the-variants as b
 use Rattle.types.specs.Flat.{baseType, baseTag, baseClass, letterOf}

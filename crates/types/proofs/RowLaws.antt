@@ -9,8 +9,8 @@ use lib.ListN.{getD}
 use lib.Dec.{eqb, ltb}
 use borrow.Author.Tests.{eq-eqb, ne-eqb, ltb-true, ltb-false}
 use Rattle.laws.specs.Choice.{if_then_else_, orElse, onSome}
-use Rattle.ocl.specs.Types.{Simple, class, Parents, simpleSubtype}
-use Rattle.ocl.specs.Model.{Model, classBelow, isA, declared, nearest, rowRead}
+use Rattle.ocl.specs.Types.{Parents}
+use Rattle.ocl.specs.Model.{Model, declared, nearest, rowRead}
 use Rattle.types.specs.declared.Found.{Found}
 use Rattle.types.specs.declared.Found.the-variants as f
 use Rattle.types.specs.Flat.{parentWord, parentsIn}

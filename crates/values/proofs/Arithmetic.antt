@@ -8,10 +8,9 @@ use native.Mathlib.Nat.{div-le-self, mod-lt, mul-le-mul}
 use lib.IntN.{ℤ, pos, negsuc, negℤ, natAbs, _+ℤ_, _-ℤ_, _*ℤ_}
 use lib.Dec.{T, ltb, leb}
 use borrow.Author.Tests.{lt-ltb, le-ltb, lt-leb, le-leb}
-use Rattle.laws.proofs.Tests.{by-if, All?, all-none, all-some}
 use Rattle.laws.proofs.Integers.{Diff, add-diff, neg-diff}
 use Rattle.laws.proofs.Orders.{compare-lt, compare-eq, compare-gt, Three, less, same, over, three}
-use Rattle.ocl.specs.Values.{Value, int, orderInt}
+use Rattle.ocl.specs.Values.{Value, orderInt}
 use Rattle.ocl.specs.Forms.{Arith, plus, minus, times, div, modulo}
 use Rattle.ocl.specs.Evaluation.{inRange, ranged, isLess, unlessZero, quotient, remainder, arithmetic}
 use Rattle.values.specs.Cells.{bias, payload}
