@@ -1,4 +1,5 @@
-// Reads a sheet line by line into the tables of the lent words. Document 01, The sheet.
+// Reads a sheet line by line into the tables of the lent words. Document 01, The sheet. It depends on `text`, which parts the
+// text, on `declarations`, `slots` and `trees`, which take the lines, and on `tables`.
 ghost use mathlib.Core.Path.{_≡_};
 ghost use mathlib.Core.Logic.{_≢_};
 ghost use mathlib.Core.List.{List, []};

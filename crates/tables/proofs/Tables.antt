@@ -1,10 +1,10 @@
 -- A table at an offset of the words: one entry more, entries elsewhere, and what stays. Assumes nothing.
 use mathlib.Core.Path.{_≡_, refl, sym, ap, _∙_}
-use mathlib.Core.List.{List, [], _∷_, _++_, map}
-use Prim.Native.Nat.{ℕ, suc, _+_, _-_, _≤_, _<_}
+use mathlib.Core.List.{List, map}
+use Prim.Native.Nat.{ℕ, _+_, _-_, _≤_, _<_}
 use native.Mathlib.Omega.{arith}
 use lib.ListN.{length, getD, take, drop, set, length-set, length-drop, List·getD-map}
-use lib.Seq.{length-take-le, take-suc-set, take-set-le, drop-set-lt, drop-set-add, getD-take, getD-drop}
+use lib.Seq.{length-take-le, take-set-le, drop-set-lt, drop-set-add, getD-take, getD-drop}
 use Rattle.laws.proofs.Elements.{getD-map}
 use Rattle.tables.specs.Layout.{tab, Kept}
 
