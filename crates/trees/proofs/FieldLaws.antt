@@ -103,39 +103,33 @@ module _ {fs : List Bytes} {from to i : ℕ} {at : List ℕ} (so : ReadTo fs fro
 -- ---- the fields after a form's word
 
 module _ {line : Bytes} {f : Fields} (is : Cut line f) (m : ℕ) (low : m ≤ 4) where
-  rest-count : length (drop 3 (fieldsOf line)) ≡ length (fieldsOf line) - 3
-  rest-count = length-drop 3 (fieldsOf line)
-
   pub exact-not : {r : Numbers} → (f .count ≡ 3 + m → ⊥) → 3 ≤ f .count → NumbersRead none r → NumbersRead (exact m (drop 3 (fieldsOf line))) r
   unfolding exact
-  exact-not h t d = rw (ne-eqb (length (drop 3 (fieldsOf line))) m (λ e. h (omega (arith, is .counted, rest-count)))) d
+  exact-not h t d = rw (ne-eqb (length (drop 3 (fieldsOf line))) m (λ e. h (omega (arith, is .counted, length-drop 3 (fieldsOf line))))) d
 
   pub exact-all : {r : Numbers} → f .count ≡ 3 + m → NumbersRead (each aNumber (take (f .count - 3) (drop 3 (fieldsOf line)))) r → NumbersRead (exact m (drop 3 (fieldsOf line))) r
   unfolding exact
   exact-all h d =
       let n : length (fieldsOf line) ≡ f .count = omega (arith, is .counted) in
       let e : take (f .count - 3) (drop 3 (fieldsOf line)) ≡ drop 3 (fieldsOf line) = rw (← n) (part-all (fieldsOf line) 3) in
-      rw (eq-eqb (length (drop 3 (fieldsOf line))) m (omega (arith, rest-count)), ← e) d
+      rw (eq-eqb (length (drop 3 (fieldsOf line))) m (omega (arith, length-drop 3 (fieldsOf line))), ← e) d
 
 -- how many fields there are after a form's word, and the first of them
 pub rest-first : (fs : List Bytes) → getD (drop 3 fs) 0 [] ≡ getD fs 3 []
 rest-first fs = getD-drop 3 fs 0 []
 
 module _ {line : Bytes} {f : Fields} (is : Cut line f) where
-  after-word : length (drop 3 (fieldsOf line)) ≡ length (fieldsOf line) - 3
-  after-word = length-drop 3 (fieldsOf line)
-
   pub rest-exact : (m : ℕ) → m ≤ 7 → f .count ≡ 3 + m → length (drop 3 (fieldsOf line)) ≡ m
-  rest-exact m h e = omega (arith, is .counted, after-word)
+  rest-exact m h e = omega (arith, is .counted, length-drop 3 (fieldsOf line))
 
   pub rest-not : (m : ℕ) → m ≤ 7 → 3 ≤ f .count → (f .count ≡ 3 + m → ⊥) → length (drop 3 (fieldsOf line)) ≡ m → ⊥
-  rest-not m h t e q = e (omega (arith, is .counted, after-word))
+  rest-not m h t e q = e (omega (arith, is .counted, length-drop 3 (fieldsOf line)))
 
   pub rest-short : 3 ≤ f .count → f .count < 4 → length (drop 3 (fieldsOf line)) ≡ 0
-  rest-short t h = omega (arith, is .counted, after-word)
+  rest-short t h = omega (arith, is .counted, length-drop 3 (fieldsOf line))
 
   pub rest-long : 8 < f .count → 5 < length (drop 3 (fieldsOf line))
-  rest-long h = omega (arith, is .counted, after-word)
+  rest-long h = omega (arith, is .counted, length-drop 3 (fieldsOf line))
 
   pub rest-cons : 4 ≤ f .count → drop 3 (fieldsOf line) ≡ getD (fieldsOf line) 3 [] ∷ drop 4 (fieldsOf line)
   rest-cons h = at-next [] (fieldsOf line) 3 (omega (arith, is .counted))

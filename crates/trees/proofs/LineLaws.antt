@@ -30,7 +30,7 @@ use Rattle.tables.proofs.Tables.{kept-refl}
 use Rattle.trees.specs.declared.Parsed.{Parsed}
 use Rattle.trees.specs.Fields.{cut}
 use Rattle.trees.specs.Forms.{StandsFor, Spelled, misspelled, spelled, FormRead}
-use Rattle.trees.specs.Rules.{stop-room, Placed, TookNode}
+use Rattle.trees.specs.Rules.{Placed, TookNode}
 use Rattle.trees.proofs.FieldLaws.{field-count}
 
 -- ---- the fields
@@ -68,17 +68,11 @@ module _ (fs : List Bytes) (starts : firstIsN fs ≡ true) where
 
 took-none : {st : Counts} {k : ℕ} {line w : List ℕ} → lineOf (fieldsOf line) ≡ none → TookNode st k line (code.Stop 3) w w
 unfolding step stepSpelled
-took-none {w = w} e = record {
-  took = λ w0. record { is = λ s h. rw e moved-stop; kept0 = kept-refl w0; kept1 = kept-refl w };
-  room = λ r. stop-room;
-}
+took-none {w = w} e = λ w0. record { is = λ s h. rw e moved-stop; kept0 = kept-refl w0; kept1 = kept-refl w }
 
 took-node : {st : Counts} {k n : ℕ} {line w v : List ℕ} {p : Parsed} {r : Step} (i : ℕ) (x : Shape) → lineOf (fieldsOf line) ≡ some (nodeLine i x) → n ≡ cut i → StandsFor k x p → Placed st n p r w v → TookNode st k line r w v
 unfolding step stepSpelled
-took-node {k = k} i x e q z d = record {
-  took = λ w0. record { is = λ s h. rw e (d .is k w0 s i x q z h); kept0 = kept-refl w0; kept1 = d .kept };
-  room = d .room;
-}
+took-node {k = k} i x e q z d = λ w0. record { is = λ s h. rw e (d .is k w0 s i x q z h); kept0 = kept-refl w0; kept1 = d .kept }
 
 module _ {line : List ℕ} {f : Fields} (is : Cut line f) (starts : firstIsN (fieldsOf line) ≡ true) where
   pub line-short : {st : Counts} {k : ℕ} {w : List ℕ} → f .count < 3 → TookNode st k line (code.Stop 3) w w

@@ -28,6 +28,7 @@ use Rattle.text.specs.Words.{onlyByte}
 use Rattle.text.specs.declared.numbers.Whole.the-variants as integer
 use Rattle.text.proofs.IntegerLaws.{whole-bad, whole-out, whole-is}
 use Rattle.nodes.specs.Nodes.{leafWords, collectCode, operandWord, shapeWords}
+use Rattle.text.proofs.FormLaws.{above}
 use Rattle.trees.specs.declared.Parsed.{Parsed}
 use Rattle.trees.specs.declared.numbers.Numbers.{Numbers}
 use Rattle.trees.specs.Fields.{cut, four, Read, unread, read, NumbersRead}
@@ -253,9 +254,5 @@ pub gap-code : (k : ℕ) (fs : List Bytes) → 28 ≤ k → k < 30 → shapeBy k
 unfolding shapeBy AllBelow
 gap-code k fs = from-below (λ k. shapeBy k fs ≡ none) 28 2 ((tt, refl), refl) k
 
--- a number that is at least a, and not a
-pub step : {k a : ℕ} → a ≤ k → (k ≡ a → ⊥) → a + 1 ≤ k
-step p h = omega arith
-
 pub last-code : (k : ℕ) (fs : List Bytes) → 30 ≤ k → (k ≡ 30 → ⊥) → (k ≡ 31 → ⊥) → (k ≡ 32 → ⊥) → (k ≡ 33 → ⊥) → (k ≡ 34 → ⊥) → shapeBy k fs ≡ none
-last-code k fs h a b c d e = no-code k fs (step (step (step (step (step h a) b) c) d) e)
+last-code k fs h a b c d e = no-code k fs (above (above (above (above (above h a) b) c) d) e)
