@@ -11,10 +11,9 @@ use lib.ListN.{length}
 use Rattle.laws.specs.Lists.{allOf}
 use Rattle.laws.proofs.Bounds.{cut-lt}
 use Rattle.laws.proofs.Tests.{and-true}
-use Rattle.sheet.specs.Lines.{Shape, Line, nodeLine}
-use Rattle.sheet.specs.Sheet.{Current, Sheet, added, operandsOf}
-use Rattle.sheet.specs.Refusals.{isNode, formWithin, twoVariables, formKnown, withinLimits, blockOf, nextNode, numbered, inOrder, partsKnown, suits, treeHolds}
-use Rattle.sheet.specs.Reading.{next, refuse, must, stepLine}
+use Rattle.sheet.specs.Lines.{Shape, nodeLine}
+use Rattle.sheet.specs.Sheet.{Current, Sheet, operandsOf}
+use Rattle.sheet.specs.Refusals.{isNode, formWithin, twoVariables, formKnown, withinLimits, blockOf, nextNode, numbered, inOrder, partsKnown}
 use Rattle.tables.specs.Layout.{Holds, HoldsOpen, closed, opened, Fine, moved-stop}
 use Rattle.tables.specs.declared.Counts.{Counts}
 use Rattle.tables.specs.declared.Step.the-variants as code

@@ -15,6 +15,14 @@ by-base P v s b.Int = s integer
 by-base P v s b.Any = s any
 by-base P v s (b.Class c) = s (class c)
 
+-- a base that is not Void is a simple type
+pub by-simple : (P : Ty → Type 0) → ((a : Simple) → P (simple a)) → (x : Base) → (baseTag x ≡ 0 → ⊥) → P (baseType x)
+by-simple P s b.Void h = absurd (h refl)
+by-simple P s b.Bool h = s boolean
+by-simple P s b.Int h = s integer
+by-simple P s b.Any h = s any
+by-simple P s (b.Class c) h = s (class c)
+
 pub is-void : (x : Base) → baseTag x ≡ 0 → baseType x ≡ void
 is-void b.Void e = refl
 is-void b.Bool e = absurd (omega arith)
