@@ -17,7 +17,7 @@ use Rattle.sheet.specs.Text.{Bytes}
 use Rattle.sheet.specs.Refusals.{everyParts, nestings}
 use Rattle.values.specs.Cells.{head, enc, encs}
 use Rattle.slots.specs.declared.reader.Open.{Open}
-use Rattle.slots.specs.Machine.{mayBe, Frame, laid, headAt, beyond, Heads, heads-nil, heads-cons, Never, Deep, sound-cons, InFront, Sure, AddsCell, OpensCell}
+use Rattle.slots.specs.Machine.{mayBe, Frame, laid, headAt, beyond, Heads, heads-nil, heads-cons, Never, Deep, within-more, InFront, Sure, AddsCell, OpensCell}
 use Rattle.slots.proofs.LimitLaws.{never-wide, never-room, never-deep}
 
 -- ---- one cell more
@@ -122,7 +122,7 @@ module _ {A B : List ℕ} {o s : Open} {cell : ℕ} (a : AddsCell cell A o B s) 
     small = let x = l .small in omega arith;
     room = let x = l .room in omega arith;
     laid = ap (λ (i : ℕ). take i B) me ∙ l .laid ∙ ap (λ (c : ℕ). laid fs ++ (c ∷ [])) ce ∙ sym (append-nil (laid fs ++ (head (coll k nil) ∷ [])));
-    sound = sound-cons {x = record { kind = k; inside = nil; parts = n }} {fs = fs} refl (omega arith) (l .sound);
+    sound = within-more {x = record { kind = k; inside = nil; parts = n }} {fs = fs} refl (omega arith) (l .sound);
     heads = heads-cons (new-head fs d h (lies-size before ∙ omega arith)) (heads-keep (l .heads) (λ i x y. heads-agree s after i x (λ z. kept-second i (omega arith) z) (λ z. kept-third i (omega arith) z)));
   }
 
