@@ -6,7 +6,7 @@ use mathlib.Core.List.{List, [], _∷_}
 use Prim.Native.Nat.{ℕ, _+_, _≤_, _<_, min}
 use native.Mathlib.Omega.{arith}
 use borrow.Author.Needs.{needs}
-use borrow.Author.Tests.{lt-ltb, le-ltb, le-leb, lt-leb, eq-eqb, ne-eqb}
+use borrow.Author.Tests.{lt-ltb, le-ltb, eq-eqb, ne-eqb}
 use lib.ListN.{length, getD, drop, set, length-drop, length-set}
 use lib.Seq.{getD-set-same}
 use Rattle.sheet.specs.Text.{Bytes, bytes, fieldsOf}
@@ -14,21 +14,21 @@ use Rattle.sheet.specs.Lines.{classLine, is, next, done, aNumber, aParent, line
 use Rattle.sheet.specs.Sheet.{Sheet, added}
 use Rattle.sheet.specs.Refusals.{isClass, parentWithin, withinLimits, blockOf, numbered, inOrder, partsKnown, suits, treeHolds}
 use Rattle.types.specs.Flat.{parentOf}
-use Rattle.text.specs.Numbers.{numOf}
+use Rattle.text.specs.Numbers.{cutNum}
 use Rattle.text.specs.declared.parts.Fields.{Fields}
 use Rattle.text.specs.declared.numbers.Num.the-variants as num
 use Rattle.text.proofs.NumberLaws.{num-bad}
 use Rattle.text.proofs.PartLaws.{counted-exact}
 use Rattle.tables.specs.declared.Counts.{Counts}
 use Rattle.tables.specs.declared.Step.the-variants.{Next, Stop}
-use Rattle.tables.specs.Layout.{parentCode, Counted, Holds, Fine}
+use Rattle.tables.specs.Layout.{parentCode, Holds, Fine}
 use Rattle.tables.proofs.Tables.{kept-set}
 use Rattle.tables.proofs.Entries.{length-more, tab-more-of, holds-kept, spare-parent, open-kept}
-use Rattle.tables.proofs.Steps.{over-limits, out-of-order, unknown-part, steps-on}
+use Rattle.tables.proofs.Steps.{over-limits, steps-on}
 use Rattle.tables.proofs.LineFields.{word-is, takes-none, takes-more, field-bad, field-some, fields-done, the, num-some, num-exact}
 use Rattle.declarations.specs.Fields.{parentNum}
-use Rattle.declarations.specs.Taken.{Lettered, TookLine}
-use Rattle.declarations.proofs.TakenLaws.{stopped, passed}
+use Rattle.declarations.specs.Taken.{Lettered, TookSpelled}
+use Rattle.declarations.proofs.TakenLaws.{stopped, passed, past-block, order-by-number, misnumbered, unknown}
 use Rattle.declarations.proofs.ParentLaws.{theParent, parent-some, parent-exact, parent-bad, code-of, code-within, code-smaller, code-not-smaller}
 
 -- ---- the fields
@@ -52,10 +52,10 @@ module _ {line : Bytes} {f : Fields} (so : Lettered "C" line f) where
     long : length (fieldsOf line) ≡ 3
     long = counted-exact (so .cut) (omega arith) ∙ three
 
-    pub class-number : {x : Bytes} → x ≡ getD (fieldsOf line) 1 [] → num.Bad ≡ numOf (aNumber x) → lineOf (fieldsOf line) ≡ none
+    pub class-number : {x : Bytes} → x ≡ getD (fieldsOf line) 1 [] → num.Bad ≡ cutNum (aNumber x) → lineOf (fieldsOf line) ≡ none
     class-number {x} e h = reads ∙ field-bad aNumber _ (fieldsOf line) 1 (omega (arith, long)) (rw (← e) (num-bad (aNumber x) h))
 
-    module _ {x y : Bytes} (at1 : x ≡ getD (fieldsOf line) 1 []) (at2 : y ≡ getD (fieldsOf line) 2 []) {n : ℕ} (number : num.Is n ≡ numOf (aNumber x)) where
+    module _ {x y : Bytes} (at1 : x ≡ getD (fieldsOf line) 1 []) (at2 : y ≡ getD (fieldsOf line) 2 []) {n : ℕ} (number : num.Is n ≡ cutNum (aNumber x)) where
       first : lineOf (fieldsOf line) ≡ next aParent (λ p. done (classLine (the (aNumber x)) p)) (drop 2 (fieldsOf line))
       first = reads ∙ field-some aNumber _ (fieldsOf line) 1 (omega (arith, long)) (rw (← at1) (num-some (aNumber x) number))
 
@@ -76,11 +76,11 @@ module _ {line : Bytes} {f : Fields} (so : Lettered "C" line f) where
 
 -- numbers over their limits
 module _ (st : Counts) (k : ℕ) (w0 w1 : List ℕ) (n : ℕ) (p : Option ℕ) {m : ℕ} (cut : m ≡ min n 1000000) where
-  pub class-over : 64 ≤ m → TookLine st k (classLine n p) (Stop 4) w0 w1 w0 w1
+  pub class-over : 64 ≤ m → TookSpelled st k (classLine n p) (Stop 4) w0 w1 w0 w1
   unfolding withinLimits isClass
   class-over h = stopped st k w0 w1 _ 4 (λ s _. over-limits s k _ (rw (le-ltb n 64 (omega arith))))
 
-  pub class-over-parent : m < 64 → parentWithin p ≡ false → TookLine st k (classLine n p) (Stop 4) w0 w1 w0 w1
+  pub class-over-parent : m < 64 → parentWithin p ≡ false → TookSpelled st k (classLine n p) (Stop 4) w0 w1 w0 w1
   unfolding withinLimits isClass
   class-over-parent l h = stopped st k w0 w1 _ 4 (λ s _. over-limits s k _ (rw (lt-ltb n 64 (omega arith), h)))
 
@@ -140,34 +140,34 @@ module _ (st : Counts) (k : ℕ) (w0 w1 : List ℕ) (n q : ℕ) (low : n < 64) (
   unfolding withinLimits isClass
   within s = rw (lt-ltb n 64 low, code-within q high)
 
-  pub class-block : 0 < st .block → TookLine st k (classLine n (parentOf q)) (Stop 5) w0 w1 w0 w1
-  unfolding inOrder blockOf
-  class-block b =
-      stopped st k w0 w1 _ 5 (λ s h. out-of-order s k _ (within s) (rw (lt-leb (s .block) 0 (omega (arith, h .counted .block)))))
+  pub class-block : 0 < st .block → TookSpelled st k (classLine n (parentOf q)) (Stop 5) w0 w1 w0 w1
+  unfolding blockOf
+  class-block = past-block st k w0 w1 (classLine n (parentOf q)) within
 
   module _ (in-block : st .block ≤ 0) where
-    pub class-gap : (n ≡ st .classes → ⊥) → TookLine st k (classLine n (parentOf q)) (Stop 5) w0 w1 w0 w1
-    unfolding inOrder blockOf numbered
+    pub class-gap : (n ≡ st .classes → ⊥) → TookSpelled st k (classLine n (parentOf q)) (Stop 5) w0 w1 w0 w1
+    unfolding blockOf numbered
     class-gap o =
-        stopped st k w0 w1 _ 5 (λ s h.
-        out-of-order s k _ (within s)
-        (rw (le-leb (s .block) 0 (omega (arith, h .counted .block)), ne-eqb n (length (s .parents)) (λ e. o (e ∙ sym (h .counted .classes))))))
+        misnumbered st k w0 w1 (classLine n (parentOf q)) within in-block (λ s h. ne-eqb n (length (s .parents)) (λ e. o (e ∙ sym (h .counted .classes))))
 
     module _ (is-next : n ≡ st .classes) where
-      in-order : (s : Sheet) → Counted st s → inOrder s (classLine n (parentOf q)) ≡ true
-      unfolding inOrder blockOf numbered
-      in-order s h = rw (le-leb (s .block) 0 (omega (arith, h .block)), eq-eqb n (length (s .parents)) (is-next ∙ h .classes))
+      its-number : (s : Sheet) → Holds st w0 w1 s → numbered s (classLine n (parentOf q)) ≡ true
+      unfolding numbered
+      its-number s h = eq-eqb n (length (s .parents)) (is-next ∙ h .counted .classes)
 
-      pub class-unknown : n < q → TookLine st k (classLine n (parentOf q)) (Stop 6) w0 w1 w0 w1
-      unfolding partsKnown
-      class-unknown u =
-          stopped st k w0 w1 _ 6 (λ s h. unknown-part s k _ (within s) (in-order s (h .counted)) (code-not-smaller n q u))
+      in-order : (s : Sheet) → Holds st w0 w1 s → inOrder s (classLine n (parentOf q)) ≡ true
+      unfolding blockOf
+      in-order s h = order-by-number st k w0 w1 (classLine n (parentOf q)) within in-block s (h .counted) ∙ its-number s h
 
-      pub class-put : Fine st → 8192 ≤ length w0 → q ≤ n → TookLine st k (classLine n (parentOf q)) (Next (classCounts st n)) w0 w1 (set w0 n q) w1
+      pub class-unknown : n < q → TookSpelled st k (classLine n (parentOf q)) (Stop 6) w0 w1 w0 w1
+      unfolding blockOf partsKnown
+      class-unknown u = unknown st k w0 w1 (classLine n (parentOf q)) within in-block its-number (λ s h. code-not-smaller n q u)
+
+      pub class-put : Fine st → 8192 ≤ length w0 → q ≤ n → TookSpelled st k (classLine n (parentOf q)) (Next (classCounts st n)) w0 w1 (set w0 n q) w1
       unfolding partsKnown suits treeHolds
       class-put fine room smaller =
           passed st k w0 w1 _ (classCounts st n) _ (kept-set w0 n q (omega arith)) (search needs) (λ s h. (
-            steps-on s k (classLine n (parentOf q)) (within s) (in-order s (h .counted)) (code-smaller n q smaller) refl refl,
+            steps-on s k (classLine n (parentOf q)) (within s) (in-order s h) (code-smaller n q smaller) refl refl,
             class-held st k n (parentOf q) (set w0 n q) w1 s in-block is-next (rw length-set (omega arith))
                 (getD-set-same w0 n q 0 (omega arith) ∙ sym (code-of q))
                 (holds-kept q (rw is-next (spare-parent fine (h .counted) (omega arith))) h),

@@ -5,7 +5,7 @@ use mathlib.Core.List.{List, [], _∷_, _++_}
 use Prim.Native.Nat.{ℕ, suc, _+_, _≤_, _<_}
 use native.Mathlib.Omega.{arith}
 use borrow.Author.Needs.{needs}
-use borrow.Author.Tests.{lt-ltb, le-ltb, le-leb, lt-leb, eq-eqb, ne-eqb}
+use borrow.Author.Tests.{lt-ltb, le-ltb, eq-eqb, ne-eqb}
 use lib.Dec.{ltb}
 use lib.ListN.{length, getD, set, length-set}
 use lib.Seq.{getD-set-same}
@@ -14,12 +14,12 @@ use Rattle.sheet.specs.Sheet.{Sheet, added}
 use Rattle.sheet.specs.Refusals.{isClass, withinLimits, blockOf, numbered, inOrder, partsKnown, suits, treeHolds}
 use Rattle.tables.specs.declared.Counts.{Counts}
 use Rattle.tables.specs.declared.Step.the-variants.{Next, Stop}
-use Rattle.tables.specs.Layout.{Counted, Holds, Fine}
+use Rattle.tables.specs.Layout.{Holds, Fine}
 use Rattle.tables.proofs.Tables.{kept-set}
 use Rattle.tables.proofs.Entries.{length-more, tab-next, holds-kept, spare-object, open-kept}
-use Rattle.tables.proofs.Steps.{out-of-order, unknown-part, steps-on}
-use Rattle.declarations.specs.Taken.{TookLine}
-use Rattle.declarations.proofs.TakenLaws.{stopped, passed}
+use Rattle.tables.proofs.Steps.{steps-on}
+use Rattle.declarations.specs.Taken.{TookSpelled}
+use Rattle.declarations.proofs.TakenLaws.{passed, past-block, order-by-number, misnumbered, unknown}
 
 -- the counts with object n
 abbrev pub objectCounts : Counts → ℕ → Counts
@@ -80,35 +80,34 @@ module _ (st : Counts) (k : ℕ) (w0 w1 : List ℕ) (n c : ℕ) (low : n < 96) (
   unfolding withinLimits isClass
   within s = rw (lt-ltb n 96 low, lt-ltb c 64 class)
 
-  pub object-block : 2 < st .block → TookLine st k (objectLine n c) (Stop 5) w0 w1 w0 w1
-  unfolding inOrder blockOf
-  object-block b =
-      stopped st k w0 w1 _ 5 (λ s h. out-of-order s k _ (within s) (rw (lt-leb (s .block) 2 (omega (arith, h .counted .block)))))
+  pub object-block : 2 < st .block → TookSpelled st k (objectLine n c) (Stop 5) w0 w1 w0 w1
+  unfolding blockOf
+  object-block = past-block st k w0 w1 (objectLine n c) within
 
   module _ (in-block : st .block ≤ 2) where
-    pub object-gap : (n ≡ st .objects → ⊥) → TookLine st k (objectLine n c) (Stop 5) w0 w1 w0 w1
-    unfolding inOrder blockOf numbered
-    object-gap o =
-        stopped st k w0 w1 _ 5 (λ s h.
-        out-of-order s k _ (within s)
-        (rw (le-leb (s .block) 2 (omega (arith, h .counted .block)), ne-eqb n (length (s .objects)) (λ e. o (e ∙ sym (h .counted .objects))))))
+    pub object-gap : (n ≡ st .objects → ⊥) → TookSpelled st k (objectLine n c) (Stop 5) w0 w1 w0 w1
+    unfolding blockOf numbered
+    object-gap o = misnumbered st k w0 w1 (objectLine n c) within in-block (λ s h. ne-eqb n (length (s .objects)) (λ e. o (e ∙ sym (h .counted .objects))))
 
     module _ (is-next : n ≡ st .objects) where
-      in-order : (s : Sheet) → Counted st s → inOrder s (objectLine n c) ≡ true
-      unfolding inOrder blockOf numbered
-      in-order s h = rw (le-leb (s .block) 2 (omega (arith, h .block)), eq-eqb n (length (s .objects)) (is-next ∙ h .objects))
+      its-number : (s : Sheet) → Holds st w0 w1 s → numbered s (objectLine n c) ≡ true
+      unfolding numbered
+      its-number s h = eq-eqb n (length (s .objects)) (is-next ∙ h .counted .objects)
 
-      pub object-unknown : st .classes ≤ c → TookLine st k (objectLine n c) (Stop 6) w0 w1 w0 w1
-      unfolding partsKnown
+      in-order : (s : Sheet) → Holds st w0 w1 s → inOrder s (objectLine n c) ≡ true
+      unfolding blockOf
+      in-order s h = order-by-number st k w0 w1 (objectLine n c) within in-block s (h .counted) ∙ its-number s h
+
+      pub object-unknown : st .classes ≤ c → TookSpelled st k (objectLine n c) (Stop 6) w0 w1 w0 w1
+      unfolding blockOf partsKnown
       object-unknown u =
-          stopped st k w0 w1 _ 6 (λ s h.
-          unknown-part s k _ (within s) (in-order s (h .counted)) (rw (le-ltb c (length (s .parents)) (omega (arith, h .counted .classes)))))
+          unknown st k w0 w1 (objectLine n c) within in-block its-number (λ s h. le-ltb c (length (s .parents)) (omega (arith, h .counted .classes)))
 
-      pub object-put : Fine st → 8192 ≤ length w0 → c < st .classes → TookLine st k (objectLine n c) (Next (objectCounts st n)) w0 w1 (set w0 (256 + n) c) w1
+      pub object-put : Fine st → 8192 ≤ length w0 → c < st .classes → TookSpelled st k (objectLine n c) (Next (objectCounts st n)) w0 w1 (set w0 (256 + n) c) w1
       unfolding partsKnown suits treeHolds
       object-put fine room known =
           passed st k w0 w1 _ (objectCounts st n) _ (kept-set w0 (256 + n) c (omega arith)) (search needs) (λ s h. (
-            steps-on s k (objectLine n c) (within s) (in-order s (h .counted)) (lt-ltb c (length (s .parents)) (omega (arith, h .counted .classes))) refl refl,
+            steps-on s k (objectLine n c) (within s) (in-order s h) (lt-ltb c (length (s .parents)) (omega (arith, h .counted .classes))) refl refl,
             object-held st k n c (set w0 (256 + n) c) w1 s is-next (rw length-set (omega arith)) (getD-set-same w0 (256 + n) c 0 (omega arith))
                 (holds-kept c (rw is-next (spare-object fine (h .counted) (omega arith))) h),
           ))

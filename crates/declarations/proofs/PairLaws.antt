@@ -13,7 +13,7 @@ use Rattle.sheet.specs.Text.{Bytes, bytes, fieldsOf}
 use Rattle.sheet.specs.Lines.{Line, objectLine, ruleLine, is, next, done, aNumber, lineOf}
 use Rattle.sheet.specs.Sheet.{Sheet}
 use Rattle.sheet.specs.Refusals.{isClass, withinLimits}
-use Rattle.text.specs.Numbers.{numOf}
+use Rattle.text.specs.Numbers.{cutNum}
 use Rattle.text.specs.Parts.{Cut}
 use Rattle.text.specs.declared.parts.Fields.{Fields}
 use Rattle.text.specs.declared.numbers.Num.the-variants as num
@@ -25,7 +25,7 @@ use Rattle.tables.specs.declared.Step.{Step}
 use Rattle.tables.specs.declared.Step.the-variants as code
 use Rattle.tables.specs.Layout.{Took}
 use Rattle.tables.proofs.Steps.{over-limits}
-use Rattle.declarations.specs.Taken.{TookLine}
+use Rattle.declarations.specs.Taken.{TookSpelled}
 use Rattle.declarations.specs.Fields.{twoNumbers, pairOf}
 use Rattle.declarations.specs.declared.pairs.Pair.the-variants.{Stop, Are}
 use Rattle.declarations.proofs.TakenLaws.{stopped, unspelled, spelled}
@@ -43,20 +43,20 @@ module _ {line : Bytes} {f : Fields} (limit : ℕ) (cut : Cut line f) where
     long : length (fieldsOf line) ≡ 3
     long = counted-exact cut (omega arith) ∙ three
 
-    pub pair-number : {x : Bytes} → x ≡ getD (fieldsOf line) 1 [] → num.Bad ≡ numOf (aNumber x) → Stop 3 ≡ pairOf limit (twoNumbers (drop 1 (fieldsOf line)))
+    pub pair-number : {x : Bytes} → x ≡ getD (fieldsOf line) 1 [] → num.Bad ≡ cutNum (aNumber x) → Stop 3 ≡ pairOf limit (twoNumbers (drop 1 (fieldsOf line)))
     unfolding pairOf twoNumbers
     pair-number {x} e h = rw (field-bad {B = ℕ × ℕ} aNumber (λ n. next aNumber (λ c. done (n, c))) (fieldsOf line) 1 (omega (arith, long)) (rw (← e) (num-bad (aNumber x) h)))
 
-    module _ {x y : Bytes} (at1 : x ≡ getD (fieldsOf line) 1 []) (at2 : y ≡ getD (fieldsOf line) 2 []) {n : ℕ} (number : num.Is n ≡ numOf (aNumber x)) where
+    module _ {x y : Bytes} (at1 : x ≡ getD (fieldsOf line) 1 []) (at2 : y ≡ getD (fieldsOf line) 2 []) {n : ℕ} (number : num.Is n ≡ cutNum (aNumber x)) where
       first : twoNumbers (drop 1 (fieldsOf line)) ≡ next aNumber (λ c. done (the (aNumber x), c)) (drop 2 (fieldsOf line))
       unfolding twoNumbers
       first = field-some aNumber _ (fieldsOf line) 1 (omega (arith, long)) (rw (← at1) (num-some (aNumber x) number))
 
-      pub pair-class : num.Bad ≡ numOf (aNumber y) → Stop 3 ≡ pairOf limit (twoNumbers (drop 1 (fieldsOf line)))
+      pub pair-class : num.Bad ≡ cutNum (aNumber y) → Stop 3 ≡ pairOf limit (twoNumbers (drop 1 (fieldsOf line)))
       unfolding pairOf
       pair-class h = rw (first ∙ field-bad {B = ℕ × ℕ} aNumber (λ c. done (the (aNumber x), c)) (fieldsOf line) 2 (omega (arith, long)) (rw (← at2) (num-bad (aNumber y) h)))
 
-      module _ {c : ℕ} (class : num.Is c ≡ numOf (aNumber y)) (small : limit ≤ 1000000) where
+      module _ {c : ℕ} (class : num.Is c ≡ cutNum (aNumber y)) (small : limit ≤ 1000000) where
         both : twoNumbers (drop 1 (fieldsOf line)) ≡ some (the (aNumber x), the (aNumber y))
         both =
             first
@@ -155,6 +155,6 @@ module _ (st : Counts) (k : ℕ) (w0 w1 : List ℕ) (line : Bytes) (o : Option (
       go none r h = let three : n ≡ 3 = cc in rw three (unspelled st k w0 w1 line r)
       go (some p) r h = by-limits p (ltb (p .0) limit && isClass (p .1)) refl r h
 
-  pub pair-taken : {n c : ℕ} {r : Step} {v0 v1 : List ℕ} → o ≡ some (n, c) → TookLine st k (to n c) r w0 w1 v0 v1 → Took st k line r w0 w1 v0 v1
+  pub pair-taken : {n c : ℕ} {r : Step} {v0 v1 : List ℕ} → o ≡ some (n, c) → TookSpelled st k (to n c) r w0 w1 v0 v1 → Took st k line r w0 w1 v0 v1
   unfolding mapSome
   pair-taken e t = spelled line (reads ∙ ap (mapSome (λ p. to (p .0) (p .1))) e) t

@@ -11,8 +11,8 @@ use Rattle.sheet.specs.Text.{Bytes, bytes}
 use Rattle.sheet.specs.Lines.{is, aNumber, aParent}
 use Rattle.sheet.specs.Refusals.{isClass, parentWithin, parentSmaller}
 use Rattle.types.specs.Flat.{parentOf}
-use Rattle.text.specs.Numbers.{numOf}
-use Rattle.text.specs.Words.{letterOf}
+use Rattle.text.specs.Numbers.{cutNum}
+use Rattle.text.specs.Words.{onlyByte}
 use Rattle.text.specs.declared.numbers.Num.the-variants.{Bad, Is}
 use Rattle.text.proofs.NumberLaws.{num-bad}
 use Rattle.text.proofs.WordLaws.{is-letter}
@@ -22,7 +22,7 @@ use Rattle.declarations.specs.Fields.{parentNum}
 
 -- ---- the returns of `parent`
 
-module _ (f : Bytes) {b : ℕ} (told : b ≡ letterOf f) where
+module _ (f : Bytes) {b : ℕ} (told : b ≡ onlyByte f) where
   minus : is f (bytes "-") ≡ eqb b 45
   unfolding bytes
   minus = is-letter f 45 (omega arith) ∙ ap (λ (x : ℕ). eqb x 45) (sym told)
@@ -32,11 +32,11 @@ module _ (f : Bytes) {b : ℕ} (told : b ≡ letterOf f) where
   no-parent h = rw (minus, eq-eqb b 45 h)
 
   module _ (other : b ≡ 45 → ⊥) where
-    pub bad-parent : Bad ≡ numOf (aNumber f) → Bad ≡ parentNum (aParent f)
+    pub bad-parent : Bad ≡ cutNum (aNumber f) → Bad ≡ parentNum (aParent f)
     unfolding aParent parentNum mapSome
     bad-parent h = rw (minus, ne-eqb b 45 other, num-bad (aNumber f) h)
 
-    pub some-parent : {p : ℕ} → Is p ≡ numOf (aNumber f) → Is (p + 1) ≡ parentNum (aParent f)
+    pub some-parent : {p : ℕ} → Is p ≡ cutNum (aNumber f) → Is (p + 1) ≡ parentNum (aParent f)
     unfolding aParent parentNum mapSome
     some-parent h = rw (minus, ne-eqb b 45 other, num-some (aNumber f) h) (ap Is (omega (arith, num-cut (aNumber f) h)))
 

@@ -10,7 +10,7 @@ use Rattle.ocl.specs.Types.{Ty}
 use Rattle.sheet.specs.Text.{Bytes, bytes, fieldsOf}
 use Rattle.sheet.specs.Spelling.{readType}
 use Rattle.sheet.specs.Lines.{rowLine, is, next, done, aNumber, lineOf}
-use Rattle.text.specs.Numbers.{numOf}
+use Rattle.text.specs.Numbers.{cutNum}
 use Rattle.text.specs.declared.parts.Fields.{Fields}
 use Rattle.text.specs.declared.numbers.Num.the-variants as num
 use Rattle.text.proofs.NumberLaws.{num-bad}
@@ -39,24 +39,24 @@ module _ {line : Bytes} {f : Fields} (so : Lettered "A" line f) where
     long = counted-exact (so .cut) (omega arith) ∙ five
 
     module _ {x : Bytes} (at1 : x ≡ getD (fieldsOf line) 1 []) where
-      pub row-number : num.Bad ≡ numOf (aNumber x) → lineOf (fieldsOf line) ≡ none
+      pub row-number : num.Bad ≡ cutNum (aNumber x) → lineOf (fieldsOf line) ≡ none
       row-number h = reads ∙ field-bad aNumber _ (fieldsOf line) 1 (omega (arith, long)) (rw (← at1) (num-bad (aNumber x) h))
 
-      module _ {y : Bytes} (at2 : y ≡ getD (fieldsOf line) 2 []) {n : ℕ} (number : num.Is n ≡ numOf (aNumber x)) where
+      module _ {y : Bytes} (at2 : y ≡ getD (fieldsOf line) 2 []) {n : ℕ} (number : num.Is n ≡ cutNum (aNumber x)) where
         first : lineOf (fieldsOf line) ≡ next aNumber (λ c. next aNumber (λ name. next readType (λ t. done (rowLine (the (aNumber x)) c name t)))) (drop 2 (fieldsOf line))
         first = reads ∙ field-some aNumber _ (fieldsOf line) 1 (omega (arith, long)) (rw (← at1) (num-some (aNumber x) number))
 
-        pub row-class : num.Bad ≡ numOf (aNumber y) → lineOf (fieldsOf line) ≡ none
+        pub row-class : num.Bad ≡ cutNum (aNumber y) → lineOf (fieldsOf line) ≡ none
         row-class h = first ∙ field-bad aNumber _ (fieldsOf line) 2 (omega (arith, long)) (rw (← at2) (num-bad (aNumber y) h))
 
-        module _ {z : Bytes} (at3 : z ≡ getD (fieldsOf line) 3 []) {c : ℕ} (class : num.Is c ≡ numOf (aNumber y)) where
+        module _ {z : Bytes} (at3 : z ≡ getD (fieldsOf line) 3 []) {c : ℕ} (class : num.Is c ≡ cutNum (aNumber y)) where
           second : lineOf (fieldsOf line) ≡ next aNumber (λ name. next readType (λ t. done (rowLine (the (aNumber x)) (the (aNumber y)) name t))) (drop 3 (fieldsOf line))
           second = first ∙ field-some aNumber _ (fieldsOf line) 2 (omega (arith, long)) (rw (← at2) (num-some (aNumber y) class))
 
-          pub row-name : num.Bad ≡ numOf (aNumber z) → lineOf (fieldsOf line) ≡ none
+          pub row-name : num.Bad ≡ cutNum (aNumber z) → lineOf (fieldsOf line) ≡ none
           row-name h = second ∙ field-bad aNumber _ (fieldsOf line) 3 (omega (arith, long)) (rw (← at3) (num-bad (aNumber z) h))
 
-          module _ {v : Bytes} (at4 : v ≡ getD (fieldsOf line) 4 []) {name : ℕ} (named : num.Is name ≡ numOf (aNumber z)) where
+          module _ {v : Bytes} (at4 : v ≡ getD (fieldsOf line) 4 []) {name : ℕ} (named : num.Is name ≡ cutNum (aNumber z)) where
             third : lineOf (fieldsOf line) ≡ next readType (λ t. done (rowLine (the (aNumber x)) (the (aNumber y)) (the (aNumber z)) t)) (drop 4 (fieldsOf line))
             third = second ∙ field-some aNumber _ (fieldsOf line) 3 (omega (arith, long)) (rw (← at3) (num-some (aNumber z) named))
 

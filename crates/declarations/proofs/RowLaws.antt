@@ -1,11 +1,11 @@
 -- The row of a line that is spelled well: numbers and types over their limits, and each answer of `put_row`. Assumes nothing.
-use mathlib.Core.Path.{_≡_, refl, sym, _∙_}
-use mathlib.Core.Bool.{Bool, true, false, _&&_, and-false, true≢false}
+use mathlib.Core.Path.{_≡_, refl, sym, ap, _∙_}
+use mathlib.Core.Bool.{Bool, true, false, not, _&&_, and-false, true≢false}
 use mathlib.Core.List.{List}
 use Prim.Native.Nat.{ℕ, _+_, _≤_, _<_, min}
 use native.Mathlib.Omega.{arith}
 use borrow.Author.Needs.{needs}
-use borrow.Author.Tests.{ltb-true, lt-ltb, le-ltb, le-leb, lt-leb, eq-eqb, ne-eqb}
+use borrow.Author.Tests.{ltb-true, lt-ltb, le-ltb, eq-eqb, ne-eqb}
 use lib.Dec.{ltb}
 use lib.ListN.{length, getD, set, length-set}
 use lib.Seq.{getD-set-same, getD-set-other}
@@ -21,10 +21,10 @@ use Rattle.tables.specs.declared.Step.the-variants.{Next, Stop}
 use Rattle.tables.specs.Layout.{tab, Holds, Fine, Kept}
 use Rattle.tables.proofs.Tables.{kept-set, kept-then}
 use Rattle.tables.proofs.Entries.{length-more, tab-more-of, tab-more-by, holds-kept, spare-owner, spare-name, spare-type, open-kept}
-use Rattle.tables.proofs.Steps.{over-limits, out-of-order, unknown-part, steps-on}
+use Rattle.tables.proofs.Steps.{over-limits, steps-on}
 use Rattle.declarations.specs.Fields.{namedIn}
-use Rattle.declarations.specs.Taken.{TookLine}
-use Rattle.declarations.proofs.TakenLaws.{stopped, passed}
+use Rattle.declarations.specs.Taken.{TookSpelled}
+use Rattle.declarations.proofs.TakenLaws.{stopped, passed, past-block, order-by-number, misnumbered, unknown}
 use Rattle.declarations.proofs.KnownLaws.{declares-rows}
 
 -- ---- the limits
@@ -50,14 +50,14 @@ are-low n c name h = go (ltb n 64) refl (ltb c 64) refl (ltb name 256) refl h
 module _ (st : Counts) (k : ℕ) (w0 w1 : List ℕ) (n c name : ℕ) (t : Ty) where
   -- by the numbers as they are read
   pub row-over : {m d e : ℕ} → m ≡ min n 1000000 → d ≡ min c 1000000 → e ≡ min name 1000000 → allLow m d e ≡ false
-      → TookLine st k (rowLine n c name t) (Stop 4) w0 w1 w0 w1
+      → TookSpelled st k (rowLine n c name t) (Stop 4) w0 w1 w0 w1
   unfolding withinLimits isClass
   row-over p q r h =
       stopped st k w0 w1 _ 4 (λ s _.
       over-limits s k _
       (rw (rw (p, q, r, cut-lt n 1000000 64 (omega arith), cut-lt c 1000000 64 (omega arith), cut-lt name 1000000 256 (omega arith)) at h)))
 
-  pub row-over-type : typeWithin t ≡ false → TookLine st k (rowLine n c name t) (Stop 4) w0 w1 w0 w1
+  pub row-over-type : typeWithin t ≡ false → TookSpelled st k (rowLine n c name t) (Stop 4) w0 w1 w0 w1
   unfolding withinLimits
   row-over-type h = stopped st k w0 w1 _ 4 (λ s _. over-limits s k _ (rw (h, and-false)))
 
@@ -144,18 +144,15 @@ module _ (st : Counts) (k : ℕ) (w0 w1 : List ℕ) (n c name : ℕ) (t : Ty) (l
   unfolding withinLimits
   within s = rw (low, typed)
 
-  pub row-block : 1 < st .block → TookLine st k (rowLine n c name t) (Stop 5) w0 w1 w0 w1
-  unfolding inOrder blockOf
-  row-block b =
-      stopped st k w0 w1 _ 5 (λ s h. out-of-order s k _ (within s) (rw (lt-leb (s .block) 1 (omega (arith, h .counted .block)))))
+  pub row-block : 1 < st .block → TookSpelled st k (rowLine n c name t) (Stop 5) w0 w1 w0 w1
+  unfolding blockOf
+  row-block = past-block st k w0 w1 (rowLine n c name t) within
 
   module _ (in-block : st .block ≤ 1) where
-    pub row-gap : (n ≡ st .rows → ⊥) → TookLine st k (rowLine n c name t) (Stop 5) w0 w1 w0 w1
-    unfolding inOrder blockOf numbered
+    pub row-gap : (n ≡ st .rows → ⊥) → TookSpelled st k (rowLine n c name t) (Stop 5) w0 w1 w0 w1
+    unfolding blockOf numbered
     row-gap o =
-        stopped st k w0 w1 _ 5 (λ s h.
-        out-of-order s k _ (within s)
-        (rw (le-leb (s .block) 1 (omega (arith, h .counted .block)), ne-eqb n (length (s .rows)) (λ e. o (e ∙ sym (h .counted .rows))))))
+        misnumbered st k w0 w1 (rowLine n c name t) within in-block (λ s h. rw (ne-eqb n (length (s .rows)) (λ e. o (e ∙ sym (h .counted .rows)))))
 
     module _ (is-next : n ≡ st .rows) {d : Bool} (declared : d ≡ namedIn (tab 64 n w0) (tab 128 n w0) c name) where
       -- what the words say is what the rows say
@@ -164,35 +161,36 @@ module _ (st : Counts) (k : ℕ) (w0 w1 : List ℕ) (n c name : ℕ) (t : Ty) (l
           let long : n ≡ length (s .rows) = is-next ∙ h .counted .rows in
           sym (declares-rows (s .rows) c name) ∙ sym (declared ∙ rw (long, h .tables .owners, h .tables .names))
 
-      pub row-twice : d ≡ true → TookLine st k (rowLine n c name t) (Stop 5) w0 w1 w0 w1
-      unfolding inOrder blockOf numbered
-      row-twice y =
-          stopped st k w0 w1 _ 5 (λ s h.
-          out-of-order s k _ (within s)
-          (rw (le-leb (s .block) 1 (omega (arith, h .counted .block)), eq-eqb n (length (s .rows)) (is-next ∙ h .counted .rows), by-rows s h, y)))
+      its-number : (s : Sheet) → Holds st w0 w1 s → numbered s (rowLine n c name t) ≡ not d
+      unfolding numbered
+      its-number s h = rw (eq-eqb n (length (s .rows)) (is-next ∙ h .counted .rows), by-rows s h)
+
+      pub row-twice : d ≡ true → TookSpelled st k (rowLine n c name t) (Stop 5) w0 w1 w0 w1
+      unfolding blockOf
+      row-twice y = misnumbered st k w0 w1 (rowLine n c name t) within in-block (λ s h. its-number s h ∙ ap not y)
 
       module _ (once : d ≡ false) where
-        in-order : (s : Sheet) → Holds st w0 w1 s → inOrder s (rowLine n c name t) ≡ true
-        unfolding inOrder blockOf numbered
-        in-order s h =
-            rw (le-leb (s .block) 1 (omega (arith, h .counted .block)), eq-eqb n (length (s .rows)) (is-next ∙ h .counted .rows), by-rows s h, once)
+        new-number : (s : Sheet) → Holds st w0 w1 s → numbered s (rowLine n c name t) ≡ true
+        new-number s h = its-number s h ∙ ap not once
 
-        pub row-unknown : st .classes ≤ c → TookLine st k (rowLine n c name t) (Stop 6) w0 w1 w0 w1
-        unfolding partsKnown
+        in-order : (s : Sheet) → Holds st w0 w1 s → inOrder s (rowLine n c name t) ≡ true
+        unfolding blockOf
+        in-order s h = order-by-number st k w0 w1 (rowLine n c name t) within in-block s (h .counted) ∙ new-number s h
+
+        pub row-unknown : st .classes ≤ c → TookSpelled st k (rowLine n c name t) (Stop 6) w0 w1 w0 w1
+        unfolding blockOf partsKnown
         row-unknown u =
-            stopped st k w0 w1 _ 6 (λ s h.
-            unknown-part s k _ (within s) (in-order s h) (rw (le-ltb c (length (s .parents)) (omega (arith, h .counted .classes)))))
+            unknown st k w0 w1 (rowLine n c name t) within in-block new-number (λ s h. rw (le-ltb c (length (s .parents)) (omega (arith, h .counted .classes))))
 
         module _ (known : c < st .classes) {b : Bool} (told : b ≡ classBelow (st .classes) t) where
-          pub row-unknown-type : b ≡ false → TookLine st k (rowLine n c name t) (Stop 6) w0 w1 w0 w1
-          unfolding partsKnown
+          pub row-unknown-type : b ≡ false → TookSpelled st k (rowLine n c name t) (Stop 6) w0 w1 w0 w1
+          unfolding blockOf partsKnown
           row-unknown-type u =
-              stopped st k w0 w1 _ 6 (λ s h.
-              unknown-part s k _ (within s) (in-order s h)
-              (rw (lt-ltb c (length (s .parents)) (omega (arith, h .counted .classes)), ← h .counted .classes, ← told, u)))
+              unknown st k w0 w1 (rowLine n c name t) within in-block new-number
+              (λ s h. rw (lt-ltb c (length (s .parents)) (omega (arith, h .counted .classes)), ← h .counted .classes, ← told, u))
 
           pub row-put : (p : ℕ) → b ≡ true → typeIn p ≡ t → Fine st → 8192 ≤ length w0
-              → TookLine st k (rowLine n c name t) (Next (rowCounts st n)) w0 w1 (rowWords w0 n c name p) w1
+              → TookSpelled st k (rowLine n c name t) (Next (rowCounts st n)) w0 w1 (rowWords w0 n c name p) w1
           unfolding partsKnown suits treeHolds
           row-put p y packed fine room =
               let small : n < 64 = are-low n c name low .number in

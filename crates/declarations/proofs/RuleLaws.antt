@@ -5,7 +5,7 @@ use mathlib.Core.List.{List, []}
 use Prim.Native.Nat.{ℕ, _≤_, _<_}
 use native.Mathlib.Omega.{arith}
 use borrow.Author.Needs.{needs}
-use borrow.Author.Tests.{lt-ltb, le-ltb, le-leb, lt-leb, eq-eqb, ne-eqb}
+use borrow.Author.Tests.{lt-ltb, le-ltb, eq-eqb, ne-eqb}
 use lib.Dec.{ltb}
 use lib.ListN.{length}
 use Rattle.laws.specs.Lists.{each-nil}
@@ -14,11 +14,12 @@ use Rattle.sheet.specs.Sheet.{Sheet, added}
 use Rattle.sheet.specs.Refusals.{isClass, withinLimits, blockOf, numbered, inOrder, partsKnown, suits, treeHolds}
 use Rattle.tables.specs.declared.Counts.{Counts}
 use Rattle.tables.specs.declared.Step.the-variants.{Next, Stop}
-use Rattle.tables.specs.Layout.{HoldsCurrent, opened, Counted, Holds, Fine}
+use Rattle.tables.specs.Layout.{HoldsCurrent, opened, Holds, Fine}
 use Rattle.tables.proofs.Tables.{kept-refl}
-use Rattle.tables.proofs.Steps.{out-of-order, unknown-part, steps-on}
-use Rattle.declarations.specs.Taken.{TookLine}
-use Rattle.declarations.proofs.TakenLaws.{stopped, passed}
+use Rattle.tables.proofs.Entries.{tables-same}
+use Rattle.tables.proofs.Steps.{steps-on}
+use Rattle.declarations.specs.Taken.{TookSpelled}
+use Rattle.declarations.proofs.TakenLaws.{passed, past-block, order-by-number, misnumbered, unknown}
 
 -- the counts with a rule of context c open
 abbrev pub ruleCounts : Counts → ℕ → Counts
@@ -65,18 +66,7 @@ rule-held st k n c w0 w1 s h = record {
     nodes = h .counted .nodes;
     rules = h .counted .rules;
   };
-  tables = record {
-    parents = h .tables .parents;
-    owners = h .tables .owners;
-    names = h .tables .names;
-    types = h .tables .types;
-    objects = h .tables .objects;
-    keys = h .tables .keys;
-    starts = h .tables .starts;
-    cells = h .tables .cells;
-    fits = h .tables .fits;
-    contexts = h .tables .contexts;
-  };
+  tables = tables-same refl refl refl refl refl (h .tables);
   rules = record { bodies = h .rules .bodies; roots = h .rules .roots; lines = h .rules .lines };
   current = opened (rule-open st c w1 (length (s .lines)) (h .counted .nodes));
 }
@@ -86,34 +76,33 @@ module _ (st : Counts) (k : ℕ) (w0 w1 : List ℕ) (n c : ℕ) (low : n < 64) (
   unfolding isClass
   within s = rule-limits s n c ∙ rw (lt-ltb n 64 low, lt-ltb c 64 class)
 
-  pub rule-block : 4 < st .block → TookLine st k (ruleLine n c) (Stop 5) w0 w1 w0 w1
-  unfolding inOrder blockOf
-  rule-block b =
-      stopped st k w0 w1 _ 5 (λ s h. out-of-order s k _ (within s) (rw (lt-leb (s .block) 4 (omega (arith, h .counted .block)))))
+  pub rule-block : 4 < st .block → TookSpelled st k (ruleLine n c) (Stop 5) w0 w1 w0 w1
+  unfolding blockOf
+  rule-block = past-block st k w0 w1 (ruleLine n c) within
 
   module _ (in-block : st .block ≤ 4) where
-    pub rule-gap : (n ≡ st .rules → ⊥) → TookLine st k (ruleLine n c) (Stop 5) w0 w1 w0 w1
-    unfolding inOrder blockOf numbered
-    rule-gap o =
-        stopped st k w0 w1 _ 5 (λ s h.
-        out-of-order s k _ (within s)
-        (rw (le-leb (s .block) 4 (omega (arith, h .counted .block)), ne-eqb n (length (s .rules)) (λ e. o (e ∙ sym (h .counted .rules))))))
+    pub rule-gap : (n ≡ st .rules → ⊥) → TookSpelled st k (ruleLine n c) (Stop 5) w0 w1 w0 w1
+    unfolding blockOf numbered
+    rule-gap o = misnumbered st k w0 w1 (ruleLine n c) within in-block (λ s h. ne-eqb n (length (s .rules)) (λ e. o (e ∙ sym (h .counted .rules))))
 
     module _ (is-next : n ≡ st .rules) where
-      in-order : (s : Sheet) → Counted st s → inOrder s (ruleLine n c) ≡ true
-      unfolding inOrder blockOf numbered
-      in-order s h = rw (le-leb (s .block) 4 (omega (arith, h .block)), eq-eqb n (length (s .rules)) (is-next ∙ h .rules))
+      its-number : (s : Sheet) → Holds st w0 w1 s → numbered s (ruleLine n c) ≡ true
+      unfolding numbered
+      its-number s h = eq-eqb n (length (s .rules)) (is-next ∙ h .counted .rules)
 
-      pub rule-unknown : st .classes ≤ c → TookLine st k (ruleLine n c) (Stop 6) w0 w1 w0 w1
-      unfolding partsKnown
+      in-order : (s : Sheet) → Holds st w0 w1 s → inOrder s (ruleLine n c) ≡ true
+      unfolding blockOf
+      in-order s h = order-by-number st k w0 w1 (ruleLine n c) within in-block s (h .counted) ∙ its-number s h
+
+      pub rule-unknown : st .classes ≤ c → TookSpelled st k (ruleLine n c) (Stop 6) w0 w1 w0 w1
+      unfolding blockOf partsKnown
       rule-unknown u =
-          stopped st k w0 w1 _ 6 (λ s h.
-          unknown-part s k _ (within s) (in-order s (h .counted)) (rw (le-ltb c (length (s .parents)) (omega (arith, h .counted .classes)))))
+          unknown st k w0 w1 (ruleLine n c) within in-block its-number (λ s h. le-ltb c (length (s .parents)) (omega (arith, h .counted .classes)))
 
-      pub rule-put : Fine st → c < st .classes → TookLine st k (ruleLine n c) (Next (ruleCounts st c)) w0 w1 w0 w1
+      pub rule-put : Fine st → c < st .classes → TookSpelled st k (ruleLine n c) (Next (ruleCounts st c)) w0 w1 w0 w1
       unfolding partsKnown suits treeHolds
       rule-put fine known =
           passed st k w0 w1 _ (ruleCounts st c) _ (kept-refl w0) (search needs) (λ s h. (
-            steps-on s k (ruleLine n c) (within s) (in-order s (h .counted)) (lt-ltb c (length (s .parents)) (omega (arith, h .counted .classes))) refl refl,
+            steps-on s k (ruleLine n c) (within s) (in-order s h) (lt-ltb c (length (s .parents)) (omega (arith, h .counted .classes))) refl refl,
             rule-held st k n c w0 w1 s h,
           ))

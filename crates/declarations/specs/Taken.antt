@@ -21,7 +21,7 @@ pub record Lettered (letter : String) (line : Bytes) (f : Fields) : Type 0 where
   pub is-letter : is (getD (fieldsOf line) 0 []) (bytes letter) ≡ true
 
 -- line k, which is spelled as l, taken at st: the words were w0 and w1 and are v0 and v1
-pub record TookLine (st : Counts) (k : ℕ) (l : Line) (r : Step) (w0 w1 v0 v1 : List ℕ) : Type 0 where
+pub record TookSpelled (st : Counts) (k : ℕ) (l : Line) (r : Step) (w0 w1 v0 v1 : List ℕ) : Type 0 where
   pub is : (s : Sheet) → Holds st w0 w1 s → Moved v0 v1 r (stepLine s k l)
   pub kept0 : Kept w0 v0
   pub kept1 : Kept w1 v1

@@ -7,7 +7,7 @@ ghost use Rattle.sheet.specs.Lines.{classLine, aParent};
 ghost use Rattle.types.specs.Flat.{parentOf};
 ghost use Rattle.tables.specs.Layout.{Fine, Took};
 ghost use Rattle.declarations.specs.Fields.{parentNum};
-ghost use Rattle.declarations.specs.Taken.{Lettered, TookLine};
+ghost use Rattle.declarations.specs.Taken.{Lettered, TookSpelled};
 use tables::Counts;
 use tables::Step;
 use text::numbers::Num;
@@ -54,7 +54,7 @@ fn parent(f: &[u8]) -> Num
 // The class, whose number and parent are within their limits; p is one more than the parent, 0 for none.
 fn put_class(w0: &mut [u64], st: Counts, n: u64, p: u64) -> Step
     requires { ⌜ (8192 ≤ length (now w0)) × Fine st × (n < 64) × (p ≤ 64) ⌝ }
-    ensures { λ r. ⌜ ((w1 : List ℕ) (k : ℕ) → TookLine st k (classLine n (parentOf p)) r (now (w0 .entry)) w1 (now (w0 .exit)) w1) ⌝ }
+    ensures { λ r. ⌜ ((w1 : List ℕ) (k : ℕ) → TookSpelled st k (classLine n (parentOf p)) r (now (w0 .entry)) w1 (now (w0 .exit)) w1) ⌝ }
 {
     if 0 < st.block {
         return Step::Stop(5);

@@ -4,7 +4,7 @@ ghost use Prim.Native.Nat.{ℕ, _≤_, _<_};
 ghost use lib.ListN.{length};
 ghost use Rattle.sheet.specs.Lines.{objectLine};
 ghost use Rattle.tables.specs.Layout.{Fine, Took};
-ghost use Rattle.declarations.specs.Taken.{Lettered, TookLine};
+ghost use Rattle.declarations.specs.Taken.{Lettered, TookSpelled};
 use super::pairs::Pair;
 use super::pairs::read_pair;
 use tables::Counts;
@@ -24,7 +24,7 @@ pub fn object_line(line: &[u8], f: Fields, w0: &mut [u64], st: Counts) -> Step
 // The object, whose number and class are within their limits.
 fn put_object(w0: &mut [u64], st: Counts, n: u64, c: u64) -> Step
     requires { ⌜ (8192 ≤ length (now w0)) × Fine st × (n < 96) × (c < 64) ⌝ }
-    ensures { λ r. ⌜ ((w1 : List ℕ) (k : ℕ) → TookLine st k (objectLine n c) r (now (w0 .entry)) w1 (now (w0 .exit)) w1) ⌝ }
+    ensures { λ r. ⌜ ((w1 : List ℕ) (k : ℕ) → TookSpelled st k (objectLine n c) r (now (w0 .entry)) w1 (now (w0 .exit)) w1) ⌝ }
 {
     if 2 < st.block {
         return Step::Stop(5);

@@ -10,7 +10,7 @@ ghost use Rattle.sheet.specs.Refusals.{isClass, classBelow, typeWithin};
 ghost use Rattle.types.specs.Flat.{tyOf};
 ghost use Rattle.tables.specs.Layout.{tab, Fine, Took};
 ghost use Rattle.declarations.specs.Fields.{namedIn};
-ghost use Rattle.declarations.specs.Taken.{Lettered, TookLine};
+ghost use Rattle.declarations.specs.Taken.{Lettered, TookSpelled};
 use tables::Counts;
 use tables::Step;
 use text::numbers::Num;
@@ -66,7 +66,7 @@ fn numbers_within(n: u64, c: u64, name: u64) -> bool
 // The row, whose numbers and type are within their limits.
 fn put_row(w0: &mut [u64], st: Counts, n: u64, c: u64, name: u64, t: FlatType) -> Step
     requires { ⌜ (8192 ≤ length (now w0)) × Fine st × ((ltb n 64 && isClass c && ltb name 256) ≡ true) × (typeWithin (tyOf t) ≡ true) ⌝ }
-    ensures { λ r. ⌜ ((w1 : List ℕ) (k : ℕ) → TookLine st k (rowLine n c name (tyOf t)) r (now (w0 .entry)) w1 (now (w0 .exit)) w1) ⌝ }
+    ensures { λ r. ⌜ ((w1 : List ℕ) (k : ℕ) → TookSpelled st k (rowLine n c name (tyOf t)) r (now (w0 .entry)) w1 (now (w0 .exit)) w1) ⌝ }
 {
     if 1 < st.block {
         return Step::Stop(5);

@@ -3,7 +3,7 @@ ghost use mathlib.Core.List.{List};
 ghost use Prim.Native.Nat.{ℕ, _<_};
 ghost use Rattle.sheet.specs.Lines.{ruleLine};
 ghost use Rattle.tables.specs.Layout.{Fine, Took};
-ghost use Rattle.declarations.specs.Taken.{Lettered, TookLine};
+ghost use Rattle.declarations.specs.Taken.{Lettered, TookSpelled};
 use super::pairs::Pair;
 use super::pairs::read_pair;
 use tables::Counts;
@@ -24,7 +24,7 @@ pub fn rule_line(line: &[u8], f: Fields, st: Counts) -> Step
 // The rule, whose number and class are within their limits.
 fn open_rule(st: Counts, n: u64, c: u64) -> Step
     requires { ⌜ Fine st × (n < 64) × (c < 64) ⌝ }
-    ensures { λ r. ⌜ ((w0 w1 : List ℕ) (k : ℕ) → TookLine st k (ruleLine n c) r w0 w1 w0 w1) ⌝ }
+    ensures { λ r. ⌜ ((w0 w1 : List ℕ) (k : ℕ) → TookSpelled st k (ruleLine n c) r w0 w1 w0 w1) ⌝ }
 {
     if 4 < st.block {
         return Step::Stop(5);

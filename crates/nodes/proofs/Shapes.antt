@@ -2,12 +2,12 @@
 use mathlib.Core.Path.{_≡_, refl, ap, _∙_}
 use mathlib.Core.Bool.{true, false, _&&_}
 use mathlib.Core.List.{List, [], _∷_}
-use Prim.Native.Nat.{ℕ, suc, _+_, _-_, _%_, _<_, _≤_}
+use Prim.Native.Nat.{ℕ, _+_, _-_, _%_, _<_, _≤_}
 use native.Mathlib.Omega.{arith}
-use lib.IntN.{ℤ, pos, negsuc}
+use lib.IntN.{ℤ}
 use lib.ListN.{length, getD}
 use lib.Dec.{leb}
-use borrow.Author.Tests.{ltb-true, lt-ltb, le-ltb, leb-true}
+use borrow.Author.Tests.{leb-true}
 use Rattle.laws.specs.Integers.{bias, unbias}
 use Rattle.laws.specs.Lists.{Each, each-nil, each-cons}
 use Rattle.laws.proofs.Tests.{and-true}
@@ -18,25 +18,14 @@ use Rattle.sheet.specs.Lines.{Shape, leaf, unary, binary, connective, isUndef, 
 use Rattle.sheet.specs.Sheet.{operandsOf, growAll, grow}
 use Rattle.sheet.specs.Refusals.{isVariable, typeWithin, leafWithin, formWithin}
 use Rattle.types.specs.Word.{typeIn}
-use Rattle.nodes.specs.Nodes.{word, variable, leafOf, unaryOf, arithOf, binaryOf, connectiveOf, quantifierOf, kindOf, operandsIn, formOf, treesBelow, treeAt, leafWords, unaryWords, arithCode, binaryCode, connectiveCode, quantifierCode, collectCode, operandWord, shapeWords}
+use Rattle.ocl.proofs.Ranges.{unbias-bias, bias-small}
+use Rattle.nodes.specs.Nodes.{TypeSaid, word, variable, leafOf, unaryOf, arithOf, binaryOf, connectiveOf, quantifierOf, kindOf, operandsIn, formOf, treesBelow, treeAt, leafWords, unaryWords, arithCode, binaryCode, connectiveCode, quantifierCode, collectCode, operandWord, shapeWords}
 use Rattle.nodes.proofs.Nodes.{tree-law, below-law, collect-range}
-
--- a word for the type that `iter` has
-pub record TypeSaid (type : ℕ) (x : Shape) : Type 0 where
-  pub said : (i j : ℕ) (t : Ty) (a e b : ℕ) → x ≡ iterate i j t a e b → typeIn type ≡ t
 
 -- ---- numbers that the words hold
 
 integer-back : (z : ℤ) → inRange z ≡ true → unbias (bias z % 4294967296) ≡ z
-unfolding bias unbias inRange
-integer-back (pos n) h =
-    let l : n < 2147483648 = ltb-true n 2147483648 h in
-    let q : (2147483648 + n) % 4294967296 ≡ 2147483648 + n = omega arith in
-    rw (q, le-ltb (2147483648 + n) 2147483648 (omega arith)) (ap pos (omega arith))
-integer-back (negsuc n) h =
-    let l : n < 2147483648 = ltb-true n 2147483648 h in
-    let q : (2147483648 - suc n) % 4294967296 ≡ 2147483648 - suc n = omega arith in
-    rw (q, lt-ltb (2147483648 - suc n) 2147483648 (omega arith)) (ap negsuc (omega arith))
+integer-back z h = let q : bias z % 4294967296 ≡ bias z = omega (arith, bias-small z h) in rw q (unbias-bias z h)
 
 variable-back : (i : ℕ) → isVariable i ≡ true → variable i ≡ i
 unfolding isVariable

@@ -2,9 +2,9 @@
 -- name and type, the type as one word.
 use mathlib.Core.Path.{_≡_}
 use mathlib.Core.List.{List}
-use Prim.Native.Nat.{ℕ, _≤_, _<_}
-use lib.ListN.{length, getD}
-use Rattle.ocl.specs.Model.{Row, Model}
+use Prim.Native.Nat.{ℕ, _<_}
+use lib.ListN.{getD}
+use Rattle.ocl.specs.Model.{Model}
 use Rattle.types.specs.Flat.{parentsIn}
 use Rattle.types.specs.Word.{typeIn}
 

@@ -1,13 +1,14 @@
 -- The node table: 8 words to a node, counted through all rules. Word 0 is the form's code, one range of codes to one form of
 -- crates/ocl; then operands, by their numbers through all rules, and what else the form holds; word 7 is the line.
-use mathlib.Core.Bool.{Bool, true, false}
+use mathlib.Core.Path.{_≡_}
+use mathlib.Core.Bool.{true, false}
 use mathlib.Core.List.{List, [], _∷_}
-use Prim.Native.Nat.{ℕ, zero, suc, _+_, _-_, _*_, _%_}
+use Prim.Native.Nat.{ℕ, zero, suc, _+_, _*_, _%_}
 use lib.ListN.{length, getD}
 use lib.Dec.{eqb, ltb}
 use Rattle.laws.specs.Choice.{if_then_else_}
 use Rattle.laws.specs.Integers.{bias, unbias}
-use Rattle.ocl.specs.Types.{Kind, set, sequence, bag}
+use Rattle.ocl.specs.Types.{Kind, set, sequence, bag, Ty}
 use Rattle.ocl.specs.Forms.{Arith, plus, minus, times, div, modulo, Connective, and, or, Quantifier, forAll, exists, Leaf, truth, undef, number, self, var, all, Unary, negation, sizeOf, convert, castTo, Binary, equal, less, arith, includes, including, union, Expr, node, Form, leaf, unary, binary, connective, isUndef, conditional, letIn, attribute, quantified, iterate, collect, Operands, noOperand, operand}
 use Rattle.sheet.specs.Lines.{Shape}
 use Rattle.types.specs.Word.{typeIn}
@@ -165,3 +166,7 @@ shapeWords first type line (Shape.quantified q i a b) = quantifierCode q ∷ (fi
 shapeWords first type line (Shape.iterate i j t a e b) = 34 ∷ (first + a) ∷ (first + e) ∷ (first + b) ∷ i ∷ j ∷ type ∷ line ∷ []
 shapeWords first type line (Shape.collect k es) =
     collectCode k ∷ operandWord first es 0 ∷ operandWord first es 1 ∷ operandWord first es 2 ∷ operandWord first es 3 ∷ length es ∷ 0 ∷ line ∷ []
+
+-- a word for the type that `iter` has
+pub record TypeSaid (type : ℕ) (x : Shape) : Type 0 where
+  pub said : (i j : ℕ) (t : Ty) (a e b : ℕ) → x ≡ Shape.iterate i j t a e b → typeIn type ≡ t

@@ -1,7 +1,7 @@
 -- A line, the end of a rule before it and the text's end, put together as reading is defined. Assumes nothing.
-use mathlib.Core.Path.{_≡_, refl, sym, ap, _∙_, subst}
+use mathlib.Core.Path.{_≡_, refl, _∙_, subst}
 use mathlib.Core.Logic.{_≢_}
-use mathlib.Core.Bool.{Bool, true, false}
+use mathlib.Core.Bool.{true, false}
 use mathlib.Core.Option.{Option, none, some}
 use mathlib.Core.List.{List, [], _∷_}
 use Prim.Native.Nat.{ℕ, suc, _+_, _<_}
@@ -9,14 +9,16 @@ use native.Mathlib.Numerals.{add-one}
 use native.Mathlib.Omega.{arith}
 use borrow.Author.Tests.{eq-eqb, ne-eqb}
 use lib.ListN.{length, getD}
-use lib.Dec.{eqb}
 use Rattle.laws.specs.Choice.{if_then_else_}
-use Rattle.sheet.specs.Text.{Bytes, bytes, split, linesOf, fieldsOf}
+use Rattle.sheet.specs.Text.{Bytes, bytes, split, fieldsOf}
 use Rattle.sheet.specs.Lines.{is, lineOf, firstIsN}
-use Rattle.laws.proofs.Tests.{All?, all-none, all-some}
+use Rattle.laws.proofs.Tests.{All?, all-some}
+use Rattle.laws.proofs.Lists.{each-imp}
 use Rattle.sheet.specs.Sheet.{Current, Sheet}
-use Rattle.sheet.specs.Reading.{Step, taken, refuse, step, Reading, accepted, rejected, onStep, onEnd, closing, readLast, readLines}
-use Rattle.text.specs.Words.{byteKind, letterOf}
+use Rattle.sheet.specs.Reading.{Step, step, Reading, accepted, rejected, onStep, onEnd, closing, readLast, readLines}
+use Rattle.sheet.proofs.Good.{Good}
+use Rattle.sheet.proofs.Acceptance.{GoodStep, good-step, no-step, good-fields, good-endRule}
+use Rattle.text.specs.Words.{byteKind, onlyByte}
 use Rattle.text.proofs.WordLaws.{is-class-line, is-row-line, is-object-line, is-value-line, is-rule-line, is-node-line}
 use Rattle.tables.specs.declared.Counts.{Counts}
 use Rattle.tables.specs.declared.Step.{Step as CodeStep}
@@ -25,9 +27,7 @@ use Rattle.tables.specs.Layout.{Holds, HoldsOpen, closed, opened, Fine, Moved, 
 use Rattle.tables.proofs.Tables.{kept-refl, kept-then}
 use Rattle.slots.specs.Slots.{TookSlot}
 use Rattle.trees.specs.Rules.{RuleRoom, EndMoved, ended, Ended}
-use Rattle.reader.specs.Contracts.{placedAt, Tame, GoesOn, goes-on, refuses, TookLine, TookWhole, EndsAs, a-sheet, a-refusal, TookLast}
-use Rattle.reader.proofs.Tame.{TameStep, tame-next, tame-stop, tame-step, tame-end}
-use Rattle.reader.specs.declared.LineRead.{LineRead}
+use Rattle.reader.specs.Contracts.{placedAt, GoesOn, goes-on, refuses, TookLine, TookWhole, EndsAs, a-sheet, a-refusal, TookLast}
 use Rattle.reader.specs.declared.LineRead.the-variants as line-code
 use Rattle.reader.specs.declared.SheetRead.{SheetRead}
 use Rattle.reader.specs.declared.SheetRead.the-variants as sheet
@@ -39,15 +39,12 @@ unfolding firstIsN is bytes
 first-is [] = refl
 first-is (w ∷ fs) = refl
 
-module _ (fs : List Bytes) (kind : ℕ) (e : kind ≡ byteKind (letterOf (getD fs 0 []))) where
+module _ (fs : List Bytes) (kind : ℕ) (e : kind ≡ byteKind (onlyByte (getD fs 0 []))) where
   pub is-node : kind ≡ 6 → firstIsN fs ≡ true
   is-node h = first-is fs ∙ is-node-line (getD fs 0 []) ∙ rw (← e) (eq-eqb kind 6 h)
 
   pub is-other : kind ≢ 6 → firstIsN fs ≡ false
   is-other h = first-is fs ∙ is-node-line (getD fs 0 []) ∙ rw (← e) (ne-eqb kind 6 h)
-
-  pub node-letter : kind ≡ 6 → is (getD fs 0 []) (bytes "N") ≡ true
-  node-letter h = is-node-line (getD fs 0 []) ∙ rw (← e) (eq-eqb kind 6 h)
 
   pub class-letter : kind ≡ 1 → is (getD fs 0 []) (bytes "C") ≡ true
   class-letter h = is-class-line (getD fs 0 []) ∙ rw (← e) (eq-eqb kind 1 h)
@@ -71,7 +68,7 @@ unfolding lineOf
 no-line [] a b c d e f = refl
 no-line (w ∷ fs) a b c d e f = rw (a, b, c, d, e, f)
 
-pub unknown-line : (fs : List Bytes) (kind : ℕ) → kind ≡ byteKind (letterOf (getD fs 0 [])) → kind ≢ 1 → kind ≢ 2 → kind ≢ 3 → kind ≢ 4 → kind ≢ 5 → kind ≢ 6 → lineOf fs ≡ none
+pub unknown-line : (fs : List Bytes) (kind : ℕ) → kind ≡ byteKind (onlyByte (getD fs 0 [])) → kind ≢ 1 → kind ≢ 2 → kind ≢ 3 → kind ≢ 4 → kind ≢ 5 → kind ≢ 6 → lineOf fs ≡ none
 unknown-line fs kind e a b c d f g = no-line fs
     (is-class-line (getD fs 0 []) ∙ rw (← e) (ne-eqb kind 1 a)) (is-row-line (getD fs 0 []) ∙ rw (← e) (ne-eqb kind 2 b))
     (is-object-line (getD fs 0 []) ∙ rw (← e) (ne-eqb kind 3 c)) (is-value-line (getD fs 0 []) ∙ rw (← e) (ne-eqb kind 4 d))
@@ -83,20 +80,20 @@ pub by-any : {st : Counts} {k : ℕ} {line : Bytes} {r : CodeStep} {w0 w1 v0 v1 
 by-any t = record { is = λ s h m. t .is s h; kept0 = t .kept0; kept1 = t .kept1 }
 
 pub by-slot : {st : Counts} {k : ℕ} {line : Bytes} {r : CodeStep} {w0 w1 v0 v1 : List ℕ} → TookSlot st k line r w0 w1 v0 v1 → TookLine st k line r w0 w1 v0 v1
-by-slot t = record { is = λ s h m. t .is s h (m .small); kept0 = t .kept0; kept1 = t .kept1 }
+by-slot t = record { is = λ s h m. t .is s h (record { rows = each-imp (λ x o. o .low-row) (m .slots) }); kept0 = t .kept0; kept1 = t .kept1 }
 
 -- a step at line k
-at-line : {v0 v1 : List ℕ} {r : CodeStep} {x : Step} (k : ℕ) (f : Sheet → Reading) → Moved v0 v1 r x → TameStep x → GoesOn v0 v1 f (placedAt r k) (onStep x k f)
+at-line : {v0 v1 : List ℕ} {r : CodeStep} {x : Step} (k : ℕ) (f : Sheet → Reading) → Moved v0 v1 r x → GoodStep x → GoesOn v0 v1 f (placedAt r k) (onStep x k f)
 unfolding onStep
-at-line k f (moved-next g h) (tame-next t) = goes-on g h t
-at-line k f moved-stop tame-stop = refuses
+at-line k f (moved-next g h) (good-step t) = goes-on g h t
+at-line k f moved-stop no-step = refuses
 
 pub ended-fine : {v0 w1 : List ℕ} {r : CodeStep} {o : Option Sheet} (st : Counts) → EndMoved v0 w1 r o → r ≡ code.Next st → Fine st
 ended-fine st (ended {st = su} g h) e = let z : su ≡ st = cc in subst Fine z g
 ended-fine st EndMoved.refused e = absurd (let z : _≡_ {A = ℕ} 0 1 = cc in omega arith)
 
 -- an open rule has room in the tables
-pub rule-room : {st : Counts} {w0 w1 : List ℕ} (s : Sheet) → Holds st w0 w1 s → Tame s → RuleRoom st
+pub rule-room : {st : Counts} {w0 w1 : List ℕ} (s : Sheet) → Holds st w0 w1 s → Good s → RuleRoom st
 rule-room {st} {w0} {w1} s h t = record { room = by (s .current) refl (h .current) }
   where
     by : (o : Option Current) → s .current ≡ o → HoldsOpen st w1 (length (s .lines)) o → st .«open» ≡ 1 → st .rules < 64
@@ -107,7 +104,7 @@ module _ (st : Counts) (k : ℕ) (line : Bytes) where
   pub node-whole : {r : CodeStep} {w0 w1 v1 : List ℕ} → firstIsN (fieldsOf line) ≡ true → Took st (k + 1) line r w0 w1 w0 v1 → TookWhole st k line (placedAt r (k + 1)) w0 w1 w0 v1
   unfolding closing
   node-whole {r} {w0} {w1} {v1} e t = record {
-    is = λ s h m f. rw (e, ← add-one k) (at-line (k + 1) f (t .is s h) (tame-step s (k + 1) (fieldsOf line) m));
+    is = λ s h m f. rw (e, ← add-one k) (at-line (k + 1) f (t .is s h) (good-fields s (k + 1) (fieldsOf line) m));
     kept0 = t .kept0;
     kept1 = t .kept1;
   }
@@ -120,15 +117,15 @@ module _ (st : Counts) (k : ℕ) (line : Bytes) where
   unfolding closing
   stop-whole {w1 = w1} e t = record { is = λ s h m f. rw e (end-stop f _ (t .is s h)); kept0 = t .kept; kept1 = kept-refl w1 }
 
-  end-next : {v0 w1 u0 : List ℕ} {su : Counts} {r : CodeStep} {o : Option Sheet} (f : Sheet → Reading) → EndMoved v0 w1 (code.Next su) o → All? Tame o → TookLine su (k + 1) line r v0 w1 u0 w1
+  end-next : {v0 w1 u0 : List ℕ} {su : Counts} {r : CodeStep} {o : Option Sheet} (f : Sheet → Reading) → EndMoved v0 w1 (code.Next su) o → All? Good o → TookLine su (k + 1) line r v0 w1 u0 w1
       → GoesOn u0 w1 f (placedAt r (k + 1)) (onEnd o k (λ t. onStep (step t (suc k) (fieldsOf line)) (suc k) f))
   unfolding onEnd
-  end-next f (ended {s = s} g h) (all-some m) t = rw (← add-one k) (at-line (k + 1) f (t .is s h m) (tame-step s (k + 1) (fieldsOf line) m))
+  end-next f (ended {s = s} g h) (all-some m) t = rw (← add-one k) (at-line (k + 1) f (t .is s h m) (good-fields s (k + 1) (fieldsOf line) m))
 
   pub next-whole : {su : Counts} {r : CodeStep} {w0 w1 v0 u0 : List ℕ} → firstIsN (fieldsOf line) ≡ false → Ended st (code.Next su) w0 w1 v0 → TookLine su (k + 1) line r v0 w1 u0 w1
       → TookWhole st k line (placedAt r (k + 1)) w0 w1 u0 w1
   unfolding closing
-  next-whole e t q = record { is = λ s h m f. rw e (end-next f (t .is s h) (tame-end s m) q); kept0 = kept-then (t .kept) (q .kept0); kept1 = q .kept1 }
+  next-whole e t q = record { is = λ s h m f. rw e (end-next f (t .is s h) (good-endRule s m) q); kept0 = kept-then (t .kept) (q .kept0); kept1 = q .kept1 }
 
 -- ---- the text's last part
 

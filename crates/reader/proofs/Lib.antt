@@ -1,3 +1,2 @@
-pub mod Tame
 pub mod Laws
 pub mod Loop

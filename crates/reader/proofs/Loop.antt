@@ -1,8 +1,6 @@
 -- The loop over the lines of a text: what has been read and what is left are, read on, the whole. Assumes nothing.
 use mathlib.Core.Path.{_≡_, refl, sym, ap, _∙_, subst}
-use mathlib.Core.Bool.{true, false}
-use mathlib.Core.Option.{Option, none, some}
-use mathlib.Core.List.{List, [], _∷_, map}
+use mathlib.Core.List.{List, [], _∷_}
 use Prim.Native.Nat.{ℕ, suc, _+_, _-_, _≤_, _<_}
 use native.Mathlib.Numerals.{add-one}
 use native.Mathlib.Omega.{arith}
@@ -14,14 +12,13 @@ use Rattle.sheet.specs.Sheet.{Sheet, empty}
 use Rattle.sheet.specs.Refusals.{totalSize}
 use Rattle.sheet.specs.Reading.{Reading, rejected, step, onStep, closing, readLines}
 use Rattle.sheet.proofs.Split.{split-laws}
+use Rattle.sheet.proofs.Good.{good-empty}
 use Rattle.text.specs.Parts.{Ends}
 use Rattle.text.proofs.PartLaws.{first-part, only-part}
 use Rattle.tables.specs.declared.Counts.{Counts}
-use Rattle.tables.specs.Layout.{Holds, HoldsTables, HoldsRules, HoldsOpen, closed, Counted, Fine, Kept, noCounts, startsFrom, cellsOf, linesIn}
+use Rattle.tables.specs.Layout.{Holds, closed, Kept, noCounts, startsFrom, cellsOf, linesIn}
 use Rattle.tables.proofs.Tables.{kept-refl, kept-then}
 use Rattle.reader.specs.Contracts.{Held, GoesOn, goes-on, refuses, TookWhole, EndsAs, a-refusal, TookLast, ReadsTo}
-use Rattle.reader.proofs.Tame.{tame-empty}
-use Rattle.reader.specs.declared.LineRead.{LineRead}
 use Rattle.reader.specs.declared.LineRead.the-variants as line
 use Rattle.reader.specs.declared.SheetRead.{SheetRead}
 use Rattle.reader.specs.declared.SheetRead.the-variants as sheet
@@ -42,7 +39,7 @@ held-empty w0 w1 = record {
   sheet = empty;
   holds = holds-empty w0 w1;
   fine = record { classes = omega arith; rows = omega arith; objects = omega arith; slots = omega arith; cells = omega arith; nodes = omega arith; rules = omega arith; first = omega arith };
-  tame = tame-empty;
+  good = good-empty;
 }
 
 -- ---- on the way: the sheet so far, read on over what is left
@@ -85,7 +82,7 @@ record Onward (v0 v1 : List ℕ) (f : Sheet → Reading) (st : Counts) (x : Read
   is : x ≡ f (held .sheet)
 
 next-is : {v0 v1 : List ℕ} {f : Sheet → Reading} {st : Counts} {x : Reading} → GoesOn v0 v1 f (line.Next st) x → Onward v0 v1 f st x
-next-is (goes-on {s = s} g h m) = record { held = record { sheet = s; holds = h; fine = g; tame = m }; is = refl }
+next-is (goes-on {s = s} g h m) = record { held = record { sheet = s; holds = h; fine = g; good = m }; is = refl }
 
 module _ {text : Bytes} {u0 u1 w0 w1 : List ℕ} {rest : Bytes} {st : Counts} {k e : ℕ} (going : Going text u0 u1 w0 w1 rest st k e) where
   lines-split : e < length rest → linesOf rest ≡ take e rest ∷ linesOf (drop (e + 1) rest)
@@ -97,14 +94,14 @@ module _ {text : Bytes} {u0 u1 w0 w1 : List ℕ} {rest : Bytes} {st : Counts} {k
 
   pub going-refused : {v0 v1 : List ℕ} {n p : ℕ} → e < length rest → TookWhole st k (take e rest) (line.Refused n p) w0 w1 v0 v1 → ReadsTo text (sheet.Refused n p) u0 u1 v0 v1
   going-refused h t = record {
-    is = subst (EndsAs _ _ _) (sym (refused-is (t .is (going .held .sheet) (going .held .holds) (going .held .tame) _)) ∙ whole-is h) a-refusal;
+    is = subst (EndsAs _ _ _) (sym (refused-is (t .is (going .held .sheet) (going .held .holds) (going .held .good) _)) ∙ whole-is h) a-refusal;
     kept0 = kept-then (going .kept0) (t .kept0);
     kept1 = kept-then (going .kept1) (t .kept1);
   }
 
   going-on : {v0 v1 : List ℕ} {su : Counts} {d : ℕ} → e < length rest → TookWhole st k (take e rest) (line.Next su) w0 w1 v0 v1 → Ends 10 (drop (e + 1) rest) d
       → Going text u0 u1 v0 v1 (drop (e + 1) rest) su (k + 1) d
-  going-on h t n = let x = next-is (t .is (going .held .sheet) (going .held .holds) (going .held .tame) (λ u. readLines u (suc k) (linesOf (drop (e + 1) rest)))) in record {
+  going-on h t n = let x = next-is (t .is (going .held .sheet) (going .held .holds) (going .held .good) (λ u. readLines u (suc k) (linesOf (drop (e + 1) rest)))) in record {
     held = x .held;
     same = rw (add-one k) (sym (x .is) ∙ whole-is h);
     ends = n;

@@ -1,34 +1,26 @@
 -- What the reader's code promises: where it goes on, the words hold what the definition has read; where it refuses, so does the
 -- definition, with the same number and line.
-use mathlib.Core.Path.{_≡_}
-use mathlib.Core.Option.{some}
 use mathlib.Core.List.{List, [], _∷_}
-use Prim.Native.Nat.{ℕ, suc, _<_}
-use lib.ListN.{length}
+use Prim.Native.Nat.{ℕ, suc}
 use Rattle.sheet.specs.Text.{Bytes, linesOf, fieldsOf}
-use Rattle.sheet.specs.Sheet.{Rule, Current, Sheet, empty}
+use Rattle.sheet.specs.Sheet.{Sheet, empty}
+use Rattle.sheet.proofs.Good.{Good}
 use Rattle.sheet.specs.Reading.{Reading, accepted, rejected, step, onStep, closing, readLines}
 use Rattle.tables.specs.declared.Counts.{Counts}
 use Rattle.tables.specs.declared.Step.{Step as CodeStep}
 use Rattle.tables.specs.declared.Step.the-variants as step-code
 use Rattle.tables.specs.Layout.{Holds, Fine, Kept, Moved}
-use Rattle.slots.specs.Slots.{SmallRows}
 use Rattle.reader.specs.declared.LineRead.{LineRead}
 use Rattle.reader.specs.declared.LineRead.the-variants as line-code
 use Rattle.reader.specs.declared.SheetRead.{SheetRead}
 use Rattle.reader.specs.declared.SheetRead.the-variants as sheet-code
 
--- what every sheet on the way has, besides: rows of slots below 64, and room for the rule that is open
-pub record Tame (s : Sheet) : Type 0 where
-  pub small : SmallRows s
-  pub room : (c : Current) → s .current ≡ some c → length (s .rules) < 64
-
--- the words hold a sheet
+-- the words hold a sheet, which is as lines leave it
 pub record Held (st : Counts) (w0 w1 : List ℕ) : Type 0 where
   pub sheet : Sheet
   pub holds : Holds st w0 w1 sheet
   pub fine : Fine st
-  pub tame : Tame sheet
+  pub good : Good sheet
 
 -- a step with its line, where it refuses
 abbrev pub placedAt : CodeStep → ℕ → LineRead
@@ -37,18 +29,18 @@ placedAt (step-code.Stop n) k = line-code.Refused n k
 
 -- a line: it goes on with f, or refuses
 pub data GoesOn (v0 v1 : List ℕ) (f : Sheet → Reading) : LineRead → Reading → Type 0 where
-  goes-on : {st : Counts} {s : Sheet} → Fine st → Holds st v0 v1 s → Tame s → GoesOn v0 v1 f (line-code.Next st) (f s)
+  goes-on : {st : Counts} {s : Sheet} → Fine st → Holds st v0 v1 s → Good s → GoesOn v0 v1 f (line-code.Next st) (f s)
   refuses : {n k : ℕ} → GoesOn v0 v1 f (line-code.Refused n k) (rejected n k)
 
 -- line k by itself
 pub record TookLine (st : Counts) (k : ℕ) (line : Bytes) (r : CodeStep) (w0 w1 v0 v1 : List ℕ) : Type 0 where
-  pub is : (s : Sheet) → Holds st w0 w1 s → Tame s → Moved v0 v1 r (step s k (fieldsOf line))
+  pub is : (s : Sheet) → Holds st w0 w1 s → Good s → Moved v0 v1 r (step s k (fieldsOf line))
   pub kept0 : Kept w0 v0
   pub kept1 : Kept w1 v1
 
 -- the line after k others, and the end of an open rule before it
 pub record TookWhole (st : Counts) (k : ℕ) (line : Bytes) (r : LineRead) (w0 w1 v0 v1 : List ℕ) : Type 0 where
-  pub is : (s : Sheet) → Holds st w0 w1 s → Tame s → (f : Sheet → Reading)
+  pub is : (s : Sheet) → Holds st w0 w1 s → Good s → (f : Sheet → Reading)
       → GoesOn v0 v1 f r (closing s k (fieldsOf line) (λ t. onStep (step t (suc k) (fieldsOf line)) (suc k) f))
   pub kept0 : Kept w0 v0
   pub kept1 : Kept w1 v1

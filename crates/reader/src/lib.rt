@@ -1,4 +1,5 @@
-// Reads a sheet line by line into the tables of the lent words. Document 01, The sheet.
+// Reads a sheet line by line into the tables of the lent words. Document 01, The sheet. It depends on `text`, which parts the
+// text, on `declarations`, `slots` and `trees`, which take the lines, and on `tables`.
 ghost use mathlib.Core.Path.{_≡_};
 ghost use mathlib.Core.Logic.{_≢_};
 ghost use mathlib.Core.List.{List, []};
@@ -6,7 +7,7 @@ ghost use Prim.Native.Nat.{ℕ, _+_, _≤_, _<_};
 ghost use lib.ListN.{length, getD};
 ghost use Rattle.sheet.specs.Text.{fieldsOf};
 ghost use Rattle.text.specs.Parts.{Cut};
-ghost use Rattle.text.specs.Words.{byteKind, letterOf};
+ghost use Rattle.text.specs.Words.{byteKind, onlyByte};
 ghost use Rattle.tables.specs.Layout.{Fine};
 ghost use Rattle.reader.specs.Contracts.{Held, placedAt, TookLine, TookWhole, TookLast, ReadsTo};
 use declarations::classes::class_line;
@@ -39,7 +40,7 @@ pub enum SheetRead {
 
 // A line that is no node line, by the kind of its letter.
 fn other_line(kind: u64, line: &[u8], f: Fields, w0: &mut [u64], st: Counts) -> Step
-    requires { ⌜ Cut (now line) f × (kind ≡ byteKind (letterOf (getD (fieldsOf (now line)) 0 []))) × (kind ≢ 6) × (8192 ≤ length (now w0)) × Fine st ⌝ }
+    requires { ⌜ Cut (now line) f × (kind ≡ byteKind (onlyByte (getD (fieldsOf (now line)) 0 []))) × (kind ≢ 6) × (8192 ≤ length (now w0)) × Fine st ⌝ }
     ensures { λ r. ⌜ ((w1 : List ℕ) (k : ℕ) → TookLine st k (now (line .entry)) r (now (w0 .entry)) w1 (now (w0 .exit)) w1) ⌝ }
 {
     match kind {

@@ -16,16 +16,16 @@ use Rattle.values.specs.Cells.{head, enc}
 use Rattle.slots.specs.declared.parts.Part.the-variants as part
 use Rattle.slots.specs.declared.reader.Open.{Open}
 use Rattle.slots.specs.Parts.{Alone, alone-bool, alone-int, alone-obj, told-simple, told-wide, PartIs, part-bad, part-alone, part-opens}
-use Rattle.slots.specs.Machine.{Frame, resume, enter, laid, beyond, Deep, Sound, sound-nil, sound-cons, heads-nil, Wanted, Ending, Live, live-wanted, live-opened, AddsCell, OpensCell}
+use Rattle.slots.specs.Machine.{Frame, resume, enter, laid, beyond, Deep, FramesWithin, within-none, within-more, heads-nil, Wanted, Ending, Live, live-wanted, live-opened, AddsCell, OpensCell}
 use Rattle.slots.proofs.MachineLaws.{start-alone, start-none, start-opens, resumed}
 use Rattle.slots.proofs.LimitLaws.{never-part}
 use Rattle.slots.proofs.TurnLaws.{later, some-parts}
 
 -- ---- a value begins
 
-sound-length : {fs : List Frame} → Sound fs → length fs ≤ 3
-sound-length sound-nil = omega arith
-sound-length (sound-cons p n s) = omega arith
+sound-length : {fs : List Frame} → FramesWithin fs → length fs ≤ 3
+sound-length within-none = omega arith
+sound-length (within-more p n s) = omega arith
 
 alone-cells : {v : Value} → Alone v → enc v ≡ head v ∷ []
 unfolding enc
@@ -139,7 +139,7 @@ unfolding readValue whole resume laid
 begun f A z = rw z (live-wanted refl (record {
   frames = [];
   parts = length f;
-  sure = record { depth = refl; over = λ e. absurd (omega arith); fine = λ e. record { small = omega arith; room = omega arith; laid = refl; sound = sound-nil; heads = heads-nil } };
+  sure = record { depth = refl; over = λ e. absurd (omega arith); fine = λ e. record { small = omega arith; room = omega arith; laid = refl; sound = within-none; heads = heads-nil } };
   enough = record { within = omega arith; deep = omega arith; parts = each-nil };
   left = omega arith;
   same = refl;

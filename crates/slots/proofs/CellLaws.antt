@@ -17,12 +17,12 @@ use Rattle.sheet.specs.Text.{Bytes}
 use Rattle.sheet.specs.Refusals.{nestings}
 use Rattle.values.specs.Cells.{head, enc, encs}
 use Rattle.slots.specs.declared.reader.Open.{Open}
-use Rattle.slots.specs.Machine.{mayBe, Frame, laid, headAt, beyond, Heads, heads-nil, heads-cons, Never, Deep, sound-cons, Lies, Sure, AddsCell, OpensCell}
+use Rattle.slots.specs.Machine.{mayBe, Frame, laid, headAt, beyond, Heads, heads-nil, heads-cons, Never, Deep, within-more, InFront, Sure, AddsCell, OpensCell}
 use Rattle.slots.proofs.LimitLaws.{never-wide, never-room, never-deep}
 
 -- ---- one cell more
 
-pub lies-size : {A : List ℕ} {o : Open} {fs : List Frame} {X : List ℕ} → Lies A o fs X → o .size ≡ length (laid fs) + length X
+pub lies-size : {A : List ℕ} {o : Open} {fs : List Frame} {X : List ℕ} → InFront A o fs X → o .size ≡ length (laid fs) + length X
 lies-size {A} {o} {fs} {X} l = sym (length-take-le (o .size) A (l .room)) ∙ ap length (l .laid) ∙ length-append (laid fs) X
 
 heads-keep : {o r : Open} {fs : List Frame} → Heads o fs → ((i : ℕ) → 0 < i → i ≤ length fs → headAt r i ≡ headAt o i) → Heads r fs
@@ -43,7 +43,7 @@ added-cell {A} {o} {r} cell p q z = rw z (record {
   is = λ f fs d deep s. record { depth = s .depth; over = λ t. absurd (omega arith); fine = λ t. put fs (s .fine (omega arith)) };
 })
   where
-    put : (fs : List Frame) → Lies A o fs [] → Lies (set A (o .size) cell) (record { depth = o .depth; size = o .size + 1; second = o .second; third = o .third }) fs (cell ∷ [])
+    put : (fs : List Frame) → InFront A o fs [] → InFront (set A (o .size) cell) (record { depth = o .depth; size = o .size + 1; second = o .second; third = o .third }) fs (cell ∷ [])
     put fs l = record {
       small = omega arith;
       room = rw (length-set A (o .size) cell) (omega arith);
@@ -116,13 +116,13 @@ module _ {A B : List ℕ} {o s : Open} {cell : ℕ} (a : AddsCell cell A o B s) 
       go (suc (suc zero)) e f l = rw (← e) (eq ∙ rw (eq-eqb (o .depth) 2 f) z)
       go (suc (suc (suc n))) e f l = absurd (omega arith)
 
-  opened-lies : (fs : List Frame) (k : Kind) (n : ℕ) → m ≡ s .size → cell ≡ head (coll k nil) → o .depth ≡ length fs → o .depth < 3 → Lies A o fs [] → Lies B s fs (cell ∷ []) → Lies B after (record { kind = k; inside = nil; parts = n } ∷ fs) []
+  opened-lies : (fs : List Frame) (k : Kind) (n : ℕ) → m ≡ s .size → cell ≡ head (coll k nil) → o .depth ≡ length fs → o .depth < 3 → InFront A o fs [] → InFront B s fs (cell ∷ []) → InFront B after (record { kind = k; inside = nil; parts = n } ∷ fs) []
   unfolding laid enc encs everyParts nestings
   opened-lies fs k n me ce d h before l = record {
     small = let x = l .small in omega arith;
     room = let x = l .room in omega arith;
     laid = ap (λ (i : ℕ). take i B) me ∙ l .laid ∙ ap (λ (c : ℕ). laid fs ++ (c ∷ [])) ce ∙ sym (append-nil (laid fs ++ (head (coll k nil) ∷ [])));
-    sound = sound-cons {x = record { kind = k; inside = nil; parts = n }} {fs = fs} refl (omega arith) (l .sound);
+    sound = within-more {x = record { kind = k; inside = nil; parts = n }} {fs = fs} refl (omega arith) (l .sound);
     heads = heads-cons (new-head fs d h (lies-size before ∙ omega arith)) (heads-keep (l .heads) (λ i x y. heads-agree s after i x (λ z. kept-second i (omega arith) z) (λ z. kept-third i (omega arith) z)));
   }
 
@@ -140,7 +140,7 @@ module _ {A B : List ℕ} {o s : Open} {cell : ℕ} (a : AddsCell cell A o B s) 
           passed true g me e = record { is = λ v h. let l = leb-true 3 (o .depth) g in let w = deep .deep v h in let d = sure .depth in never-deep (length B) v (omega arith) }
           passed false g me e = t .over (omega arith)
 
-          fine : (b : Bool) → leb 3 (o .depth) ≡ b → m ≡ (if b then 129 else s .size) → m ≤ 128 → Dec (128 < o .size) → Lies B after (record { kind = k; inside = nil; parts = n } ∷ fs) []
+          fine : (b : Bool) → leb 3 (o .depth) ≡ b → m ≡ (if b then 129 else s .size) → m ≤ 128 → Dec (128 < o .size) → InFront B after (record { kind = k; inside = nil; parts = n } ∷ fs) []
           fine true g me e h = absurd (omega arith)
           fine false g me e (yes h) = absurd (let x = a .over h in omega arith)
           fine false g me e (no h) = opened-lies fs k n me ce (sure .depth) (leb-false 3 (o .depth) g) (sure .fine (omega arith)) (t .fine (omega arith))

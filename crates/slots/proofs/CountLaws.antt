@@ -18,7 +18,7 @@ use Rattle.values.proofs.Heads.{head-coll}
 use Rattle.values.proofs.Encoding.{size-law}
 use Rattle.values.proofs.Growing.{append-cells, append-count}
 use Rattle.slots.specs.declared.reader.Open.{Open}
-use Rattle.slots.specs.Machine.{Frame, grown, laid, headAt, outward, Heads, heads-cons, Tidy, Sound, sound-cons, Lies, Sure, Raises}
+use Rattle.slots.specs.Machine.{Frame, grown, laid, headAt, outward, Heads, heads-cons, Tidy, FramesWithin, within-more, InFront, Sure, Raises}
 use Rattle.slots.proofs.MachineLaws.{parts-append, nestings-append}
 use Rattle.slots.proofs.CellLaws.{lies-size, heads-same}
 
@@ -43,7 +43,7 @@ pub record First (A : List ℕ) (x : Frame) (at : ℕ) : Type 0 where
   pub cell : getD A at 0 ≡ head (coll (x .kind) (x .inside))
   pub few : count (x .inside) ≤ 128
 
-module _ {A : List ℕ} {o : Open} {x : Frame} {fs : List Frame} {X : List ℕ} (l : Lies A o (x ∷ fs) X) where
+module _ {A : List ℕ} {o : Open} {x : Frame} {fs : List Frame} {X : List ℕ} (l : InFront A o (x ∷ fs) X) where
   abbrev top : ℕ
   top = head (coll (x .kind) (x .inside))
 
@@ -69,7 +69,7 @@ module _ {A : List ℕ} {o : Open} {x : Frame} {fs : List Frame} {X : List ℕ} 
 head-at : {o : Open} {x : Frame} {fs : List Frame} → Heads o (x ∷ fs) → headAt o (suc (length fs)) ≡ length (laid fs)
 head-at (heads-cons e hs) = e
 
-pub first-at : {A : List ℕ} {o : Open} {x : Frame} {fs : List Frame} {X : List ℕ} → o .depth ≡ length (x ∷ fs) → Lies A o (x ∷ fs) X → First A x (headAt o (o .depth))
+pub first-at : {A : List ℕ} {o : Open} {x : Frame} {fs : List Frame} {X : List ℕ} → o .depth ≡ length (x ∷ fs) → InFront A o (x ∷ fs) X → First A x (headAt o (o .depth))
 unfolding headAt
 first-at {A} {o} {x} {fs} d l = rw (d, head-at (l .heads)) (first-cell l)
 
@@ -85,19 +85,19 @@ small-cell k us h = omega (arith, head-coll k us, small-code k)
 pub raise-may : {A : List ℕ} {x : Frame} {at : ℕ} → First A x at → (at < length A) × (getD A at 0 < 18446744073709551615)
 raise-may {x} c = (c .within, rw (c .cell) (small-cell (x .kind) (x .inside) (c .few)))
 
-tail-sound : {x : Frame} {fs : List Frame} → Sound (x ∷ fs) → Sound fs
-tail-sound (sound-cons p n s) = s
+tail-sound : {x : Frame} {fs : List Frame} → FramesWithin (x ∷ fs) → FramesWithin fs
+tail-sound (within-more p n s) = s
 
 tail-heads : {o : Open} {x : Frame} {fs : List Frame} → Heads o (x ∷ fs) → Heads o fs
 tail-heads (heads-cons e hs) = hs
 
-head-parts : {x : Frame} {fs : List Frame} → Sound (x ∷ fs) → everyParts partWithin (x .inside) ≡ true
-head-parts (sound-cons p n s) = p
+head-parts : {x : Frame} {fs : List Frame} → FramesWithin (x ∷ fs) → everyParts partWithin (x .inside) ≡ true
+head-parts (within-more p n s) = p
 
-head-nested : {x : Frame} {fs : List Frame} → Sound (x ∷ fs) → nestings (x .inside) + suc (length fs) ≤ 3
-head-nested (sound-cons p n s) = n
+head-nested : {x : Frame} {fs : List Frame} → FramesWithin (x ∷ fs) → nestings (x .inside) + suc (length fs) ≤ 3
+head-nested (within-more p n s) = n
 
-module _ {A : List ℕ} {o : Open} (x : Frame) (fs : List Frame) (u : Value) (l : Lies A o (x ∷ fs) (enc u)) (h : ℕ) (z : h ≡ length (laid fs)) (c : First A x (length (laid fs))) where
+module _ {A : List ℕ} {o : Open} (x : Frame) (fs : List Frame) (u : Value) (l : InFront A o (x ∷ fs) (enc u)) (h : ℕ) (z : h ≡ length (laid fs)) (c : First A x (length (laid fs))) where
   counted : getD A h 0 + 1 ≡ head (coll (x .kind) (append u (x .inside)))
   counted = omega (arith, ap (λ (n : ℕ). getD A n 0) z, c .cell, head-coll (x .kind) (x .inside), head-coll (x .kind) (append u (x .inside)), append-count u (x .inside))
 
@@ -111,9 +111,9 @@ module _ {A : List ℕ} {o : Open} (x : Frame) (fs : List Frame) (u : Value) (l 
       ∙ ap (λ (t : List ℕ). laid fs ++ (head (coll (x .kind) (append u (x .inside))) ∷ t)) (ap (λ (t : List ℕ). encs (x .inside) ++ t) (sym (append-nil (enc u))) ∙ sym (append-cells u (x .inside)))
       ∙ sym (append-nil (laid (grown x u ∷ fs)))
 
-grown-sound : (x : Frame) (fs : List Frame) (u : Value) → Tidy u (suc (length fs)) → Sound (x ∷ fs) → Sound (grown x u ∷ fs)
+grown-sound : (x : Frame) (fs : List Frame) (u : Value) → Tidy u (suc (length fs)) → FramesWithin (x ∷ fs) → FramesWithin (grown x u ∷ fs)
 grown-sound x fs u t s =
-    sound-cons {x = grown x u} {fs = fs} (parts-append u (x .inside) ∙ rw (head-parts s, t .parts))
+    within-more {x = grown x u} {fs = fs} (parts-append u (x .inside) ∙ rw (head-parts s, t .parts))
     (let a = head-nested s in let b = t .nested in let e = nestings-append u (x .inside) in omega arith) (tail-sound s)
 
 pub raised : {A : List ℕ} {o : Open} {h : ℕ} → o .size ≤ 128 → h ≡ headAt o (o .depth) → Raises A o (set A h (getD A h 0 + 1))
@@ -125,7 +125,7 @@ raised {A} {o} {h} e he = record {
   };
 }
   where
-    up : (x : Frame) (fs : List Frame) (u : Value) → Tidy u (suc (length fs)) → o .depth ≡ length (x ∷ fs) → Lies A o (x ∷ fs) (enc u) → Lies (set A h (getD A h 0 + 1)) o (grown x u ∷ fs) []
+    up : (x : Frame) (fs : List Frame) (u : Value) → Tidy u (suc (length fs)) → o .depth ≡ length (x ∷ fs) → InFront A o (x ∷ fs) (enc u) → InFront (set A h (getD A h 0 + 1)) o (grown x u ∷ fs) []
     up x fs u t d l =
         let z : h ≡ length (laid fs) = he ∙ ap (headAt o) d ∙ head-at (l .heads) in
         let c = first-cell l in
@@ -156,7 +156,7 @@ closed-sure {f} {A} {o} {x} {fs} s = record {
   };
 }
 
-pub closed-tidy : {A : List ℕ} {o : Open} {x : Frame} {fs : List Frame} {X : List ℕ} → Lies A o (x ∷ fs) X → Tidy (coll (x .kind) (x .inside)) (length fs)
+pub closed-tidy : {A : List ℕ} {o : Open} {x : Frame} {fs : List Frame} {X : List ℕ} → InFront A o (x ∷ fs) X → Tidy (coll (x .kind) (x .inside)) (length fs)
 unfolding everyPart nesting
 closed-tidy l = record { parts = head-parts (l .sound); nested = let n = head-nested (l .sound) in omega arith }
 
@@ -170,7 +170,7 @@ other-parts {f} {A} {o} {x} {fs} m s = record {
     small = l .small;
     room = l .room;
     laid = l .laid;
-    sound = sound-cons {x = record { kind = x .kind; inside = x .inside; parts = m }} {fs = fs} (head-parts (l .sound)) (head-nested (l .sound)) (tail-sound (l .sound));
+    sound = within-more {x = record { kind = x .kind; inside = x .inside; parts = m }} {fs = fs} (head-parts (l .sound)) (head-nested (l .sound)) (tail-sound (l .sound));
     heads = heads-cons (head-at (l .heads)) (tail-heads (l .heads));
   };
 }

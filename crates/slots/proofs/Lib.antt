@@ -12,4 +12,3 @@ pub mod SuitLaws
 pub mod SlotLaws
 pub mod PutLaws
 pub mod LineLaws
-pub mod RowLaws

@@ -17,7 +17,7 @@ use Rattle.sheet.specs.Lines.{Line, valueLine, is, next, done, aNumber, lineOf}
 use Rattle.sheet.specs.Spelling.{readValue}
 use Rattle.sheet.specs.Sheet.{Sheet}
 use Rattle.sheet.specs.Refusals.{valueWithin, withinLimits, totalSize}
-use Rattle.text.specs.Numbers.{numOf}
+use Rattle.text.specs.Numbers.{cutNum}
 use Rattle.text.specs.Parts.{Cut}
 use Rattle.text.specs.declared.parts.Fields.{Fields}
 use Rattle.text.specs.declared.numbers.Num.the-variants as num
@@ -61,17 +61,17 @@ module _ {line : Bytes} {f : Fields} (cut : Cut line f) (letter : is (getD (fiel
     long : length (fieldsOf line) ≡ 4
     long = counted-exact cut (omega arith) ∙ four
 
-    pub fields-object : {r : _} → r ≡ numOf (aNumber x) → r ≡ num.Bad → lineOf (fieldsOf line) ≡ none
+    pub fields-object : {r : _} → r ≡ cutNum (aNumber x) → r ≡ num.Bad → lineOf (fieldsOf line) ≡ none
     fields-object e h = value-fields (fieldsOf line) letter ∙ field-bad aNumber _ (fieldsOf line) 1 (omega (arith, long)) (rw (← at1) (num-bad (aNumber x) (sym h ∙ e)))
 
-    module _ {r1 : _} {o : ℕ} (read1 : r1 ≡ numOf (aNumber x)) (is1 : r1 ≡ num.Is o) {y : Bytes} (at2 : y ≡ getD (fieldsOf line) 2 []) where
+    module _ {r1 : _} {o : ℕ} (read1 : r1 ≡ cutNum (aNumber x)) (is1 : r1 ≡ num.Is o) {y : Bytes} (at2 : y ≡ getD (fieldsOf line) 2 []) where
       object : lineOf (fieldsOf line) ≡ next aNumber (λ a. next readValue (λ v. done (valueLine (the (aNumber x)) a v))) (drop 2 (fieldsOf line))
       object = value-fields (fieldsOf line) letter ∙ field-some aNumber _ (fieldsOf line) 1 (omega (arith, long)) (rw (← at1) (num-some (aNumber x) (sym is1 ∙ read1)))
 
-      pub fields-row : {r : _} → r ≡ numOf (aNumber y) → r ≡ num.Bad → lineOf (fieldsOf line) ≡ none
+      pub fields-row : {r : _} → r ≡ cutNum (aNumber y) → r ≡ num.Bad → lineOf (fieldsOf line) ≡ none
       fields-row e h = object ∙ field-bad aNumber _ (fieldsOf line) 2 (omega (arith, long)) (rw (← at2) (num-bad (aNumber y) (sym h ∙ e)))
 
-      module _ {r2 : _} {a : ℕ} (read2 : r2 ≡ numOf (aNumber y)) (is2 : r2 ≡ num.Is a) {z : Bytes} (at3 : z ≡ getD (fieldsOf line) 3 []) where
+      module _ {r2 : _} {a : ℕ} (read2 : r2 ≡ cutNum (aNumber y)) (is2 : r2 ≡ num.Is a) {z : Bytes} (at3 : z ≡ getD (fieldsOf line) 3 []) where
         row : lineOf (fieldsOf line) ≡ next readValue (λ v. done (valueLine (the (aNumber x)) (the (aNumber y)) v)) (drop 3 (fieldsOf line))
         row = object ∙ field-some aNumber _ (fieldsOf line) 2 (omega (arith, long)) (rw (← at2) (num-some (aNumber y) (sym is2 ∙ read2)))
 

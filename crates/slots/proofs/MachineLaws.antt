@@ -136,13 +136,13 @@ parts-glue nil ys = refl
 parts-glue (cons u us) ys = ap (λ (b : Bool). everyPart partWithin u && b) (parts-glue us ys) ∙ sym (and-assoc (everyPart partWithin u) (everyParts partWithin us) (everyParts partWithin ys))
 
 -- u among the members us, then ys
-pub record Holds (u : Value) (us ys : Values) : Type 0 where
+pub record Comprises (u : Value) (us ys : Values) : Type 0 where
   pub wide : sizes us + size u ≤ sizes (glue (append u us) ys)
   pub deep : nesting u ≤ nestings (glue (append u us) ys)
   pub parts : everyPart partWithin u ≡ false → everyParts partWithin (glue (append u us) ys) ≡ false
 
-holds : (u : Value) (us ys : Values) → Holds u us ys
-holds u us ys = record {
+comprises : (u : Value) (us ys : Values) → Comprises u us ys
+comprises u us ys = record {
   wide = omega (arith, sizes-glue (append u us) ys, append-grows u us);
   deep = omega (arith, nestings-glue (append u us) ys, nestings-append u us);
   parts = λ e. parts-glue (append u us) ys ∙ rw (parts-append u us, e, and-comm (everyParts partWithin us) false);
@@ -163,7 +163,7 @@ resumed [] u s {v} e = go s e
 resumed (x ∷ fs) u s {v} e =
     let m = onSome-some (moreParser (x .parts) s) _ e in
     let inner = resumed fs (coll (x .kind) (glue (append u (x .inside)) (m .0 .0))) (m .0 .1) (m .2) in
-    let h = holds u (x .inside) (m .0 .0) in
+    let h = comprises u (x .inside) (m .0 .0) in
     let l = length-append (laid fs) (enc (coll (x .kind) (x .inside))) in
     let z = size-law (coll (x .kind) (x .inside)) in
     record {

@@ -22,15 +22,15 @@ use Rattle.ocl.specs.Evaluation.{inRange}
 use Rattle.sheet.specs.Text.{Bytes, bytes, after, literal, behind, _or_, mapped, numberParser, integerParser, digits, plain, isDigit}
 use Rattle.sheet.specs.Spelling.{valueParser, membersParser, letterByte, kindByte}
 use Rattle.sheet.specs.Refusals.{partWithin}
-use Rattle.text.specs.Numbers.{numOf, leading, DigitsEnd, IntegerEnd, wholeOf, minusAt, leadingInteger}
-use Rattle.text.specs.Numbers.{bias as textBias}
+use Rattle.text.specs.Numbers.{cutNum, leading, DigitsEnd, IntegerEnd, wholeOf, minusAt, leadingInteger}
+use Rattle.laws.specs.Integers.{bias}
 use Rattle.text.specs.declared.numbers.Num.{Num}
 use Rattle.text.specs.declared.numbers.Num.the-variants as num
 use Rattle.text.specs.declared.numbers.Whole.{Whole}
 use Rattle.text.specs.declared.numbers.Whole.the-variants as whole
 use Rattle.text.proofs.NumberLaws.{number-from, end-from, num-bad, num-is}
 use Rattle.text.proofs.IntegerLaws.{integer-from, whole-bad, whole-out, whole-is}
-use Rattle.text.proofs.IntegerLaws.{bias-small as text-bias-small}
+use Rattle.ocl.proofs.Ranges.{bias-small}
 use Rattle.values.specs.Cells.{bit, payload, head}
 use Rattle.values.proofs.Heads.{head-int, head-obj, head-coll}
 use Rattle.slots.specs.declared.parts.Part.{Part}
@@ -39,7 +39,7 @@ use Rattle.slots.specs.Parts.{alone-bool, alone-int, alone-obj, After, t
 
 -- ---- an object's number
 
-module _ {f : Bytes} {at e : ℕ} (to : DigitsEnd f at e) {r : Num} (got : r ≡ numOf (leading (drop at f))) where
+module _ {f : Bytes} {at e : ℕ} (to : DigitsEnd f at e) {r : Num} (got : r ≡ cutNum (leading (drop at f))) where
   pub object-none : r ≡ num.Bad → ObjectIs f at part.Bad
   unfolding mapSome
   object-none h = object-bad refl (number-from to ∙ rw (num-bad (leading (drop at f)) (sym h ∙ got)))
@@ -97,14 +97,14 @@ module _ {f : Bytes} {at e : ℕ} (to : IntegerEnd f at e) {r : Whole} (got : r 
   pub whole-small : {p : ℕ} → r ≡ whole.Is p → p < 4294967296
   whole-small {p} h = go (leadingInteger (drop at f)) (whole-is _ (sym h ∙ got))
     where
-      go : (o : Option ℤ) → Any? (λ z. (inRange z ≡ true) × (p ≡ textBias z)) o → p < 4294967296
-      go (some z) (any-some t) = let b = text-bias-small z (t .0) in omega (arith, t .1)
+      go : (o : Option ℤ) → Any? (λ z. (inRange z ≡ true) × (p ≡ bias z)) o → p < 4294967296
+      go (some z) (any-some t) = let b = bias-small z (t .0) in omega (arith, t .1)
 
   pub whole-simple : {p : ℕ} → r ≡ whole.Is p → IntegerIs f at (part.Simple (4294967296 + p) e)
   unfolding mapSome partWithin
   whole-simple {p} h = go (leadingInteger (drop at f)) refl (integer-from to) (whole-is _ (sym h ∙ got))
     where
-      go : (o : Option ℤ) → leadingInteger (drop at f) ≡ o → integerParser (drop at f) ≡ mapSome (λ z. (z, drop e f)) o → Any? (λ z. (inRange z ≡ true) × (p ≡ textBias z)) o → IntegerIs f at (part.Simple (4294967296 + p) e)
+      go : (o : Option ℤ) → leadingInteger (drop at f) ≡ o → integerParser (drop at f) ≡ mapSome (λ z. (z, drop e f)) o → Any? (λ z. (inRange z ≡ true) × (p ≡ bias z)) o → IntegerIs f at (part.Simple (4294967296 + p) e)
       go (some z) q d (any-some t) =
           integer-is z (told-simple (reached q) (ap (λ (k : ℕ). 4294967296 + k) (t .1) ∙ sym (head-int z)) (t .0)) d
 

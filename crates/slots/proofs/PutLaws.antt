@@ -19,9 +19,9 @@ use Rattle.sheet.specs.Refusals.{objectBelow, totalSize, valueWithin, withinLim
 use Rattle.values.specs.Cells.{enc}
 use Rattle.tables.specs.declared.Counts.{Counts}
 use Rattle.tables.specs.declared.Step.the-variants.{Next, Stop}
-use Rattle.tables.specs.Layout.{tab, slotKey, startsFrom, cellsOf, Counted, Holds, Fine, Kept, moved-next, moved-stop}
+use Rattle.tables.specs.Layout.{tab, slotKey, startsFrom, cellsOf, Holds, Fine, Kept, moved-next, moved-stop}
 use Rattle.tables.proofs.Tables.{kept-refl, kept-set, kept-then}
-use Rattle.tables.proofs.Entries.{Spare, holds-kept, tab-next, tab-more-of, length-more, open-kept}
+use Rattle.tables.proofs.Entries.{holds-kept, spare-key, spare-start, tab-next, tab-more-of, length-more, open-kept}
 use Rattle.tables.proofs.Steps.{over-limits, out-of-order, unknown-part, not-suited, steps-on}
 use Rattle.slots.specs.Slots.{SmallRows, ValueAt, SlotAnswer, slotCounts, SlotTook}
 
@@ -52,12 +52,6 @@ module _ (st : Counts) (k o a n : ℕ) (w0 w1 : List ℕ) (room : 8192 ≤ lengt
   abbrev stored : List ℕ
   stored = set keyed (1376 + st .slots) (st .cells)
 
-  spare-key : {s : Sheet} → Counted st s → Spare (352 + st .slots) s
-  spare-key c = search needs
-
-  spare-start : {s : Sheet} → Counted st s → Spare (1376 + st .slots) s
-  spare-start c = search needs
-
   kept-words : Kept w0 stored
   kept-words = kept-then (kept-set w0 (352 + st .slots) key (omega arith)) (kept-set keyed (1376 + st .slots) (st .cells) (omega arith))
 
@@ -80,7 +74,7 @@ module _ (st : Counts) (k o a n : ℕ) (w0 w1 : List ℕ) (room : 8192 ≤ lengt
   unfolding added slotKey
   slot-held s v h at e =
       let x : Slot = record { object = o; row = a; value = v } in
-      let g = holds-kept (st .cells) (spare-start (h .counted)) (holds-kept key (spare-key (h .counted)) h) in
+      let g = holds-kept (st .cells) (spare-start fine (h .counted) few) (holds-kept key (spare-key fine (h .counted) few) h) in
       let m = h .counted .slots in
       let c = h .counted .cells in
       let l = long in

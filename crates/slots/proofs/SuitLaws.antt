@@ -8,7 +8,6 @@ use lib.ListN.{length, getD}
 use lib.Seq.{slice, slice-cons}
 use lib.Dec.{eqb}
 use borrow.Author.Tests.{ne-eqb}
-use Rattle.laws.proofs.Tests.{test-same}
 use Rattle.laws.proofs.Slices.{split-right}
 use Rattle.ocl.specs.Types.{any, boolean, integer, class, Kind, set, sequence, bag, kindCode, sameKind, Letter, collection, exactly, Ty, simple, around, Parents, up, height, simpleCode, sameSimple, climbs, simpleSubtype, letterSubtype}
 use Rattle.ocl.specs.Values.{Value, bool, int, obj, coll, Values, sort, members}
@@ -22,7 +21,7 @@ use Rattle.values.specs.Cells.{payload, head, enc, encs, Fits}
 use Rattle.values.specs.Contracts.{SortOf, PayloadOf, Skips}
 use Rattle.values.proofs.Heads.{enc-parts, members-fit, sort-kind}
 use Rattle.values.proofs.Members.{Left, next-member, none-left}
-use Rattle.slots.specs.Suits.{simpleBy, Seen, ObjectSuits, BaseSuits, lettered, LetterSuits, BelongsAt}
+use Rattle.slots.specs.Suits.{simpleBy, Seen, ObjectSuits, BaseSuits, kindBelow, LetterSuits, BelongsAt}
 
 -- ---- a simple value, by the sort of its cell
 
@@ -137,15 +136,15 @@ kind-letter (suc (suc (suc (suc zero)))) sequence vs a b = refl
 kind-letter (suc (suc (suc (suc zero)))) bag vs a b = refl
 kind-letter (suc (suc (suc (suc (suc n))))) k vs a b = absurd (omega arith)
 
-one-letter : (n : ℕ) (v : Value) → 2 ≤ n → n ≤ 4 → 3 ≤ sort v → eqb (sort v) (n + 1) ≡ lettered (letterOf n) v
-unfolding lettered sort
+one-letter : (n : ℕ) (v : Value) → 2 ≤ n → n ≤ 4 → 3 ≤ sort v → eqb (sort v) (n + 1) ≡ kindBelow (letterOf n) v
+unfolding kindBelow sort
 one-letter n (bool x) a b h = absurd (omega arith)
 one-letter n (int x) a b h = absurd (omega arith)
 one-letter n (obj x) a b h = absurd (omega arith)
 one-letter n (coll k vs) a b h = kind-letter n k vs a b
 
-any-letter : (l : Letter) → l ≡ collection → (v : Value) → 3 ≤ sort v → true ≡ lettered l v
-unfolding lettered sort letterSubtype
+any-letter : (l : Letter) → l ≡ collection → (v : Value) → 3 ≤ sort v → true ≡ kindBelow l v
+unfolding kindBelow sort letterSubtype
 any-letter l z (bool x) e = absurd (omega arith)
 any-letter l z (int x) e = absurd (omega arith)
 any-letter l z (obj x) e = absurd (omega arith)
@@ -153,10 +152,10 @@ any-letter l z (coll k vs) e = rw z
 
 module _ {letter cell t : ℕ} (so : SortOf cell t) where
   pub letter-none : t < 3 → LetterSuits letter cell false
-  unfolding lettered sort
+  unfolding kindBelow sort
   letter-none h = record { is = λ v f ce. go v (let q = so .is v f ce in omega arith) }
     where
-      go : (v : Value) → sort v < 3 → false ≡ lettered (letterOf letter) v
+      go : (v : Value) → sort v < 3 → false ≡ kindBelow (letterOf letter) v
       go (bool x) e = refl
       go (int x) e = refl
       go (obj x) e = refl
@@ -167,21 +166,6 @@ module _ {letter cell t : ℕ} (so : SortOf cell t) where
 
   pub letter-kind : 3 ≤ t → 2 ≤ letter → letter ≤ 4 → LetterSuits letter cell (eqb t (letter + 1))
   letter-kind h a b = record { is = λ v f ce. let q = so .is v f ce in ap (λ (i : ℕ). eqb i (letter + 1)) q ∙ one-letter letter v a b (omega arith) }
-
-pub low-letter : (n : ℕ) → n < 2 → letterOf n ≡ collection
-unfolding letterOf
-low-letter zero h = refl
-low-letter (suc zero) h = refl
-low-letter (suc (suc n)) h = absurd (omega arith)
-
-pub high-letter : (n : ℕ) → 4 < n → letterOf n ≡ collection
-unfolding letterOf
-high-letter zero h = absurd (omega arith)
-high-letter (suc zero) h = absurd (omega arith)
-high-letter (suc (suc zero)) h = absurd (omega arith)
-high-letter (suc (suc (suc zero))) h = absurd (omega arith)
-high-letter (suc (suc (suc (suc zero)))) h = absurd (omega arith)
-high-letter (suc (suc (suc (suc (suc n))))) h = refl
 
 -- ---- a collection's members: the loop of `belongs`
 
@@ -205,10 +189,10 @@ first-at cells p end v h room e = ap (λ (l : List ℕ). getD l 0 0) (sym (slice
 
 around-law : (cells : List ℕ) (p end : ℕ) (t : FlatType) {b : Bool} → p < end → end ≤ length cells → (t .outer ≡ 0 → ⊥) → LetterSuits (t .outer) (getD cells p 0) b
     → (m : Model) (v : Value) → Fits v → slice p end cells ≡ enc v → belongs m (tyOf t) v ≡ b && every (belongs m (tyOf (under t))) (members v)
-unfolding belongs lettered members
+unfolding belongs kindBelow members
 around-law cells p end t {b} h room n l m v f e = ap (λ (u : Ty). belongs m u v) (goes-on t n) ∙ parts v (l .is v f (first-at cells p end v h room e))
   where
-    parts : (v : Value) → b ≡ lettered (letterOf (t .outer)) v → belongs m (around (letterOf (t .outer)) (tyOf (under t))) v ≡ b && every (belongs m (tyOf (under t))) (members v)
+    parts : (v : Value) → b ≡ kindBelow (letterOf (t .outer)) v → belongs m (around (letterOf (t .outer)) (tyOf (under t))) v ≡ b && every (belongs m (tyOf (under t))) (members v)
     parts (bool x) d = rw d
     parts (int x) d = rw d
     parts (obj x) d = rw d

@@ -19,7 +19,7 @@ use Rattle.slots.specs.declared.reader.Read.{Read}
 use Rattle.slots.specs.declared.reader.Read.the-variants as read
 use Rattle.slots.specs.declared.reader.Turn.{Turn}
 use Rattle.slots.specs.declared.reader.Turn.the-variants as turn
-use Rattle.slots.specs.Machine.{Frame, grown, resume, among, start, enter, laid, headAt, outward, Tidy, Lies, Sure, Enough, Wanted, Joined, Ending, Live, live-wanted, live-opened, live-joined, ReadIs, read-bad, read-over, read-is, TurnIs, turn-on, turn-stop, Raises, Last}
+use Rattle.slots.specs.Machine.{Frame, grown, resume, among, start, enter, laid, headAt, outward, Tidy, InFront, Sure, Enough, Wanted, Joined, Ending, Live, live-wanted, live-opened, live-joined, ReadIs, read-bad, read-over, read-is, TurnIs, turn-on, turn-stop, Raises, Last}
 use Rattle.slots.proofs.MachineLaws.{start-end, enter-end, among-end, among-comma, close, other, enter-close, enter-value}
 use Rattle.slots.proofs.LimitLaws.{may}
 use Rattle.slots.proofs.PartLaws.{from-byte}
@@ -27,7 +27,7 @@ use Rattle.slots.proofs.CountLaws.{first-at, raise-may, closed-sure, cl
 
 -- ---- the field's end
 
-alone : (v : Value) {o : Open} (fs : List Frame) → length fs ≡ 0 → {cells : List ℕ} → Lies cells o fs (enc v) → take (o .size) cells ≡ enc v
+alone : (v : Value) {o : Open} (fs : List Frame) → length fs ≡ 0 → {cells : List ℕ} → InFront cells o fs (enc v) → take (o .size) cells ≡ enc v
 unfolding laid
 alone v [] z l = l .laid
 alone v (x ∷ fs) z l = absurd (omega arith)
@@ -55,7 +55,7 @@ module _ {f : Bytes} {at : ℕ} {o : Open} where
   pub last-is : length f ≤ at → o .size ≤ 128 → Last f at o (read.Is (o .size))
   last-is h t = record { is = λ cells e d. made cells e d (e .sure .fine t) (e .tidy t) }
     where
-      made : (cells : List ℕ) (e : Ending f cells at o) → o .depth ≡ 0 → Lies cells o (e .frames) (enc (e .value)) → Tidy (e .value) (length (e .frames)) → ReadIs f cells (read.Is (o .size))
+      made : (cells : List ℕ) (e : Ending f cells at o) → o .depth ≡ 0 → InFront cells o (e .frames) (enc (e .value)) → Tidy (e .value) (length (e .frames)) → ReadIs f cells (read.Is (o .size))
       made cells e d l y =
           let lies = alone (e .value) (e .frames) (sym (e .sure .depth) ∙ d) l in
           let n : o .size ≡ size (e .value) = sym (length-take-le (o .size) cells (l .room)) ∙ ap length lies ∙ size-law (e .value) in
@@ -85,7 +85,7 @@ module _ {f : Bytes} {A : List ℕ} {at : ℕ} {o : Open} (e : Ending f A at o) 
   pub may-raise : o .size ≤ 128 → (headAt o (o .depth) < length A) × (getD A (headAt o (o .depth)) 0 < 18446744073709551615)
   may-raise t = go (e .frames) (e .sure .depth) (e .sure .fine t)
     where
-      go : (fs : List Frame) → o .depth ≡ length fs → Lies A o fs (enc (e .value)) → (headAt o (o .depth) < length A) × (getD A (headAt o (o .depth)) 0 < 18446744073709551615)
+      go : (fs : List Frame) → o .depth ≡ length fs → InFront A o fs (enc (e .value)) → (headAt o (o .depth) < length A) × (getD A (headAt o (o .depth)) 0 < 18446744073709551615)
       go [] d l = absurd (inside d)
       go (x ∷ fs) d l = raise-may (first-at d l)
 

@@ -98,23 +98,23 @@ pub record Tidy (v : Value) (d : ℕ) : Type 0 where
   pub parts : everyPart partWithin v ≡ true
   pub nested : nesting v + d ≤ 3
 
-pub data Sound : List Frame → Type 0 where
-  sound-nil : Sound []
-  sound-cons : {x : Frame} {fs : List Frame} → everyParts partWithin (x .inside) ≡ true → nestings (x .inside) + suc (length fs) ≤ 3
-      → Sound fs → Sound (x ∷ fs)
+pub data FramesWithin : List Frame → Type 0 where
+  within-none : FramesWithin []
+  within-more : {x : Frame} {fs : List Frame} → everyParts partWithin (x .inside) ≡ true → nestings (x .inside) + suc (length fs) ≤ 3
+      → FramesWithin fs → FramesWithin (x ∷ fs)
 
 -- the cells of the open collections lie in front, and X after them
-pub record Lies (cells : List ℕ) (o : Open) (fs : List Frame) (X : List ℕ) : Type 0 where
+pub record InFront (cells : List ℕ) (o : Open) (fs : List Frame) (X : List ℕ) : Type 0 where
   pub small : o .size ≤ 128
   pub room : o .size ≤ length cells
   pub laid : take (o .size) cells ≡ laid fs ++ X
-  pub sound : Sound fs
+  pub sound : FramesWithin fs
   pub heads : Heads o fs
 
 pub record Sure (f : Bytes) (cells : List ℕ) (o : Open) (fs : List Frame) (X : List ℕ) : Type 0 where
   pub depth : o .depth ≡ length fs
   pub over : 128 < o .size → Never f (length cells)
-  pub fine : o .size ≤ 128 → Lies cells o fs X
+  pub fine : o .size ≤ 128 → InFront cells o fs X
 
 -- ---- where the reading stands
 

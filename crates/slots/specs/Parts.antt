@@ -30,21 +30,21 @@ pub data Told (f : Bytes) (at : ℕ) (v : Value) : Part → Type 0 where
   told-simple : {c e : ℕ} → After f at e → c ≡ head v → partWithin v ≡ true → Told f at v (part.Simple c e)
   told-wide : {e : ℕ} → After f at e → partWithin v ≡ false → Told f at v (part.Wide e)
 
-abbrev pub endOf : Part → ℕ
-endOf part.Bad = 0
-endOf (part.Simple c e) = e
-endOf (part.Wide e) = e
-endOf (part.Opens c e) = e
+abbrev pub partEnd : Part → ℕ
+partEnd part.Bad = 0
+partEnd (part.Simple c e) = e
+partEnd (part.Wide e) = e
+partEnd (part.Opens c e) = e
 
 -- the object whose digits begin at `at`
 pub data ObjectIs (f : Bytes) (at : ℕ) (r : Part) : Type 0 where
   object-bad : r ≡ part.Bad → numberParser (drop at f) ≡ none → ObjectIs f at r
-  object-is : (o : ℕ) → ((from : ℕ) → from < at → Told f from (obj o) r) → numberParser (drop at f) ≡ some (o, drop (endOf r) f) → ObjectIs f at r
+  object-is : (o : ℕ) → ((from : ℕ) → from < at → Told f from (obj o) r) → numberParser (drop at f) ≡ some (o, drop (partEnd r) f) → ObjectIs f at r
 
 -- the Integer that begins at `at`
 pub data IntegerIs (f : Bytes) (at : ℕ) (r : Part) : Type 0 where
   integer-bad : r ≡ part.Bad → integerParser (drop at f) ≡ none → IntegerIs f at r
-  integer-is : (z : ℤ) → Told f at (int z) r → integerParser (drop at f) ≡ some (z, drop (endOf r) f) → IntegerIs f at r
+  integer-is : (z : ℤ) → Told f at (int z) r → integerParser (drop at f) ≡ some (z, drop (partEnd r) f) → IntegerIs f at r
 
 -- a bracket after the letter at `at`
 pub data OpensIs (f : Bytes) (at kind : ℕ) (r : Part) : Type 0 where
@@ -54,6 +54,6 @@ pub data OpensIs (f : Bytes) (at kind : ℕ) (r : Part) : Type 0 where
 -- what `valueWithin` reads at `at`, however many parts it may have
 pub data PartIs (f : Bytes) (at : ℕ) (r : Part) : Type 0 where
   part-bad : r ≡ part.Bad → ((n : ℕ) → valueParser (suc n) (drop at f) ≡ none) → PartIs f at r
-  part-alone : (v : Value) → Alone v → Told f at v r → ((n : ℕ) → valueParser (suc n) (drop at f) ≡ some (v, drop (endOf r) f)) → PartIs f at r
+  part-alone : (v : Value) → Alone v → Told f at v r → ((n : ℕ) → valueParser (suc n) (drop at f) ≡ some (v, drop (partEnd r) f)) → PartIs f at r
   part-opens : (k : Kind) → r ≡ part.Opens (head (coll k nil)) (at + 2) → at + 2 ≤ length f
       → ((n : ℕ) → valueParser (suc n) (drop at f) ≡ mapped (coll k) (membersParser n) (drop (at + 2) f)) → PartIs f at r

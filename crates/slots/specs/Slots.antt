@@ -1,5 +1,5 @@
 -- What a V line's code asks of the tables and promises. A slot's key is its object times 64 and its row, which tells the two
--- apart only where rows are below 64: so the promise is for sheets whose rows are (proofs/RowLaws.antt: every sheet that is read is such).
+-- apart only where rows are below 64: so the promise is for sheets whose rows are. Every sheet that is read is such: crates/sheet, proofs/Good.antt.
 use mathlib.Core.Path.{_≡_}
 use mathlib.Core.Bool.{Bool, true}
 use mathlib.Core.List.{List}

@@ -43,14 +43,14 @@ pub record BaseSuits (parents objects : List ℕ) (base : Base) (cell : ℕ) (r 
   pub is : (m : Model) (v : Value) → Seen parents objects m → Fits v → cell ≡ head v → r ≡ belongsTo m (baseType base) v
 
 -- a collection whose kind is below the letter
-unfoldable pub lettered : Letter → Value → Bool
-lettered l (bool b) = false
-lettered l (int z) = false
-lettered l (obj o) = false
-lettered l (coll k vs) = letterSubtype (exactly k) l
+unfoldable pub kindBelow : Letter → Value → Bool
+kindBelow l (bool b) = false
+kindBelow l (int z) = false
+kindBelow l (obj o) = false
+kindBelow l (coll k vs) = letterSubtype (exactly k) l
 
 pub record LetterSuits (letter cell : ℕ) (r : Bool) : Type 0 where
-  pub is : (v : Value) → Fits v → cell ≡ head v → r ≡ lettered (letterOf letter) v
+  pub is : (v : Value) → Fits v → cell ≡ head v → r ≡ kindBelow (letterOf letter) v
 
 pub record BelongsAt (parents objects cells : List ℕ) (p end : ℕ) (t : FlatType) (r : Bool) : Type 0 where
   pub is : (m : Model) (v : Value) → Seen parents objects m → Fits v → slice p end cells ≡ enc v → r ≡ belongsTo m (tyOf t) v

@@ -1,6 +1,5 @@
 // The objects in a value, each a cell of its own.
 ghost use mathlib.Core.Path.{_≡_};
-ghost use Rattle.laws.specs.Lists.{allOf};
 ghost use Rattle.slots.specs.Objects.{cellKnown, KnownIs};
 
 // Cells of objects start and end here.

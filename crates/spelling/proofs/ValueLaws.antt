@@ -13,7 +13,7 @@ use Rattle.ocl.specs.Evaluation.{inRange}
 use Rattle.sheet.specs.Text.{Bytes, bytes, spellInteger}
 use Rattle.sheet.specs.Spelling.{kindByte, spellValue, spellMembers}
 use Rattle.text.specs.Written.{Puts}
-use Rattle.text.proofs.IntegerLaws.{unbias-bias}
+use Rattle.ocl.proofs.Ranges.{unbias-bias}
 use Rattle.values.specs.Cells.{enc, encs, Fits, fits-int, AllFit, kids}
 use Rattle.values.specs.Contracts.{SortOf, SimpleOf, Means, means-bool, means-int, means-obj}
 use Rattle.values.specs.declared.Simple.{Simple}

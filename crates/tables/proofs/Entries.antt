@@ -87,6 +87,18 @@ module _ {st : Counts} {s : Sheet} (fine : Fine st) (same : Counted st s) where
   pub spare-object : st .objects < 96 → Spare (256 + st .objects) s
   spare-object h = search needs
 
+  pub spare-key : st .slots < 1024 → Spare (352 + st .slots) s
+  spare-key h = search needs
+
+  pub spare-start : st .slots < 1024 → Spare (1376 + st .slots) s
+  spare-start h = search needs
+
+  pub spare-context : st .rules < 64 → Spare (4448 + st .rules) s
+  spare-context h = search needs
+
+  pub spare-root : st .rules < 64 → Spare (4512 + st .rules) s
+  spare-root h = search needs
+
 -- ---- one entry more
 
 pub tab-next : (off n : ℕ) (w : List ℕ) → off + n < length w → tab off (suc n) w ≡ tab off n w ++ (getD w (off + n) 0 ∷ [])
@@ -111,6 +123,23 @@ tab-more-by read f off w xs x h is at =
     ∙ ap (map read) (tab-next off (length xs) w h)
     ∙ map-append read (tab off (length xs) w) (getD w (off + length xs) 0 ∷ [])
     ∙ rw (is, at, map-append f xs (x ∷ []))
+
+-- ---- a sheet with the same tables
+
+pub tables-same : {w0 : List ℕ} {s u : Sheet} → u .parents ≡ s .parents → u .rows ≡ s .rows → u .objects ≡ s .objects → u .slots ≡ s .slots → u .rules ≡ s .rules
+    → HoldsTables w0 s → HoldsTables w0 u
+tables-same p a o v r h = record {
+  parents = rw p (h .parents);
+  owners = rw a (h .owners);
+  names = rw a (h .names);
+  types = rw a (h .types);
+  objects = rw o (h .objects);
+  keys = rw v (h .keys);
+  starts = rw v (h .starts);
+  cells = rw v (h .cells);
+  fits = rw v (h .fits);
+  contexts = rw r (h .contexts);
+}
 
 -- ---- the open rule under other counts
 

@@ -12,7 +12,7 @@ use lib.Seq.{drop-cons}
 use Rattle.laws.specs.Choice.{onSome}
 use Rattle.sheet.specs.Text.{Bytes}
 use Rattle.sheet.specs.Lines.{is, next, done}
-use Rattle.text.specs.Numbers.{numOf}
+use Rattle.text.specs.Numbers.{cutNum}
 use Rattle.text.specs.declared.numbers.Num.the-variants.{Is}
 
 pub word-is : (f w : Bytes) → is f w ≡ true → f ≡ w
@@ -66,20 +66,20 @@ abbrev pub the : Option ℕ → ℕ
 the none = 0
 the (some n) = n
 
-module _ {m : ℕ} (o : Option ℕ) (read : Is m ≡ numOf o) where
+module _ {m : ℕ} (o : Option ℕ) (read : Is m ≡ cutNum o) where
   pub num-some : o ≡ some (the o)
-  unfolding numOf
+  unfolding cutNum
   num-some = go o read
     where
-      go : (o : Option ℕ) → Is m ≡ numOf o → o ≡ some (the o)
+      go : (o : Option ℕ) → Is m ≡ cutNum o → o ≡ some (the o)
       go none h = absurd (let z : _≡_ {A = ℕ} 0 1 = cc in omega arith)
       go (some n) h = refl
 
   pub num-cut : m ≡ min (the o) 1000000
-  unfolding numOf
+  unfolding cutNum
   num-cut = go o read
     where
-      go : (o : Option ℕ) → Is m ≡ numOf o → m ≡ min (the o) 1000000
+      go : (o : Option ℕ) → Is m ≡ cutNum o → m ≡ min (the o) 1000000
       go none h = absurd (let z : _≡_ {A = ℕ} 0 1 = cc in omega arith)
       go (some n) h = cc
 

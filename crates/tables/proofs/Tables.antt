@@ -1,11 +1,10 @@
 -- A table at an offset of the words: one entry more, entries elsewhere, and what stays. Assumes nothing.
 use mathlib.Core.Path.{_≡_, refl, sym, ap, _∙_}
-use mathlib.Core.List.{List, [], _∷_, _++_, map}
-use Prim.Native.Nat.{ℕ, zero, suc, _+_, _-_, _≤_, _<_}
+use mathlib.Core.List.{List, map}
+use Prim.Native.Nat.{ℕ, _+_, _-_, _≤_, _<_}
 use native.Mathlib.Omega.{arith}
-use native.Mathlib.Numerals.{add-one}
 use lib.ListN.{length, getD, take, drop, set, length-set, length-drop, List·getD-map}
-use lib.Seq.{length-take-le, take-suc-set, take-set-le, drop-set-lt, drop-set-add, getD-take, getD-drop}
+use lib.Seq.{length-take-le, take-set-le, drop-set-lt, drop-set-add, getD-take, getD-drop}
 use Rattle.laws.proofs.Elements.{getD-map}
 use Rattle.tables.specs.Layout.{tab, Kept}
 
@@ -15,10 +14,6 @@ module _ (off n : ℕ) (w : List ℕ) where
 
   pub tab-at : (i : ℕ) → i < n → getD (tab off n w) i 0 ≡ getD w (off + i) 0
   tab-at i h = getD-take n (drop off w) i 0 h ∙ getD-drop off w i 0
-
-  -- the next entry
-  pub tab-more : (x : ℕ) → off + n < length w → tab off (suc n) (set w (off + n) x) ≡ tab off n w ++ (x ∷ [])
-  tab-more x h = ap (take (suc n)) (drop-set-add off w n x) ∙ take-suc-set (drop off w) n x (let e = length-drop off w in omega arith)
 
   -- an entry before the table, and one after it
   pub tab-before : (i x : ℕ) → i < off → tab off n (set w i x) ≡ tab off n w

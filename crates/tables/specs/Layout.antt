@@ -5,18 +5,15 @@ use mathlib.Core.Bool.{Bool, true, false}
 use mathlib.Core.Option.{Option, none, some}
 use mathlib.Core.List.{List, [], _∷_, _++_, map}
 use Prim.Native.Nat.{ℕ, zero, suc, _+_, _*_, _-_, _≤_, _<_}
-use lib.ListN.{length, getD, getElem?, take, drop}
-use Rattle.laws.specs.Choice.{if_then_else_}
+use lib.ListN.{length, getD, take, drop}
 use Rattle.laws.specs.Lists.{member, concat, Each}
-use Rattle.ocl.specs.Types.{Ty}
-use Rattle.ocl.specs.Values.{Value, size}
-use Rattle.ocl.specs.Model.{Row, Model}
-use Rattle.ocl.specs.Forms.{Expr, levels}
+use Rattle.ocl.specs.Values.{size}
+use Rattle.ocl.specs.Model.{Row}
+use Rattle.ocl.specs.Forms.{levels}
 use Rattle.sheet.specs.Text.{Bytes, fieldsOf}
 use Rattle.sheet.specs.Sheet.{Slot, Rule, Current, Sheet, treeOf}
 use Rattle.sheet.specs.Refusals.{totalSize}
 use Rattle.sheet.specs.Reading.{Step, taken, refuse, step}
-use Rattle.types.specs.Flat.{parentsIn}
 use Rattle.types.specs.Word.{typeIn}
 use Rattle.values.specs.Cells.{enc, Fits}
 use Rattle.nodes.specs.Nodes.{word, treeAt}

@@ -1,5 +1,5 @@
 // The tables that reading leaves in the lent words, for typing and evaluation to read: their layout and what they hold
-// stand in specs/. It depends on `types` and `values` for how a type and a value lie in words.
+// stand in specs/. It depends on `types`, `values` and `nodes` for how these lie in words, and on `text` for a line's fields.
 
 ghost use mathlib.Core.Path.{_≡_};
 ghost use Prim.Native.Nat.{_≤_};

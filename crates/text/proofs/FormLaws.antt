@@ -89,7 +89,7 @@ unfolding moderate allOf forms bytes
 all-moderate = refl
 
 -- a number that is at least k, and not k
-above : {n k : ℕ} → k ≤ n → (n ≡ k → ⊥) → k + 1 ≤ n
+pub above : {n k : ℕ} → k ≤ n → (n ≡ k → ⊥) → k + 1 ≤ n
 above p h = omega arith
 
 -- no word has the length of w
@@ -104,17 +104,17 @@ no-length w a b c d e f g h i = sym (forms-code w ∙ sym (by-length w forms) �
     none = none-longer (length w) forms all-moderate out
 
 -- the turns of `among`: the words and codes that are left, and room for a word to each code
-pub record Left (w words codes : Bytes) (at k : ℕ) : Type 0 where
+pub record WordsLeft (w words codes : Bytes) (at k : ℕ) : Type 0 where
   pub room : (length codes - k) * (length w + 1) + at ≤ length words + 1
   pub code : codeAmong w (drop at words) (drop k codes) ≡ codeAmong w words codes
 
-pub left-all : (w words codes : Bytes) → length codes * (length w + 1) ≤ length words + 1 → Left w words codes 0 0
+pub left-all : (w words codes : Bytes) → length codes * (length w + 1) ≤ length words + 1 → WordsLeft w words codes 0 0
 left-all w words codes h = let q : length codes - 0 ≡ length codes = omega arith in record { room = rw q (omega arith); code = refl }
 
 rows-left : (c k n : ℕ) → k < c → (c - k) * n ≡ n + (c - (k + 1)) * n
 rows-left c k n h = let q : c - k ≡ suc (c - (k + 1)) = omega arith in rw (q, suc-mul (c - (k + 1)) n) (omega arith)
 
-module _ {w words codes : Bytes} {at k : ℕ} (left : Left w words codes at k) where
+module _ {w words codes : Bytes} {at k : ℕ} (left : WordsLeft w words codes at k) where
   pub word-within : k < length codes → at + length w ≤ length words
   word-within h = omega (arith, rows-left (length codes) k (length w + 1) h, left .room)
 
@@ -126,7 +126,7 @@ module _ {w words codes : Bytes} {at k : ℕ} (left : Left w words codes at k) w
     unfolding codeAmong
     left-found h e = rw (at-next 0 codes k h, ← word-here, e) at (left .code)
 
-    pub left-next : k < length codes → t ≡ false → Left w words codes (at + length w + 1) (k + 1)
+    pub left-next : k < length codes → t ≡ false → WordsLeft w words codes (at + length w + 1) (k + 1)
     unfolding codeAmong
     left-next h e = record {
       room = omega (arith, rows-left (length codes) k (length w + 1) h, left .room);

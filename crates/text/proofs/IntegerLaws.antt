@@ -16,11 +16,10 @@ use Rattle.laws.proofs.Tests.{Any?, any-some}
 use Rattle.laws.proofs.Options.{orElse-none}
 use Rattle.laws.proofs.Parts.{at-next}
 use Rattle.ocl.specs.Evaluation.{inRange}
-pub use Rattle.ocl.proofs.Ranges.{unbias-bias, bias-unbias, unbias-ranged, bias-small}
 use Rattle.sheet.specs.Text.{Bytes, bytes, after, behind, _or_, _then_, mapped, isDigit, digits, afterDigits, plain, valueOfDigits, numberParser, negative, integerParser}
 use Rattle.sheet.specs.Lines.{anInteger}
-use Rattle.laws.specs.Integers.{bias, unbias}
-use Rattle.text.specs.Numbers.{leading, DigitsEnd, DigitsRead, IntegerEnd, IntegerRead, ranged, wholeOf, minusAt, signed, leadingInteger}
+use Rattle.laws.specs.Integers.{bias}
+use Rattle.text.specs.Numbers.{leading, DigitsEnd, DigitsRead, IntegerEnd, IntegerRead, wholeOf, minusAt, signed, leadingInteger}
 use Rattle.text.specs.declared.numbers.Digits.{Digits}
 use Rattle.text.specs.declared.numbers.Whole.the-variants.{Bad, Out, Is}
 use Rattle.text.proofs.NumberLaws.{number-leading, digits-after, leading-some, leading-none, whole-read, whole-left}
@@ -29,11 +28,11 @@ use Rattle.text.proofs.NumberLaws.{number-leading, digits-after, leadin
 
 module _ (n : ℕ) where
   pub plus-in : {m : ℕ} → m ≡ 0 → n < 2147483648 → Is (2147483648 + n) ≡ wholeOf (signed m n)
-  unfolding wholeOf signed ranged inRange bias
+  unfolding wholeOf signed inRange bias
   plus-in e h = rw (e, lt-ltb n 2147483648 h)
 
   pub plus-out : {m : ℕ} → m ≡ 0 → 2147483648 ≤ n → Out ≡ wholeOf (signed m n)
-  unfolding wholeOf signed ranged inRange
+  unfolding wholeOf signed inRange
   plus-out e h = rw (e, le-ltb n 2147483648 h)
 
 pub minus-zero : (m n : ℕ) → (m ≡ 0 → ⊥) → n ≡ 0 → Bad ≡ wholeOf (signed m n)
@@ -42,13 +41,13 @@ minus-zero zero n p e = absurd (p refl)
 minus-zero (suc m) n p e = rw e
 
 pub minus-in : (m n : ℕ) → (m ≡ 0 → ⊥) → (n ≡ 0 → ⊥) → n ≤ 2147483648 → Is (2147483648 - n) ≡ wholeOf (signed m n)
-unfolding wholeOf signed ranged inRange bias
+unfolding wholeOf signed inRange bias
 minus-in zero n p q h = absurd (p refl)
 minus-in (suc m) zero p q h = absurd (q refl)
 minus-in (suc m) (suc n) p q h = rw (lt-ltb n 2147483648 (omega arith))
 
 pub minus-out : (m n : ℕ) → (m ≡ 0 → ⊥) → 2147483648 < n → Out ≡ wholeOf (signed m n)
-unfolding wholeOf signed ranged inRange
+unfolding wholeOf signed inRange
 minus-out zero n p h = absurd (p refl)
 minus-out (suc m) zero p h = absurd (omega arith)
 minus-out (suc m) (suc n) p h = rw (le-ltb n 2147483648 (omega arith))
@@ -162,7 +161,7 @@ module _ {f : Bytes} {e : ℕ} (to : IntegerEnd f 0 e) where
 -- ---- what a caller learns of the field by the answer
 
 pub whole-bad : (o : Option ℤ) → Bad ≡ wholeOf o → o ≡ none
-unfolding wholeOf ranged
+unfolding wholeOf
 whole-bad none h = refl
 whole-bad (some z) h = absurd (go (inRange z) h)
   where
@@ -171,7 +170,7 @@ whole-bad (some z) h = absurd (go (inRange z) h)
     go false h = let z : _≡_ {A = ℕ} 0 1 = cc in omega arith
 
 pub whole-out : (o : Option ℤ) → Out ≡ wholeOf o → Any? (λ z. inRange z ≡ false) o
-unfolding wholeOf ranged
+unfolding wholeOf
 whole-out none h = absurd (let z : _≡_ {A = ℕ} 0 1 = cc in omega arith)
 whole-out (some z) h = any-some (go (inRange z) h)
   where
@@ -180,7 +179,7 @@ whole-out (some z) h = any-some (go (inRange z) h)
     go false h = refl
 
 pub whole-is : {p : ℕ} (o : Option ℤ) → Is p ≡ wholeOf o → Any? (λ z. (inRange z ≡ true) × (p ≡ bias z)) o
-unfolding wholeOf ranged
+unfolding wholeOf
 whole-is none h = absurd (let z : _≡_ {A = ℕ} 0 1 = cc in omega arith)
 whole-is {p} (some z) h = any-some (go (inRange z) h)
   where

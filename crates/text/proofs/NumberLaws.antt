@@ -17,7 +17,7 @@ use Rattle.sheet.specs.Text.{Bytes, Parser, isDigit, digits, afterDigits, plain
 use Rattle.sheet.specs.Lines.{aNumber}
 use Rattle.sheet.proofs.Numbers.{digits-split}
 use Rattle.text.specs.Words.{byteKind}
-use Rattle.text.specs.Numbers.{numOf, leading, DigitsEnd}
+use Rattle.text.specs.Numbers.{cutNum, leading, DigitsEnd}
 use Rattle.text.specs.declared.numbers.Num.the-variants.{Bad, Is}
 use Rattle.text.proofs.WordLaws.{digit-by-kind}
 
@@ -135,12 +135,12 @@ module _ {s : Bytes} {at e : ℕ} (to : DigitsEnd s at e) {t : Bool} (told : t �
   unfolding leading
   leading-none h = rw (plain-told, h)
 
-  pub number-read : {m r : ℕ} → t ≡ true → m ≡ min (valueOfDigits 0 (digits (drop at s))) 10000000000 → r ≡ min m 1000000 → Is r ≡ numOf (leading (drop at s))
-  unfolding numOf
+  pub number-read : {m r : ℕ} → t ≡ true → m ≡ min (valueOfDigits 0 (digits (drop at s))) 10000000000 → r ≡ min m 1000000 → Is r ≡ cutNum (leading (drop at s))
+  unfolding cutNum
   number-read h p q = rw (leading-some h) (ap Is (omega arith))
 
-  pub number-bad : t ≡ false → Bad ≡ numOf (leading (drop at s))
-  unfolding numOf
+  pub number-bad : t ≡ false → Bad ≡ cutNum (leading (drop at s))
+  unfolding cutNum
   number-bad h = rw (leading-none h)
 
 -- the whole of a field is read, or a byte is left
@@ -172,12 +172,12 @@ module _ {f : Bytes} {e : ℕ} (to : DigitsEnd f 0 e) where
 
 -- ---- what a caller learns of the field by the answer
 
-pub num-bad : (o : Option ℕ) → Bad ≡ numOf o → o ≡ none
-unfolding numOf
+pub num-bad : (o : Option ℕ) → Bad ≡ cutNum o → o ≡ none
+unfolding cutNum
 num-bad none h = refl
 num-bad (some n) h = absurd (let z : _≡_ {A = ℕ} 0 1 = cc in omega arith)
 
-pub num-is : {m : ℕ} (o : Option ℕ) → Is m ≡ numOf o → Any? (λ n. m ≡ min n 1000000) o
-unfolding numOf
+pub num-is : {m : ℕ} (o : Option ℕ) → Is m ≡ cutNum o → Any? (λ n. m ≡ min n 1000000) o
+unfolding cutNum
 num-is none h = absurd (let z : _≡_ {A = ℕ} 0 1 = cc in omega arith)
 num-is (some n) h = any-some {x = n} (cc)

@@ -13,42 +13,42 @@ use lib.Seq.{take-all, getD-set-same, getD-set-other, getD-drop, drop-drop}
 use Rattle.laws.specs.Choice.{if_then_else_}
 use Rattle.laws.proofs.Parts.{at-next, part-all}
 use Rattle.sheet.specs.Text.{Bytes, onto, split, fieldsOf}
-use Rattle.text.specs.Parts.{endOf, Ends, Lies, startOf, Cut}
+use Rattle.text.specs.Parts.{untilSep, Ends, Lies, startOf, Cut}
 use Rattle.text.specs.declared.parts.Fields.{Fields}
 
 -- ---- the first separator: the turns of `find`
 
-module _ (sep : ℕ) (s : Bytes) (i : ℕ) (inv : i + endOf sep (drop i s) ≡ endOf sep s) where
-  pub find-none : length s ≤ i → i ≡ endOf sep s
-  unfolding endOf
-  find-none h = let e : endOf sep (drop i s) ≡ 0 = rw (drop-of-length-le s h) in omega arith
+module _ (sep : ℕ) (s : Bytes) (i : ℕ) (inv : i + untilSep sep (drop i s) ≡ untilSep sep s) where
+  pub find-none : length s ≤ i → i ≡ untilSep sep s
+  unfolding untilSep
+  find-none h = let e : untilSep sep (drop i s) ≡ 0 = rw (drop-of-length-le s h) in omega arith
 
-  pub find-here : i < length s → getD s i 0 ≡ sep → i ≡ endOf sep s
-  unfolding endOf
-  find-here h q = let e : endOf sep (drop i s) ≡ 0 = rw (at-next 0 s i h, eq-eqb _ _ q) in omega arith
+  pub find-here : i < length s → getD s i 0 ≡ sep → i ≡ untilSep sep s
+  unfolding untilSep
+  find-here h q = let e : untilSep sep (drop i s) ≡ 0 = rw (at-next 0 s i h, eq-eqb _ _ q) in omega arith
 
-  pub find-next : i < length s → (getD s i 0 ≡ sep → ⊥) → (i + 1) + endOf sep (drop (i + 1) s) ≡ endOf sep s
-  unfolding endOf
-  find-next h q = let e : endOf sep (drop i s) ≡ endOf sep (drop (i + 1) s) + 1 = rw (at-next 0 s i h, ne-eqb _ _ q) in omega arith
+  pub find-next : i < length s → (getD s i 0 ≡ sep → ⊥) → (i + 1) + untilSep sep (drop (i + 1) s) ≡ untilSep sep s
+  unfolding untilSep
+  find-next h q = let e : untilSep sep (drop i s) ≡ untilSep sep (drop (i + 1) s) + 1 = rw (at-next 0 s i h, ne-eqb _ _ q) in omega arith
 
 -- ---- `split` by the first separator
 
-split-more : (sep : ℕ) (s : Bytes) → endOf sep s < length s → split sep s ≡ take (endOf sep s) s ∷ split sep (drop (endOf sep s + 1) s)
-unfolding endOf split onto
+split-more : (sep : ℕ) (s : Bytes) → untilSep sep s < length s → split sep s ≡ take (untilSep sep s) s ∷ split sep (drop (untilSep sep s + 1) s)
+unfolding untilSep split onto
 split-more sep [] h = absurd (omega arith)
 split-more sep (b ∷ s) h = go (eqb b sep) (split-more sep s) h
   where
-    go : (t : Bool) → (endOf sep s < length s → split sep s ≡ take (endOf sep s) s ∷ split sep (drop (endOf sep s + 1) s)) → (if t then 0 else endOf sep s + 1) < suc (length s)
-        → (if t then [] ∷ split sep s else onto b (split sep s)) ≡ take (if t then 0 else endOf sep s + 1) (b ∷ s) ∷ split sep (drop ((if t then 0 else endOf sep s + 1) + 1) (b ∷ s))
+    go : (t : Bool) → (untilSep sep s < length s → split sep s ≡ take (untilSep sep s) s ∷ split sep (drop (untilSep sep s + 1) s)) → (if t then 0 else untilSep sep s + 1) < suc (length s)
+        → (if t then [] ∷ split sep s else onto b (split sep s)) ≡ take (if t then 0 else untilSep sep s + 1) (b ∷ s) ∷ split sep (drop ((if t then 0 else untilSep sep s + 1) + 1) (b ∷ s))
     go true ih h = refl
-    go false ih h = rw (ih (omega arith), add-one (endOf sep s), add-one (suc (endOf sep s)))
+    go false ih h = rw (ih (omega arith), add-one (untilSep sep s), add-one (suc (untilSep sep s)))
 
-split-last : (sep : ℕ) (s : Bytes) → length s ≤ endOf sep s → split sep s ≡ s ∷ []
-unfolding endOf split onto
+split-last : (sep : ℕ) (s : Bytes) → length s ≤ untilSep sep s → split sep s ≡ s ∷ []
+unfolding untilSep split onto
 split-last sep [] h = refl
 split-last sep (b ∷ s) h = go (eqb b sep) (split-last sep s) h
   where
-    go : (t : Bool) → (length s ≤ endOf sep s → split sep s ≡ s ∷ []) → suc (length s) ≤ (if t then 0 else endOf sep s + 1)
+    go : (t : Bool) → (length s ≤ untilSep sep s → split sep s ≡ s ∷ []) → suc (length s) ≤ (if t then 0 else untilSep sep s + 1)
         → (if t then [] ∷ split sep s else onto b (split sep s)) ≡ (b ∷ s) ∷ []
     go true ih h = absurd (omega arith)
     go false ih h = rw (ih (omega arith))

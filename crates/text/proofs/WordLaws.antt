@@ -12,7 +12,7 @@ use Rattle.laws.specs.Lists.{allOf}
 use Rattle.laws.proofs.Parts.{at-next}
 use Rattle.sheet.specs.Text.{Bytes, bytes, isDigit}
 use Rattle.sheet.specs.Lines.{is}
-use Rattle.text.specs.Words.{byteKind, letterOf}
+use Rattle.text.specs.Words.{byteKind, onlyByte}
 
 -- ---- kinds of bytes
 
@@ -36,9 +36,9 @@ pub kind-digit : (b : ℕ) → isDigit b ≡ true → 7 ≡ byteKind b
 unfolding byteKind
 kind-digit b h = rw h
 
-pub kind-other : (b : ℕ) → isDigit b ≡ false → (b ≡ 67 → ⊥) → (b ≡ 65 → ⊥) → (b ≡ 79 → ⊥) → (b ≡ 86 → ⊥) → (b ≡ 82 → ⊥) → (b ≡ 78 → ⊥) → (b ≡ 45 → ⊥) → 0 ≡ byteKind b
+pub kind-other : (b : ℕ) → isDigit b ≡ false → (b ≡ 67 → ⊥) → (b ≡ 65 → ⊥) → (b ≡ 79 → ⊥) → (b ≡ 86 → ⊥) → (b ≡ 82 → ⊥) → (b ≡ 78 → ⊥) → 0 ≡ byteKind b
 unfolding byteKind
-kind-other b h c a o v r n m = simp (h, ne-eqb _ _ c, ne-eqb _ _ a, ne-eqb _ _ o, ne-eqb _ _ v, ne-eqb _ _ r, ne-eqb _ _ n, ne-eqb _ _ m)
+kind-other b h c a o v r n = simp (h, ne-eqb _ _ c, ne-eqb _ _ a, ne-eqb _ _ o, ne-eqb _ _ v, ne-eqb _ _ r, ne-eqb _ _ n)
 
 -- the kind is told by the first test that holds
 unfoldable firstHeld : List (Bool × ℕ) → ℕ
@@ -47,7 +47,7 @@ firstHeld (x ∷ t) = if x .0 then x .1 else firstHeld t
 
 unfoldable kinds : ℕ → List (Bool × ℕ)
 kinds b =
-    (isDigit b, 7) ∷ (eqb b 67, 1) ∷ (eqb b 65, 2) ∷ (eqb b 79, 3) ∷ (eqb b 86, 4) ∷ (eqb b 82, 5) ∷ (eqb b 78, 6) ∷ (eqb b 45, 8) ∷ []
+    (isDigit b, 7) ∷ (eqb b 67, 1) ∷ (eqb b 65, 2) ∷ (eqb b 79, 3) ∷ (eqb b 86, 4) ∷ (eqb b 82, 5) ∷ (eqb b 78, 6) ∷ []
 
 kinds-held : (b : ℕ) → byteKind b ≡ firstHeld (kinds b)
 unfolding byteKind firstHeld kinds
@@ -88,8 +88,8 @@ letter-by-kind c k here other z b = go (eqb b c) refl
 -- ---- words
 
 -- a word of one byte is told by the letter
-pub is-letter : (f : Bytes) (c : ℕ) → 0 < c → is f (c ∷ []) ≡ eqb (letterOf f) c
-unfolding is letterOf
+pub is-letter : (f : Bytes) (c : ℕ) → 0 < c → is f (c ∷ []) ≡ eqb (onlyByte f) c
+unfolding is onlyByte
 is-letter [] c h = sym (ne-eqb 0 c (λ e. omega arith))
 is-letter (b ∷ []) c h = go (eqb b c)
   where
@@ -102,14 +102,14 @@ is-letter (b ∷ d ∷ s) c h = go (eqb b c) ∙ sym (ne-eqb 0 c (λ e. omega ar
     go true = refl
     go false = refl
 
-pub letter-one : (f : Bytes) → length f ≡ 1 → getD f 0 0 ≡ letterOf f
-unfolding letterOf
+pub letter-one : (f : Bytes) → length f ≡ 1 → getD f 0 0 ≡ onlyByte f
+unfolding onlyByte
 letter-one [] h = absurd (omega arith)
 letter-one (b ∷ []) h = refl
 letter-one (b ∷ c ∷ s) h = absurd (omega arith)
 
-pub letter-none : (f : Bytes) → (length f ≡ 1 → ⊥) → 0 ≡ letterOf f
-unfolding letterOf
+pub letter-none : (f : Bytes) → (length f ≡ 1 → ⊥) → 0 ≡ onlyByte f
+unfolding onlyByte
 letter-none [] h = refl
 letter-none (b ∷ []) h = absurd (h refl)
 letter-none (b ∷ c ∷ s) h = refl
@@ -142,30 +142,26 @@ module _ (f w : Bytes) (i : ℕ) (long : length f ≡ length w) (inv : is (drop 
 -- ---- a line's letter by its kind
 
 module _ (f : Bytes) where
-  pub is-class-line : is f (bytes "C") ≡ eqb (byteKind (letterOf f)) 1
+  pub is-class-line : is f (bytes "C") ≡ eqb (byteKind (onlyByte f)) 1
   unfolding bytes byteKind isDigit kinds without allOf
-  is-class-line = is-letter f 67 (omega arith) ∙ sym (letter-by-kind 67 1 refl (λ b e. rw e) refl (letterOf f))
+  is-class-line = is-letter f 67 (omega arith) ∙ sym (letter-by-kind 67 1 refl (λ b e. rw e) refl (onlyByte f))
 
-  pub is-row-line : is f (bytes "A") ≡ eqb (byteKind (letterOf f)) 2
+  pub is-row-line : is f (bytes "A") ≡ eqb (byteKind (onlyByte f)) 2
   unfolding bytes byteKind isDigit kinds without allOf
-  is-row-line = is-letter f 65 (omega arith) ∙ sym (letter-by-kind 65 2 refl (λ b e. rw e) refl (letterOf f))
+  is-row-line = is-letter f 65 (omega arith) ∙ sym (letter-by-kind 65 2 refl (λ b e. rw e) refl (onlyByte f))
 
-  pub is-object-line : is f (bytes "O") ≡ eqb (byteKind (letterOf f)) 3
+  pub is-object-line : is f (bytes "O") ≡ eqb (byteKind (onlyByte f)) 3
   unfolding bytes byteKind isDigit kinds without allOf
-  is-object-line = is-letter f 79 (omega arith) ∙ sym (letter-by-kind 79 3 refl (λ b e. rw e) refl (letterOf f))
+  is-object-line = is-letter f 79 (omega arith) ∙ sym (letter-by-kind 79 3 refl (λ b e. rw e) refl (onlyByte f))
 
-  pub is-value-line : is f (bytes "V") ≡ eqb (byteKind (letterOf f)) 4
+  pub is-value-line : is f (bytes "V") ≡ eqb (byteKind (onlyByte f)) 4
   unfolding bytes byteKind isDigit kinds without allOf
-  is-value-line = is-letter f 86 (omega arith) ∙ sym (letter-by-kind 86 4 refl (λ b e. rw e) refl (letterOf f))
+  is-value-line = is-letter f 86 (omega arith) ∙ sym (letter-by-kind 86 4 refl (λ b e. rw e) refl (onlyByte f))
 
-  pub is-rule-line : is f (bytes "R") ≡ eqb (byteKind (letterOf f)) 5
+  pub is-rule-line : is f (bytes "R") ≡ eqb (byteKind (onlyByte f)) 5
   unfolding bytes byteKind isDigit kinds without allOf
-  is-rule-line = is-letter f 82 (omega arith) ∙ sym (letter-by-kind 82 5 refl (λ b e. rw e) refl (letterOf f))
+  is-rule-line = is-letter f 82 (omega arith) ∙ sym (letter-by-kind 82 5 refl (λ b e. rw e) refl (onlyByte f))
 
-  pub is-node-line : is f (bytes "N") ≡ eqb (byteKind (letterOf f)) 6
+  pub is-node-line : is f (bytes "N") ≡ eqb (byteKind (onlyByte f)) 6
   unfolding bytes byteKind isDigit kinds without allOf
-  is-node-line = is-letter f 78 (omega arith) ∙ sym (letter-by-kind 78 6 refl (λ b e. rw e) refl (letterOf f))
-
-  pub is-minus : is f (bytes "-") ≡ eqb (byteKind (letterOf f)) 8
-  unfolding bytes byteKind isDigit kinds without allOf
-  is-minus = is-letter f 45 (omega arith) ∙ sym (letter-by-kind 45 8 refl (λ b e. rw e) refl (letterOf f))
+  is-node-line = is-letter f 78 (omega arith) ∙ sym (letter-by-kind 78 6 refl (λ b e. rw e) refl (onlyByte f))

@@ -6,9 +6,9 @@ use mathlib.Core.Option.{Option, none, some}
 use mathlib.Core.List.{[], _∷_}
 use lib.IntN.{ℤ, pos, negsuc}
 use lib.ListN.{length, drop}
-use lib.Dec.{eqb, ltb}
+use lib.Dec.{eqb}
 use Rattle.laws.specs.Choice.{if_then_else_, onSome}
-unfoldable pub use Rattle.laws.specs.Integers.{bias, unbias}
+use Rattle.laws.specs.Integers.{bias}
 use Rattle.ocl.specs.Evaluation.{inRange}
 use Rattle.sheet.specs.Text.{Bytes, byte, digits, plain, valueOfDigits}
 use Rattle.text.specs.declared.numbers.Num.{Num}
@@ -20,9 +20,9 @@ use Rattle.text.specs.declared.numbers.Whole.the-variants.{Bad as BadWho
 -- ---- numbers
 
 -- a number, cut at a million, which is above each limit of document 01 on numbers of things
-unfoldable pub numOf : Option ℕ → Num
-numOf none = Bad
-numOf (some n) = Is (min n 1000000)
+unfoldable pub cutNum : Option ℕ → Num
+cutNum none = Bad
+cutNum (some n) = Is (min n 1000000)
 
 -- the number in front of a text: what crates/sheet's `number` reads
 unfoldable pub leading : Bytes → Option ℕ
@@ -40,12 +40,9 @@ pub record DigitsRead (s : Bytes) (at : ℕ) (r : Digits) : Type 0 where
 
 -- ---- Integers
 
-unfoldable pub ranged : ℤ → Whole
-ranged z = if inRange z then IsWhole (bias z) else Out
-
 unfoldable pub wholeOf : Option ℤ → Whole
 wholeOf none = BadWhole
-wholeOf (some z) = ranged z
+wholeOf (some z) = if inRange z then IsWhole (bias z) else Out
 
 -- how many minus signs stand in front: at most one counts
 unfoldable pub minusAt : Bytes → ℕ

@@ -9,12 +9,12 @@ use Rattle.sheet.specs.Text.{Bytes, fieldsOf}
 use Rattle.text.specs.declared.parts.Fields.{Fields}
 
 -- how many bytes stand before the first `sep`
-unfoldable pub endOf : ℕ → Bytes → ℕ
-endOf sep [] = 0
-endOf sep (b ∷ s) = if eqb b sep then 0 else endOf sep s + 1
+unfoldable pub untilSep : ℕ → Bytes → ℕ
+untilSep sep [] = 0
+untilSep sep (b ∷ s) = if eqb b sep then 0 else untilSep sep s + 1
 
 pub record Ends (sep : ℕ) (s : Bytes) (r : ℕ) : Type 0 where
-  pub is : r ≡ endOf sep s
+  pub is : r ≡ untilSep sep s
   pub within : r ≤ length s
 
 -- the bytes of s from a up to e are x

@@ -8,7 +8,7 @@ use Rattle.laws.specs.Choice.{if_then_else_}
 use Rattle.sheet.specs.Text.{Bytes, byte, bytes, isDigit}
 use Rattle.sheet.specs.Lines.{is}
 
--- 1 to 6 for the letters of lines in the order in which document 01 lists them, 7 for a digit, 8 for a minus, else 0
+-- 1 to 6 for the letters of lines in the order in which document 01 lists them, 7 for a digit, else 0
 unfoldable pub byteKind : ℕ → ℕ
 byteKind b =
     if isDigit b then 7
@@ -18,14 +18,13 @@ byteKind b =
     else if eqb b (byte "V") then 4
     else if eqb b (byte "R") then 5
     else if eqb b (byte "N") then 6
-    else if eqb b (byte "-") then 8
     else 0
 
 -- the byte of a field that has one
-unfoldable pub letterOf : Bytes → ℕ
-letterOf [] = 0
-letterOf (b ∷ []) = b
-letterOf (b ∷ c ∷ s) = 0
+unfoldable pub onlyByte : Bytes → ℕ
+onlyByte [] = 0
+onlyByte (b ∷ []) = b
+onlyByte (b ∷ c ∷ s) = 0
 
 -- the code of w among words of its length, with a byte after each
 unfoldable pub codeAmong : Bytes → Bytes → Bytes → ℕ

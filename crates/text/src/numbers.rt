@@ -5,7 +5,7 @@ ghost use Prim.Native.Nat.{_-_, _≤_, min};
 ghost use lib.ListN.{length, take, drop};
 ghost use Rattle.sheet.specs.Text.{plain as plainOf};
 ghost use Rattle.sheet.specs.Lines.{aNumber, anInteger};
-ghost use Rattle.text.specs.Numbers.{numOf, leading, DigitsRead, wholeOf, minusAt, signed, leadingInteger, IntegerRead};
+ghost use Rattle.text.specs.Numbers.{cutNum, leading, DigitsRead, wholeOf, minusAt, signed, leadingInteger, IntegerRead};
 use crate::words::byte_kind;
 
 // A number as far as a million; one above it reads as a million.
@@ -79,7 +79,7 @@ pub fn digits_at(s: &[u8], at: usize) -> Digits
 // The number that begins at `at`, which has these digits.
 pub fn number_at(s: &[u8], at: usize, d: Digits) -> Num
     requires { ⌜ DigitsRead (now s) at d ⌝ }
-    ensures { λ r. ⌜ r ≡ numOf (leading (drop at (now (s .entry)))) ⌝ }
+    ensures { λ r. ⌜ r ≡ cutNum (leading (drop at (now (s .entry)))) ⌝ }
 {
     if plain(s, at, d.end) {
         return Num::Is(at_most(d.value, 1000000));
@@ -89,7 +89,7 @@ pub fn number_at(s: &[u8], at: usize, d: Digits) -> Num
 
 // The number that a field is.
 pub fn number(f: &[u8]) -> Num
-    ensures { λ r. ⌜ r ≡ numOf (aNumber (now (f .entry))) ⌝ }
+    ensures { λ r. ⌜ r ≡ cutNum (aNumber (now (f .entry))) ⌝ }
 {
     let d = digits_at(f, 0);
     if d.end == f.len() {

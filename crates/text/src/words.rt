@@ -3,7 +3,7 @@ ghost use mathlib.Core.Path.{_≡_};
 ghost use Prim.Native.Nat.{_+_, _*_, _≤_};
 ghost use lib.ListN.{length};
 ghost use Rattle.sheet.specs.Lines.{is};
-ghost use Rattle.text.specs.Words.{byteKind, letterOf, codeAmong, formCode};
+ghost use Rattle.text.specs.Words.{byteKind, onlyByte, codeAmong, formCode};
 
 // What a byte can begin in a line: the line itself by its letter, or a number. This is the match with ranges over line
 // letters and digits of document 01, Use these forms in these places.
@@ -18,14 +18,13 @@ pub fn byte_kind(b: u8) -> u64
         b'V' => 4,
         b'R' => 5,
         b'N' => 6,
-        b'-' => 8,
         _ => 0,
     }
 }
 
 // The byte of a field that has one byte; else 0, which is no letter.
 pub fn letter(f: &[u8]) -> u8
-    ensures { λ r. ⌜ r ≡ letterOf (now (f .entry)) ⌝ }
+    ensures { λ r. ⌜ r ≡ onlyByte (now (f .entry)) ⌝ }
 {
     if f.len() == 1 {
         return f[0];

@@ -2,28 +2,27 @@
 use mathlib.Core.Path.{_≡_, refl, sym, ap, _∙_}
 use mathlib.Core.Bool.{Bool, true, false, not, _&&_}
 use mathlib.Core.Option.{Option, none, some}
-use mathlib.Core.List.{List, [], _∷_, _++_, map, map-append}
+use mathlib.Core.List.{List, [], _∷_, _++_}
 use Prim.Native.Nat.{ℕ, zero, suc, _+_, _-_, _*_, _/_, _%_, _<_, _≤_}
 use native.Mathlib.Omega.{arith}
-use native.Mathlib.Numerals.{add-one}
 use borrow.Author.Tests.{eq-eqb, ne-eqb, le-leb, lt-leb, not-true, not-false}
 use lib.Dec.{eqb, leb}
-use lib.ListN.{length, getD, set, length-append, length-set}
+use lib.ListN.{length, getD, set, length-set}
+use lib.Seq.{getD-set-same, getD-set-other}
 use Rattle.laws.specs.Choice.{if_then_else_, onSome}
 use Rattle.laws.specs.Lists.{member, each-nil, each-cons}
 use Rattle.laws.proofs.Lists.{each-append}
 use Rattle.ocl.specs.Forms.{Expr, levels}
 use Rattle.sheet.specs.Sheet.{Current, Sheet, Rule, treeOf, lastTree, allUsed, endOf, endFor, endRule}
 use Rattle.sheet.specs.Sheet.{withRule as ruleDown}
-use Rattle.sheet.specs.Refusals.{totalSize}
-use Rattle.types.specs.Word.{typeIn}
 use Rattle.nodes.specs.Nodes.{treeAt}
 use Rattle.tables.specs.Layout.{tab, usedBit, HoldsCurrent, HoldsOpen, closed, opened, Holds, Fine}
 use Rattle.tables.specs.declared.Counts.{Counts}
 use Rattle.tables.specs.declared.Step.the-variants as code
-use Rattle.tables.proofs.Tables.{tab-more, tab-before, tab-after, kept-refl, kept-set, kept-then}
+use Rattle.tables.proofs.Tables.{kept-refl, kept-set, kept-then}
+use Rattle.tables.proofs.Entries.{holds-kept, spare-context, spare-root, tab-next, length-more, tab-more-of, tab-more-by}
 use Rattle.trees.specs.Operands.{depthAt}
-use Rattle.trees.specs.Rules.{RuleRoom, next-room, stop-room, usedIn, withRule, EndMoved, ended, refused, Ended}
+use Rattle.trees.specs.Rules.{RuleRoom, usedIn, withRule, EndMoved, ended, refused, Ended}
 use Rattle.trees.proofs.NodeLaws.{OpenRule, open-rule}
 
 -- ---- the turns of `all_used`
@@ -82,7 +81,6 @@ module _ {st : Counts} {w1 : List ℕ} (w0 : List ℕ) where
   end-none e fine = record {
     is = λ s h. go s h (s .current) refl (h .current);
     kept = kept-refl w0;
-    room = next-room (record { room = λ q. absurd (e q) });
   }
     where
       go : (s : Sheet) → Holds st w0 w1 s → (o : Option Current) → s .current ≡ o → HoldsOpen st w1 (length (s .lines)) o → EndMoved w0 w1 (code.Next st) (endFor s o)
@@ -101,7 +99,6 @@ module _ {st : Counts} {w1 : List ℕ} (w0 : List ℕ) where
           let o = open-rule h is-open in
           rw (rule-end s o, no-tree (o .rule .trees) (omega (arith, o .holds .count, o .holds .first, h .counted .nodes))) refused;
       kept = kept-refl w0;
-      room = stop-room;
     }
 
     module _ (fine : Fine st) (node : st .first ≡ st .nodes → ⊥) where
@@ -135,7 +132,6 @@ module _ {st : Counts} {w1 : List ℕ} (w0 : List ℕ) where
               let o = open-rule h is-open in
               rw (rule-end s o, end-by h o, ← told, not-true b q) refused;
           kept = kept-refl w0;
-          room = stop-room;
         }
 
         pub end-deep : not b ≡ false → 12 < getD w1 (6912 + (st .nodes - 1)) 0 / 2 → Ended st (code.Stop 8) w0 w1 w0
@@ -144,31 +140,43 @@ module _ {st : Counts} {w1 : List ℕ} (w0 : List ℕ) where
               let o = open-rule h is-open in
               rw (rule-end s o, end-by h o, ← told, not-false b q, lt-leb (getD w1 (6912 + (st .nodes - 1)) 0 / 2) 12 l) refused;
           kept = kept-refl w0;
-          room = stop-room;
         }
 
 -- ---- the tables with the rule put down: its context and its root
 
 module _ (st : Counts) (w0 : List ℕ) (long : 8192 ≤ length w0) (fine : Fine st) (low : st .rules < 64) (root : ℕ) where
-  -- a table before those of the rules
-  before-rules : (off n : ℕ) → off + n ≤ 4448 → tab off n (set (set w0 (4448 + st .rules) (st .context)) (4512 + st .rules) root) ≡ tab off n w0
-  before-rules off n h =
-      tab-after off n (set w0 (4448 + st .rules) (st .context)) (4512 + st .rules) root (omega arith) ∙ tab-after off n w0 (4448 + st .rules) (st .context) (omega arith)
+  abbrev down : List ℕ
+  down = set (set w0 (4448 + st .rules) (st .context)) (4512 + st .rules) root
 
-  new-contexts : tab 4448 (suc (st .rules)) (set (set w0 (4448 + st .rules) (st .context)) (4512 + st .rules) root) ≡ tab 4448 (st .rules) w0 ++ (st .context ∷ [])
-  new-contexts =
-      tab-after 4448 (suc (st .rules)) (set w0 (4448 + st .rules) (st .context)) (4512 + st .rules) root (omega arith) ∙ tab-more 4448 (st .rules) w0 (st .context) (omega arith)
+  down-long : length down ≡ length w0
+  down-long = simp length-set
 
-  new-roots : tab 4512 (suc (st .rules)) (set (set w0 (4448 + st .rules) (st .context)) (4512 + st .rules) root) ≡ tab 4512 (st .rules) w0 ++ (root ∷ [])
-  new-roots =
-      tab-more 4512 (st .rules) (set w0 (4448 + st .rules) (st .context)) root (simp length-set (omega arith))
-      ∙ ap (λ (l : List ℕ). l ++ (root ∷ [])) (tab-before 4512 (st .rules) w0 (4448 + st .rules) (st .context) (omega arith))
+  context-there : getD down (4448 + st .rules) 0 ≡ st .context
+  context-there =
+      getD-set-other (set w0 (4448 + st .rules) (st .context)) (4512 + st .rules) (4448 + st .rules) root 0 (λ e. omega arith)
+      ∙ getD-set-same w0 (4448 + st .rules) (st .context) 0 (omega arith)
+
+  root-there : getD down (4512 + st .rules) 0 ≡ root
+  root-there = getD-set-same (set w0 (4448 + st .rules) (st .context)) (4512 + st .rules) root 0 (rw length-set (omega arith))
 
   module _ {w1 : List ℕ} {s : Sheet} (h : Holds st w0 w1 s) (c : ℕ) (body : Expr) (context : st .context ≡ c) (tree : treeAt w1 root ≡ body) (inside : root < length (s .lines)) where
-    one-more : length (s .rules ++ (record { context = c; body = body } ∷ [])) ≡ suc (st .rules)
-    one-more = let e = length-append (s .rules) (record { context = c; body = body } ∷ []) in omega (arith, h .counted .rules)
+    abbrev rule : Rule
+    rule = record { context = c; body = body }
 
-    down-holds : Holds (withRule st) (set (set w0 (4448 + st .rules) (st .context)) (4512 + st .rules) root) w1 (ruleDown s c body)
+    many-rules : st .rules ≡ length (s .rules)
+    many-rules = h .counted .rules
+
+    -- the sheet as it was, in the words as they are
+    old : Holds st down w1 s
+    old = holds-kept root (spare-root fine (h .counted) low) (holds-kept (st .context) (spare-context fine (h .counted) low) h)
+
+    down-roots : tab 4512 (length (s .rules ++ (rule ∷ []))) down ≡ tab 4512 (length (s .rules)) down ++ (root ∷ [])
+    down-roots =
+        ap (λ (n : ℕ). tab 4512 n down) (length-more (s .rules) rule)
+        ∙ tab-next 4512 (length (s .rules)) down (omega (arith, many-rules, down-long))
+        ∙ ap (λ (x : ℕ). tab 4512 (length (s .rules)) down ++ (x ∷ [])) (ap (λ (i : ℕ). getD down (4512 + i) 0) (sym many-rules) ∙ root-there)
+
+    down-holds : Holds (withRule st) down w1 (ruleDown s c body)
     unfolding withRule ruleDown
     down-holds = record {
       counted = record {
@@ -179,28 +187,28 @@ module _ (st : Counts) (w0 : List ℕ) (long : 8192 ≤ length w0) (fine : Fine 
         slots = h .counted .slots;
         cells = h .counted .cells;
         nodes = h .counted .nodes;
-        rules = add-one (st .rules) ∙ sym one-more;
+        rules = omega (arith, length-more (s .rules) rule, many-rules);
       };
       tables = record {
-        parents = before-rules 0 (length (s .parents)) (omega (arith, h .counted .classes, fine .classes)) ∙ h .tables .parents;
-        owners = before-rules 64 (length (s .rows)) (omega (arith, h .counted .rows, fine .rows)) ∙ h .tables .owners;
-        names = before-rules 128 (length (s .rows)) (omega (arith, h .counted .rows, fine .rows)) ∙ h .tables .names;
-        types = ap (map typeIn) (before-rules 192 (length (s .rows)) (omega (arith, h .counted .rows, fine .rows))) ∙ h .tables .types;
-        objects = before-rules 256 (length (s .objects)) (omega (arith, h .counted .objects, fine .objects)) ∙ h .tables .objects;
-        keys = before-rules 352 (length (s .slots)) (omega (arith, h .counted .slots, fine .slots)) ∙ h .tables .keys;
-        starts = before-rules 1376 (length (s .slots)) (omega (arith, h .counted .slots, fine .slots)) ∙ h .tables .starts;
-        cells = before-rules 2400 (totalSize (s .slots)) (omega (arith, h .counted .cells, fine .cells)) ∙ h .tables .cells;
-        fits = h .tables .fits;
+        parents = old .tables .parents;
+        owners = old .tables .owners;
+        names = old .tables .names;
+        types = old .tables .types;
+        objects = old .tables .objects;
+        keys = old .tables .keys;
+        starts = old .tables .starts;
+        cells = old .tables .cells;
+        fits = old .tables .fits;
         contexts =
-            rw (one-more, new-contexts, map-append (λ (r : Rule). r .context) (s .rules) (record { context = c; body = body } ∷ []))
-            (ap (λ (n : ℕ). tab 4448 n w0 ++ (st .context ∷ [])) (h .counted .rules) ∙ rw (h .tables .contexts, context));
+            tab-more-of (λ (r : Rule). r .context) 4448 down (s .rules) rule (omega (arith, many-rules, down-long)) (old .tables .contexts)
+            (ap (λ (i : ℕ). getD down (4448 + i) 0) (sym many-rules) ∙ context-there ∙ context);
       };
       rules = record {
         bodies =
-            rw (one-more, new-roots, map-append (λ (r : Rule). r .body) (s .rules) (record { context = c; body = body } ∷ []), map-append (treeAt w1) (tab 4512 (st .rules) w0) (root ∷ []))
-            (ap (λ (n : ℕ). map (treeAt w1) (tab 4512 n w0) ++ (treeAt w1 root ∷ [])) (h .counted .rules) ∙ rw (h .rules .bodies, tree));
-        roots = rw (one-more, new-roots) (each-append {a = tab 4512 (st .rules) w0} (rw (h .counted .rules) (h .rules .roots)) (each-cons inside each-nil));
-        lines = h .rules .lines;
+            tab-more-by (treeAt w1) (λ (r : Rule). r .body) 4512 down (s .rules) rule (omega (arith, many-rules, down-long)) (old .rules .bodies)
+            (ap (treeAt w1) (ap (λ (i : ℕ). getD down (4512 + i) 0) (sym many-rules) ∙ root-there) ∙ tree);
+        roots = rw down-roots (each-append (old .rules .roots) (each-cons inside each-nil));
+        lines = old .rules .lines;
       };
       current = closed refl;
     }
@@ -228,7 +236,6 @@ end-down {st} {w1} {b} w0 is-open fine node told q l long room e = rw e (record 
       rw (rule-end w0 is-open s o, end-by w0 is-open fine node h o, ← told, not-false b q, le-leb (getD w1 (6912 + (st .nodes - 1)) 0 / 2) 12 l)
       (ended (down-fine st w0 long fine (room .room is-open) (st .nodes - 1) h (o .rule .context) _ (o .holds .context) (tree s h o) (inside s h)) (down-holds st w0 long fine (room .room is-open) (st .nodes - 1) h (o .rule .context) _ (o .holds .context) (tree s h o) (inside s h)));
   kept = kept-then (kept-set w0 (4448 + st .rules) (st .context) (omega (arith, fine .rules))) (kept-set (set w0 (4448 + st .rules) (st .context)) (4512 + st .rules) (st .nodes - 1) (omega (arith, fine .rules)));
-  room = next-room {st = withRule st} (record { room = λ k. absurd (omega arith) });
 })
   where
     tree : (s : Sheet) (h : Holds st w0 w1 s) (o : OpenRule st w1 s) → treeAt w1 (st .nodes - 1) ≡ treeOf (o .rule .trees) (st .nodes - 1 - st .first)

@@ -13,7 +13,7 @@ use Rattle.laws.proofs.Parts.{at-next, part-next, part-none, part-all}
 use Rattle.laws.proofs.Tests.{Any?, any-some}
 use Rattle.sheet.specs.Text.{Bytes, fieldsOf}
 use Rattle.sheet.specs.Lines.{each, aNumber}
-use Rattle.text.specs.Numbers.{numOf}
+use Rattle.text.specs.Numbers.{cutNum}
 use Rattle.text.specs.Parts.{Cut}
 use Rattle.text.specs.declared.numbers.Num.the-variants as num
 use Rattle.text.specs.declared.parts.Fields.{Fields}
@@ -74,14 +74,14 @@ module _ {fs : List Bytes} {from to i : ℕ} {at : List ℕ} (so : ReadTo fs fro
       rw (e, q) (record { is = read refl (so .held); small = λ k. rw (so .held) (four-small (so .seen) k); size = ap length (so .held) })
 
   module _ (more : i < to) (within : to ≤ length fs) where
-    pub read-bad : {r : Numbers} → num.Bad ≡ numOf (aNumber (getD fs i [])) → NumbersRead none r → NumbersRead (each aNumber (take (to - from) (drop from fs))) r
+    pub read-bad : {r : Numbers} → num.Bad ≡ cutNum (aNumber (getD fs i [])) → NumbersRead none r → NumbersRead (each aNumber (take (to - from) (drop from fs))) r
     unfolding each mapSome onSome
     read-bad h d =
         let e : each aNumber (take (to - from) (drop from fs)) ≡ none
         = so .whole ∙ rw (part-next [] fs i to more within, num-bad (aNumber (getD fs i [])) h) in
         rw e d
 
-    pub read-next : {m : ℕ} → num.Is m ≡ numOf (aNumber (getD fs i [])) → to ≤ from + 4 → ReadTo fs from to (i + 1) (set at (i - from) m)
+    pub read-next : {m : ℕ} → num.Is m ≡ cutNum (aNumber (getD fs i [])) → to ≤ from + 4 → ReadTo fs from to (i + 1) (set at (i - from) m)
     unfolding each mapSome onSome
     read-next {m} h room = go (aNumber (getD fs i [])) refl (num-is (aNumber (getD fs i [])) h)
       where
@@ -103,39 +103,33 @@ module _ {fs : List Bytes} {from to i : ℕ} {at : List ℕ} (so : ReadTo fs fro
 -- ---- the fields after a form's word
 
 module _ {line : Bytes} {f : Fields} (is : Cut line f) (m : ℕ) (low : m ≤ 4) where
-  rest-count : length (drop 3 (fieldsOf line)) ≡ length (fieldsOf line) - 3
-  rest-count = length-drop 3 (fieldsOf line)
-
   pub exact-not : {r : Numbers} → (f .count ≡ 3 + m → ⊥) → 3 ≤ f .count → NumbersRead none r → NumbersRead (exact m (drop 3 (fieldsOf line))) r
   unfolding exact
-  exact-not h t d = rw (ne-eqb (length (drop 3 (fieldsOf line))) m (λ e. h (omega (arith, is .counted, rest-count)))) d
+  exact-not h t d = rw (ne-eqb (length (drop 3 (fieldsOf line))) m (λ e. h (omega (arith, is .counted, length-drop 3 (fieldsOf line))))) d
 
   pub exact-all : {r : Numbers} → f .count ≡ 3 + m → NumbersRead (each aNumber (take (f .count - 3) (drop 3 (fieldsOf line)))) r → NumbersRead (exact m (drop 3 (fieldsOf line))) r
   unfolding exact
   exact-all h d =
       let n : length (fieldsOf line) ≡ f .count = omega (arith, is .counted) in
       let e : take (f .count - 3) (drop 3 (fieldsOf line)) ≡ drop 3 (fieldsOf line) = rw (← n) (part-all (fieldsOf line) 3) in
-      rw (eq-eqb (length (drop 3 (fieldsOf line))) m (omega (arith, rest-count)), ← e) d
+      rw (eq-eqb (length (drop 3 (fieldsOf line))) m (omega (arith, length-drop 3 (fieldsOf line))), ← e) d
 
 -- how many fields there are after a form's word, and the first of them
 pub rest-first : (fs : List Bytes) → getD (drop 3 fs) 0 [] ≡ getD fs 3 []
 rest-first fs = getD-drop 3 fs 0 []
 
 module _ {line : Bytes} {f : Fields} (is : Cut line f) where
-  after-word : length (drop 3 (fieldsOf line)) ≡ length (fieldsOf line) - 3
-  after-word = length-drop 3 (fieldsOf line)
-
   pub rest-exact : (m : ℕ) → m ≤ 7 → f .count ≡ 3 + m → length (drop 3 (fieldsOf line)) ≡ m
-  rest-exact m h e = omega (arith, is .counted, after-word)
+  rest-exact m h e = omega (arith, is .counted, length-drop 3 (fieldsOf line))
 
   pub rest-not : (m : ℕ) → m ≤ 7 → 3 ≤ f .count → (f .count ≡ 3 + m → ⊥) → length (drop 3 (fieldsOf line)) ≡ m → ⊥
-  rest-not m h t e q = e (omega (arith, is .counted, after-word))
+  rest-not m h t e q = e (omega (arith, is .counted, length-drop 3 (fieldsOf line)))
 
   pub rest-short : 3 ≤ f .count → f .count < 4 → length (drop 3 (fieldsOf line)) ≡ 0
-  rest-short t h = omega (arith, is .counted, after-word)
+  rest-short t h = omega (arith, is .counted, length-drop 3 (fieldsOf line))
 
   pub rest-long : 8 < f .count → 5 < length (drop 3 (fieldsOf line))
-  rest-long h = omega (arith, is .counted, after-word)
+  rest-long h = omega (arith, is .counted, length-drop 3 (fieldsOf line))
 
   pub rest-cons : 4 ≤ f .count → drop 3 (fieldsOf line) ≡ getD (fieldsOf line) 3 [] ∷ drop 4 (fieldsOf line)
   rest-cons h = at-next [] (fieldsOf line) 3 (omega (arith, is .counted))

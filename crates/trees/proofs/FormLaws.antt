@@ -20,12 +20,11 @@ use Rattle.sheet.specs.Lines.{Shape, leaf, unary, binary, connective, isUndef, 
 use Rattle.sheet.specs.Sheet.{operandsOf}
 use Rattle.sheet.specs.Refusals.{isNode, isVariable, leafWithin, unaryWithin, formWithin, twoVariables, leafKnown, unaryKnown, formKnown}
 use Rattle.text.specs.Forms.{shapeBy}
-use Rattle.nodes.specs.Nodes.{leafWords, unaryWords, binaryCode, arithCode, connectiveCode, shapeWords}
-use Rattle.nodes.proofs.Shapes.{TypeSaid}
+use Rattle.nodes.specs.Nodes.{TypeSaid, leafWords, unaryWords, binaryCode, arithCode, connectiveCode, shapeWords}
 use Rattle.trees.specs.declared.Parsed.{Parsed}
 use Rattle.trees.specs.declared.numbers.Numbers.{Numbers}
 use Rattle.trees.specs.Fields.{cut, four, exact, Read, unread, read, NumbersRead}
-use Rattle.trees.specs.Forms.{Stands, Spelled, misspelled, spelled, FormRead, PlainCode, constant, itself, one, two, undefTest, conditional as conditionalCode}
+use Rattle.trees.specs.Forms.{StandsFor, Spelled, misspelled, spelled, FormRead, PlainCode, constant, itself, one, two, undefTest, conditional as conditionalCode}
 use Rattle.trees.proofs.ExactLaws.{chain, chain-exact, exact-length}
 
 -- ---- tests that do not see the cut
@@ -74,7 +73,7 @@ pub no-form : (line : ℕ) → FormRead line none (record { spelled = false; wor
 no-form line = record { is = misspelled refl; few = omega arith; size = refl }
 
 pub numbers-form : {line : ℕ} {o : Option Shape} {r : Numbers} {p : Parsed} (m : ℕ) (fs : List Bytes) (k : List ℕ → Shape)
-    → NumbersRead (exact m fs) r → o ≡ chain m k fs → p .spelled ≡ r .good → ((l : List ℕ) → length l ≡ m → r .at ≡ four (map cut l) → Stands line (k l) p)
+    → NumbersRead (exact m fs) r → o ≡ chain m k fs → p .spelled ≡ r .good → ((l : List ℕ) → length l ≡ m → r .at ≡ four (map cut l) → StandsFor line (k l) p)
     → Spelled line o p
 unfolding mapSome
 numbers-form {line} {o} {r} {p} m fs k n e s h = rw (e, chain-exact m k fs) (go (exact m fs) refl (n .is))
@@ -106,7 +105,7 @@ plain-operands (x ∷ y ∷ z ∷ []) d h = refl
 plain-operands (x ∷ y ∷ z ∷ w ∷ l) d h = absurd (omega arith)
 
 plain-stands : {code line m : ℕ} {g : Bool} {at : List ℕ} (l : List ℕ) {x : Shape} → Plain code l x → length l ≡ m → m ≤ 3 → at ≡ four (map cut l)
-    → Stands line x (record { spelled = g; words = code ∷ getD at 0 0 ∷ getD at 1 0 ∷ getD at 2 0 ∷ 0 ∷ 0 ∷ 0 ∷ line ∷ []; count = m; within = true; apart = true; classes = 0 })
+    → StandsFor line x (record { spelled = g; words = code ∷ getD at 0 0 ∷ getD at 1 0 ∷ getD at 2 0 ∷ 0 ∷ 0 ∷ 0 ∷ line ∷ []; count = m; within = true; apart = true; classes = 0 })
 plain-stands {code} {line} {m} l {x} is n few e = record {
   within = sym (is .within);
   apart = λ h. sym (is .apart);

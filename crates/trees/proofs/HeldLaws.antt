@@ -19,7 +19,7 @@ use Rattle.text.specs.Forms.{shapeBy}
 use Rattle.nodes.specs.Nodes.{leafWords, unaryWords, quantifierCode, shapeWords}
 use Rattle.trees.specs.declared.numbers.Numbers.{Numbers}
 use Rattle.trees.specs.Fields.{cut, four, exact, NumbersRead}
-use Rattle.trees.specs.Forms.{Stands, FormRead, QuantifierCode}
+use Rattle.trees.specs.Forms.{StandsFor, FormRead, QuantifierCode}
 use Rattle.trees.proofs.ExactLaws.{chain}
 use Rattle.trees.proofs.FormLaws.{cut-variable, variable-small, below-small, cut-class, nodes-small, numbers-form, isIterate, no-type}
 
@@ -46,7 +46,7 @@ module _ (at l : List ℕ) (e : at ≡ four (map cut l)) where
   third = rw e (cut-at l 2)
 
   variable-stands : {line : ℕ} {g w : Bool} → w ≡ isVariable (getD at 0 0)
-      → Stands line (leaf (var (getD l 0 0))) (record { spelled = g; words = 5 ∷ getD at 0 0 ∷ 0 ∷ 0 ∷ 0 ∷ 0 ∷ 0 ∷ line ∷ []; count = 0; within = w; apart = true; classes = 0 })
+      → StandsFor line (leaf (var (getD l 0 0))) (record { spelled = g; words = 5 ∷ getD at 0 0 ∷ 0 ∷ 0 ∷ 0 ∷ 0 ∷ 0 ∷ line ∷ []; count = 0; within = w; apart = true; classes = 0 })
   unfolding formWithin leafWithin twoVariables formKnown leafKnown operandsOf shapeWords leafWords isIterate
   variable-stands v = record {
     within = v ∙ ap isVariable first ∙ cut-variable (getD l 0 0);
@@ -59,7 +59,7 @@ module _ (at l : List ℕ) (e : at ≡ four (map cut l)) where
     words = λ h k. rw (first, variable-small (getD l 0 0) h);
   }
 
-  all-stands : {line : ℕ} {g : Bool} → Stands line (leaf (all (getD l 0 0))) (record { spelled = g; words = 6 ∷ getD at 0 0 ∷ 0 ∷ 0 ∷ 0 ∷ 0 ∷ 0 ∷ line ∷ []; count = 0; within = ltb (getD at 0 0) 64; apart = true; classes = getD at 0 0 + 1 })
+  all-stands : {line : ℕ} {g : Bool} → StandsFor line (leaf (all (getD l 0 0))) (record { spelled = g; words = 6 ∷ getD at 0 0 ∷ 0 ∷ 0 ∷ 0 ∷ 0 ∷ 0 ∷ line ∷ []; count = 0; within = ltb (getD at 0 0) 64; apart = true; classes = getD at 0 0 + 1 })
   unfolding formWithin leafWithin isClass twoVariables formKnown leafKnown operandsOf shapeWords leafWords isIterate
   all-stands = record {
     within = ap (λ (c : ℕ). ltb c 64) first ∙ cut-lt (getD l 0 0) 1000000 64 (omega arith);
@@ -72,7 +72,7 @@ module _ (at l : List ℕ) (e : at ≡ four (map cut l)) where
     words = λ h k. rw (first, below-small (getD l 0 0) 64 (omega arith) h);
   }
 
-  cast-stands : {line : ℕ} {g : Bool} → Stands line (unary (castTo (getD l 1 0)) (getD l 0 0)) (record { spelled = g; words = 12 ∷ getD at 0 0 ∷ getD at 1 0 ∷ 0 ∷ 0 ∷ 0 ∷ 0 ∷ line ∷ []; count = 1; within = ltb (getD at 1 0) 64; apart = true; classes = getD at 1 0 + 1 })
+  cast-stands : {line : ℕ} {g : Bool} → StandsFor line (unary (castTo (getD l 1 0)) (getD l 0 0)) (record { spelled = g; words = 12 ∷ getD at 0 0 ∷ getD at 1 0 ∷ 0 ∷ 0 ∷ 0 ∷ 0 ∷ line ∷ []; count = 1; within = ltb (getD at 1 0) 64; apart = true; classes = getD at 1 0 + 1 })
   unfolding formWithin unaryWithin isClass twoVariables formKnown unaryKnown operandsOf shapeWords unaryWords isIterate
   cast-stands = record {
     within = ap (λ (c : ℕ). ltb c 64) second ∙ cut-lt (getD l 1 0) 1000000 64 (omega arith);
@@ -85,7 +85,7 @@ module _ (at l : List ℕ) (e : at ≡ four (map cut l)) where
     words = λ h k. rw (first, second, node-small (getD l 0 0) [] k, below-small (getD l 1 0) 64 (omega arith) h, zero-add);
   }
 
-  attribute-stands : {line : ℕ} {g : Bool} → Stands line (attribute (getD l 1 0) (getD l 0 0)) (record { spelled = g; words = 33 ∷ getD at 0 0 ∷ getD at 1 0 ∷ 0 ∷ 0 ∷ 0 ∷ 0 ∷ line ∷ []; count = 1; within = ltb (getD at 1 0) 256; apart = true; classes = 0 })
+  attribute-stands : {line : ℕ} {g : Bool} → StandsFor line (attribute (getD l 1 0) (getD l 0 0)) (record { spelled = g; words = 33 ∷ getD at 0 0 ∷ getD at 1 0 ∷ 0 ∷ 0 ∷ 0 ∷ 0 ∷ line ∷ []; count = 1; within = ltb (getD at 1 0) 256; apart = true; classes = 0 })
   unfolding formWithin twoVariables formKnown operandsOf shapeWords isIterate
   attribute-stands = record {
     within = ap (λ (c : ℕ). ltb c 256) second ∙ cut-lt (getD l 1 0) 1000000 256 (omega arith);
@@ -99,7 +99,7 @@ module _ (at l : List ℕ) (e : at ≡ four (map cut l)) where
   }
 
   let-stands : {line : ℕ} {g w : Bool} → w ≡ isVariable (getD at 0 0)
-      → Stands line (letIn (getD l 0 0) (getD l 1 0) (getD l 2 0)) (record { spelled = g; words = 32 ∷ getD at 1 0 ∷ getD at 2 0 ∷ getD at 0 0 ∷ 0 ∷ 0 ∷ 0 ∷ line ∷ []; count = 2; within = w; apart = true; classes = 0 })
+      → StandsFor line (letIn (getD l 0 0) (getD l 1 0) (getD l 2 0)) (record { spelled = g; words = 32 ∷ getD at 1 0 ∷ getD at 2 0 ∷ getD at 0 0 ∷ 0 ∷ 0 ∷ 0 ∷ line ∷ []; count = 2; within = w; apart = true; classes = 0 })
   unfolding formWithin twoVariables formKnown operandsOf shapeWords isIterate
   let-stands v = record {
     within = v ∙ ap isVariable first ∙ cut-variable (getD l 0 0);
@@ -113,7 +113,7 @@ module _ (at l : List ℕ) (e : at ≡ four (map cut l)) where
   }
 
   quantifier-stands : {line code : ℕ} {g w : Bool} (q : Quantifier) → quantifierCode q ≡ code → w ≡ isVariable (getD at 1 0)
-      → Stands line (quantified q (getD l 1 0) (getD l 0 0) (getD l 2 0)) (record { spelled = g; words = code ∷ getD at 0 0 ∷ getD at 2 0 ∷ getD at 1 0 ∷ 0 ∷ 0 ∷ 0 ∷ line ∷ []; count = 2; within = w; apart = true; classes = 0 })
+      → StandsFor line (quantified q (getD l 1 0) (getD l 0 0) (getD l 2 0)) (record { spelled = g; words = code ∷ getD at 0 0 ∷ getD at 2 0 ∷ getD at 1 0 ∷ 0 ∷ 0 ∷ 0 ∷ line ∷ []; count = 2; within = w; apart = true; classes = 0 })
   unfolding formWithin twoVariables formKnown operandsOf shapeWords isIterate
   quantifier-stands q c v = record {
     within = v ∙ ap isVariable second ∙ cut-variable (getD l 1 0);

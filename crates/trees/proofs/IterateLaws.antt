@@ -38,8 +38,8 @@ use Rattle.trees.specs.declared.Parsed.{Parsed}
 use Rattle.trees.specs.declared.numbers.Numbers.{Numbers}
 use Rattle.trees.specs.declared.iterate.TypeRead.{TypeRead}
 use Rattle.trees.specs.Fields.{cut, four, Read, unread, read, NumbersRead}
-use Rattle.trees.specs.Forms.{Stands, Spelled, misspelled, spelled, FormRead}
-use Rattle.trees.specs.Iterate.{classesIn, Typed, TypeSpelled, no-type, a-type}
+use Rattle.trees.specs.Forms.{StandsFor, Spelled, misspelled, spelled, FormRead}
+use Rattle.trees.specs.Iterate.{classesIn, HoldsType, TypeSpelled, no-type, a-type}
 use Rattle.trees.proofs.FieldLaws.{rest-exact}
 use Rattle.trees.proofs.FormLaws.{cut-variable, variable-small, nodes-small}
 
@@ -104,7 +104,7 @@ parsed good within apart h t y line = record {
 
 module _ (h t : Numbers) (y : TypeRead) {good within apart : Bool} (line : ℕ)
     (w : within ≡ (isVariable (getD (h .at) 1 0) && isVariable (getD (h .at) 2 0) && y .within)) (d : apart ≡ not (eqb (getD (h .at) 1 0) (getD (h .at) 2 0))) where
-  iterate-stands : (s i j e b : ℕ) (u : Ty) → h .at ≡ four (map cut (s ∷ i ∷ j ∷ [])) → t .at ≡ four (map cut (e ∷ b ∷ [])) → Typed u y → Stands line (iterate i j u s e b) (parsed good within apart h t y line)
+  iterate-stands : (s i j e b : ℕ) (u : Ty) → h .at ≡ four (map cut (s ∷ i ∷ j ∷ [])) → t .at ≡ four (map cut (e ∷ b ∷ [])) → HoldsType u y → StandsFor line (iterate i j u s e b) (parsed good within apart h t y line)
   unfolding formWithin twoVariables formKnown operandsOf shapeWords
   iterate-stands s i j e b u p q of = record {
     within = w ∙ rw (p, cut-variable i, cut-variable j, of .within);

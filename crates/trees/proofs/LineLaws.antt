@@ -14,9 +14,9 @@ use Rattle.sheet.specs.Text.{Bytes, fieldsOf}
 use Rattle.sheet.specs.Lines.{Shape, nodeLine, is, next, aNumber, aWord, shapeOf, lineOf, firstIsN}
 use Rattle.sheet.specs.Reading.{stepSpelled, step}
 use Rattle.text.specs.Forms.{shapeBy}
-use Rattle.text.specs.Numbers.{numOf}
+use Rattle.text.specs.Numbers.{cutNum}
 use Rattle.text.specs.Parts.{Cut}
-use Rattle.text.specs.Words.{byteKind, letterOf, formCode}
+use Rattle.text.specs.Words.{byteKind, onlyByte, formCode}
 use Rattle.text.specs.declared.numbers.Num.the-variants as num
 use Rattle.text.specs.declared.parts.Fields.{Fields}
 use Rattle.text.proofs.NumberLaws.{num-bad, num-is}
@@ -29,8 +29,8 @@ use Rattle.tables.specs.declared.Step.the-variants as code
 use Rattle.tables.proofs.Tables.{kept-refl}
 use Rattle.trees.specs.declared.Parsed.{Parsed}
 use Rattle.trees.specs.Fields.{cut}
-use Rattle.trees.specs.Forms.{Stands, Spelled, misspelled, spelled, FormRead}
-use Rattle.trees.specs.Rules.{stop-room, Placed, TookNode}
+use Rattle.trees.specs.Forms.{StandsFor, Spelled, misspelled, spelled, FormRead}
+use Rattle.trees.specs.Rules.{Placed, TookNode}
 use Rattle.trees.proofs.FieldLaws.{field-count}
 
 -- ---- the fields
@@ -39,7 +39,7 @@ node-fields : (fs : List Bytes) → firstIsN fs ≡ true → lineOf fs ≡ next 
 unfolding firstIsN lineOf
 node-fields [] h = absurd (true≢false (sym h))
 node-fields (w ∷ fs) h =
-    let k : byteKind (letterOf w) ≡ 6 = eqb-true (byteKind (letterOf w)) 6 (sym (is-node-line w) ∙ h) in
+    let k : byteKind (onlyByte w) ≡ 6 = eqb-true (byteKind (onlyByte w)) 6 (sym (is-node-line w) ∙ h) in
     rw (is-class-line w, is-row-line w, is-object-line w, is-value-line w, is-rule-line w, h, k)
 
 module _ (fs : List Bytes) (starts : firstIsN fs ≡ true) where
@@ -68,17 +68,11 @@ module _ (fs : List Bytes) (starts : firstIsN fs ≡ true) where
 
 took-none : {st : Counts} {k : ℕ} {line w : List ℕ} → lineOf (fieldsOf line) ≡ none → TookNode st k line (code.Stop 3) w w
 unfolding step stepSpelled
-took-none {w = w} e = record {
-  took = λ w0. record { is = λ s h. rw e moved-stop; kept0 = kept-refl w0; kept1 = kept-refl w };
-  room = λ r. stop-room;
-}
+took-none {w = w} e = λ w0. record { is = λ s h. rw e moved-stop; kept0 = kept-refl w0; kept1 = kept-refl w }
 
-took-node : {st : Counts} {k n : ℕ} {line w v : List ℕ} {p : Parsed} {r : Step} (i : ℕ) (x : Shape) → lineOf (fieldsOf line) ≡ some (nodeLine i x) → n ≡ cut i → Stands k x p → Placed st n p r w v → TookNode st k line r w v
+took-node : {st : Counts} {k n : ℕ} {line w v : List ℕ} {p : Parsed} {r : Step} (i : ℕ) (x : Shape) → lineOf (fieldsOf line) ≡ some (nodeLine i x) → n ≡ cut i → StandsFor k x p → Placed st n p r w v → TookNode st k line r w v
 unfolding step stepSpelled
-took-node {k = k} i x e q z d = record {
-  took = λ w0. record { is = λ s h. rw e (d .is k w0 s i x q z h); kept0 = kept-refl w0; kept1 = d .kept };
-  room = d .room;
-}
+took-node {k = k} i x e q z d = λ w0. record { is = λ s h. rw e (d .is k w0 s i x q z h); kept0 = kept-refl w0; kept1 = d .kept }
 
 module _ {line : List ℕ} {f : Fields} (is : Cut line f) (starts : firstIsN (fieldsOf line) ≡ true) where
   pub line-short : {st : Counts} {k : ℕ} {w : List ℕ} → f .count < 3 → TookNode st k line (code.Stop 3) w w
@@ -88,7 +82,7 @@ module _ {line : List ℕ} {f : Fields} (is : Cut line f) (starts : firstIsN (fi
     spelled-line : lineOf (fieldsOf line) ≡ onSome (aNumber (getD (fieldsOf line) 1 [])) (λ n. mapSome (nodeLine n) (shapeBy (formCode (getD (fieldsOf line) 2 [])) (drop 3 (fieldsOf line))))
     spelled-line = line-of (fieldsOf line) starts (field-count is long)
 
-    pub line-number : {st : Counts} {k : ℕ} {w : List ℕ} → num.Bad ≡ numOf (aNumber (getD (fieldsOf line) 1 [])) → TookNode st k line (code.Stop 3) w w
+    pub line-number : {st : Counts} {k : ℕ} {w : List ℕ} → num.Bad ≡ cutNum (aNumber (getD (fieldsOf line) 1 [])) → TookNode st k line (code.Stop 3) w w
     unfolding onSome
     line-number h = took-none (spelled-line ∙ rw (num-bad (aNumber (getD (fieldsOf line) 1 [])) h))
 
@@ -101,7 +95,7 @@ module _ {line : List ℕ} {f : Fields} (is : Cut line f) (starts : firstIsN (fi
           go o (misspelled e) = nowhere o _ (λ n. refl)
           go o (spelled e z) = absurd (true≢false (sym e ∙ not-true (p .spelled) h))
 
-      pub line-placed : {st : Counts} {n : ℕ} {r : Step} {w v : List ℕ} → num.Is n ≡ numOf (aNumber (getD (fieldsOf line) 1 [])) → not (p .spelled) ≡ false → Placed st n p r w v → TookNode st k line r w v
+      pub line-placed : {st : Counts} {n : ℕ} {r : Step} {w v : List ℕ} → num.Is n ≡ cutNum (aNumber (getD (fieldsOf line) 1 [])) → not (p .spelled) ≡ false → Placed st n p r w v → TookNode st k line r w v
       unfolding onSome mapSome
       line-placed {st} {n} {r} {w} {v} e h d = go (aNumber (getD (fieldsOf line) 1 [])) refl (num-is (aNumber (getD (fieldsOf line) 1 [])) e) (shapeBy c (drop 3 (fieldsOf line))) refl (form .is)
         where

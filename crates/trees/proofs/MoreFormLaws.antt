@@ -3,7 +3,7 @@ use mathlib.Core.Path.{_≡_, refl, sym, _∙_}
 use mathlib.Core.Bool.{Bool, true, false, true≢false}
 use mathlib.Core.Option.{Option, none, some}
 use mathlib.Core.List.{List, [], _∷_, map}
-use Prim.Native.Nat.{ℕ, _+_, _<_, _≤_}
+use Prim.Native.Nat.{ℕ, _<_, _≤_}
 use native.Mathlib.Nat.{zero-add}
 use native.Mathlib.Omega.{arith}
 use borrow.Author.Tests.{eq-eqb, ne-eqb, eqb-true, eqb-false, le-leb, lt-leb}
@@ -22,15 +22,17 @@ use Rattle.sheet.specs.Lines.{leaf, collect, next, done, each, aNumber, anInteg
 use Rattle.sheet.specs.Sheet.{operandsOf}
 use Rattle.sheet.specs.Refusals.{leafWithin, formWithin, twoVariables, leafKnown, formKnown}
 use Rattle.text.specs.Forms.{shapeBy}
-use Rattle.text.specs.Numbers.{bias, wholeOf}
-use Rattle.text.specs.Words.{letterOf}
+use Rattle.laws.specs.Integers.{bias}
+use Rattle.text.specs.Numbers.{wholeOf}
+use Rattle.text.specs.Words.{onlyByte}
 use Rattle.text.specs.declared.numbers.Whole.the-variants as integer
 use Rattle.text.proofs.IntegerLaws.{whole-bad, whole-out, whole-is}
 use Rattle.nodes.specs.Nodes.{leafWords, collectCode, operandWord, shapeWords}
+use Rattle.text.proofs.FormLaws.{above}
 use Rattle.trees.specs.declared.Parsed.{Parsed}
 use Rattle.trees.specs.declared.numbers.Numbers.{Numbers}
 use Rattle.trees.specs.Fields.{cut, four, Read, unread, read, NumbersRead}
-use Rattle.trees.specs.Forms.{Stands, Spelled, misspelled, spelled, FormRead, kindCode}
+use Rattle.trees.specs.Forms.{StandsFor, Spelled, misspelled, spelled, FormRead, kindCode}
 use Rattle.trees.proofs.ExactLaws.{each-length}
 use Rattle.trees.proofs.FormLaws.{nodes-small, isIterate, no-type}
 
@@ -144,8 +146,8 @@ kind-more b c s = go (eqb 83 b) (eqb 81 b) (eqb 66 b) refl refl refl
     go false false true d e f = rw (d, e, f)
     go false false false d e f = rw (d, e, f)
 
-kind-said : (f : Bytes) → KindSaid (aKind f) (kindCode (letterOf f))
-unfolding letterOf kindCode aKind whole _or_ literal after bytes orElse onSome mapSome atEnd
+kind-said : (f : Bytes) → KindSaid (aKind f) (kindCode (onlyByte f))
+unfolding onlyByte kindCode aKind whole _or_ literal after bytes orElse onSome mapSome atEnd
 kind-said [] = no-kind
 kind-said (b ∷ []) = kind-one b
 kind-said (b ∷ c ∷ s) = rw (kind-more b c s) no-kind
@@ -171,7 +173,7 @@ collect-words k (w ∷ x ∷ y ∷ z ∷ []) line h = simp zero-add
 collect-words k (w ∷ x ∷ y ∷ z ∷ v ∷ es) line h = absurd (omega arith)
 
 collect-stands : {line m code : ℕ} {g : Bool} {at : List ℕ} (k : Kind) (es : List ℕ) → code ≡ collectCode k → length es ≡ m → m ≤ 4 → at ≡ four (map cut es)
-    → Stands line (collect k es) (record { spelled = g; words = code ∷ getD at 0 0 ∷ getD at 1 0 ∷ getD at 2 0 ∷ getD at 3 0 ∷ m ∷ 0 ∷ line ∷ []; count = m; within = true; apart = true; classes = 0 })
+    → StandsFor line (collect k es) (record { spelled = g; words = code ∷ getD at 0 0 ∷ getD at 1 0 ∷ getD at 2 0 ∷ getD at 3 0 ∷ m ∷ 0 ∷ line ∷ []; count = m; within = true; apart = true; classes = 0 })
 unfolding formWithin twoVariables formKnown operandsOf isIterate
 collect-stands {line} k es c n few e = record {
   within = refl;
@@ -207,7 +209,7 @@ collect-over (f ∷ gs) h = go (aKind f)
     go none = refl
     go (some k) = collect-many k gs (omega arith)
 
-pub collect-other : {code : ℕ} (f : Bytes) (gs : List Bytes) → code ≡ kindCode (letterOf f) → code ≡ 0 → shapeBy 27 (f ∷ gs) ≡ none
+pub collect-other : {code : ℕ} (f : Bytes) (gs : List Bytes) → code ≡ kindCode (onlyByte f) → code ≡ 0 → shapeBy 27 (f ∷ gs) ≡ none
 unfolding shapeBy collectFields next onSome collectCode
 collect-other {code} f gs c z = go (kind-said f) (sym c ∙ z)
   where
@@ -220,7 +222,7 @@ collect-other {code} f gs c z = go (kind-said f) (sym c ∙ z)
     go no-kind e = refl
     go (a-kind {k}) e = absurd (never k e)
 
-pub collect-read : {line m code : ℕ} {r : Numbers} (f : Bytes) (gs : List Bytes) → code ≡ kindCode (letterOf f) → (code ≡ 0 → ⊥) → length gs ≡ m → m ≤ 4 → NumbersRead (each aNumber gs) r
+pub collect-read : {line m code : ℕ} {r : Numbers} (f : Bytes) (gs : List Bytes) → code ≡ kindCode (onlyByte f) → (code ≡ 0 → ⊥) → length gs ≡ m → m ≤ 4 → NumbersRead (each aNumber gs) r
     → FormRead line (shapeBy 27 (f ∷ gs)) (record { spelled = r .good; words = code ∷ getD (r .at) 0 0 ∷ getD (r .at) 1 0 ∷ getD (r .at) 2 0 ∷ getD (r .at) 3 0 ∷ m ∷ 0 ∷ line ∷ []; count = m; within = true; apart = true; classes = 0 })
 unfolding shapeBy collectFields next onSome atMostFour
 collect-read {line} {m} {code} {r} f gs c z n few is = record { is = go (kind-said f) c; few = few; size = refl }
@@ -252,9 +254,5 @@ pub gap-code : (k : ℕ) (fs : List Bytes) → 28 ≤ k → k < 30 → shapeBy k
 unfolding shapeBy AllBelow
 gap-code k fs = from-below (λ k. shapeBy k fs ≡ none) 28 2 ((tt, refl), refl) k
 
--- a number that is at least a, and not a
-pub step : {k a : ℕ} → a ≤ k → (k ≡ a → ⊥) → a + 1 ≤ k
-step p h = omega arith
-
 pub last-code : (k : ℕ) (fs : List Bytes) → 30 ≤ k → (k ≡ 30 → ⊥) → (k ≡ 31 → ⊥) → (k ≡ 32 → ⊥) → (k ≡ 33 → ⊥) → (k ≡ 34 → ⊥) → shapeBy k fs ≡ none
-last-code k fs h a b c d e = no-code k fs (step (step (step (step (step h a) b) c) d) e)
+last-code k fs h a b c d e = no-code k fs (above (above (above (above (above h a) b) c) d) e)

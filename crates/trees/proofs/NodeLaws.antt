@@ -24,14 +24,16 @@ use Rattle.tables.specs.Layout.{tab, linesIn, usedBit, HoldsCurrent, HoldsOpen,
 use Rattle.tables.specs.declared.Counts.{Counts}
 use Rattle.tables.specs.declared.Step.the-variants as code
 use Rattle.tables.proofs.Tables.{kept-set, kept-then}
+use Rattle.tables.proofs.Entries.{tables-same}
+use Rattle.tables.proofs.Steps.{broken-tree, steps-on}
 use Rattle.trees.specs.declared.Parsed.{Parsed}
 use Rattle.trees.specs.Fields.{cut}
-use Rattle.trees.specs.Forms.{operandsAt, Stands}
-use Rattle.trees.specs.Operands.{broken, deepest, depthAt, marking, shifted, Wrote}
-use Rattle.trees.specs.Rules.{next-room, stop-room, limits, order, withNode, Placed}
+use Rattle.trees.specs.Forms.{operandsAt, StandsFor}
+use Rattle.trees.specs.Operands.{broken, deepest, depthAt, marking, shifted, WroteWords}
+use Rattle.trees.specs.Rules.{limits, order, withNode, Placed}
 use Rattle.trees.proofs.MarkLaws.{wordsOf, depthOf, Framed, mark-frame, mark-small, Depths, deepestOf, Marks, marks-law, fresh-low, broken-fresh, deepest-fresh}
 use Rattle.trees.proofs.ShapeLaws.{grow-same, grow-depth, shape-shifted, shape-line}
-use Rattle.trees.proofs.PlaceLaws.{nodes-low, is-open, is-next, stop-8, go-on, limits-same, form-within, operands-small, operands-are, order-same, known-same}
+use Rattle.trees.proofs.PlaceLaws.{nodes-low, is-open, is-next, limits-same, form-within, operands-small, operands-are, order-same, known-same}
 
 -- ---- the rule that is open
 
@@ -64,7 +66,7 @@ lines-keep w v (suc n) h = rw (h (8 * n + 7) (omega arith), lines-keep w v n (λ
 -- ---- the tables with one node more: node m, of rule c, with the words v1
 
 module _ {st : Counts} {line : ℕ} {p : Parsed} {w0 w1 v1 : List ℕ} {s : Sheet} {x : Shape} (i : ℕ) (d : ℕ)
-    (h : Holds st w0 w1 s) (fine : Fine st) (o : OpenRule st w1 s) (z : Stands line x p) (within : formWithin x ≡ true) (few : length (operandsOf x) ≤ 4)
+    (h : Holds st w0 w1 s) (fine : Fine st) (o : OpenRule st w1 s) (z : StandsFor line x p) (within : formWithin x ≡ true) (few : length (operandsOf x) ≤ 4)
     (smaller : Each (λ a. a < length (o .rule .trees)) (operandsOf x))
     (deep : d ≡ max 0 (deepestOf (λ a. levels (treeOf (o .rule .trees) a)) (operandsOf x)))
     (low : (j : ℕ) → j < 8 * length (s .lines) → getD v1 j 0 ≡ getD w1 j 0)
@@ -140,18 +142,7 @@ module _ {st : Counts} {line : ℕ} {p : Parsed} {w0 w1 v1 : List ℕ} {s : Shee
       nodes = let e = length-append (s .lines) (line ∷ []) in omega (arith, h .counted .nodes);
       rules = h .counted .rules;
     };
-    tables = record {
-      parents = h .tables .parents;
-      owners = h .tables .owners;
-      names = h .tables .names;
-      types = h .tables .types;
-      objects = h .tables .objects;
-      keys = h .tables .keys;
-      starts = h .tables .starts;
-      cells = h .tables .cells;
-      fits = h .tables .fits;
-      contexts = h .tables .contexts;
-    };
+    tables = tables-same refl refl refl refl refl (h .tables);
     rules = record {
       bodies = sym (map-each (treeAt w1) (treeAt v1) (tab 4512 (length (s .rules)) w0) (each-imp (λ a l. kept-tree a l) (h .rules .roots))) ∙ h .rules .bodies;
       roots = each-imp (λ a l. let e = length-append (s .lines) (line ∷ []) in omega arith) (h .rules .roots);
@@ -175,7 +166,7 @@ module _ (st : Counts) (n : ℕ) (p : Parsed) (w1 : List ℕ) (fine : Fine st) (
   room : st .first + n ≤ 768
   room = place-room st n p fine ok ordered
 
-  module _ {line : ℕ} {w0 : List ℕ} {s : Sheet} {x : Shape} (i : ℕ) (u : n ≡ cut i) (z : Stands line x p) (h : Holds st w0 w1 s) (o : OpenRule st w1 s) where
+  module _ {line : ℕ} {w0 : List ℕ} {s : Sheet} {x : Shape} (i : ℕ) (u : n ≡ cut i) (z : StandsFor line x p) (h : Holds st w0 w1 s) (o : OpenRule st w1 s) where
     its-number : n ≡ length (o .rule .trees)
     its-number = omega (arith, is-next st n p ordered, o .holds .count, o .holds .first, h .counted .nodes)
 
@@ -200,13 +191,12 @@ module _ (st : Counts) (n : ℕ) (p : Parsed) (w1 : List ℕ) (fine : Fine st) (
   place-8 {v1} e = record {
     is = λ line w0 s i x u z h.
         let o = open-rule h (is-open st n p ordered) in
-        rw (stop-8 s line (nodeLine i x) (sym (limits-same i u z h) ∙ ok) (sym (order-same i u z h fine ok) ∙ ordered) (sym (known-same i u z h fine ok) ∙ le-leb (p .classes) (st .classes) classes) refl
+        rw (broken-tree s line (nodeLine i x) (sym (limits-same i u z h) ∙ ok) (sym (order-same i u z h fine ok) ∙ ordered) (sym (known-same i u z h fine ok) ∙ le-leb (p .classes) (st .classes) classes) refl
         (tree-test i u z h o ∙ broken-fresh (marks i u z h o) (e ∙ marking-same i u z h o))) moved-stop;
     kept = rw (ap wordsOf e) (mark-frame (st .first) n room (operandsAt (p .words) (p .count)) 0 w1 .kept);
-    room = λ r. stop-room;
   }
 
-  module _ {d : ℕ} {u v : List ℕ} (e : deepest d u ≡ marking (st .first) n 0 (operandsAt (p .words) (p .count)) w1) (wrote : Wrote (8 * st .nodes) 8 (shifted (p .words) (p .count) (st .first)) u v) where
+  module _ {d : ℕ} {u v : List ℕ} (e : deepest d u ≡ marking (st .first) n 0 (operandsAt (p .words) (p .count)) w1) (wrote : WroteWords (8 * st .nodes) 8 (shifted (p .words) (p .count) (st .first)) u v) where
     framed : Framed w1 u
     unfolding wordsOf
     framed = rw (ap wordsOf e) (mark-frame (st .first) n room (operandsAt (p .words) (p .count)) 0 w1)
@@ -244,7 +234,7 @@ module _ (st : Counts) (n : ℕ) (p : Parsed) (w1 : List ℕ) (fine : Fine st) (
       first = omega (arith, fine .first);
     }
 
-    module _ {line : ℕ} {w0 : List ℕ} {s : Sheet} {x : Shape} (i : ℕ) (few : p .count ≤ 4) (number : n ≡ cut i) (z : Stands line x p) (h : Holds st w0 w1 s) (o : OpenRule st w1 s) where
+    module _ {line : ℕ} {w0 : List ℕ} {s : Sheet} {x : Shape} (i : ℕ) (few : p .count ≤ 4) (number : n ≡ cut i) (z : StandsFor line x p) (h : Holds st w0 w1 s) (o : OpenRule st w1 s) where
       told : (fresh (length (o .rule .trees)) (o .rule .used) (operandsOf x) ≡ true) × (d ≡ max 0 (deepestOf (λ a. levels (treeOf (o .rule .trees) a)) (operandsOf x)))
           × Depths (o .rule .first) (length (o .rule .trees)) (λ a. levels (treeOf (o .rule .trees) a)) (o .rule .used ++ operandsOf x) u
       told = deepest-fresh (marks i number z h o) (e ∙ marking-same i number z h o)
@@ -283,8 +273,7 @@ module _ (st : Counts) (n : ℕ) (p : Parsed) (w1 : List ℕ) (fine : Fine st) (
     place-on few q = rw q (record {
       is = λ line w0 s i x number z h.
           let o = open-rule h (is-open st n p ordered) in
-          rw (go-on s line (nodeLine i x) (sym (limits-same i number z h) ∙ ok) (sym (order-same i number z h fine ok) ∙ ordered) (sym (known-same i number z h fine ok) ∙ le-leb (p .classes) (st .classes) classes) refl
+          rw (steps-on s line (nodeLine i x) (sym (limits-same i number z h) ∙ ok) (sym (order-same i number z h fine ok) ∙ ordered) (sym (known-same i number z h fine ok) ∙ le-leb (p .classes) (st .classes) classes) refl
           (tree-test i number z h o ∙ told i few number z h o .0)) (moved-next more-fine (next-holds i few number z h o));
       kept = kept-after;
-      room = λ k. next-room (record { room = k .room });
     })

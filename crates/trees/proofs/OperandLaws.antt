@@ -14,7 +14,7 @@ use Rattle.laws.proofs.Parts.{at-next}
 use Rattle.sheet.specs.Refusals.{isNode}
 use Rattle.tables.proofs.Tables.{kept-refl, kept-set, kept-then}
 use Rattle.trees.specs.Forms.{operandsAt}
-use Rattle.trees.specs.Operands.{Marking, broken, deepest, depthAt, marking, shifted, Wrote}
+use Rattle.trees.specs.Operands.{Marking, broken, deepest, depthAt, marking, shifted, WroteWords}
 
 -- ---- the operands that are left after i
 
@@ -105,10 +105,10 @@ module _ (words : List ℕ) (count first k : ℕ) where
 
 -- ---- words written
 
-pub wrote-none : (at : ℕ) (v : ℕ → ℕ) (w : List ℕ) → Wrote at 0 v w w
+pub wrote-none : (at : ℕ) (v : ℕ → ℕ) (w : List ℕ) → WroteWords at 0 v w w
 wrote-none at v w = record { kept = kept-refl w; each = λ k h. absurd (omega arith); low = λ i h. refl; high = λ i h. refl }
 
-pub wrote-next : {at n x : ℕ} {v : ℕ → ℕ} {before after : List ℕ} → Wrote at n v before after → at + n < 8192 → at + n < length after → x ≡ v n → Wrote at (n + 1) v before (set after (at + n) x)
+pub wrote-next : {at n x : ℕ} {v : ℕ → ℕ} {before after : List ℕ} → WroteWords at n v before after → at + n < 8192 → at + n < length after → x ≡ v n → WroteWords at (n + 1) v before (set after (at + n) x)
 wrote-next {at} {n} {x} {v} {before} {after} so room long e = record {
   kept = kept-then (so .kept) (kept-set after (at + n) x room);
   each = λ k h. each k h (decLt k n);
@@ -120,5 +120,5 @@ wrote-next {at} {n} {x} {v} {before} {after} so room long e = record {
     each k h (yes l) = getD-set-other after (at + n) (at + k) x 0 (omega arith) ∙ so .each k l
     each k h (no l) = let q : k ≡ n = omega arith in rw q (getD-set-same after (at + n) x 0 long ∙ e)
 
-pub wrote-all : {at n m : ℕ} {v : ℕ → ℕ} {before after : List ℕ} → Wrote at n v before after → n ≡ m → Wrote at m v before after
+pub wrote-all : {at n m : ℕ} {v : ℕ → ℕ} {before after : List ℕ} → WroteWords at n v before after → n ≡ m → WroteWords at m v before after
 wrote-all so e = rw (← e) so

@@ -11,18 +11,18 @@ use lib.ListN.{length}
 use Rattle.laws.specs.Lists.{allOf}
 use Rattle.laws.proofs.Bounds.{cut-lt}
 use Rattle.laws.proofs.Tests.{and-true}
-use Rattle.sheet.specs.Lines.{Shape, Line, nodeLine}
-use Rattle.sheet.specs.Sheet.{Current, Sheet, added, operandsOf}
-use Rattle.sheet.specs.Refusals.{isNode, formWithin, twoVariables, formKnown, withinLimits, blockOf, nextNode, numbered, inOrder, partsKnown, suits, treeHolds}
-use Rattle.sheet.specs.Reading.{taken, refuse, must, stepLine}
+use Rattle.sheet.specs.Lines.{Shape, nodeLine}
+use Rattle.sheet.specs.Sheet.{Current, Sheet, operandsOf}
+use Rattle.sheet.specs.Refusals.{isNode, formWithin, twoVariables, formKnown, withinLimits, blockOf, nextNode, numbered, inOrder, partsKnown}
 use Rattle.tables.specs.Layout.{Holds, HoldsOpen, closed, opened, Fine, moved-stop}
 use Rattle.tables.specs.declared.Counts.{Counts}
 use Rattle.tables.specs.declared.Step.the-variants as code
 use Rattle.tables.proofs.Tables.{kept-refl}
+use Rattle.tables.proofs.Steps.{over-limits, out-of-order, unknown-part}
 use Rattle.trees.specs.declared.Parsed.{Parsed}
 use Rattle.trees.specs.Fields.{cut}
-use Rattle.trees.specs.Forms.{operandsAt, Stands}
-use Rattle.trees.specs.Rules.{stop-room, limits, order, Placed}
+use Rattle.trees.specs.Forms.{operandsAt, StandsFor}
+use Rattle.trees.specs.Rules.{limits, order, Placed}
 use Rattle.trees.proofs.FormLaws.{nodes-small}
 
 -- ---- what the code's tests answer
@@ -93,30 +93,6 @@ module _ (st : Counts) (n : ℕ) (p : Parsed) where
     pub is-next : n ≡ st .nodes - st .first
     is-next = eqb-true n (st .nodes - st .first) (and-true (eqb (st .«open») 1) _ (and-true (eqb (st .«open») 1 && eqb n (st .nodes - st .first)) (p .apart) behind .0) .1)
 
--- ---- the definition's refusals
-
-module _ (s : Sheet) (k : ℕ) (l : Line) where
-  pub stop-4 : withinLimits s l ≡ false → stepLine s k l ≡ refuse 4
-  unfolding stepLine must
-  stop-4 a = rw a
-
-  pub stop-5 : withinLimits s l ≡ true → inOrder s l ≡ false → stepLine s k l ≡ refuse 5
-  unfolding stepLine must
-  stop-5 a b = rw (a, b)
-
-  pub stop-6 : withinLimits s l ≡ true → inOrder s l ≡ true → partsKnown s l ≡ false → stepLine s k l ≡ refuse 6
-  unfolding stepLine must
-  stop-6 a b c = rw (a, b, c)
-
-  module _ (a : withinLimits s l ≡ true) (b : inOrder s l ≡ true) (c : partsKnown s l ≡ true) (d : suits s l ≡ true) where
-    pub stop-8 : treeHolds s l ≡ false → stepLine s k l ≡ refuse 8
-    unfolding stepLine must
-    stop-8 e = rw (a, b, c, d, e)
-
-    pub go-on : treeHolds s l ≡ true → stepLine s k l ≡ taken (added s k l)
-    unfolding stepLine must
-    go-on e = rw (a, b, c, d, e)
-
 -- ---- the two agree
 
 nodes-cut : (l : List ℕ) → allOf isNode (map cut l) ≡ allOf isNode l
@@ -125,7 +101,7 @@ nodes-cut [] = refl
 nodes-cut (a ∷ l) = rw (cut-lt a 1000000 768 (omega arith), nodes-cut l)
 
 module _ {st : Counts} {n line : ℕ} {p : Parsed} {w0 w1 : List ℕ} {s : Sheet} {x : Shape} (i : ℕ)
-    (number : n ≡ cut i) (z : Stands line x p) (h : Holds st w0 w1 s) where
+    (number : n ≡ cut i) (z : StandsFor line x p) (h : Holds st w0 w1 s) where
   pub limits-same : limits st n p ≡ withinLimits s (nodeLine i x)
   unfolding limits withinLimits isNode
   limits-same = rw (number, cut-lt i 1000000 768 (omega arith), z .within, z .operands, nodes-cut (operandsOf x), h .counted .nodes)
@@ -162,23 +138,20 @@ module _ {st : Counts} {n line : ℕ} {p : Parsed} {w0 w1 : List ℕ} {s : Sheet
 module _ {st : Counts} {n : ℕ} {p : Parsed} (w1 : List ℕ) (fine : Fine st) where
   pub place-4 : {b : Bool} → b ≡ limits st n p → not b ≡ true → Placed st n p (code.Stop 4) w1 w1
   place-4 {b} e q = record {
-    is = λ line w0 s i x u z h. rw (stop-4 s line (nodeLine i x) (sym (limits-same i u z h) ∙ sym e ∙ not-true b q)) moved-stop;
+    is = λ line w0 s i x u z h. rw (over-limits s line (nodeLine i x) (sym (limits-same i u z h) ∙ sym e ∙ not-true b q)) moved-stop;
     kept = kept-refl w1;
-    room = λ r. stop-room;
   }
 
   module _ (ok : limits st n p ≡ true) where
     pub place-5 : {b : Bool} → b ≡ order st n p → not b ≡ true → Placed st n p (code.Stop 5) w1 w1
     place-5 {b} e q = record {
-      is = λ line w0 s i x u z h. rw (stop-5 s line (nodeLine i x) (sym (limits-same i u z h) ∙ ok) (sym (order-same i u z h fine ok) ∙ sym e ∙ not-true b q)) moved-stop;
+      is = λ line w0 s i x u z h. rw (out-of-order s line (nodeLine i x) (sym (limits-same i u z h) ∙ ok) (sym (order-same i u z h fine ok) ∙ sym e ∙ not-true b q)) moved-stop;
       kept = kept-refl w1;
-      room = λ r. stop-room;
     }
 
     pub place-6 : order st n p ≡ true → st .classes < p .classes → Placed st n p (code.Stop 6) w1 w1
     place-6 o l = record {
       is = λ line w0 s i x u z h.
-          rw (stop-6 s line (nodeLine i x) (sym (limits-same i u z h) ∙ ok) (sym (order-same i u z h fine ok) ∙ o) (sym (known-same i u z h fine ok) ∙ lt-leb (p .classes) (st .classes) l)) moved-stop;
+          rw (unknown-part s line (nodeLine i x) (sym (limits-same i u z h) ∙ ok) (sym (order-same i u z h fine ok) ∙ o) (sym (known-same i u z h fine ok) ∙ lt-leb (p .classes) (st .classes) l)) moved-stop;
       kept = kept-refl w1;
-      room = λ r. stop-room;
     }

@@ -12,8 +12,7 @@ use Rattle.sheet.specs.Text.{byte}
 use Rattle.sheet.specs.Lines.{Shape}
 use Rattle.sheet.specs.Sheet.{operandsOf}
 use Rattle.sheet.specs.Refusals.{isNode, formWithin, twoVariables, formKnown}
-use Rattle.nodes.specs.Nodes.{shapeWords}
-use Rattle.nodes.proofs.Shapes.{TypeSaid}
+use Rattle.nodes.specs.Nodes.{TypeSaid, shapeWords}
 use Rattle.trees.specs.declared.Parsed.{Parsed}
 use Rattle.trees.specs.Fields.{cut}
 
@@ -22,7 +21,7 @@ abbrev pub operandsAt : List ℕ → ℕ → List ℕ
 operandsAt words count = take count (drop 1 words)
 
 -- p is the form x of a line: what is asked of a form inside its limits is asked of p, and its words are those of x
-pub record Stands (line : ℕ) (x : Shape) (p : Parsed) : Type 0 where
+pub record StandsFor (line : ℕ) (x : Shape) (p : Parsed) : Type 0 where
   pub within : p .within ≡ formWithin x
   pub apart : formWithin x ≡ true → p .apart ≡ twoVariables x
   pub known : formWithin x ≡ true → (n : ℕ) → n ≤ 64 → leb (p .classes) n ≡ formKnown n x
@@ -35,7 +34,7 @@ pub record Stands (line : ℕ) (x : Shape) (p : Parsed) : Type 0 where
 
 pub data Spelled (line : ℕ) : Option Shape → Parsed → Type 0 where
   misspelled : {p : Parsed} → p .spelled ≡ false → Spelled line none p
-  spelled : {x : Shape} {p : Parsed} → p .spelled ≡ true → Stands line x p → Spelled line (some x) p
+  spelled : {x : Shape} {p : Parsed} → p .spelled ≡ true → StandsFor line x p → Spelled line (some x) p
 
 pub record FormRead (line : ℕ) (o : Option Shape) (p : Parsed) : Type 0 where
   pub is : Spelled line o p

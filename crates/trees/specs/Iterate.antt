@@ -19,11 +19,11 @@ classesIn b.Int = 0
 classesIn b.Any = 0
 classesIn (b.Class c) = c + 1
 
-pub record Typed (t : Ty) (r : TypeRead) : Type 0 where
+pub record HoldsType (t : Ty) (r : TypeRead) : Type 0 where
   pub within : r .within ≡ typeWithin t
   pub word : typeWithin t ≡ true → typeIn (r .word) ≡ t
   pub known : typeWithin t ≡ true → (n : ℕ) → leb (r .classes) n ≡ classBelow n t
 
 pub data TypeSpelled : Option Ty → TypeRead → Type 0 where
   no-type : {r : TypeRead} → r .spelled ≡ false → TypeSpelled none r
-  a-type : {t : Ty} {r : TypeRead} → r .spelled ≡ true → Typed t r → TypeSpelled (some t) r
+  a-type : {t : Ty} {r : TypeRead} → r .spelled ≡ true → HoldsType t r → TypeSpelled (some t) r

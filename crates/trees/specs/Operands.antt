@@ -39,7 +39,7 @@ unfoldable pub shifted : List ℕ → ℕ → ℕ → ℕ → ℕ
 shifted words count first k = if eqb k 0 then getD words k 0 else if leb k count then first + getD words k 0 else getD words k 0
 
 -- n words from `at` on are v's
-pub record Wrote (at n : ℕ) (v : ℕ → ℕ) (before after : List ℕ) : Type 0 where
+pub record WroteWords (at n : ℕ) (v : ℕ → ℕ) (before after : List ℕ) : Type 0 where
   pub kept : Kept before after
   pub each : (k : ℕ) → k < n → getD after (at + k) 0 ≡ v k
   pub low : (i : ℕ) → i < at → getD after i 0 ≡ getD before i 0

@@ -18,16 +18,12 @@ use Rattle.tables.specs.declared.Step.{Step}
 use Rattle.tables.specs.declared.Step.the-variants as code
 use Rattle.trees.specs.declared.Parsed.{Parsed}
 use Rattle.trees.specs.Fields.{cut}
-use Rattle.trees.specs.Forms.{operandsAt, Stands}
+use Rattle.trees.specs.Forms.{operandsAt, StandsFor}
 use Rattle.trees.specs.Operands.{depthAt}
 
 -- an open rule has a number below 64: an R line was held to that
 pub record RuleRoom (st : Counts) : Type 0 where
   pub room : st .«open» ≡ 1 → st .rules < 64
-
-pub data StepRoom : Step → Type 0 where
-  next-room : {st : Counts} → RuleRoom st → StepRoom (code.Next st)
-  stop-room : {n : ℕ} → StepRoom (code.Stop n)
 
 -- ---- a node line
 
@@ -57,13 +53,12 @@ withNode st = record {
 
 -- a line that spells a node: the words were w1 and are v1
 pub record Placed (st : Counts) (n : ℕ) (p : Parsed) (r : Step) (w1 v1 : List ℕ) : Type 0 where
-  pub is : (line : ℕ) (w0 : List ℕ) (s : Sheet) (i : ℕ) (x : Shape) → n ≡ cut i → Stands line x p → Holds st w0 w1 s → Moved w0 v1 r (stepLine s line (nodeLine i x))
+  pub is : (line : ℕ) (w0 : List ℕ) (s : Sheet) (i : ℕ) (x : Shape) → n ≡ cut i → StandsFor line x p → Holds st w0 w1 s → Moved w0 v1 r (stepLine s line (nodeLine i x))
   pub kept : Kept w1 v1
-  pub room : RuleRoom st → StepRoom r
 
-pub record TookNode (st : Counts) (k : ℕ) (line : Bytes) (r : Step) (w1 v1 : List ℕ) : Type 0 where
-  pub took : (w0 : List ℕ) → Took st k line r w0 w1 w0 v1
-  pub room : RuleRoom st → StepRoom r
+-- crates/tables' Took, where w0 stays
+abbrev pub TookNode : Counts → ℕ → Bytes → Step → List ℕ → List ℕ → Type 0
+TookNode st k line r w1 v1 = (w0 : List ℕ) → Took st k line r w0 w1 w0 v1
 
 -- ---- a rule's end
 
@@ -95,4 +90,3 @@ pub data EndMoved (w0 w1 : List ℕ) : Step → Option Sheet → Type 0 where
 pub record Ended (st : Counts) (r : Step) (w0 w1 v0 : List ℕ) : Type 0 where
   pub is : (s : Sheet) → Holds st w0 w1 s → EndMoved v0 w1 r (endRule s)
   pub kept : Kept w0 v0
-  pub room : StepRoom r

@@ -26,19 +26,10 @@ fn with_rule(st: Counts) -> Counts
     requires { ⌜ Fine st ⌝ }
     ensures { λ r. ⌜ r ≡ withRule st ⌝ }
 {
-    Counts {
-        block: st.block,
-        classes: st.classes,
-        rows: st.rows,
-        objects: st.objects,
-        slots: st.slots,
-        cells: st.cells,
-        nodes: st.nodes,
-        rules: st.rules + 1,
-        open: 0,
-        context: st.context,
-        first: st.first,
-    }
+    let mut next = st;
+    next.rules = st.rules + 1;
+    next.open = 0;
+    next
 }
 
 // Where no rule is open, nothing changes.

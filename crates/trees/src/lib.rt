@@ -1,5 +1,6 @@
 // The node lines of a sheet, and the end of a rule: a form's fields are read into eight words, held to their limits and their
-// order, and put into the node table; a rule that ends is put down by its context and its root. Document 01, The sheet.
+// order, and put into the node table; a rule that ends is put down by its context and its root. Document 01, The sheet. It
+// depends on `text` and `types`, which read fields, on `nodes` for what a node's words say, and on `tables`.
 
 pub mod numbers; // fields that are numbers
 pub mod forms; // the fields after a form's word

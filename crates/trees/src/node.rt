@@ -59,19 +59,10 @@ fn with_node(st: Counts) -> Counts
     requires { ⌜ Fine st ⌝ }
     ensures { λ r. ⌜ r ≡ withNode st ⌝ }
 {
-    Counts {
-        block: 4,
-        classes: st.classes,
-        rows: st.rows,
-        objects: st.objects,
-        slots: st.slots,
-        cells: st.cells,
-        nodes: st.nodes + 1,
-        rules: st.rules,
-        open: st.open,
-        context: st.context,
-        first: st.first,
-    }
+    let mut next = st;
+    next.block = 4;
+    next.nodes = st.nodes + 1;
+    next
 }
 
 fn place_node(w1: &mut [u64], st: Counts, n: u64, p: Parsed) -> Step

@@ -6,7 +6,7 @@ ghost use lib.ListN.{length};
 ghost use Rattle.laws.specs.Lists.{allOf};
 ghost use Rattle.sheet.specs.Refusals.{isNode};
 ghost use Rattle.trees.specs.Forms.{operandsAt};
-ghost use Rattle.trees.specs.Operands.{shifted, marking, marked, Wrote};
+ghost use Rattle.trees.specs.Operands.{shifted, marking, marked, WroteWords};
 
 // A broken tree, or the depth of the deepest operand.
 pub enum Marked {
@@ -88,7 +88,7 @@ fn shift(words: [u64; 8], count: usize, first: u64, k: usize) -> u64
 // The eight words of node m.
 pub fn put_words(w1: &mut [u64], m: usize, words: [u64; 8], count: usize, first: u64)
     requires { ⌜ (8192 ≤ length (now w1)) × (m < 768) × (first ≤ 768) × (allOf isNode (operandsAt words count) ≡ true) ⌝ }
-    ensures { λ _. ⌜ Wrote (8 * m) 8 (shifted words count first) (now (w1 .entry)) (now (w1 .exit)) ⌝ }
+    ensures { λ _. ⌜ WroteWords (8 * m) 8 (shifted words count first) (now (w1 .entry)) (now (w1 .exit)) ⌝ }
 {
     let mut k: usize = 0;
     while k < 8 {

@@ -12,6 +12,7 @@ use Rattle.ocl.proofs.SimpleTypes.{top, climb→simpleSubtype, class-not-boolea
 use Rattle.types.specs.declared.Base.{Base}
 use Rattle.types.specs.declared.Base.the-variants as b
 use Rattle.types.specs.Flat.{parentsIn, baseType, baseTag, baseClass}
+use Rattle.types.proofs.Cases.{by-base, is-void, is-any, is-class}
 use Rattle.types.proofs.Parents.{parents-small, any-not-class, class-join}
 
 module _ (ps : List ℕ) where
@@ -25,38 +26,18 @@ module _ (ps : List ℕ) where
 
   pub below-void : (a x : Base) → baseTag a ≡ 0 → true ≡ subtype P (baseType a) (baseType x)
   unfolding subtype
-  below-void b.Void x h = refl
-  below-void b.Bool x h = absurd (omega arith)
-  below-void b.Int x h = absurd (omega arith)
-  below-void b.Any x h = absurd (omega arith)
-  below-void (b.Class c) x h = absurd (omega arith)
+  below-void a x h = rw (is-void a h)
 
   base-any : (a : Base) → true ≡ subtype P (baseType a) (simple any)
   unfolding subtype
-  base-any b.Void = refl
-  base-any b.Bool = simple-any boolean
-  base-any b.Int = simple-any integer
-  base-any b.Any = simple-any any
-  base-any (b.Class c) = simple-any (class c)
+  base-any = by-base (λ t. true ≡ subtype P t (simple any)) refl simple-any
 
   pub below-any : (a x : Base) → baseTag x ≡ 3 → true ≡ subtype P (baseType a) (baseType x)
-  below-any a b.Void h = absurd (omega arith)
-  below-any a b.Bool h = absurd (omega arith)
-  below-any a b.Int h = absurd (omega arith)
-  below-any a b.Any h = base-any a
-  below-any a (b.Class c) h = absurd (omega arith)
+  below-any a x h = rw (is-any x h) (base-any a)
 
   pub below-class : (a x : Base) → baseTag a ≡ 4 → baseTag x ≡ 4 → simpleSubtype P (class (baseClass a)) (class (baseClass x)) ≡ subtype P (baseType a) (baseType x)
   unfolding subtype
-  below-class b.Void x h k = absurd (omega arith)
-  below-class b.Bool x h k = absurd (omega arith)
-  below-class b.Int x h k = absurd (omega arith)
-  below-class b.Any x h k = absurd (omega arith)
-  below-class (b.Class c) b.Void h k = absurd (omega arith)
-  below-class (b.Class c) b.Bool h k = absurd (omega arith)
-  below-class (b.Class c) b.Int h k = absurd (omega arith)
-  below-class (b.Class c) b.Any h k = absurd (omega arith)
-  below-class (b.Class c) (b.Class d) h k = refl
+  below-class a x h k = rw (is-class a h, is-class x k)
 
   class-off : (c : ℕ) (x : Base) → (baseTag x ≡ 3 → ⊥) → (baseTag x ≡ 4 → ⊥) → false ≡ subtype P (simple (class c)) (baseType x)
   unfolding subtype
@@ -68,11 +49,7 @@ module _ (ps : List ℕ) where
 
   -- a class, against a base that is neither Any nor a class
   pub below-off : (a x : Base) → baseTag a ≡ 4 → (baseTag x ≡ 3 → ⊥) → (baseTag x ≡ 4 → ⊥) → false ≡ subtype P (baseType a) (baseType x)
-  below-off b.Void x n h k = absurd (omega arith)
-  below-off b.Bool x n h k = absurd (omega arith)
-  below-off b.Int x n h k = absurd (omega arith)
-  below-off b.Any x n h k = absurd (omega arith)
-  below-off (b.Class c) x n h k = class-off c x h k
+  below-off a x n h k = rw (is-class a n) (class-off (baseClass a) x h k)
 
   -- a base that is neither Void nor a class, against one that is not Any
   pub below-rest : (a x : Base) → (baseTag a ≡ 0 → ⊥) → (baseTag a ≡ 4 → ⊥) → (baseTag x ≡ 3 → ⊥) → eqb (baseTag a) (baseTag x) ≡ subtype P (baseType a) (baseType x)
@@ -99,38 +76,18 @@ module _ (ps : List ℕ) where
 
   pub joins-left : (a x : Base) → baseTag a ≡ 0 → some (baseType x) ≡ join P (baseType a) (baseType x)
   unfolding join
-  joins-left b.Void x h = refl
-  joins-left b.Bool x h = absurd (omega arith)
-  joins-left b.Int x h = absurd (omega arith)
-  joins-left b.Any x h = absurd (omega arith)
-  joins-left (b.Class c) x h = absurd (omega arith)
+  joins-left a x h = rw (is-void a h)
 
   void-right : (a : Base) → some (baseType a) ≡ join P (baseType a) void
   unfolding join
-  void-right b.Void = refl
-  void-right b.Bool = refl
-  void-right b.Int = refl
-  void-right b.Any = refl
-  void-right (b.Class c) = refl
+  void-right = by-base (λ t. some t ≡ join P t void) refl (λ s. refl)
 
   pub joins-right : (a x : Base) → baseTag x ≡ 0 → some (baseType a) ≡ join P (baseType a) (baseType x)
-  joins-right a b.Void h = void-right a
-  joins-right a b.Bool h = absurd (omega arith)
-  joins-right a b.Int h = absurd (omega arith)
-  joins-right a b.Any h = absurd (omega arith)
-  joins-right a (b.Class c) h = absurd (omega arith)
+  joins-right a x h = rw (is-void x h) (void-right a)
 
   pub joins-class : (a x r : Base) → baseTag a ≡ 4 → baseTag x ≡ 4 → baseType r ≡ simple (simpleJoin P (class (baseClass a)) (class (baseClass x))) → some (baseType r) ≡ join P (baseType a) (baseType x)
   unfolding join
-  joins-class b.Void x r h k e = absurd (omega arith)
-  joins-class b.Bool x r h k e = absurd (omega arith)
-  joins-class b.Int x r h k e = absurd (omega arith)
-  joins-class b.Any x r h k e = absurd (omega arith)
-  joins-class (b.Class c) b.Void r h k e = absurd (omega arith)
-  joins-class (b.Class c) b.Bool r h k e = absurd (omega arith)
-  joins-class (b.Class c) b.Int r h k e = absurd (omega arith)
-  joins-class (b.Class c) b.Any r h k e = absurd (omega arith)
-  joins-class (b.Class c) (b.Class d) r h k e = ap some e
+  joins-class a x r h k e = rw (is-class a h, is-class x k) (ap some e)
 
   class-other : (c : ℕ) (x : Base) → (baseTag x ≡ 0 → ⊥) → (baseTag x ≡ 4 → ⊥) → some (simple any) ≡ join P (simple (class c)) (baseType x)
   unfolding join
@@ -142,11 +99,7 @@ module _ (ps : List ℕ) where
 
   -- a class, and a base that is neither Void nor a class
   pub joins-off : (a x : Base) → baseTag a ≡ 4 → (baseTag x ≡ 0 → ⊥) → (baseTag x ≡ 4 → ⊥) → some (simple any) ≡ join P (baseType a) (baseType x)
-  joins-off b.Void x n h k = absurd (omega arith)
-  joins-off b.Bool x n h k = absurd (omega arith)
-  joins-off b.Int x n h k = absurd (omega arith)
-  joins-off b.Any x n h k = absurd (omega arith)
-  joins-off (b.Class c) x n h k = class-other c x h k
+  joins-off a x n h k = rw (is-class a n) (class-other (baseClass a) x h k)
 
   -- one and the same base, no class
   pub joins-same : (a x : Base) → (baseTag a ≡ 0 → ⊥) → (baseTag a ≡ 4 → ⊥) → baseTag a ≡ baseTag x → some (baseType a) ≡ join P (baseType a) (baseType x)

@@ -15,6 +15,7 @@ use Rattle.types.specs.declared.FlatType.{FlatType}
 use Rattle.types.specs.declared.Joined.{Joined}
 use Rattle.types.specs.declared.Joined.the-variants as j
 use Rattle.types.specs.Flat.{baseType, baseTag, letterOf, layer, tyOf, under, bare, level, joinedType, typeTo, joinedTo, JoinsOneMore}
+use Rattle.types.proofs.Cases.{by-base, by-simple, is-void}
 
 -- ---- letters
 
@@ -138,11 +139,7 @@ void-end parent (b.Class n) l u = refl
 
 collection-end : (parent : Parents) (x : Base) (k : Letter) (t : Ty) → false ≡ subtype parent (around k t) (baseType x)
 unfolding subtype
-collection-end parent b.Void l u = refl
-collection-end parent b.Bool l u = refl
-collection-end parent b.Int l u = refl
-collection-end parent b.Any l u = refl
-collection-end parent (b.Class n) l u = refl
+collection-end parent x k t = by-base (λ u. false ≡ subtype parent (around k t) u) refl (λ s. refl) x
 
 level-law : (parent : Parents) (a x : Base) (k l : ℕ) (t u : Ty) → level (baseTag a) k l (subtype parent (baseType a) (baseType x)) (subtype parent t u) ≡ subtype parent (layer k (baseType a) t) (layer l (baseType x) u)
 unfolding level layer subtype
@@ -168,35 +165,19 @@ layer-on (suc k) x t h = refl
 
 void-left : (parent : Parents) (a : Base) (u : Ty) → baseTag a ≡ 0 → some u ≡ join parent (baseType a) u
 unfolding join
-void-left parent b.Void u h = refl
-void-left parent b.Bool u h = absurd (omega arith)
-void-left parent b.Int u h = absurd (omega arith)
-void-left parent b.Any u h = absurd (omega arith)
-void-left parent (b.Class c) u h = absurd (omega arith)
+void-left parent a u h = rw (is-void a h)
 
 no-left : (parent : Parents) (a : Base) (k : Letter) (u : Ty) → (baseTag a ≡ 0 → ⊥) → none ≡ join parent (baseType a) (around k u)
 unfolding join
-no-left parent b.Void k u h = absurd (h refl)
-no-left parent b.Bool k u h = refl
-no-left parent b.Int k u h = refl
-no-left parent b.Any k u h = refl
-no-left parent (b.Class c) k u h = refl
+no-left parent a k u = by-simple (λ t. none ≡ join parent t (around k u)) (λ s. refl) a
 
 void-right : (parent : Parents) (a : Base) (k : Letter) (u : Ty) → baseTag a ≡ 0 → some (around k u) ≡ join parent (around k u) (baseType a)
 unfolding join
-void-right parent b.Void k u h = refl
-void-right parent b.Bool k u h = absurd (omega arith)
-void-right parent b.Int k u h = absurd (omega arith)
-void-right parent b.Any k u h = absurd (omega arith)
-void-right parent (b.Class c) k u h = absurd (omega arith)
+void-right parent a k u h = rw (is-void a h)
 
 no-right : (parent : Parents) (a : Base) (k : Letter) (u : Ty) → (baseTag a ≡ 0 → ⊥) → none ≡ join parent (around k u) (baseType a)
 unfolding join
-no-right parent b.Void k u h = absurd (h refl)
-no-right parent b.Bool k u h = refl
-no-right parent b.Int k u h = refl
-no-right parent b.Any k u h = refl
-no-right parent (b.Class c) k u h = refl
+no-right parent a k u = by-simple (λ t. none ≡ join parent (around k u) t) (λ s. refl) a
 
 -- below the third code the first two say all
 inner-free : (d : ℕ) (f : FlatType) → d < 3 → typeTo d (record { base = f .base; outer = f .outer; middle = f .middle; inner = 0 }) ≡ typeTo d f

@@ -1,3 +1,4 @@
+pub mod Cases
 pub mod Parents
 pub mod Bases
 pub mod Levels

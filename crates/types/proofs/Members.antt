@@ -12,6 +12,7 @@ use Rattle.types.specs.declared.Base.the-variants as b
 use Rattle.types.specs.declared.FlatType.{FlatType}
 use Rattle.types.specs.Flat.{baseType, baseTag, letterOf, layer, tyOf, under, bare}
 use Rattle.types.specs.Parts.{codeOf, outerCode, memberType, classOf, isAny}
+use Rattle.types.proofs.Cases.{by-base, other-letter}
 use Rattle.types.proofs.Levels.{layer-on}
 
 -- ---- what the codes say
@@ -32,11 +33,7 @@ bare-type b t e = rw e
 
 pub base-depth : (a : Base) → depth (baseType a) ≡ 0
 unfolding depth
-base-depth b.Void = refl
-base-depth b.Bool = refl
-base-depth b.Int = refl
-base-depth b.Any = refl
-base-depth (b.Class c) = refl
+base-depth = by-base (λ t. depth t ≡ 0) refl (λ s. refl)
 
 pub depth-ends : (t : FlatType) → t .outer ≡ 0 → depth (tyOf t) ≡ 0
 depth-ends t e = ap depth (ends t e) ∙ base-depth (t .base)
@@ -68,11 +65,7 @@ depth-le t = depth-by (t .outer) (t .middle) (t .inner) (baseType (t .base)) (ba
 
 base-code : (a : Base) → outerCode (baseType a) ≡ 0
 unfolding outerCode
-base-code b.Void = refl
-base-code b.Bool = refl
-base-code b.Int = refl
-base-code b.Any = refl
-base-code (b.Class c) = refl
+base-code = by-base (λ t. outerCode t ≡ 0) refl (λ s. refl)
 
 code-low : (a : Base) (u : Ty) (k : ℕ) → k ≤ 4 → k ≡ outerCode (layer k (baseType a) u)
 unfolding outerCode codeOf layer letterOf
@@ -84,13 +77,9 @@ code-low a u (suc (suc (suc (suc zero)))) h = refl
 code-low a u (suc (suc (suc (suc (suc k))))) h = absurd (omega arith)
 
 code-high : (a : Base) (u : Ty) (k : ℕ) → 4 < k → 1 ≡ outerCode (layer k (baseType a) u)
-unfolding outerCode codeOf layer letterOf
-code-high a u zero h = absurd (omega arith)
-code-high a u (suc zero) h = absurd (omega arith)
-code-high a u (suc (suc zero)) h = absurd (omega arith)
-code-high a u (suc (suc (suc zero))) h = absurd (omega arith)
-code-high a u (suc (suc (suc (suc zero)))) h = absurd (omega arith)
-code-high a u (suc (suc (suc (suc (suc k))))) h = refl
+unfolding outerCode codeOf
+code-high a u k h =
+    sym (ap outerCode (layer-on k (baseType a) u (λ e. omega arith)) ∙ ap codeOf (other-letter k (λ e. omega arith) (λ e. omega arith) (λ e. omega arith)))
 
 pub outer-low : (t : FlatType) → t .outer ≤ 4 → t .outer ≡ outerCode (tyOf t)
 outer-low t h = code-low (t .base) _ (t .outer) h
@@ -129,11 +118,7 @@ is-collection other k (around l t) h = ap (λ (m : Letter). k m t) (sym (letter-
 
 base-member : (a : Base) → baseType a ≡ memberType (baseType a)
 unfolding memberType
-base-member b.Void = refl
-base-member b.Bool = refl
-base-member b.Int = refl
-base-member b.Any = refl
-base-member (b.Class c) = refl
+base-member = by-base (λ t. t ≡ memberType t) refl (λ s. refl)
 
 pub member-ends : (t : FlatType) → t .outer ≡ 0 → tyOf t ≡ memberType (tyOf t)
 member-ends t e = ends t e ∙ base-member (t .base) ∙ ap memberType (sym (ends t e))

@@ -9,8 +9,8 @@ use lib.ListN.{getD}
 use lib.Dec.{eqb, ltb}
 use borrow.Author.Tests.{eq-eqb, ne-eqb, ltb-true, ltb-false}
 use Rattle.laws.specs.Choice.{if_then_else_, orElse, onSome}
-use Rattle.ocl.specs.Types.{Simple, class, Parents, simpleSubtype}
-use Rattle.ocl.specs.Model.{Model, classIsA, isA, declared, nearest, rowRead}
+use Rattle.ocl.specs.Types.{Parents}
+use Rattle.ocl.specs.Model.{Model, declared, nearest, rowRead}
 use Rattle.types.specs.declared.Found.{Found}
 use Rattle.types.specs.declared.Found.the-variants as f
 use Rattle.types.specs.Flat.{parentWord, parentsIn}
@@ -152,9 +152,3 @@ module _ (s : Model) (ps owners names : List ℕ) (rows : ℕ) (to : ReadsTables
   pub row-read-law : (c name : ℕ) → rowRead s c name ≡ rowReadIn ps owners names rows c name
   unfolding rowRead rowReadIn
   row-read-law c name = nearest-law name (suc c) c
-
--- ---- an object of class c, in such a model, is what c is below
-
-pub is-a-law : (s : Model) (ps : List ℕ) (o c : ℕ) (b : Simple) → s .parent ≡ parentsIn ps → s .classOf o ≡ some c → isA s o b ≡ simpleSubtype (parentsIn ps) (class c) b
-unfolding isA classIsA
-is-a-law s ps o c b e q = ap (λ (x : Option ℕ). classIsA (s .parent) x b) q ∙ ap (λ (p : Parents). simpleSubtype p (class c) b) e

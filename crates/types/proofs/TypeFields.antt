@@ -20,7 +20,7 @@ use Rattle.sheet.specs.Refusals.{typeWithin, classBelow, simpleClassBelow}
 use Rattle.sheet.specs.Spelling.{readType}
 use Rattle.text.specs.declared.numbers.Num.{Num}
 use Rattle.text.specs.declared.numbers.Num.the-variants as n
-use Rattle.text.specs.Numbers.{numOf}
+use Rattle.text.specs.Numbers.{cutNum}
 use Rattle.types.specs.declared.GotType.{GotType}
 use Rattle.types.specs.declared.GotType.the-variants as g
 use Rattle.types.specs.declared.FlatType.{FlatType}
@@ -187,8 +187,8 @@ module _ (d : ℕ) (s : Bytes) where
 
 -- ---- classes
 
-pub class-held : (o : Option ℕ) → classField (numOf o) ≡ held (mapSome Class o)
-unfolding classField numOf held mapSome typeWithin classBelow simpleClassBelow depth
+pub class-held : (o : Option ℕ) → classField (cutNum o) ≡ held (mapSome Class o)
+unfolding classField cutNum held mapSome typeWithin classBelow simpleClassBelow depth
 class-held none = refl
 class-held (some m) = by (decLt m 64)
   where
@@ -205,7 +205,7 @@ module _ (d : ℕ) (s : Bytes) where
   unfolding mapSome
   class-off e = bad-field (ap (mapSome Class) (number-off d s (sym (ap (closes d) (part-all s (length s - d))) ∙ sym e)))
 
-  pub class-on : {m : Num} (r : GotType) → true ≡ closes d (take (length s - (length s - d)) (drop (length s - d) s)) → m ≡ numOf (aNumber (take (length s - d) s)) → typeField r ≡ classField m → typeField r ≡ held (mapSome Class (numberBefore d s))
+  pub class-on : {m : Num} (r : GotType) → true ≡ closes d (take (length s - (length s - d)) (drop (length s - d) s)) → m ≡ cutNum (aNumber (take (length s - d) s)) → typeField r ≡ classField m → typeField r ≡ held (mapSome Class (numberBefore d s))
   unfolding aNumber
   class-on r e q h = h ∙ ap classField q ∙ class-held _ ∙ ap (λ (o : Option ℕ). held (mapSome Class o)) (sym (number-closed d (length s - d) s (sym (ap (closes d) (part-all s (length s - d))) ∙ sym e)))
 

@@ -15,6 +15,7 @@ use Rattle.types.specs.declared.Base.the-variants as b
 use Rattle.types.specs.declared.FlatType.{FlatType}
 use Rattle.types.specs.Flat.{baseType, letterOf, layer, tyOf}
 use Rattle.types.specs.Written.{opening, opened, letters, brackets}
+use Rattle.types.proofs.Cases.{other-letter}
 use Rattle.types.proofs.Members.{base-depth}
 
 -- ---- a base
@@ -39,13 +40,8 @@ module _ {c : ℕ} (word : c < 2 ^ 64) (at : ℕ) (a : Bytes) (room : at + 21 �
 -- ---- letters
 
 pub letter-other : (k : ℕ) → (k ≡ 2 → ⊥) → (k ≡ 3 → ⊥) → (k ≡ 4 → ⊥) → 67 ≡ letterByte (letterOf k)
-unfolding letterByte letterOf
-letter-other zero h m l = refl
-letter-other (suc zero) h m l = refl
-letter-other (suc (suc zero)) h m l = absurd (h refl)
-letter-other (suc (suc (suc zero))) h m l = absurd (m refl)
-letter-other (suc (suc (suc (suc zero)))) h m l = absurd (l refl)
-letter-other (suc (suc (suc (suc (suc k))))) h m l = refl
+unfolding letterByte
+letter-other k s q h = sym (ap letterByte (other-letter k s q h))
 
 opened-on : (k : ℕ) (w : Bytes) → (k ≡ 0 → ⊥) → opened k w ≡ opening k ++ w
 unfolding opened

@@ -1,5 +1,5 @@
 // Types by value: a base and three collection codes. Subtyping, the common type, a type as one word, reading and spelling,
-// and the attribute row that a class reads. Document 01, Values and types.
+// and the attribute row that a class reads. Document 01, Values and types. It depends on `text` for the numbers in a spelling.
 
 pub mod classes; // the table of parents: below, and the nearest common class
 pub mod order; // subtype and common type

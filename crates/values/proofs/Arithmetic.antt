@@ -8,10 +8,9 @@ use native.Mathlib.Nat.{div-le-self, mod-lt, mul-le-mul}
 use lib.IntN.{ℤ, pos, negsuc, negℤ, natAbs, _+ℤ_, _-ℤ_, _*ℤ_}
 use lib.Dec.{T, ltb, leb}
 use borrow.Author.Tests.{lt-ltb, le-ltb, lt-leb, le-leb}
-use Rattle.laws.proofs.Tests.{by-if, All?, all-none, all-some}
 use Rattle.laws.proofs.Integers.{Diff, add-diff, neg-diff}
 use Rattle.laws.proofs.Orders.{compare-lt, compare-eq, compare-gt, Three, less, same, over, three}
-use Rattle.ocl.specs.Values.{Value, int, orderInt}
+use Rattle.ocl.specs.Values.{Value, orderInt}
 use Rattle.ocl.specs.Forms.{Arith, plus, minus, times, div, modulo}
 use Rattle.ocl.specs.Evaluation.{inRange, ranged, isLess, unlessZero, quotient, remainder, arithmetic}
 use Rattle.values.specs.Cells.{bias, payload}
@@ -249,26 +248,3 @@ arith-4 (suc (suc (suc (suc n)))) h = refl
 
 pub by-number : {o p : Arith} {a b : ℕ} {r : Num} → p ≡ o → Calculates o a b r → Calculates p a b r
 by-number e c = rw e c
-
--- ---- the result is an Integer in range
-
-pub data Ranged : Value → Type 0 where
-  in-range : {z : ℤ} → T (inRange z) → Ranged (int z)
-
-ranged-by : (z : ℤ) → All? Ranged (ranged z)
-unfolding ranged
-ranged-by z = by-if (All? Ranged) (inRange z) (some (int z)) none (λ t. all-some (in-range t)) (λ t. all-none)
-
-unless-by : (y : ℤ) {o : Option Value} → All? Ranged o → All? Ranged (unlessZero y o)
-unfolding unlessZero
-unless-by (pos zero) a = all-none
-unless-by (pos (suc n)) a = a
-unless-by (negsuc n) a = a
-
-pub arithmetic-ranged : (o : Arith) (x y : ℤ) → All? Ranged (arithmetic o x y)
-unfolding arithmetic
-arithmetic-ranged plus x y = ranged-by (x +ℤ y)
-arithmetic-ranged minus x y = ranged-by (x -ℤ y)
-arithmetic-ranged times x y = ranged-by (x *ℤ y)
-arithmetic-ranged div x y = unless-by y (ranged-by (quotient x y))
-arithmetic-ranged modulo x y = unless-by y (ranged-by (remainder x y))

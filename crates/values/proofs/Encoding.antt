@@ -131,6 +131,7 @@ make-law (fits-coll {k = set} h f) = refl
 make-law (fits-coll {k = sequence} h f) = refl
 make-law (fits-coll {k = bag} h f) = refl
 
+-- no value's cells begin another's
 abbrev Told : Value → Type 0
 Told v = Fits v → (w : Value) → Fits w → (y z : List ℕ) → enc v ++ y ≡ enc w ++ z → (v ≡ w) × (y ≡ z)
 
@@ -164,10 +165,6 @@ told-cons v vs p q (fit-cons f fs) (cons w ws) (fit-cons g gs) e y z d =
 
 told : (v : Value) → Told v
 told = by-members Told Tolds told-by told-nil told-cons
-
--- no value's cells begin another's
-pub prefix-free : {v w : Value} {y z : List ℕ} → Fits v → Fits w → enc v ++ y ≡ enc w ++ z → (v ≡ w) × (y ≡ z)
-prefix-free {v} {w} {y} {z} f g e = told v f w g y z e
 
 pub same-cells : {v w : Value} → Fits v → Fits w → enc v ≡ enc w → v ≡ w
 same-cells {v} {w} f g e = told v f w g [] [] (ap (λ (l : List ℕ). l ++ []) e) .0

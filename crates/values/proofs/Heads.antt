@@ -18,10 +18,6 @@ use Rattle.values.specs.Cells.{bit, bias, payload, head, enc, encs, Fits
 
 -- ---- Integers
 
-pub range-pos : (n : ℕ) → T (inRange (pos n)) → n < 2147483648
-unfolding inRange
-range-pos n h = ltb→lt n 2147483648 h
-
 pub range-neg : (n : ℕ) → T (inRange (negsuc n)) → n < 2147483648
 unfolding inRange
 range-neg n h = ltb→lt n 2147483648 h

@@ -10,7 +10,7 @@ use Rattle.ocl.specs.Values.{Value, Values, has}
 use Rattle.ocl.specs.Values.{same as sameValue}
 use Rattle.values.specs.Cells.{enc, encs, Fits, AllFit}
 use Rattle.values.specs.Contracts.{Skips, SameAt, HasAt}
-use Rattle.values.proofs.Members.{Left, next-member, none-left}
+use Rattle.values.proofs.Members.{Left, Next, next-member, none-left}
 
 pub record Searched (v : Value) (vs : Values) (S : List ℕ) (q end : ℕ) : Type 0 where
   pub rest : Values
@@ -27,25 +27,22 @@ search-start room h = record { room = room; below = h; going = λ v vs g gs e f.
 
 module _ {S : List ℕ} {from end le q r : ℕ} (F : Searching S from end le q) (h : q < end) (k : Skips q end S r) where
   record Look (v : Value) (vs : Values) : Type 0 where
-    w : Value
-    ws : Values
-    fits : Fits w
-    cells : slice q (q + (r - q)) S ≡ enc w
-    left : Left S r end ws
-    same : has v vs ≡ (sameValue v w || has v ws)
+    rest : Values
+    next : Next S q end r rest
+    same : has v vs ≡ (sameValue v (next .w) || has v (next .ws))
 
   looked : (v : Value) (vs : Values) → Fits v → AllFit vs → slice from end S ≡ encs vs → slice end (end + le) S ≡ enc v → Look v vs
   unfolding has
   looked v vs g gs e f =
       let G = F .going v vs g gs e f in
       let N = next-member (let l = F .room in omega arith) h k (G .left) in
-      record { w = N .w; ws = N .ws; fits = N .fits; cells = N .cells; left = N .left; same = G .same ∙ ap (has v) (N .are) }
+      record { rest = G .rest; next = N; same = G .same ∙ ap (has v) (N .are) }
 
   pub search-found : {b : Bool} → SameAt S end le q (r - q) b → b ≡ true → HasAt S from end le true
   search-found c z = record {
     is = λ v vs g gs e f.
         let t = looked v vs g gs e f in
-        let y : sameValue v (t .w) ≡ true = sym (c .is v (t .w) g (t .fits) f (t .cells)) ∙ z in
+        let y : sameValue v (t .next .w) ≡ true = sym (c .is v (t .next .w) g (t .next .fits) f (t .next .cells)) ∙ z in
         sym (t .same ∙ rw y);
   }
 
@@ -55,8 +52,8 @@ module _ {S : List ℕ} {from end le q r : ℕ} (F : Searching S from end le q) 
     below = k .within;
     going = λ v vs g gs e f.
         let t = looked v vs g gs e f in
-        let y : sameValue v (t .w) ≡ false = sym (c .is v (t .w) g (t .fits) f (t .cells)) ∙ z in
-        record { rest = t .ws; left = t .left; same = t .same ∙ rw y };
+        let y : sameValue v (t .next .w) ≡ false = sym (c .is v (t .next .w) g (t .next .fits) f (t .next .cells)) ∙ z in
+        record { rest = t .next .ws; left = t .next .left; same = t .same ∙ rw y };
   }
 
 pub search-end : {S : List ℕ} {from end le q : ℕ} → Searching S from end le q → end ≤ q → HasAt S from end le false

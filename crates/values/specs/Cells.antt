@@ -4,7 +4,7 @@
 use mathlib.Core.Bool.{Bool, true, false}
 use mathlib.Core.List.{List, [], _∷_, _++_}
 use Prim.Native.Nat.{ℕ, zero, suc, _+_, _*_, _-_, _%_, _<_, compare, Ordering, Ordering·lt, Ordering·eq, Ordering·gt}
-use lib.IntN.{ℤ, pos, negsuc}
+use lib.IntN.{ℤ}
 use lib.Dec.{T, ltb}
 use Rattle.laws.specs.Choice.{if_then_else_}
 unfoldable pub use Rattle.laws.specs.Integers.{bias}

@@ -114,7 +114,7 @@ pub record Forms (w : Value) (sp : ℕ) (low after : List ℕ) (r : Formed) : Ty
   pub fits : size w ≤ 128 → Fits w
 
 -- the le cells at mid go in at `at`, and the first cell at sp counts one more
-pub record Puts (sp at mid le : ℕ) (before after : List ℕ) (r : Formed) : Type 0 where
+pub record PutsIn (sp at mid le : ℕ) (before after : List ℕ) (r : Formed) : Type 0 where
   pub small : Small r
   pub low : take sp after ≡ take sp before
   pub over : 128 < mid - sp + le → r ≡ formed.Over

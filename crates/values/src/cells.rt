@@ -63,7 +63,7 @@ pub fn cell_of(s: Simple) -> u64
     }
 }
 
-// Puts a simple value at sp.
+// PutsIn a simple value at sp.
 pub fn push(stack: &mut [u64], sp: usize, s: Simple)
     requires { ⌜ Narrow s × (sp < length (now stack)) ⌝ }
     ensures { λ _. ⌜ Pushes s sp (now (stack .entry)) (now (stack .exit)) ⌝ }

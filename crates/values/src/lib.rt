@@ -2,6 +2,7 @@
 // functions read values where they lie and form new ones on a stack of words, each above everything that is still wanted.
 //
 // Contracts (specs/Contracts.antt) say: whatever values lie at these places, the answer is what document 01 gives for them.
+// It depends on no other code, and on crates/ocl for what a value is.
 pub mod arith;
 pub mod cells;
 pub mod collect;

@@ -1,76 +1,61 @@
+-- `last_read` meets its contract: the end of an open rule and the text's last part, by proofs/Laws.antt. Assumes nothing.
 use borrow.Author.Needs.{needs}
-use mathlib.Core.Path.{_≡_, refl, sym, ap, _∙_}
+use mathlib.Core.Path.{ap, _∙_}
 use native.Mathlib.Omega.{arith}
 use Rattle.sheet.specs.Text.{fieldsOf}
-use Rattle.text.specs.Words.{byteKind, letterOf}
+use Rattle.text.specs.Words.{byteKind, onlyByte}
 use Rattle.text.proofs.PartLaws.{counted-some}
 use Rattle.reader.proofs.Laws.{is-node, is-other, rule-room, node-last, stop-last, sheet-last, left-last}
 use Rattle.reader.proofs.last_read.Statement.{statement}
 use Rattle.reader.proofs.last_read.Tie as tie
 
--- src/lib.rt:124:9
 cut-requires : tie.Need-cut-requires
 cut-requires c κs = search needs
 
--- src/lib.rt:125:33
 field-requires : tie.Need-field-requires
 field-requires c κs = (c .cut .ensures, counted-some (c .cut .ensures), omega arith)
 
--- src/lib.rt:125:26
 letter-requires : tie.Need-letter-requires
 letter-requires c κs = search needs
 
--- src/lib.rt:125:9
 byte-kind-requires : tie.Need-byte-kind-requires
 byte-kind-requires c κs = search needs
 
--- src/lib.rt:127:38
 add-t13 : tie.Need-add-t13
 add-t13 c = search needs
 
--- src/lib.rt:127:9
 returns : tie.Need-returns
-returns c = node-last (c .before .before .before .before .before .before .before .before .args .st) (c .before .before .before .before .before .before .before .before .args .k) (c .before .before .before .before .before .before .before .before .args .part .now) (is-node (fieldsOf (c .before .before .before .before .before .before .before .before .args .part .now)) (c .before .byte-kind .result) (c .before .byte-kind .ensures ∙ ap byteKind (c .before .before .letter .ensures ∙ ap letterOf (c .before .before .before .field .ensures))) (c .if1 .taken))
+returns c = node-last (c .before .before .before .before .before .before .before .before .args .st) (c .before .before .before .before .before .before .before .before .args .k) (c .before .before .before .before .before .before .before .before .args .part .now) (is-node (fieldsOf (c .before .before .before .before .before .before .before .before .args .part .now)) (c .before .byte-kind .result) (c .before .byte-kind .ensures ∙ ap byteKind (c .before .before .letter .ensures ∙ ap onlyByte (c .before .before .before .field .ensures))) (c .if1 .taken))
 
--- src/lib.rt:129:11
 end-rule-requires : tie.Need-end-rule-requires
-end-rule-requires c κs = (c .before .before .before .before .before .before .before .before .before .pre .0, c .before .before .before .before .before .before .before .before .before .pre .1, c .before .before .before .before .before .before .before .before .before .pre .2 .fine, rule-room (c .before .before .before .before .before .before .before .before .before .pre .2 .sheet) (c .before .before .before .before .before .before .before .before .before .pre .2 .holds) (c .before .before .before .before .before .before .before .before .before .pre .2 .tame))
+end-rule-requires c κs = (c .before .before .before .before .before .before .before .before .before .pre .0, c .before .before .before .before .before .before .before .before .before .pre .1, c .before .before .before .before .before .before .before .before .before .pre .2 .fine, rule-room (c .before .before .before .before .before .before .before .before .before .pre .2 .sheet) (c .before .before .before .before .before .before .before .before .before .pre .2 .holds) (c .before .before .before .before .before .before .before .before .before .pre .2 .good))
 
--- src/lib.rt:130:20
 enum-known-n : tie.Need-enum-known-n
 enum-known-n c = search needs
 
--- src/lib.rt:131:20
 enum-known-next : tie.Need-enum-known-next
 enum-known-next c = search needs
 
--- src/lib.rt:135:39
 add-t21 : tie.Need-add-t21
 add-t21 c = search needs
 
--- src/lib.rt:120:1
 same-length : tie.Need-same-length
 same-length c = search needs
 
--- src/lib.rt:120:1
 returns-2 : tie.Need-returns-2
-returns-2 c = stop-last (c .before .before .before .before .before .before .before .before .before .before .before .before .before .before .before .args .st) (c .before .before .before .before .before .before .before .before .before .before .before .before .before .before .before .args .k) (c .before .before .before .before .before .before .before .before .before .before .before .before .before .before .before .args .part .now) (is-other (fieldsOf (c .before .before .before .before .before .before .before .before .before .before .before .before .before .before .before .args .part .now)) (c .before .before .before .before .before .before .before .before .byte-kind .result) (c .before .before .before .before .before .before .before .before .byte-kind .ensures ∙ ap byteKind (c .before .before .before .before .before .before .before .before .before .letter .ensures ∙ ap letterOf (c .before .before .before .before .before .before .before .before .before .before .field .ensures))) (c .before .before .before .before .before .before .before .if1 .left)) (rw (c .before .n .given .1) at (c .before .before .before .before .before .end-rule .ensures))
+returns-2 c = stop-last (c .before .before .before .before .before .before .before .before .before .before .before .before .before .before .before .args .st) (c .before .before .before .before .before .before .before .before .before .before .before .before .before .before .before .args .k) (c .before .before .before .before .before .before .before .before .before .before .before .before .before .before .before .args .part .now) (is-other (fieldsOf (c .before .before .before .before .before .before .before .before .before .before .before .before .before .before .before .args .part .now)) (c .before .before .before .before .before .before .before .before .byte-kind .result) (c .before .before .before .before .before .before .before .before .byte-kind .ensures ∙ ap byteKind (c .before .before .before .before .before .before .before .before .before .letter .ensures ∙ ap onlyByte (c .before .before .before .before .before .before .before .before .before .before .field .ensures))) (c .before .before .before .before .before .before .before .if1 .left)) (rw (c .before .n .given .1) at (c .before .before .before .before .before .end-rule .ensures))
 
--- src/lib.rt:120:1
 same-length-2 : tie.Need-same-length-2
 same-length-2 c = search needs
 
--- src/lib.rt:120:1
 returns-3 : tie.Need-returns-3
-returns-3 c = sheet-last (c .before .before .before .before .before .before .before .before .before .before .before .before .before .before .before .before .args .st) (c .before .before .before .before .before .before .before .before .before .before .before .before .before .before .before .before .args .k) (c .before .before .before .before .before .before .before .before .before .before .before .before .before .before .before .before .args .part .now) (is-other (fieldsOf (c .before .before .before .before .before .before .before .before .before .before .before .before .before .before .before .before .args .part .now)) (c .before .before .before .before .before .before .before .before .before .byte-kind .result) (c .before .before .before .before .before .before .before .before .before .byte-kind .ensures ∙ ap byteKind (c .before .before .before .before .before .before .before .before .before .before .letter .ensures ∙ ap letterOf (c .before .before .before .before .before .before .before .before .before .before .before .field .ensures))) (c .before .before .before .before .before .before .before .before .if1 .left)) (rw (c .before .before .next .given .1) at (c .before .before .before .before .before .before .end-rule .ensures)) (c .if2 .taken)
+returns-3 c = sheet-last (c .before .before .before .before .before .before .before .before .before .before .before .before .before .before .before .before .args .st) (c .before .before .before .before .before .before .before .before .before .before .before .before .before .before .before .before .args .k) (c .before .before .before .before .before .before .before .before .before .before .before .before .before .before .before .before .args .part .now) (is-other (fieldsOf (c .before .before .before .before .before .before .before .before .before .before .before .before .before .before .before .before .args .part .now)) (c .before .before .before .before .before .before .before .before .before .byte-kind .result) (c .before .before .before .before .before .before .before .before .before .byte-kind .ensures ∙ ap byteKind (c .before .before .before .before .before .before .before .before .before .before .letter .ensures ∙ ap onlyByte (c .before .before .before .before .before .before .before .before .before .before .before .field .ensures))) (c .before .before .before .before .before .before .before .before .if1 .left)) (rw (c .before .before .next .given .1) at (c .before .before .before .before .before .before .end-rule .ensures)) (c .if2 .taken)
 
--- src/lib.rt:120:1
 same-length-3 : tie.Need-same-length-3
 same-length-3 c = search needs
 
--- src/lib.rt:120:1
 returns-4 : tie.Need-returns-4
-returns-4 c = left-last (c .before .before .before .before .before .before .before .before .before .before .before .before .before .before .before .before .args .st) (c .before .before .before .before .before .before .before .before .before .before .before .before .before .before .before .before .args .k) (c .before .before .before .before .before .before .before .before .before .before .before .before .before .before .before .before .args .part .now) (is-other (fieldsOf (c .before .before .before .before .before .before .before .before .before .before .before .before .before .before .before .before .args .part .now)) (c .before .before .before .before .before .before .before .before .before .byte-kind .result) (c .before .before .before .before .before .before .before .before .before .byte-kind .ensures ∙ ap byteKind (c .before .before .before .before .before .before .before .before .before .before .letter .ensures ∙ ap letterOf (c .before .before .before .before .before .before .before .before .before .before .before .field .ensures))) (c .before .before .before .before .before .before .before .before .if1 .left)) (rw (c .before .before .next .given .1) at (c .before .before .before .before .before .before .end-rule .ensures)) (c .if2 .left)
+returns-4 c = left-last (c .before .before .before .before .before .before .before .before .before .before .before .before .before .before .before .before .args .st) (c .before .before .before .before .before .before .before .before .before .before .before .before .before .before .before .before .args .k) (c .before .before .before .before .before .before .before .before .before .before .before .before .before .before .before .before .args .part .now) (is-other (fieldsOf (c .before .before .before .before .before .before .before .before .before .before .before .before .before .before .before .before .args .part .now)) (c .before .before .before .before .before .before .before .before .before .byte-kind .result) (c .before .before .before .before .before .before .before .before .before .byte-kind .ensures ∙ ap byteKind (c .before .before .before .before .before .before .before .before .before .before .letter .ensures ∙ ap onlyByte (c .before .before .before .before .before .before .before .before .before .before .before .field .ensures))) (c .before .before .before .before .before .before .before .before .if1 .left)) (rw (c .before .before .next .given .1) at (c .before .before .before .before .before .before .end-rule .ensures)) (c .if2 .left)
 
 pub last-read-spec : {M : Type 1} → statement M
 last-read-spec =

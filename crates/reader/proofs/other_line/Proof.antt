@@ -1,3 +1,4 @@
+-- `other_line` meets its contract: the line's letter by its kind, then what the line's own code promises. Assumes nothing.
 use borrow.Author.Needs.{needs}
 use Rattle.sheet.specs.Text.{fieldsOf}
 use Rattle.declarations.proofs.TakenLaws.{unspelled}
@@ -5,63 +6,48 @@ use Rattle.reader.proofs.Laws.{class-letter, row-letter, object-letter,
 use Rattle.reader.proofs.other_line.Statement.{statement}
 use Rattle.reader.proofs.other_line.Tie as tie
 
--- src/lib.rt:84:14
 class-line-requires : tie.Need-class-line-requires
 class-line-requires c κs = (record { cut = c .before .before .before .before .pre .0; is-letter = class-letter (fieldsOf (c .before .before .before .before .args .line .now)) (c .before .before .before .before .args .kind) (c .before .before .before .before .pre .1) (c .before .match .keys1) }, c .before .before .before .before .pre .3, c .before .before .before .before .pre .4)
 
--- src/lib.rt:85:14
 row-line-requires : tie.Need-row-line-requires
 row-line-requires c κs = (record { cut = c .before .before .before .before .pre .0; is-letter = row-letter (fieldsOf (c .before .before .before .before .args .line .now)) (c .before .before .before .before .args .kind) (c .before .before .before .before .pre .1) (c .before .match .keys2) }, c .before .before .before .before .pre .3, c .before .before .before .before .pre .4)
 
--- src/lib.rt:86:14
 object-line-requires : tie.Need-object-line-requires
 object-line-requires c κs = (record { cut = c .before .before .before .before .pre .0; is-letter = object-letter (fieldsOf (c .before .before .before .before .args .line .now)) (c .before .before .before .before .args .kind) (c .before .before .before .before .pre .1) (c .before .match .keys3) }, c .before .before .before .before .pre .3, c .before .before .before .before .pre .4)
 
--- src/lib.rt:87:14
 value-line-requires : tie.Need-value-line-requires
 value-line-requires c κs = (c .before .before .before .before .pre .0, value-letter (fieldsOf (c .before .before .before .before .args .line .now)) (c .before .before .before .before .args .kind) (c .before .before .before .before .pre .1) (c .before .match .keys4), c .before .before .before .before .pre .3, c .before .before .before .before .pre .4)
 
--- src/lib.rt:88:14
 rule-line-requires : tie.Need-rule-line-requires
 rule-line-requires c κs = (record { cut = c .before .before .before .pre .0; is-letter = rule-letter (fieldsOf (c .before .before .before .args .line .now)) (c .before .before .before .args .kind) (c .before .before .before .pre .1) (c .match .keys5) }, c .before .before .before .pre .4)
 
--- src/lib.rt:79:1
 same-length : tie.Need-same-length
 same-length c = search needs
 
--- src/lib.rt:79:1
 returns : tie.Need-returns
 returns c = λ w1 k. by-any (c .before .before .class-line .ensures w1 k)
 
--- src/lib.rt:79:1
 same-length-2 : tie.Need-same-length-2
 same-length-2 c = search needs
 
--- src/lib.rt:79:1
 returns-2 : tie.Need-returns-2
 returns-2 c = λ w1 k. by-any (c .before .before .row-line .ensures w1 k)
 
--- src/lib.rt:79:1
 same-length-3 : tie.Need-same-length-3
 same-length-3 c = search needs
 
--- src/lib.rt:79:1
 returns-3 : tie.Need-returns-3
 returns-3 c = λ w1 k. by-any (c .before .before .object-line .ensures w1 k)
 
--- src/lib.rt:79:1
 same-length-4 : tie.Need-same-length-4
 same-length-4 c = search needs
 
--- src/lib.rt:79:1
 returns-4 : tie.Need-returns-4
 returns-4 c = λ w1 k. by-slot (c .before .before .value-line .ensures w1 k)
 
--- src/lib.rt:79:1
 returns-5 : tie.Need-returns-5
 returns-5 c = λ w1 k. by-any (c .rule-line .ensures (c .before .before .before .before .args .w0 .now) w1 k)
 
--- src/lib.rt:79:1
 returns-6 : tie.Need-returns-6
 returns-6 c = λ w1 k. by-any (unspelled (c .before .before .before .args .st) k (c .before .before .before .args .w0 .now) w1 (c .before .before .before .args .line .now) (unknown-line (fieldsOf (c .before .before .before .args .line .now)) (c .before .before .before .args .kind) (c .before .before .before .pre .1) (c .match .rest .0 .0 .0 .0 .1) (c .match .rest .0 .0 .0 .1) (c .match .rest .0 .0 .1) (c .match .rest .0 .1) (c .match .rest .1) (c .before .before .before .pre .2)))
 

@@ -1,22 +1,19 @@
+-- `placed` meets its contract. Assumes nothing.
 use borrow.Author.Needs.{needs}
-use mathlib.Core.Path.{_≡_, sym, ap}
+use mathlib.Core.Path.{sym, ap}
 use Rattle.reader.specs.Contracts.{placedAt}
 use Rattle.reader.proofs.placed.Statement.{statement}
 use Rattle.reader.proofs.placed.Tie as tie
 
--- src/lib.rt:98:20
 enum-known-s : tie.Need-enum-known-s
 enum-known-s c = search needs
 
--- src/lib.rt:99:20
 enum-known-s-2 : tie.Need-enum-known-s-2
 enum-known-s-2 c = search needs
 
--- src/lib.rt:94:1
 returns : tie.Need-returns
 returns c = ap (λ s. placedAt s (c .before .before .before .args .k)) (sym (c .before .s .given .1))
 
--- src/lib.rt:94:1
 returns-2 : tie.Need-returns-2
 returns-2 c = ap (λ s. placedAt s (c .before .before .before .args .k)) (sym (c .before .s2 .given .1))
 

@@ -1,9 +1,9 @@
 -- The loop's invariant: the first i words are 0, and the others are as they were. Assumes nothing.
 use borrow.Author.Needs.{needs}
 use native.Mathlib.Omega.{arith}
-use Prim.Native.Nat.{ℕ, _≤_, _-_}
+use Prim.Native.Nat.{_≤_, _-_}
 use mathlib.Core.Path.{_≡_, refl, ap, _∙_}
-use mathlib.Core.List.{List, _++_}
+use mathlib.Core.List.{_++_}
 use lib.ListN.{length, drop, set, replicate, length-set}
 use Rattle.sheet.specs.Calls.{wiped}
 use Rattle.tables.proofs.Zeros.{zero-next}

@@ -1,5 +1,6 @@
 -- `slots::suits::letter_suits` meets its contract. Assumes nothing.
-use Rattle.slots.proofs.SuitLaws.{letter-none, letter-any, letter-kind, low-letter, high-letter}
+use Rattle.types.proofs.Cases.{other-letter}
+use Rattle.slots.proofs.SuitLaws.{letter-none, letter-any, letter-kind}
 use native.Mathlib.Omega.{arith}
 use borrow.Author.Needs.{needs}
 use Rattle.slots.proofs.suits.letter_suits.Statement.{statement}
@@ -12,10 +13,10 @@ returns : tie.Need-returns
 returns c = letter-none (c .before .sort-of .ensures) (omega arith)
 
 returns-2 : tie.Need-returns-2
-returns-2 c = letter-any (c .before .before .sort-of .ensures) (omega arith) (low-letter _ (omega arith))
+returns-2 c = letter-any (c .before .before .sort-of .ensures) (omega arith) (other-letter _ (λ e. omega arith) (λ e. omega arith) (λ e. omega arith))
 
 returns-3 : tie.Need-returns-3
-returns-3 c = letter-any (c .before .before .before .sort-of .ensures) (omega arith) (high-letter _ (omega arith))
+returns-3 c = letter-any (c .before .before .before .sort-of .ensures) (omega arith) (other-letter _ (λ e. omega arith) (λ e. omega arith) (λ e. omega arith))
 
 add-result : tie.Need-add-result
 add-result c = search needs

@@ -3,13 +3,13 @@ use Prim.Native.Nat.{_≤_, _+_, _-_}
 use mathlib.Core.Path.{_≡_}
 use lib.ListN.{length, drop}
 use borrow.Author.Needs.{needs}
-use Rattle.text.specs.Parts.{endOf}
+use Rattle.text.specs.Parts.{untilSep}
 use Rattle.text.proofs.PartLaws.{find-here, find-next, find-none}
 use Rattle.text.proofs.parts.find.Statement.{statement}
 use Rattle.text.proofs.parts.find.Tie as tie
 
 abbrev Inv-loop : tie.InvT-loop
-Inv-loop s sep i₀ i = (i ≤ length s) × (i + endOf sep (drop i s) ≡ endOf sep s)
+Inv-loop s sep i₀ i = (i ≤ length s) × (i + untilSep sep (drop i s) ≡ untilSep sep s)
 
 abbrev μ-loop : tie.MeasureT-loop
 μ-loop s sep i₀ i = length s - i

@@ -4,12 +4,12 @@ use mathlib.Core.Path.{_∙_}
 use lib.ListN.{length}
 use borrow.Author.Needs.{needs}
 use native.Mathlib.Omega.{arith}
-use Rattle.text.proofs.FormLaws.{Left, left-all, word-within, left-found, left-next, left-none}
+use Rattle.text.proofs.FormLaws.{WordsLeft, left-all, word-within, left-found, left-next, left-none}
 use Rattle.text.proofs.words.among.Statement.{statement}
 use Rattle.text.proofs.words.among.Tie as tie
 
 abbrev Inv-loop : tie.InvT-loop
-Inv-loop f words codes n at₀ k₀ at k = Left f words codes at k
+Inv-loop f words codes n at₀ k₀ at k = WordsLeft f words codes at k
 
 abbrev μ-loop : tie.MeasureT-loop
 μ-loop f words codes n at₀ k₀ at k = length codes - k

@@ -1,5 +1,6 @@
 -- `read_form` meets its contract.
-use Rattle.trees.proofs.MoreFormLaws.{step, gap-code, last-code}
+use Rattle.text.proofs.FormLaws.{above}
+use Rattle.trees.proofs.MoreFormLaws.{gap-code, last-code}
 use Rattle.trees.specs.Forms.{constant, itself, one, two, undefTest, conditional}
 use borrow.Author.Needs.{needs}
 use Rattle.trees.proofs.forms.read_form.Statement.{statement}
@@ -42,10 +43,10 @@ plain-form-requires-4 : tie.Need-plain-form-requires-4
 plain-form-requires-4 c κs = (c .before .before .before .pre .0, c .before .before .before .pre .1, constant {k = c .before .before .before .args .code} (c .if1 .taken))
 
 plain-form-requires-5 : tie.Need-plain-form-requires-5
-plain-form-requires-5 c κs = (c .before .before .before .before .pre .0, c .before .before .before .before .pre .1, one {k = c .before .before .before .before .args .code} (step (step (step (step (c .before .if1 .left) (c .before .before .match .rest .0 .0 .0 .0 .0 .0 .0 .0 .0 .0 .1)) (c .before .before .match .rest .0 .0 .0 .0 .0 .0 .0 .0 .0 .1)) (c .before .before .match .rest .0 .0 .0 .0 .0 .0 .0 .0 .1)) (c .before .before .match .rest .0 .0 .0 .0 .0 .0 .0 .1)) (c .if2 .taken))
+plain-form-requires-5 c κs = (c .before .before .before .before .pre .0, c .before .before .before .before .pre .1, one {k = c .before .before .before .before .args .code} (above (above (above (above (c .before .if1 .left) (c .before .before .match .rest .0 .0 .0 .0 .0 .0 .0 .0 .0 .0 .1)) (c .before .before .match .rest .0 .0 .0 .0 .0 .0 .0 .0 .0 .1)) (c .before .before .match .rest .0 .0 .0 .0 .0 .0 .0 .0 .1)) (c .before .before .match .rest .0 .0 .0 .0 .0 .0 .0 .1)) (c .if2 .taken))
 
 plain-form-requires-6 : tie.Need-plain-form-requires-6
-plain-form-requires-6 c κs = (c .before .before .before .before .before .pre .0, c .before .before .before .before .before .pre .1, two {k = c .before .before .before .before .before .args .code} (step (c .before .if2 .left) (c .before .before .before .match .rest .0 .0 .0 .0 .0 .0 .1)) (c .if3 .taken))
+plain-form-requires-6 c κs = (c .before .before .before .before .before .pre .0, c .before .before .before .before .before .pre .1, two {k = c .before .before .before .before .before .args .code} (above (c .before .if2 .left) (c .before .before .before .match .rest .0 .0 .0 .0 .0 .0 .1)) (c .if3 .taken))
 
 quantifier-form-requires : tie.Need-quantifier-form-requires
 quantifier-form-requires c κs = search needs
@@ -102,7 +103,7 @@ returns-15 : tie.Need-returns-15
 returns-15 c = search needs
 
 returns-16 : tie.Need-returns-16
-returns-16 c = rw (gap-code _ _ (step (c .before .before .if4 .left) (c .before .before .before .before .before .before .match .rest .0 .0 .0 .0 .0 .1)) (c .before .if5 .taken)) (c .misspelled .ensures _)
+returns-16 c = rw (gap-code _ _ (above (c .before .before .if4 .left) (c .before .before .before .before .before .before .match .rest .0 .0 .0 .0 .0 .1)) (c .before .if5 .taken)) (c .misspelled .ensures _)
 
 returns-17 : tie.Need-returns-17
 returns-17 c = rw (last-code _ _ (c .before .if5 .left) (c .before .before .before .before .before .before .match .rest .0 .0 .0 .0 .1) (c .before .before .before .before .before .before .match .rest .0 .0 .0 .1) (c .before .before .before .before .before .before .match .rest .0 .0 .1) (c .before .before .before .before .before .before .match .rest .0 .1) (c .before .before .before .before .before .before .match .rest .1)) (c .misspelled2 .ensures _)

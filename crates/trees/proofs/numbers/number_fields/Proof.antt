@@ -5,7 +5,7 @@ use native.Mathlib.Omega.{arith}
 use borrow.Author.Needs.{needs}
 use lib.ListN.{length, length-set}
 use Rattle.sheet.specs.Lines.{aNumber}
-use Rattle.text.specs.Numbers.{numOf}
+use Rattle.text.specs.Numbers.{cutNum}
 use Rattle.sheet.specs.Text.{fieldsOf}
 use Rattle.trees.proofs.FieldLaws.{ReadTo, read-none, read-all, read-bad, read-next, field-count}
 use Rattle.trees.proofs.numbers.number_fields.Statement.{statement}
@@ -36,7 +36,7 @@ no-numbers-requires : tie.Need-no-numbers-requires Inv-loop μ-loop
 no-numbers-requires c κs = search needs
 
 returns : tie.Need-returns Inv-loop μ-loop
-returns c = read-bad (c .before .before .before .before .before .before .loop .inv .0) (c .before .before .before .before .before .loop-test .taken) (field-count (c .before .before .before .before .before .before .before .before .pre .0) (c .before .before .before .before .before .before .before .before .pre .3)) (sym (c .before .enum-told .given .1) ∙ c .before .before .before .number .ensures ∙ ap (λ x. numOf (aNumber x)) (c .before .before .before .before .field .ensures)) (c .no-numbers .ensures)
+returns c = read-bad (c .before .before .before .before .before .before .loop .inv .0) (c .before .before .before .before .before .loop-test .taken) (field-count (c .before .before .before .before .before .before .before .before .pre .0) (c .before .before .before .before .before .before .before .before .pre .3)) (sym (c .before .enum-told .given .1) ∙ c .before .before .before .number .ensures ∙ ap (λ x. cutNum (aNumber x)) (c .before .before .before .before .field .ensures)) (c .no-numbers .ensures)
 
 sub-k : tie.Need-sub-k Inv-loop μ-loop
 sub-k c = search needs
@@ -54,7 +54,7 @@ loop-less : tie.Need-loop-less Inv-loop μ-loop
 loop-less c = search needs
 
 loop-again : tie.Need-loop-again Inv-loop μ-loop
-loop-again c = (read-next (c .before .before .before .before .before .before .loop .inv .0) (c .before .before .before .before .before .loop-test .taken) (field-count (c .before .before .before .before .before .before .before .before .pre .0) (c .before .before .before .before .before .before .before .before .pre .3)) (sym (c .before .n .given .1) ∙ c .before .before .before .number .ensures ∙ ap (λ x. numOf (aNumber x)) (c .before .before .before .before .field .ensures)) (c .before .before .before .before .before .before .before .before .pre .2), search needs, search needs, simp length-set (c .before .before .before .before .before .before .loop .inv .3))
+loop-again c = (read-next (c .before .before .before .before .before .before .loop .inv .0) (c .before .before .before .before .before .loop-test .taken) (field-count (c .before .before .before .before .before .before .before .before .pre .0) (c .before .before .before .before .before .before .before .before .pre .3)) (sym (c .before .n .given .1) ∙ c .before .before .before .number .ensures ∙ ap (λ x. cutNum (aNumber x)) (c .before .before .before .before .field .ensures)) (c .before .before .before .before .before .before .before .before .pre .2), search needs, search needs, simp length-set (c .before .before .before .before .before .before .loop .inv .3))
 
 returns-2 : tie.Need-returns-2 Inv-loop μ-loop
 returns-2 c = read-all (c .before .loop .inv .0) (omega arith)

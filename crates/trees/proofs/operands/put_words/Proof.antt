@@ -1,6 +1,6 @@
 -- `put_words` meets its contract.
 use Rattle.trees.proofs.OperandLaws.{wrote-none, wrote-next, wrote-all}
-use Rattle.trees.specs.Operands.{shifted, Wrote}
+use Rattle.trees.specs.Operands.{shifted, WroteWords}
 use Prim.Native.Nat.{_≤_, _-_, _*_}
 use native.Mathlib.Omega.{arith}
 use borrow.Author.Needs.{needs}
@@ -8,7 +8,7 @@ use Rattle.trees.proofs.operands.put_words.Statement.{statement}
 use Rattle.trees.proofs.operands.put_words.Tie as tie
 
 abbrev Inv-loop : tie.InvT-loop
-Inv-loop w1₀ m words count first k₀ w1 k = Wrote (8 * m) k (shifted words count first) w1₀ w1 × (k ≤ 8)
+Inv-loop w1₀ m words count first k₀ w1 k = WroteWords (8 * m) k (shifted words count first) w1₀ w1 × (k ≤ 8)
 
 abbrev μ-loop : tie.MeasureT-loop
 μ-loop w1₀ m words count first k₀ w1 k = 8 - k
