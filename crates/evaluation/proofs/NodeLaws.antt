@@ -3,7 +3,7 @@ use mathlib.Core.Path.{_≡_, refl, ap, _∙_}
 use mathlib.Core.Bool.{Bool, true, false}
 use mathlib.Core.Option.{none}
 use mathlib.Core.List.{List}
-use Prim.Native.Nat.{ℕ, zero, suc, _+_, _-_, _<_, _≤_}
+use Prim.Native.Nat.{ℕ, zero, suc, _+_, _<_, _≤_}
 use native.Mathlib.Omega.{arith}
 use lib.ListN.{length, getD, set, replicate}
 use lib.Dec.{ltb}
@@ -18,7 +18,7 @@ use Rattle.values.specs.Cells.{fits-obj}
 use Rattle.values.specs.Contracts.{means-obj, Pushes}
 use Rattle.values.specs.declared.Simple.the-variants as simple
 use Rattle.nodes.specs.Nodes.{word, leafOf, treeAt}
-use Rattle.nodes.proofs.Nodes.{tree-law, below-law}
+use Rattle.nodes.proofs.Nodes.{below-law}
 use Rattle.nodes.proofs.Levels.{collect-levels}
 use Rattle.nodes.proofs.Evaluation.{operandRun, leaf-run, unary-run, binary-run, connective-run, quantified-run, collect-run, over-run, isUndef-run, conditional-run, let-run, attribute-run, iterate-run, none-run, operand-run, late-run}
 use Rattle.tables.specs.declared.Counts.{Counts}

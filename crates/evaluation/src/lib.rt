@@ -1,5 +1,6 @@
 // The evaluation of a rule for an object: a recursion over operand nodes, whose number falls, with the values on a stack of
-// lent words. Document 01, Evaluation. What a form does once its operands have values is in `operations`.
+// lent words. Document 01, Evaluation. It depends on `operations` for what a form does once its operands have values, and on
+// `nodes` for what a node's words say.
 pub mod rule; // a rule for an object
 pub mod walk; // the recursion: operands, nodes, and forms that run each operand once
 pub mod lazy; // forms that are not strict

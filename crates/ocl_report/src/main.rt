@@ -1,4 +1,4 @@
-// The program: standard input to what document 01 has it print on standard output.
+// The program: standard input to what document 01 has it print on standard output. It depends on `printing`.
 use printing::Filled;
 use printing::report_input;
 

@@ -14,7 +14,7 @@ use Rattle.laws.proofs.Orders.{Three, less, same, over, three}
 use Rattle.ocl.specs.Types.{class, simpleSubtype}
 use Rattle.ocl.specs.Values.{Value, obj, size}
 use Rattle.ocl.specs.Model.{Row, Model, isA, classIsA}
-use Rattle.ocl.specs.Evaluation.{Outcome, value, stuck, onObj, given}
+use Rattle.ocl.specs.Evaluation.{Outcome, stuck, onObj, given}
 use Rattle.types.specs.Flat.{parentsIn}
 use Rattle.values.specs.Cells.{enc}
 use Rattle.values.specs.Contracts.{SortOf, PayloadOf, Brings}

@@ -1,13 +1,13 @@
 -- An answer as one word and back. Assumes nothing.
-use mathlib.Core.Path.{_≡_, refl, ap, _∙_}
+use mathlib.Core.Path.{_≡_, refl, _∙_}
 use mathlib.Core.List.{List}
-use Prim.Native.Nat.{ℕ, _+_, _*_, _/_, _%_, _≤_, _<_}
+use Prim.Native.Nat.{ℕ, _/_, _%_, _<_}
 use native.Mathlib.Omega.{arith}
 use Rattle.ocl.specs.Evaluation.{Outcome}
 use Rattle.ocl.proofs.Steps.{Limited, limited-value, limited-undefined, limited-stuck, limited-stop}
 use Rattle.operations.specs.declared.Ended.{Ended}
 use Rattle.operations.specs.declared.Ended.the-variants as ended
-use Rattle.operations.specs.Answers.{Ends, ends-value, ends-undefined, ends-stuck, ends-stop, Small, wordOf, answerOf, answerIn, Slim, Packs}
+use Rattle.operations.specs.Answers.{Ends, ends-value, ends-undefined, ends-stuck, ends-stop, wordOf, answerOf, answerIn, Packs}
 
 -- the parts of a word
 module _ (k x s : ℕ) (h : k < 4) where

@@ -8,8 +8,8 @@ use lib.ListN.{length, getD}
 use Rattle.ocl.specs.Values.{Value}
 use Rattle.ocl.specs.Environment.{Env}
 use Rattle.ocl.specs.Model.{Model}
-use Rattle.ocl.specs.Evaluation.{value, Run, bound, leafRun}
-use Rattle.nodes.specs.Nodes.{variable, leafOf}
+use Rattle.ocl.specs.Evaluation.{Run, bound, leafRun}
+use Rattle.nodes.specs.Nodes.{leafOf}
 use Rattle.tables.specs.declared.Counts.{Counts}
 use Rattle.tables.specs.Stored.{HoldsModel}
 use Rattle.operations.specs.declared.Ended.{Ended}

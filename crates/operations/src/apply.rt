@@ -16,7 +16,6 @@ use values::collect::convert;
 use values::collect::union;
 use values::order::equal;
 use values::order::includes;
-ghost use mathlib.Core.Path.{_≡_};
 ghost use Prim.Native.Nat.{_+_, _≤_, _<_};
 ghost use lib.ListN.{length};
 ghost use Rattle.ocl.specs.Forms.{negation, sizeOf, castTo, less as lessForm, equal as equalForm, arith, includes as includesForm, including as includingForm, union as unionForm};

@@ -1,5 +1,5 @@
 // What the forms do once their operands have values, on a stack of lent words: forms with no operand, strict forms, and the
-// tables' values. Document 01, Evaluation. The recursion over operand nodes is in `evaluation`.
+// tables' values. Document 01, Evaluation. It depends on `values` for cells and on `tables`; the recursion is in `evaluation`.
 pub mod answers; // a value that was formed, as an answer; an answer as one word
 pub mod leaves; // forms with no operand
 pub mod lookup; // objects, rows and values in the tables

@@ -1,6 +1,5 @@
 // What the program prints for a text, and for what a descriptor gives. It depends on `checker` for the report, on `text` for
 // writing a refusal, and on the kit's io for reading.
-ghost use mathlib.Core.Path.{_≡_};
 ghost use Prim.Native.Nat.{_≤_, _<_};
 ghost use lib.ListN.{length};
 ghost use Rattle.sheet.specs.Calls.{refusalAt};

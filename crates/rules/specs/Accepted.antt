@@ -4,17 +4,13 @@ use mathlib.Core.Path.{_≡_}
 use mathlib.Core.Option.{none, some}
 use mathlib.Core.List.{List}
 use Prim.Native.Nat.{ℕ, _+_, _≤_, _<_}
-use lib.ListN.{length, getD, getElem?, take}
-use Rattle.ocl.specs.Types.{Ty}
-use Rattle.ocl.specs.Values.{Value}
+use lib.ListN.{getD, getElem?, take}
 use Rattle.ocl.specs.Forms.{levels}
-use Rattle.ocl.specs.Typing.{typed, refused as untyped, Typed, markOf}
-use Rattle.ocl.specs.Evaluation.{value}
+use Rattle.ocl.specs.Typing.{refused as untyped, Typed, markOf}
 use Rattle.sheet.specs.Text.{Bytes}
-use Rattle.sheet.specs.Spelling.{spellValue}
 use Rattle.sheet.specs.Sheet.{Rule, Sheet, modelOf}
 use Rattle.sheet.specs.Reading.{accepted, readText}
-use Rattle.sheet.specs.Calls.{typingOf, outcomeOf}
+use Rattle.sheet.specs.Calls.{typingOf}
 use Rattle.nodes.specs.Nodes.{word, treeAt}
 use Rattle.tables.specs.declared.Counts.{Counts}
 use Rattle.tables.specs.Layout.{Holds, Fine}

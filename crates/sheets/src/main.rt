@@ -1,4 +1,5 @@
-// A program for the gate: it prints the name of each file that its arguments name, and then what the program prints for it.
+// A program for the gate: it prints the name of each file that its arguments name, and then what the program prints for it. It
+// depends on `printing`.
 use libc::STDOUT_FILENO;
 use printing::Filled;
 use printing::report_input;

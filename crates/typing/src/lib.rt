@@ -1,5 +1,5 @@
 // The typing of rules: a recursion over the nodes of a rule's tree that answers a type or a refusal and marks each `attr` node
-// with the row it reads. Document 01, The forms and their typing.
+// with the row it reads. Document 01, The forms and their typing. It depends on `types`, and on `nodes` for what a node's words say.
 
 pub mod environment; // the types of the variables, sixteen slots by value
 pub mod forms; // the type of each form with no operand or strict operands, given their types

@@ -1,7 +1,7 @@
 -- The needs of `fold`.
 use mathlib.Core.Logic.{inl}
-use mathlib.Core.Path.{ap, _∙_}
-use Prim.Native.Nat.{_+_, _-_, _%_}
+use mathlib.Core.Path.{_∙_}
+use Prim.Native.Nat.{_+_, _-_}
 use Rattle.nodes.specs.Nodes.{word, variable}
 use Rattle.evaluation.specs.Evaluating.{Reads, operandFor}
 use Rattle.evaluation.proofs.Composition.{bounds}

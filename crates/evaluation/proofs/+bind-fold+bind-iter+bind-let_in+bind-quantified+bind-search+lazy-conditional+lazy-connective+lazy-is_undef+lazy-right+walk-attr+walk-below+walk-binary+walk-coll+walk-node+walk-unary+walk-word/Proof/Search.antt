@@ -1,6 +1,6 @@
 -- The needs of `search`.
-use mathlib.Core.Path.{sym, ap, _∙_}
-use Prim.Native.Nat.{_+_, _-_, _%_}
+use mathlib.Core.Path.{sym, _∙_}
+use Prim.Native.Nat.{_+_, _-_}
 use Rattle.nodes.specs.Nodes.{word, variable, quantifierOf}
 use Rattle.evaluation.specs.Evaluating.{Reads, operandFor}
 use Rattle.evaluation.proofs.LoopLaws.{Searching, search-starts, search-none, search-early, search-stuck, search-ends, search-again, ends-code, none-code}

@@ -2,7 +2,6 @@
 use Rattle.evaluation.proofs.NodeLaws.{node-packed}
 use Prim.Native.Nat.{ℕ}
 use borrow.Author.Needs.{needs}
-use native.Mathlib.Omega.{arith}
 use Rattle.operations.proofs.answers.pack.Reads as pack-reads
 use Rattle.evaluation.proofs.walk.node.Reads as node
 use Rattle.evaluation.proofs.walk.word.Reads as word
