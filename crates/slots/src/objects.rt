@@ -1,11 +1,11 @@
 // The objects in a value, each a cell of its own.
 ghost use mathlib.Core.Path.{_≡_};
 ghost use Rattle.slots.specs.Objects.{cellKnown, KnownIs};
+use values::cells::COLLECTIONS;
+use values::cells::SORT;
 
-// Cells of objects start and end here.
-const OBJECTS: u64 = 8_589_934_592;
-
-const COLLECTIONS: u64 = 12_884_901_888;
+// Cells of objects start here, and end where those of collections start.
+const OBJECTS: u64 = 2 * SORT;
 
 // Is the cell no object's, or that of one of n objects.
 fn known(n: u64, cell: u64) -> bool

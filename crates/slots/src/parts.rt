@@ -8,11 +8,10 @@ use text::numbers::digits_at;
 use text::numbers::integer_at;
 use text::numbers::integer_digits;
 use text::numbers::number_at;
+use values::cells::SORT;
 
-// A value's cell is this many times its sort, and a payload below it.
-const SORT: u64 = 4_294_967_296;
 // There are at most this many objects.
-const OBJECTS: u64 = 96;
+const MOST_OBJECTS: u64 = 96;
 
 // A part with its cell and the place after it; Wide is a number outside its limits.
 pub enum Part {
@@ -33,7 +32,7 @@ fn object_at(f: &[u8], at: usize) -> Part
     match n {
         Num::Bad => Part::Bad,
         Num::Is(o) => {
-            if o < OBJECTS {
+            if o < MOST_OBJECTS {
                 Part::Simple {
                     cell: 2 * SORT + o,
                     end,

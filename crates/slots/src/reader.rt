@@ -8,13 +8,11 @@ ghost use lib.ListN.{length, getD};
 ghost use Rattle.slots.specs.Machine.{headAt, outward, beyond, Last, AddsCell, OpensCell, Raises, Wanted, Ending, Live, TurnIs, ReadIs};
 use crate::parts::Part;
 use crate::parts::part_at;
-
-// The most cells and the most open collections of a value.
-const LARGEST: usize = 128;
+use values::cells::LARGEST;
 
 // The size that stands for every value over a limit.
 const OVER: usize = 129;
-
+// The most open collections of a value.
 const DEEPEST: usize = 3;
 
 // How many collections are open, and how many cells are written: more than the most once the value is over a limit, and then

@@ -10,11 +10,19 @@ ghost use Rattle.values.specs.Cells.{kids};
 ghost use Rattle.values.specs.Contracts.{SortOf, PayloadOf, SimpleOf, CellOf, Narrow, Pushes, EmptyOf, Skips, Copies, Brings};
 
 // A cell is this many times its sort, and a payload below it.
-const SORT: u64 = 4_294_967_296;
-// Cells of collections start here.
-const COLLECTIONS: u64 = 12_884_901_888;
+pub const SORT: u64 = 4_294_967_296;
+// Cells of collections start here, and end before this.
+pub const COLLECTIONS: u64 = 12_884_901_888;
+
+pub const TOP: u64 = 25_769_803_776;
+// The sorts of collections.
+pub const SET: u64 = 3;
+
+pub const SEQUENCE: u64 = 4;
+
+pub const BAG: u64 = 5;
 // The most cells that a value may have.
-const LARGEST: usize = 128;
+pub const LARGEST: usize = 128;
 
 fn wide(x: u64) -> usize
     ensures { λ r. ⌜ r ≡ x ⌝ }
@@ -63,7 +71,7 @@ pub fn cell_of(s: Simple) -> u64
     }
 }
 
-// PutsIn a simple value at sp.
+// Puts a simple value at sp.
 pub fn push(stack: &mut [u64], sp: usize, s: Simple)
     requires { ⌜ Narrow s × (sp < length (now stack)) ⌝ }
     ensures { λ _. ⌜ Pushes s sp (now (stack .entry)) (now (stack .exit)) ⌝ }
