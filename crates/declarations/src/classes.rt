@@ -1,4 +1,4 @@
-// `C n p`: class n, whose parent p is `-` or a smaller class.
+// `C n p`: class n with its parent p, if it has one.
 ghost use mathlib.Core.Path.{_≡_};
 ghost use mathlib.Core.List.{List};
 ghost use Prim.Native.Nat.{ℕ, _≤_, _<_};

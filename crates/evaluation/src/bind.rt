@@ -7,6 +7,7 @@ use operations::answers::truth;
 use tables::Counts;
 use types::classes::wide;
 use values::Simple;
+use values::cells::SET;
 use values::cells::skip;
 use values::cells::slide;
 use values::cells::sort_of;
@@ -17,9 +18,6 @@ ghost use Rattle.ocl.specs.Forms.{levels};
 ghost use Rattle.nodes.specs.Nodes.{word, variable, quantifierOf};
 ghost use Rattle.operations.specs.Runs.{Evals};
 ghost use Rattle.evaluation.specs.Evaluating.{Reads, Room, operandAt, operandFor, letNode, quantifiedNode, iterateNode, Searches, Folds};
-
-// Collections' sorts start here.
-const SET: u64 = 3;
 
 // `let`: the body's value is moved down over the bound one.
 pub fn let_in(

@@ -150,7 +150,7 @@ leafRun s (all c) ρ n = form (coll set (instances s c (s .objectCount))) n
 
 -- ---- forms with one strict operand
 
--- `as` takes any value but a collection, and is undefined unless it is an object of c or below
+-- `as`: a collection is of no kind that it takes; a simple value stays where it is an object of c, also by descent
 unfoldable pub cast : Model → ℕ → Value → ℕ → Outcome
 cast s c (bool b) n = undefined n
 cast s c (int z) n = undefined n

@@ -7,8 +7,13 @@ use crate::lookup::is_a;
 use tables::Counts;
 use values::Num;
 use values::Simple;
+use values::arith::END;
+use values::arith::ZERO;
 use values::arith::calculate;
 use values::arith::less;
+use values::cells::INTEGER;
+use values::cells::OBJECT;
+use values::cells::SET;
 use values::cells::payload_of;
 use values::cells::sort_of;
 use values::collect::add;
@@ -27,16 +32,6 @@ ghost use Rattle.tables.specs.Stored.{HoldsModel};
 ghost use Rattle.operations.specs.Tables.{Bounds};
 ghost use Rattle.operations.specs.Operations.{Any, OfOne, OfTwo, FitsLeft, kindFor, unaryFor};
 
-const INTEGER: u64 = 1;
-
-const OBJECT: u64 = 2;
-
-// Collections' sorts start here: Set, Sequence, Bag.
-const SET: u64 = 3;
-// What the Integer 0 is held as.
-const ZERO: u64 = 2_147_483_648;
-// Integers are held below this.
-const END: u64 = 4_294_967_296;
 // The most cells that a value may have.
 const LARGEST: u64 = 128;
 

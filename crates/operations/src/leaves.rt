@@ -7,6 +7,7 @@ use tables::Counts;
 use types::classes::wide;
 use values::Formed;
 use values::Simple;
+use values::arith::END;
 use values::cells::empty_of;
 use values::cells::push_copy;
 use values::collect::append_simple;
@@ -14,9 +15,6 @@ ghost use Prim.Native.Nat.{_+_, _≤_, _<_};
 ghost use lib.ListN.{length};
 ghost use Rattle.operations.specs.Tables.{Bounds, WithObject, Instances};
 ghost use Rattle.operations.specs.Runs.{Variable, Evals, ModelIn, leafFor};
-
-// Integers are held below this.
-const END: u64 = 4_294_967_296;
 
 // The value of variable i, once more at sp.
 pub fn variable(i: usize, env: [usize; 16], stack: &mut [u64], sp: usize, steps: u64) -> Ended

@@ -5,6 +5,7 @@ use crate::answers::formed;
 use tables::Counts;
 use types::classes::class_below;
 use types::classes::wide;
+use values::cells::OBJECT;
 use values::cells::payload_of;
 use values::cells::push_cells;
 use values::cells::sort_of;
@@ -12,8 +13,6 @@ ghost use mathlib.Core.Path.{_≡_};
 ghost use Prim.Native.Nat.{_+_, _≤_, _<_};
 ghost use lib.ListN.{length};
 ghost use Rattle.operations.specs.Tables.{Bounds, IsA, Owner, FindsSlot, startOf, Stands, Attribute};
-
-const OBJECT: u64 = 2;
 
 // Whether object o is of class c or below it.
 pub fn is_a(tables: &[u64], st: Counts, o: u64, c: u64) -> bool

@@ -78,7 +78,7 @@ unfoldable mutual
   allOrdered k nil = true
   allOrdered k (cons v vs) = ordered v && followed k v vs && allOrdered k vs
 
--- ---- 4: a number, count, size or nesting outside its limits
+-- ---- 4: what is spelled well and goes over a limit
 
 -- classes 0 to 63, names 0 to 255, nodes 0 to 767, variables 1 to 15
 unfoldable pub isClass : ℕ → Bool

@@ -8,9 +8,9 @@ ghost use Rattle.ocl.specs.Evaluation.{ranged};
 ghost use Rattle.values.specs.Integers.{Calculates, Lesser, arithOf, numOf, side, distance as distanceOf, alike as alikeOf};
 
 // What 0 is held as.
-const ZERO: u64 = 2_147_483_648;
+pub const ZERO: u64 = 2_147_483_648;
 // All Integers are held below this.
-const END: u64 = 4_294_967_296;
+pub const END: u64 = 4_294_967_296;
 
 pub fn less(a: u64, b: u64) -> bool
     ensures { λ r. ⌜ Lesser a b r ⌝ }

@@ -15,7 +15,11 @@ pub const SORT: u64 = 4_294_967_296;
 pub const COLLECTIONS: u64 = 12_884_901_888;
 
 pub const TOP: u64 = 25_769_803_776;
-// The sorts of collections.
+// The sorts: 0 for truth values, these for Integers and objects, then those of collections.
+pub const INTEGER: u64 = 1;
+
+pub const OBJECT: u64 = 2;
+
 pub const SET: u64 = 3;
 
 pub const SEQUENCE: u64 = 4;
