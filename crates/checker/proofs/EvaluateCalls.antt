@@ -26,7 +26,7 @@ use Rattle.sheet.proofs.Acceptance.{accepted-good}
 use Rattle.nodes.specs.Nodes.{word}
 use Rattle.types.specs.declared.FlatType.{FlatType}
 use Rattle.tables.specs.declared.Counts.{Counts}
-use Rattle.typing.specs.declared.Reply.the-variants as reply
+use Rattle.judgements.specs.declared.Reply.the-variants as reply
 use Rattle.operations.specs.declared.Ended.{Ended}
 use Rattle.operations.specs.Answers.{Ends}
 use Rattle.operations.specs.Tables.{IsA}

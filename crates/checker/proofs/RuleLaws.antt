@@ -12,7 +12,7 @@ use Rattle.nodes.specs.Nodes.{word}
 use Rattle.types.specs.declared.FlatType.{FlatType}
 use Rattle.types.specs.Flat.{tyOf}
 use Rattle.tables.specs.declared.Counts.{Counts}
-use Rattle.typing.specs.declared.Reply.the-variants as reply
+use Rattle.judgements.specs.declared.Reply.the-variants as reply
 use Rattle.rules.specs.Accepted.{Accepted, Known}
 use Rattle.rules.specs.Numbered.{TypesNumbered}
 use Rattle.rules.proofs.Ready.{ready}

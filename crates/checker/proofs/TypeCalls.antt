@@ -20,7 +20,7 @@ use Rattle.types.specs.declared.FlatType.{FlatType}
 use Rattle.types.specs.Flat.{tyOf}
 use Rattle.tables.specs.declared.Counts.{Counts}
 use Rattle.text.specs.Written.{Puts}
-use Rattle.typing.specs.declared.Reply.the-variants as reply
+use Rattle.judgements.specs.declared.Reply.the-variants as reply
 use Rattle.rules.specs.Numbered.{TypesNumbered}
 use Rattle.checker.specs.declared.Answer.{Answer}
 use Rattle.checker.specs.Answers.{answerOf, AnswersWith}

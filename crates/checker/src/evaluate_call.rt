@@ -17,6 +17,7 @@ use super::refused;
 use super::short;
 use super::wipe_all;
 use super::written;
+use judgements::Reply;
 use operations::Ended;
 use operations::lookup::is_a;
 use reader::SheetRead;
@@ -28,7 +29,6 @@ use spelling::put_value;
 use tables::Counts;
 use text::spelling::put_byte;
 use types::classes::wide;
-use typing::Reply;
 
 // How an evaluation ended, as an answer: a value, which lies in w2 from 1 on, or `u` is put into out.
 fn put_outcome(e: Ended, w2: &[u64], out: &mut [u8]) -> Answer

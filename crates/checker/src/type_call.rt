@@ -12,13 +12,13 @@ use super::refused;
 use super::short;
 use super::wipe_all;
 use super::written;
+use judgements::Reply;
 use reader::SheetRead;
 use rules::typed::node_line;
 use rules::typed::type_numbered;
 use tables::Counts;
 use types::classes::wide;
 use types::spelling::put_type;
-use typing::Reply;
 
 // Rule r of the sheet that lies in the words: its type, put into out, or a refusal.
 fn type_on(w0: &[u64], st: Counts, w1: &[u64], w2: &mut [u64], r: u64, out: &mut [u8]) -> Answer

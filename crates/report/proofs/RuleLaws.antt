@@ -16,7 +16,7 @@ use Rattle.sheet.specs.Report.{objectLines, ruleLines}
 use Rattle.tables.specs.declared.Counts.{Counts}
 use Rattle.tables.specs.Layout.{Kept}
 use Rattle.tables.proofs.Tables.{kept-refl, kept-then}
-use Rattle.typing.specs.declared.Reply.{Reply}
+use Rattle.judgements.specs.declared.Reply.{Reply}
 use Rattle.rules.specs.Accepted.{Accepted}
 use Rattle.rules.specs.Numbered.{TypesNumbered, KeepsMarks}
 use Rattle.rules.proofs.Ready.{ready}

@@ -21,9 +21,9 @@ use Rattle.nodes.specs.Nodes.{word}
 use Rattle.tables.specs.declared.Counts.{Counts}
 use Rattle.tables.specs.Layout.{Kept}
 use Rattle.tables.proofs.Tables.{kept-refl, kept-then}
-use Rattle.typing.specs.declared.Reply.{Reply}
-use Rattle.typing.specs.declared.Reply.the-variants as reply
-use Rattle.typing.specs.Replies.{meaning}
+use Rattle.judgements.specs.declared.Reply.{Reply}
+use Rattle.judgements.specs.declared.Reply.the-variants as reply
+use Rattle.judgements.specs.Replies.{meaning}
 use Rattle.rules.specs.Accepted.{Accepted, Known}
 use Rattle.rules.specs.Numbered.{TypesNumbered}
 use Rattle.report.specs.declared.bound.RulesTyped.the-variants as code

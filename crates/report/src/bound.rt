@@ -7,6 +7,7 @@ ghost use Rattle.operations.specs.Tables.{Bounds};
 ghost use Rattle.rules.specs.Accepted.{Known};
 ghost use Rattle.rules.specs.Width.{width as widthOf};
 ghost use Rattle.report.specs.Bound.{CountsObjects, BoundsLines, TypesRules};
+use judgements::Reply;
 use operations::lookup::is_a;
 use rules::typed::node_line;
 use rules::typed::type_numbered;
@@ -14,7 +15,6 @@ use tables::Counts;
 use types::Base;
 use types::FlatType;
 use types::classes::wide;
-use typing::Reply;
 
 // What typing all rules comes to: each has a type, and the report has at most so many bytes; or the first refusal and its line.
 pub enum RulesTyped {

@@ -14,7 +14,7 @@ use Rattle.nodes.specs.Nodes.{treeAt}
 use Rattle.nodes.proofs.Keep.{tree-keep}
 use Rattle.tables.specs.declared.Counts.{Counts}
 use Rattle.tables.specs.Layout.{tab, linesIn, HoldsCurrent, HoldsOpen, closed, opened, Kept}
-use Rattle.typing.specs.declared.Reply.{Reply}
+use Rattle.judgements.specs.declared.Reply.{Reply}
 use Rattle.rules.specs.Accepted.{Accepted, Known, MarksIn}
 use Rattle.rules.specs.Numbered.{TypesNumbered, KeepsMarks}
 

@@ -10,7 +10,7 @@ use Rattle.sheet.specs.Calls.{typingOf}
 use Rattle.nodes.specs.Nodes.{treeAt}
 use Rattle.tables.specs.declared.Counts.{Counts}
 use Rattle.tables.specs.Layout.{Kept}
-use Rattle.typing.specs.declared.Reply.{Reply}
+use Rattle.judgements.specs.declared.Reply.{Reply}
 use Rattle.typing.specs.Rules.{Kept as KeptMarks, TypesRule}
 use Rattle.rules.specs.Accepted.{Known, RuleIn}
 use Rattle.rules.specs.Numbered.{TypesNumbered}

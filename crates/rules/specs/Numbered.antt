@@ -9,8 +9,8 @@ use Rattle.sheet.specs.Sheet.{Rule, Sheet}
 use Rattle.sheet.specs.Calls.{typingOf, outcomeOf}
 use Rattle.tables.specs.declared.Counts.{Counts}
 use Rattle.tables.specs.Layout.{Kept}
-use Rattle.typing.specs.declared.Reply.{Reply}
-use Rattle.typing.specs.Replies.{meaning}
+use Rattle.judgements.specs.declared.Reply.{Reply}
+use Rattle.judgements.specs.Replies.{meaning}
 use Rattle.operations.specs.declared.Ended.{Ended}
 use Rattle.operations.specs.Answers.{Ends, Small}
 use Rattle.rules.specs.Accepted.{Accepted, MarksIn}

@@ -5,10 +5,10 @@ ghost use lib.ListN.{length};
 ghost use Rattle.nodes.specs.Nodes.{word};
 ghost use Rattle.rules.specs.Accepted.{Known};
 ghost use Rattle.rules.specs.Numbered.{TypesNumbered};
+use judgements::Reply;
 use nodes::node_word;
 use tables::Counts;
 use types::classes::wide;
-use typing::Reply;
 use typing::rules::type_rule;
 
 // The type of rule r, or its refusal and the node. The marks of its nodes are left in the first 768 words of w2.

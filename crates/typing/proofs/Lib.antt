@@ -1,10 +1,6 @@
-pub mod Composition
-pub mod Environments
-pub mod Joins
-pub mod FormTypes
-pub mod Attributes
 pub mod NodeTypings
 pub mod Members
 pub mod RuleTypings
 pub mod AllRules
 pub mod Models
+pub mod Pairs

@@ -15,13 +15,13 @@ use Rattle.types.specs.declared.FlatType.{FlatType}
 use Rattle.types.specs.Flat.{parentsIn, letterOf, tyOf}
 use Rattle.types.proofs.Parents.{parents-small}
 use Rattle.nodes.specs.Nodes.{word, kindOf, operandsIn}
-use Rattle.typing.specs.declared.Reply.{Reply}
-use Rattle.typing.specs.declared.Reply.the-variants as reply
-use Rattle.typing.specs.Replies.{meaning, joinMore, Tells}
+use Rattle.judgements.specs.declared.Reply.{Reply}
+use Rattle.judgements.specs.declared.Reply.the-variants as reply
+use Rattle.judgements.specs.Replies.{meaning, joinMore, Tells}
 use Rattle.typing.specs.Tables.{operandAt, membersAt, collectAt}
-use Rattle.typing.proofs.Composition.{early, after, done, then-then}
+use Rattle.judgements.proofs.Composition.{early, after, done, then-then}
 use Rattle.typing.proofs.NodeTypings.{undef-done}
-use Rattle.typing.proofs.Joins.{void-first, void-last, more-two}
+use Rattle.judgements.proofs.Joins.{void-first, void-last, more-two}
 
 -- ---- codes and letters
 

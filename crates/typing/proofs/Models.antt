@@ -7,7 +7,7 @@ use lib.ListN.{getD, take, drop}
 use Rattle.ocl.specs.Model.{Model}
 use Rattle.types.specs.Flat.{parentsIn}
 use Rattle.types.specs.Word.{typeIn}
-use Rattle.typing.specs.Tables.{Reads}
+use Rattle.judgements.specs.Replies.{Reads}
 
 -- with no object
 abbrev pub modelIn : List ℕ → List ℕ → ℕ → Model

@@ -20,11 +20,11 @@ use Rattle.types.specs.Word.{typeIn}
 use Rattle.types.proofs.Members.{no-collection, is-collection}
 use Rattle.nodes.specs.Nodes.{word, variable, leafOf}
 use Rattle.nodes.proofs.Typing.{operandTyping, leaf-typing, unary-typing, binary-typing, connective-typing, quantified-typing, collect-typing, isUndef-typing, conditional-typing, let-typing, attribute-typing, iterate-typing, over-typing, none-typing, operand-typing, late-typing}
-use Rattle.typing.specs.declared.Reply.{Reply}
-use Rattle.typing.specs.declared.Reply.the-variants as reply
-use Rattle.typing.specs.Replies.{Tells}
+use Rattle.judgements.specs.declared.Reply.{Reply}
+use Rattle.judgements.specs.declared.Reply.the-variants as reply
+use Rattle.judgements.specs.Replies.{Tells}
 use Rattle.typing.specs.Tables.{nodeAt, operandAt, membersAt, unaryAt, binaryAt, connectiveAt, isUndefAt, conditionalAt, letAt, attributeAt, quantifiedAt, iterateAt, bodyAt, collectAt}
-use Rattle.typing.proofs.Composition.{done}
+use Rattle.judgements.proofs.Composition.{done}
 
 -- ---- a node by its code
 

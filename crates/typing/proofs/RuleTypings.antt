@@ -16,11 +16,12 @@ use Rattle.ocl.specs.Model.{Model}
 use Rattle.ocl.specs.Typing.{Answer, Marks, typeRule, markOr, markOf}
 use Rattle.types.specs.declared.FlatType.{FlatType}
 use Rattle.nodes.specs.Nodes.{treeAt}
-use Rattle.typing.specs.declared.Reply.{Reply}
-use Rattle.typing.specs.declared.Reply.the-variants as reply
+use Rattle.judgements.specs.declared.Reply.{Reply}
+use Rattle.judgements.specs.declared.Reply.the-variants as reply
 use Rattle.typing.specs.declared.AllTyped.the-variants as all
-use Rattle.typing.specs.Replies.{meaning, writeMarks, Tells}
-use Rattle.typing.specs.Tables.{Reads, nodeAt}
+use Rattle.judgements.specs.Replies.{meaning, writeMarks, Tells}
+use Rattle.judgements.specs.Replies.{Reads}
+use Rattle.typing.specs.Tables.{nodeAt}
 use Rattle.typing.specs.Rules.{Kept, TypesRule, pairs, orRefusal, firstRefusal, refusalIn, TypesAll}
 
 -- ---- a cleared table

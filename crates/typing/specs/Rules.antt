@@ -9,11 +9,11 @@ use Rattle.ocl.specs.Typing.{Answer, typed, refused, typeRule, markOf}
 use Rattle.sheet.specs.Sheet.{Sheet}
 use Rattle.sheet.specs.Calls.{Verdict, refusalAt}
 use Rattle.nodes.specs.Nodes.{treeAt}
-use Rattle.typing.specs.declared.Reply.{Reply}
+use Rattle.judgements.specs.declared.Reply.{Reply}
 use Rattle.typing.specs.declared.AllTyped.{AllTyped}
 use Rattle.typing.specs.declared.AllTyped.the-variants as all
-use Rattle.typing.specs.Replies.{meaning}
-use Rattle.typing.specs.Tables.{Reads}
+use Rattle.judgements.specs.Replies.{meaning}
+use Rattle.judgements.specs.Replies.{Reads}
 
 -- so many classes and rows, and what is lent, are within the limits
 pub record Lent (classes rows tables nodes marks : ℕ) : Type 0 where

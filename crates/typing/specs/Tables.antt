@@ -3,26 +3,21 @@
 use mathlib.Core.Path.{_≡_}
 use mathlib.Core.List.{List}
 use Prim.Native.Nat.{ℕ, _<_, _≤_}
-use lib.ListN.{take, drop}
 use lib.Dec.{ltb}
 use Rattle.laws.specs.Choice.{if_then_else_}
 use Rattle.ocl.specs.Types.{Ty}
 use Rattle.ocl.specs.Environment.{extend}
 use Rattle.ocl.specs.Forms.{undef}
 use Rattle.ocl.specs.Model.{Model}
-use Rattle.ocl.specs.Typing.{typed, Typing, pure, andThen, below, typing, leafTyping, unaryTyping, binaryTyping, connectiveTyping, isUndefTyping, conditionalTyping, letTyping, attributeTyping, quantifiedTyping, iterateTyping, collectTyping, operandsTyping}
+use Rattle.ocl.specs.Typing.{typed, Typed, Typing, pure, andThen, below, typing, leafTyping, unaryTyping, binaryTyping, connectiveTyping, isUndefTyping, conditionalTyping, letTyping, attributeTyping, quantifiedTyping, iterateTyping, collectTyping, operandsTyping}
+use Rattle.types.specs.Flat.{tyOf}
 use Rattle.types.specs.Word.{typeIn}
 use Rattle.nodes.specs.Nodes.{word, variable, unaryOf, binaryOf, kindOf, operandsIn, treesBelow, treeAt}
-use Rattle.nodes.specs.Classes.{HoldsClasses}
-use Rattle.typing.specs.declared.Slot.{Slot}
-use Rattle.typing.specs.declared.Reply.{Reply}
+use Rattle.judgements.specs.declared.Slot.{Slot}
+use Rattle.judgements.specs.declared.Reply.{Reply}
 use Rattle.typing.specs.declared.PairReply.{PairReply}
-use Rattle.typing.specs.Replies.{envOf, Tells, TellsTwo}
-
--- the model has these parents, and the rows of the tables: owners from word 64, names from 128, types from 192
-pub record Reads (parents tables : List ℕ) (rows : ℕ) (m : Model) : Type 0 where
-  pub classes : HoldsClasses parents (take 64 (drop 64 tables)) (take 64 (drop 128 tables)) (take 64 (drop 192 tables)) m
-  pub count : m .rowCount ≡ rows
+use Rattle.typing.specs.declared.PairReply.the-variants as two
+use Rattle.judgements.specs.Replies.{envOf, Tells, Reads}
 
 -- node n and so many rows are within what is lent
 pub record Room (n rows tables nodes marks : ℕ) : Type 0 where
@@ -31,6 +26,12 @@ pub record Room (n rows tables nodes marks : ℕ) : Type 0 where
   pub in-tables : 256 ≤ tables
   pub all-nodes : 6144 ≤ nodes
   pub all-marks : 768 ≤ marks
+
+-- f and then g: two types, with which whatever follows them goes on; or the first refusal, which ends it
+pub record TellsTwo (f g : Typed) (before after : List ℕ) (r : PairReply) : Type 0 where
+  pub ends : {x : Reply} → r ≡ two.Refused x → (k : Ty → Ty → Typed) → Tells (andThen f (λ t. andThen g (k t))) before after x
+  pub goes : {t u : _} → r ≡ two.Are t u → (k : Ty → Ty → Typed) {last : List ℕ} {x : Reply}
+      → Tells (k (tyOf t) (tyOf u)) after last x → Tells (andThen f (λ t. andThen g (k t))) before last x
 
 abbrev pub Types : List ℕ → List ℕ → ℕ → (Model → Typing) → List Slot → List ℕ → List ℕ → Reply → Type 0
 Types parents tables rows f env before after r = (m : Model) → Reads parents tables rows m → Tells (f m (envOf env)) before after r

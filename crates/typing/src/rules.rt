@@ -5,13 +5,14 @@ ghost use lib.ListN.{length, getD, replicate};
 ghost use Rattle.ocl.specs.Model.{Model};
 ghost use Rattle.ocl.specs.Typing.{typeRule};
 ghost use Rattle.nodes.specs.Nodes.{treeAt};
-ghost use Rattle.typing.specs.Replies.{Tells};
-ghost use Rattle.typing.specs.Tables.{Reads, Room};
+ghost use Rattle.judgements.specs.Replies.{Tells};
+ghost use Rattle.judgements.specs.Replies.{Reads};
+ghost use Rattle.typing.specs.Tables.{Room};
 ghost use Rattle.typing.specs.Rules.{Lent, TypesRule, TypesAll};
 use super::AllTyped;
-use super::Reply;
-use super::environment::start_env;
 use super::walk::node;
+use judgements::Reply;
+use judgements::environment::start_env;
 use types::classes::wide;
 
 // Every word 0: no node is marked.

@@ -1,9 +1,9 @@
 -- The needs of `attribute`.
 use Prim.Native.Nat.{ℕ}
 use borrow.Author.Needs.{needs}
-use Rattle.typing.proofs.Composition.{early, after}
+use Rattle.judgements.proofs.Composition.{early, after}
 use Rattle.ocl.specs.Typing.{attributeTyping}
-use Rattle.typing.proofs.others.attribute_type.Reads as attribute-type-reads
+use Rattle.judgements.proofs.others.attribute_type.Reads as attribute-type-reads
 use Rattle.nodes.proofs.node_word.Reads as node-word-reads
 use Rattle.typing.proofs.apply.attribute.Reads as attribute
 use Rattle.typing.proofs.walk.operand.Reads as operand

@@ -1,9 +1,9 @@
 -- The needs of `binary`.
 use Prim.Native.Nat.{ℕ}
 use borrow.Author.Needs.{needs}
-use Rattle.typing.proofs.Composition.{done}
+use Rattle.judgements.proofs.Composition.{done}
 use Rattle.ocl.specs.Typing.{binaryTyping}
-use Rattle.typing.proofs.forms.binary_type.Reads as binary-type-reads
+use Rattle.judgements.proofs.forms.binary_type.Reads as binary-type-reads
 use Rattle.typing.proofs.apply.binary.Reads as binary
 use Rattle.typing.proofs.walk.pair.Reads as pair
 use Rattle.typing.proofs.+apply-attribute+apply-binary+apply-collect+apply-conditional+apply-connective+apply-is_undef+apply-unary+scope-body+scope-iterate+scope-let_in+scope-quantified+walk-node+walk-operand+walk-pair.Lts-apply-binary as lts

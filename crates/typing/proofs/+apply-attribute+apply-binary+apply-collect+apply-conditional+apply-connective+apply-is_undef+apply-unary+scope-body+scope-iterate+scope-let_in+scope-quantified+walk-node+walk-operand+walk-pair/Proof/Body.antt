@@ -2,11 +2,11 @@
 use mathlib.Core.Path.{refl, sym, _∙_}
 use Prim.Native.Nat.{ℕ}
 use borrow.Author.Needs.{needs}
-use Rattle.typing.proofs.Composition.{early, after, done}
+use Rattle.judgements.proofs.Composition.{early, after, done}
 use Rattle.typing.proofs.NodeTypings.{in-env}
-use Rattle.typing.proofs.FormTypes.{below-yes, below-no}
+use Rattle.judgements.proofs.FormTypes.{below-yes, below-no}
 use Rattle.typing.specs.Tables.{bodyAt}
-use Rattle.typing.proofs.environment.bind.Reads as bind-reads
+use Rattle.judgements.proofs.environment.bind.Reads as bind-reads
 use Rattle.types.proofs.order.subtype.Reads as subtype-reads
 use Rattle.typing.proofs.scope.variable.Reads as variable-reads
 use Rattle.typing.proofs.scope.body.Reads as body

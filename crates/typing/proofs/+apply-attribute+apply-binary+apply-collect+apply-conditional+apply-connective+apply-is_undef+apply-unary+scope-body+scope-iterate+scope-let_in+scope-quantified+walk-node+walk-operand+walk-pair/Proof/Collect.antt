@@ -7,11 +7,11 @@ use lib.ListN.{length}
 use borrow.Author.Needs.{needs}
 use Rattle.ocl.specs.Model.{Model}
 use Rattle.types.specs.Flat.{joinedType}
-use Rattle.typing.specs.Replies.{envOf}
-use Rattle.typing.specs.Tables.{Reads}
+use Rattle.judgements.specs.Replies.{envOf}
+use Rattle.judgements.specs.Replies.{Reads}
 use Rattle.typing.proofs.Members.{Left, collect-over, left-all, left-refused, left-next, left-done}
-use Rattle.typing.proofs.forms.around_common.Reads as around-common-reads
-use Rattle.typing.proofs.forms.join_more.Reads as join-more-reads
+use Rattle.judgements.proofs.forms.around_common.Reads as around-common-reads
+use Rattle.judgements.proofs.forms.join_more.Reads as join-more-reads
 use Rattle.nodes.proofs.node_word.Reads as node-word-reads
 use Rattle.types.proofs.parts.plain.Reads as plain-reads
 use Rattle.types.proofs.classes.wide.Reads as wide-reads

@@ -1,9 +1,9 @@
 -- The needs of `conditional`.
 use Prim.Native.Nat.{ℕ}
 use borrow.Author.Needs.{needs}
-use Rattle.typing.proofs.Composition.{early, after, done}
+use Rattle.judgements.proofs.Composition.{early, after, done}
 use Rattle.ocl.specs.Typing.{conditionalTyping}
-use Rattle.typing.proofs.others.conditional_type.Reads as conditional-type-reads
+use Rattle.judgements.proofs.others.conditional_type.Reads as conditional-type-reads
 use Rattle.typing.proofs.apply.conditional.Reads as conditional
 use Rattle.typing.proofs.walk.operand.Reads as operand
 use Rattle.typing.proofs.walk.pair.Reads as pair

@@ -2,11 +2,11 @@
 use mathlib.Core.Path.{ap, _∙_}
 use Prim.Native.Nat.{ℕ}
 use borrow.Author.Needs.{needs}
-use Rattle.typing.proofs.Composition.{done}
+use Rattle.judgements.proofs.Composition.{done}
 use Rattle.ocl.specs.Typing.{bothBelow, connectiveTyping}
 use Rattle.ocl.specs.Types.{Ty}
 use Rattle.types.specs.Flat.{tyOf}
-use Rattle.typing.proofs.forms.both_below.Reads as both-below-reads
+use Rattle.judgements.proofs.forms.both_below.Reads as both-below-reads
 use Rattle.types.proofs.parts.plain.Reads as plain-reads
 use Rattle.typing.proofs.apply.connective.Reads as connective
 use Rattle.typing.proofs.walk.pair.Reads as pair

@@ -2,7 +2,7 @@
 use mathlib.Core.Path.{ap}
 use Prim.Native.Nat.{ℕ}
 use borrow.Author.Needs.{needs}
-use Rattle.typing.proofs.Composition.{early, after, done}
+use Rattle.judgements.proofs.Composition.{early, after, done}
 use Rattle.ocl.specs.Typing.{typed, isUndefTyping}
 use Rattle.types.proofs.parts.plain.Reads as plain-reads
 use Rattle.typing.proofs.apply.is_undef.Reads as is-undef

@@ -5,7 +5,7 @@ use native.Mathlib.Omega.{arith}
 use borrow.Author.Needs.{needs}
 use Rattle.typing.proofs.NodeTypings.{iter-rest, iter-source, iter-start, iter-body}
 use Rattle.types.specs.Word.{typeIn}
-use Rattle.typing.proofs.environment.bind.Reads as bind-reads
+use Rattle.judgements.proofs.environment.bind.Reads as bind-reads
 use Rattle.types.proofs.parts.member_type.Reads as member-type-reads
 use Rattle.nodes.proofs.node_word.Reads as node-word-reads
 use Rattle.types.proofs.parts.outer_code.Reads as outer-code-reads

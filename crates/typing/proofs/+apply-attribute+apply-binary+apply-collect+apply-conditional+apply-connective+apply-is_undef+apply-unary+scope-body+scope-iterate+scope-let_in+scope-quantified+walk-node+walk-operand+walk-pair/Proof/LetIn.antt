@@ -2,10 +2,10 @@
 use mathlib.Core.Path.{refl}
 use Prim.Native.Nat.{ℕ}
 use borrow.Author.Needs.{needs}
-use Rattle.typing.proofs.Composition.{early, after}
+use Rattle.judgements.proofs.Composition.{early, after}
 use Rattle.typing.proofs.NodeTypings.{in-env}
 use Rattle.ocl.specs.Typing.{letTyping}
-use Rattle.typing.proofs.environment.bind.Reads as bind-reads
+use Rattle.judgements.proofs.environment.bind.Reads as bind-reads
 use Rattle.typing.proofs.scope.variable.Reads as variable-reads
 use Rattle.typing.proofs.scope.let_in.Reads as let-in
 use Rattle.typing.proofs.walk.operand.Reads as operand

@@ -1,10 +1,10 @@
 -- The needs of `node`.
 use Prim.Native.Nat.{ℕ}
 use borrow.Author.Needs.{needs}
-use Rattle.typing.proofs.Composition.{done, as-form}
+use Rattle.judgements.proofs.Composition.{done, as-form}
 use Rattle.typing.proofs.NodeTypings.{undef-done, leaf-node, unary-node, binary-node, connective-node, quantified-node, collect-node, isUndef-node, conditional-node, let-node, attribute-node, iterate-node, none-node}
 use Rattle.ocl.specs.Typing.{leafTyping}
-use Rattle.typing.proofs.forms.leaf_type.Reads as leaf-type-reads
+use Rattle.judgements.proofs.forms.leaf_type.Reads as leaf-type-reads
 use Rattle.nodes.proofs.node_word.Reads as node-word-reads
 use Rattle.types.proofs.parts.plain.Reads as plain-reads
 use Rattle.typing.proofs.apply.attribute.Reads as attribute

@@ -2,7 +2,7 @@
 use mathlib.Core.Path.{_∙_}
 use Prim.Native.Nat.{ℕ}
 use borrow.Author.Needs.{needs}
-use Rattle.typing.proofs.Composition.{as-form}
+use Rattle.judgements.proofs.Composition.{as-form}
 use Rattle.typing.proofs.NodeTypings.{operand-node, late-node, undef-done}
 use Rattle.nodes.proofs.node_word.Reads as node-word-reads
 use Rattle.types.proofs.parts.plain.Reads as plain-reads

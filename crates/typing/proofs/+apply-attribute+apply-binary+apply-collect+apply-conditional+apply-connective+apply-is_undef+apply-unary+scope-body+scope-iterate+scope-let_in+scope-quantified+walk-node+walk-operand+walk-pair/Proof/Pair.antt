@@ -1,7 +1,7 @@
 -- The needs of `pair`.
 use Prim.Native.Nat.{ℕ}
 use borrow.Author.Needs.{needs}
-use Rattle.typing.proofs.Composition.{two-first, two-second, two-done}
+use Rattle.typing.proofs.Pairs.{two-first, two-second, two-done}
 use Rattle.typing.proofs.walk.operand.Reads as operand
 use Rattle.typing.proofs.walk.pair.Reads as pair
 use Rattle.typing.proofs.+apply-attribute+apply-binary+apply-collect+apply-conditional+apply-connective+apply-is_undef+apply-unary+scope-body+scope-iterate+scope-let_in+scope-quantified+walk-node+walk-operand+walk-pair.Lts-walk-pair as lts

@@ -2,11 +2,11 @@
 use Prim.Native.Nat.{ℕ}
 use native.Mathlib.Omega.{arith}
 use borrow.Author.Needs.{needs}
-use Rattle.typing.proofs.Composition.{early, after, done}
+use Rattle.judgements.proofs.Composition.{early, after, done}
 use Rattle.typing.proofs.NodeTypings.{in-env, no-source, on-source}
 use Rattle.ocl.specs.Typing.{quantifiedTyping}
-use Rattle.typing.proofs.environment.bind.Reads as bind-reads
-use Rattle.typing.proofs.forms.condition.Reads as condition-reads
+use Rattle.judgements.proofs.environment.bind.Reads as bind-reads
+use Rattle.judgements.proofs.forms.condition.Reads as condition-reads
 use Rattle.types.proofs.parts.member_type.Reads as member-type-reads
 use Rattle.types.proofs.parts.outer_code.Reads as outer-code-reads
 use Rattle.typing.proofs.scope.variable.Reads as variable-reads

@@ -1,9 +1,9 @@
 -- The needs of `unary`.
 use Prim.Native.Nat.{ℕ}
 use borrow.Author.Needs.{needs}
-use Rattle.typing.proofs.Composition.{early, after, done}
+use Rattle.judgements.proofs.Composition.{early, after, done}
 use Rattle.ocl.specs.Typing.{unaryTyping}
-use Rattle.typing.proofs.forms.unary_type.Reads as unary-type-reads
+use Rattle.judgements.proofs.forms.unary_type.Reads as unary-type-reads
 use Rattle.typing.proofs.walk.operand.Reads as operand
 use Rattle.typing.proofs.apply.unary.Reads as unary
 use Rattle.typing.proofs.+apply-attribute+apply-binary+apply-collect+apply-conditional+apply-connective+apply-is_undef+apply-unary+scope-body+scope-iterate+scope-let_in+scope-quantified+walk-node+walk-operand+walk-pair.Lts-apply-unary as lts

@@ -1,0 +1,71 @@
+-- What the code's answers, environments, marks and tables stand for. Document 01, The forms and their typing.
+use mathlib.Core.Path.{_≡_}
+use mathlib.Core.Bool.{false}
+use mathlib.Core.Option.{Option, none, some}
+use mathlib.Core.List.{List, [], _∷_}
+use Prim.Native.Nat.{ℕ, zero, suc}
+use lib.ListN.{getD, set, take, drop}
+use Rattle.laws.specs.Choice.{if_then_else_, onSome}
+use Rattle.ocl.specs.Types.{Ty, Parents, join}
+use Rattle.ocl.specs.Environment.{Env}
+use Rattle.ocl.specs.Model.{Model}
+use Rattle.ocl.specs.Typing.{Answer, typed, refused, Marks, Typed}
+use Rattle.types.specs.declared.Base.{Base}
+use Rattle.types.specs.declared.Base.the-variants as b
+use Rattle.types.specs.declared.FlatType.{FlatType}
+use Rattle.types.specs.Flat.{tyOf}
+use Rattle.nodes.specs.Classes.{HoldsClasses}
+use Rattle.judgements.specs.declared.Slot.{Slot}
+use Rattle.judgements.specs.declared.Reply.{Reply}
+use Rattle.judgements.specs.declared.Reply.the-variants as reply
+
+-- a type, or a refusal's number and node
+abbrev pub meaning : Reply → Answer
+meaning (reply.Is t) = typed (tyOf t)
+meaning (reply.No c p) = refused c p
+
+-- ---- the common type of so many types, if there is one, and one more
+
+unfoldable pub joinMore : Parents → Option Ty → Ty → Option Ty
+joinMore parent o t = onSome o (λ s. join parent s t)
+
+-- ---- the environment: an array of slots gives each variable its type
+
+abbrev pub freeSlot : Slot
+freeSlot = record { bound = false; tag = 0; outer = 0; middle = 0; inner = 0; class = 0 }
+
+-- the base of a tag, with its class where it is one
+unfoldable pub baseOf : ℕ → ℕ → Base
+baseOf zero c = b.Void
+baseOf (suc zero) c = b.Bool
+baseOf (suc (suc zero)) c = b.Int
+baseOf (suc (suc (suc zero))) c = b.Any
+baseOf (suc (suc (suc (suc n)))) c = b.Class c
+
+abbrev pub flatOf : Slot → FlatType
+flatOf s = record { base = baseOf (s .tag) (s .class); outer = s .outer; middle = s .middle; inner = s .inner }
+
+unfoldable pub slotType : Slot → Option Ty
+slotType s = if s .bound then some (tyOf (flatOf s)) else none
+
+unfoldable pub envOf : List Slot → Env Ty
+envOf env j = slotType (getD env j freeSlot)
+
+-- ---- the marks: word p of a table is the row that node p is marked with
+
+-- in the order made
+unfoldable pub writeMarks : List ℕ → Marks → List ℕ
+writeMarks l [] = l
+writeMarks l (x ∷ m) = writeMarks (set l (x .0) (x .1)) m
+
+-- the answer is the definition's, and so are the marks that were written
+pub record Tells (x : Typed) (before after : List ℕ) (r : Reply) : Type 0 where
+  pub is : meaning r ≡ x .answer
+  pub wrote : after ≡ writeMarks before (x .marks)
+
+-- ---- the model
+
+-- the model has these parents, and the rows of the tables: owners from word 64, names from 128, types from 192
+pub record Reads (parents tables : List ℕ) (rows : ℕ) (m : Model) : Type 0 where
+  pub classes : HoldsClasses parents (take 64 (drop 64 tables)) (take 64 (drop 128 tables)) (take 64 (drop 192 tables)) m
+  pub count : m .rowCount ≡ rows

@@ -1,0 +1,238 @@
+// The type of each form with no operand or with strict operands, given their types. `n` is the node's number, which a refusal
+// names; `parents` is the table of parents that subtyping reads.
+ghost use mathlib.Core.Path.{_≡_};
+ghost use Prim.Native.Nat.{_<_, _≤_};
+ghost use lib.ListN.{length};
+ghost use Rattle.ocl.specs.Types.{Boolean, Integer};
+ghost use Rattle.ocl.specs.Types.{join as joinOf};
+ghost use Rattle.ocl.specs.Model.{Model};
+ghost use Rattle.ocl.specs.Typing.{typed, refused, below, common, onCollection, castType, bothBelow, leafType, unaryType, binaryType};
+ghost use Rattle.ocl.specs.Typing.{wrap as wrapType};
+ghost use Rattle.types.specs.Flat.{parentsIn, tyOf, letterOf, joinedType};
+ghost use Rattle.nodes.specs.Nodes.{word, leafOf, unaryOf, binaryOf};
+ghost use Rattle.judgements.specs.Replies.{meaning, envOf, joinMore};
+use super::Reply;
+use super::Slot;
+use super::environment::bound;
+use nodes::node_word;
+use types::Base;
+use types::ClassNumber;
+use types::FlatType;
+use types::Joined;
+use types::classes::class_below;
+use types::classes::wide;
+use types::order::join;
+use types::order::subtype;
+use types::parts::depth;
+use types::parts::is_any;
+use types::parts::is_class;
+use types::parts::member_type;
+use types::parts::outer_code;
+use types::parts::plain;
+use types::parts::set_of_class;
+use types::parts::wrap;
+
+// ---- what several forms ask
+
+// A condition is below Bool, else 11.
+pub fn condition(parents: &[u64], n: u64, t: FlatType) -> Reply
+    ensures { λ r. ⌜ ((m : Model) → m .parent ≡ parentsIn (now (parents .entry)) → meaning r ≡ below m n (tyOf t) Boolean (typed Boolean)) ⌝ }
+{
+    if subtype(parents, t, plain(Base::Bool)) {
+        return Reply::Is(plain(Base::Bool));
+    }
+    Reply::No(11, n)
+}
+
+// Both types below w, else 11; the type is r.
+pub fn both_below(
+    parents: &[u64],
+    n: u64,
+    w: FlatType,
+    r: FlatType,
+    t: FlatType,
+    u: FlatType,
+) -> Reply
+    ensures { λ a. ⌜ ((m : Model) → m .parent ≡ parentsIn (now (parents .entry)) → meaning a ≡ bothBelow m n (tyOf w) (tyOf r) (tyOf t) (tyOf u)) ⌝ }
+{
+    if subtype(parents, t, w) {
+        if subtype(parents, u, w) {
+            return Reply::Is(r);
+        }
+        return Reply::No(11, n);
+    }
+    Reply::No(11, n)
+}
+
+// The common type, else 10.
+pub fn common_type(parents: &[u64], n: u64, t: FlatType, u: FlatType) -> Reply
+    ensures { λ r. ⌜ ((m : Model) → m .parent ≡ parentsIn (now (parents .entry)) → meaning r ≡ common n (joinOf (m .parent) (tyOf t) (tyOf u)) typed) ⌝ }
+{
+    let Joined::Is(w) = join(parents, t, u) else {
+        return Reply::No(10, n);
+    };
+    Reply::Is(w)
+}
+
+// Bool where there is a common type, else 10.
+fn comparable(parents: &[u64], n: u64, t: FlatType, u: FlatType) -> Reply
+    ensures { λ r. ⌜ ((m : Model) → m .parent ≡ parentsIn (now (parents .entry)) → meaning r ≡ common n (joinOf (m .parent) (tyOf t) (tyOf u)) (λ w. typed Boolean)) ⌝ }
+{
+    let Joined::Is(w) = join(parents, t, u) else {
+        return Reply::No(10, n);
+    };
+    Reply::Is(plain(Base::Bool))
+}
+
+// The letter of the code around t, unless that is over three deep (13).
+fn wrapped(n: u64, code: u64, t: FlatType) -> Reply
+    requires { ⌜ 0 < code ⌝ }
+    ensures { λ r. ⌜ meaning r ≡ wrapType n (letterOf code) (tyOf t) ⌝ }
+{
+    if depth(t) <= 2 {
+        return Reply::Is(wrap(code, t));
+    }
+    Reply::No(13, n)
+}
+
+// The common type with one type more, where there is one of those before it.
+pub fn join_more(parents: &[u64], common: Joined, t: FlatType) -> Joined
+    ensures { λ r. ⌜ joinedType r ≡ joinMore (parentsIn (now (parents .entry))) (joinedType common) (tyOf t) ⌝ }
+{
+    let Joined::Is(s) = common else {
+        return common;
+    };
+    join(parents, s, t)
+}
+
+// The letter of the code around a common type, else 10.
+pub fn around_common(n: u64, code: u64, joined: Joined) -> Reply
+    requires { ⌜ 0 < code ⌝ }
+    ensures { λ r. ⌜ meaning r ≡ common n (joinedType joined) (wrapType n (letterOf code)) ⌝ }
+{
+    let Joined::Is(w) = joined else {
+        return Reply::No(10, n);
+    };
+    wrapped(n, code, w)
+}
+
+// ---- forms with no operand
+
+pub fn leaf_type(nodes: &[u64], form: u64, n: usize, env: [Slot; 16]) -> Reply
+    requires { ⌜ (n < 768) × (6144 ≤ length (now nodes)) ⌝ }
+    ensures { λ r. ⌜ meaning r ≡ leafType n (leafOf form (word (now (nodes .entry)) n)) (envOf env) ⌝ }
+{
+    match form {
+        0..=1 => Reply::Is(plain(Base::Bool)),
+        2 => Reply::Is(plain(Base::Void)),
+        3 => Reply::Is(plain(Base::Int)),
+        4 => bound(n as u64, 0, env),
+        5 => bound(n as u64, wide(node_word(nodes, n, 1)) % 16, env),
+        _ => Reply::Is(set_of_class(node_word(nodes, n, 1))),
+    }
+}
+
+// ---- forms with one strict operand
+
+// `size`: of a collection, else 11; Void is none.
+fn size_type(n: u64, t: FlatType) -> Reply
+    ensures { λ r. ⌜ meaning r ≡ onCollection (tyOf t) (refused 11 n) (λ l u. typed Integer) ⌝ }
+{
+    if outer_code(t) == 0 {
+        return Reply::No(11, n);
+    }
+    Reply::Is(plain(Base::Int))
+}
+
+// `asSet`, `asSequence`, `asBag`: the letter of the code around the member type of a collection, else 11.
+fn converted(n: u64, code: u64, t: FlatType) -> Reply
+    requires { ⌜ 0 < code ⌝ }
+    ensures { λ r. ⌜ meaning r ≡ onCollection (tyOf t) (refused 11 n) (λ l u. wrapType n (letterOf code) u) ⌝ }
+{
+    if outer_code(t) == 0 {
+        return Reply::No(11, n);
+    }
+    wrapped(n, code, member_type(t))
+}
+
+// `as`: from Any, or from a class above or below c; an unrelated class is 10, any other type 11.
+fn cast_type(parents: &[u64], n: u64, c: u64, t: FlatType) -> Reply
+    ensures { λ r. ⌜ ((m : Model) → m .parent ≡ parentsIn (now (parents .entry)) → meaning r ≡ castType m n c (tyOf t)) ⌝ }
+{
+    if is_any(t) {
+        return Reply::Is(plain(Base::Class(c)));
+    }
+    let ClassNumber::Is(d) = is_class(t) else {
+        return Reply::No(11, n);
+    };
+    if class_below(parents, d, c) {
+        return Reply::Is(plain(Base::Class(c)));
+    }
+    if class_below(parents, c, d) {
+        return Reply::Is(plain(Base::Class(c)));
+    }
+    Reply::No(10, n)
+}
+
+pub fn unary_type(parents: &[u64], nodes: &[u64], form: u64, n: usize, t: FlatType) -> Reply
+    requires { ⌜ (n < 768) × (6144 ≤ length (now nodes)) ⌝ }
+    ensures { λ r. ⌜ ((m : Model) → m .parent ≡ parentsIn (now (parents .entry)) → meaning r ≡ unaryType m n (unaryOf form (word (now (nodes .entry)) n)) (tyOf t)) ⌝ }
+{
+    match form {
+        7 => condition(parents, n as u64, t),
+        8 => size_type(n as u64, t),
+        9..=11 => converted(n as u64, form - 7, t),
+        _ => cast_type(parents, n as u64, node_word(nodes, n, 2), t),
+    }
+}
+
+// ---- forms with two strict operands
+
+// `includes`: a collection, else 11, whose member type has a common type with u, else 10.
+fn includes_type(parents: &[u64], n: u64, t: FlatType, u: FlatType) -> Reply
+    ensures { λ r. ⌜ ((m : Model) → m .parent ≡ parentsIn (now (parents .entry)) → meaning r ≡ onCollection (tyOf t) (refused 11 n) (λ l e. common n (joinOf (m .parent) e (tyOf u)) (λ w. typed Boolean))) ⌝ }
+{
+    if outer_code(t) == 0 {
+        return Reply::No(11, n);
+    }
+    comparable(parents, n, member_type(t), u)
+}
+
+// `including`: S, Q or B, else 11, around the common type of its members and u.
+fn including_type(parents: &[u64], n: u64, t: FlatType, u: FlatType) -> Reply
+    ensures { λ r. ⌜ ((m : Model) → m .parent ≡ parentsIn (now (parents .entry)) → meaning r ≡ binaryType m n (binaryOf 21) (tyOf t) (tyOf u)) ⌝ }
+{
+    let code = outer_code(t);
+    if code <= 1 {
+        return Reply::No(11, n);
+    }
+    around_common(n, code, join(parents, member_type(t), u))
+}
+
+// `union`: both S, both Q or both B, else 11, around the common type of their members.
+fn union_type(parents: &[u64], n: u64, t: FlatType, u: FlatType) -> Reply
+    ensures { λ r. ⌜ ((m : Model) → m .parent ≡ parentsIn (now (parents .entry)) → meaning r ≡ binaryType m n (binaryOf 22) (tyOf t) (tyOf u)) ⌝ }
+{
+    let code = outer_code(t);
+    if code <= 1 {
+        return Reply::No(11, n);
+    }
+    if outer_code(u) != code {
+        return Reply::No(11, n);
+    }
+    around_common(n, code, join(parents, member_type(t), member_type(u)))
+}
+
+pub fn binary_type(parents: &[u64], form: u64, n: u64, t: FlatType, u: FlatType) -> Reply
+    requires { ⌜ 13 ≤ form ⌝ }
+    ensures { λ r. ⌜ ((m : Model) → m .parent ≡ parentsIn (now (parents .entry)) → meaning r ≡ binaryType m n (binaryOf form) (tyOf t) (tyOf u)) ⌝ }
+{
+    match form {
+        13 => comparable(parents, n, t, u),
+        14 => both_below(parents, n, plain(Base::Int), plain(Base::Bool), t, u),
+        15..=19 => both_below(parents, n, plain(Base::Int), plain(Base::Int), t, u),
+        20 => includes_type(parents, n, t, u),
+        21 => including_type(parents, n, t, u),
+        _ => union_type(parents, n, t, u),
+    }
+}
