@@ -7,9 +7,8 @@ use native.Mathlib.Omega.{arith}
 use lib.ListN.{length, getD}
 use lib.Seq.{slice, slice-cons}
 use lib.Dec.{eqb}
-use borrow.Author.Tests.{ne-eqb}
 use Rattle.laws.proofs.Slices.{split-right}
-use Rattle.ocl.specs.Types.{any, boolean, integer, class, Kind, set, sequence, bag, kindCode, sameKind, Letter, collection, exactly, Ty, simple, around, Parents, up, height, simpleCode, sameSimple, climbs, simpleSubtype, letterSubtype}
+use Rattle.ocl.specs.Types.{any, Kind, set, sequence, bag, kindCode, sameKind, Letter, collection, exactly, Ty, simple, around, up, height, simpleCode, sameSimple, climbs, simpleSubtype, letterSubtype}
 use Rattle.ocl.specs.Values.{Value, bool, int, obj, coll, Values, sort, members}
 use Rattle.ocl.specs.Model.{Model, every, belongs}
 use Rattle.types.specs.declared.Base.{Base}
@@ -21,6 +20,9 @@ use Rattle.values.specs.Cells.{payload, head, enc, encs, Fits}
 use Rattle.values.specs.Contracts.{SortOf, PayloadOf, Skips}
 use Rattle.values.proofs.Heads.{enc-parts, members-fit, sort-kind}
 use Rattle.values.proofs.Members.{Left, next-member, none-left}
+use Rattle.types.proofs.Cases.{is-void, is-any}
+use Rattle.ocl.proofs.SimpleTypes.{boolean-not-class, integer-not-class}
+use Rattle.laws.proofs.Tests.{test-fails}
 use Rattle.slots.specs.Suits.{simpleBy, Seen, ObjectSuits, BaseSuits, kindBelow, LetterSuits, BelongsAt}
 
 -- ---- a simple value, by the sort of its cell
@@ -36,12 +38,6 @@ simple-of (base.Class c) h = refl
 some-base : (b : Base) {y : ℕ} → y ≡ baseTag b → (y ≡ 0 → ⊥) → baseType b ≡ simple (simpleBy y (baseClass b))
 some-base b ye n = simple-of b (λ z. n (ye ∙ z)) ∙ ap (λ (k : ℕ). simple (simpleBy k (baseClass b))) (sym ye)
 
-low-class : (P : Parents) (c : ℕ) → (simpleSubtype P boolean (class c) ≡ false) × (simpleSubtype P integer (class c) ≡ false)
-unfolding simpleSubtype climbs height up sameSimple simpleCode
-low-class P c =
-    let zero' = ne-eqb 0 (suc (suc (suc c))) (λ e. omega arith) in
-    (rw (ne-eqb 1 (suc (suc (suc c))) (λ e. omega arith), zero'), rw (ne-eqb 2 (suc (suc (suc c))) (λ e. omega arith), zero'))
-
 low-other : (b : Base) → (baseTag b ≡ 0 → ⊥) → (baseTag b ≡ 3 → ⊥) → (m : Model) (v : Value) → sort v < 2 → eqb (baseTag b) (sort v + 1) ≡ belongs m (baseType b) v
 unfolding belongs sort simpleSubtype climbs height up sameSimple simpleCode
 low-other base.Void n a m v h = absurd (n refl)
@@ -54,8 +50,8 @@ low-other base.Int n a m (bool x) h = refl
 low-other base.Int n a m (int x) h = refl
 low-other base.Int n a m (obj x) h = absurd (omega arith)
 low-other base.Int n a m (coll k vs) h = absurd (let q = sort-kind k vs in omega arith)
-low-other (base.Class c) n a m (bool x) h = sym (low-class (m .parent) c .0)
-low-other (base.Class c) n a m (int x) h = sym (low-class (m .parent) c .1)
+low-other (base.Class c) n a m (bool x) h = sym (test-fails _ (boolean-not-class (m .parent) c))
+low-other (base.Class c) n a m (int x) h = sym (test-fails _ (integer-not-class (m .parent) c))
 low-other (base.Class c) n a m (obj x) h = absurd (omega arith)
 low-other (base.Class c) n a m (coll k vs) h = absurd (let q = sort-kind k vs in omega arith)
 
@@ -66,24 +62,10 @@ low-any m (int x) h = refl
 low-any m (obj x) h = absurd (omega arith)
 low-any m (coll k vs) h = absurd (let q = sort-kind k vs in omega arith)
 
-is-any : (b : Base) → baseTag b ≡ 3 → baseType b ≡ simple any
-is-any base.Void e = absurd (omega arith)
-is-any base.Bool e = absurd (omega arith)
-is-any base.Int e = absurd (omega arith)
-is-any base.Any e = refl
-is-any (base.Class c) e = absurd (omega arith)
-
 module _ {parents objects : List ℕ} (b : Base) {cell y : ℕ} (ye : y ≡ baseTag b) where
   pub base-void : y ≡ 0 → BaseSuits parents objects b cell false
   unfolding belongs
-  base-void z = record { is = λ m v sn f ce. go b (sym ye ∙ z) m v }
-    where
-      go : (b : Base) → baseTag b ≡ 0 → (m : Model) (v : Value) → false ≡ belongs m (baseType b) v
-      go base.Void e m v = refl
-      go base.Bool e m v = absurd (omega arith)
-      go base.Int e m v = absurd (omega arith)
-      go base.Any e m v = absurd (omega arith)
-      go (base.Class c) e m v = absurd (omega arith)
+  base-void z = record { is = λ m v sn f ce. ap (λ (u : Ty). belongs m u v) (sym (is-void b (sym ye ∙ z))) }
 
   module _ {t : ℕ} (n : y ≡ 0 → ⊥) (so : SortOf cell t) where
     pub base-object : {o d : ℕ} {r : Bool} → t ≡ 2 → PayloadOf cell o → d ≡ baseClass b → ObjectSuits parents objects o y d r → BaseSuits parents objects b cell r
