@@ -146,9 +146,6 @@ ran-stuck-at u = record { kept = u; ends = ends-stuck }
 pub ran-undefined-at : {sp s : ℕ} {B A : List ℕ} → Under sp A B → Ran (undefined s) sp B A (ended.Undef s)
 ran-undefined-at u = record { kept = u; ends = ends-undefined }
 
-pub as-meaning : {Ok : World → Type 0} {f g : Meaning} {env B A : List ℕ} {sp s : ℕ} {r : Ended} → ((w : World) → Ok w → f w ≡ g w) → Evals Ok g env sp s B A r → Evals Ok f env sp s B A r
-as-meaning {s = s} e x = record { small = x .small; ran = λ w ok ρ rel. rw (e w ok) (x .ran w ok ρ rel) }
-
 -- ---- a node begins
 
 module _ {Ok : World → Type 0} {h : Meaning} {env B : List ℕ} {sp s : ℕ} (f : Meaning) (e : (w : World) → h w ≡ tick (f w)) where

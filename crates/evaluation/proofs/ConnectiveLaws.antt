@@ -64,9 +64,6 @@ module _ {Ok : World → Type 0} (t : List ℕ) (n k : ℕ) {env B A : List ℕ}
   abbrev onLeft : World → Env Value → Value → ℕ → Outcome
   onLeft w ρ v n' = onBool v (λ a. if Bool·beq a (decides (connectiveOf k)) then value (bool a) n' else bind (operandFor t n 2 w ρ n') (λ y n'. onBool y (λ b. value (bool b) n')))
 
-  abbrev onNone : World → Env Value → ℕ → Outcome
-  onNone w ρ n' = bind (operandFor t n 2 w ρ n') (λ y n'. onBool y (λ b. if Bool·beq b (decides (connectiveOf k)) then value (bool b) n' else undefined n'))
-
   pub connective-ends : r ≡ ended.Stuck → Evals Ok (connectiveNode t n k) env sp s B A ended.Stuck
   unfolding connectiveNode connectiveRun
   connective-ends q = record { small = tt; ran = λ w ok ρ rel. let y = x .ran w ok ρ rel in rw (is-stuck y q) (ran-stuck-at (y .kept)) }

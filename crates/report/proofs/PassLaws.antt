@@ -30,7 +30,7 @@ use Rattle.rules.proofs.Ready.{ready}
 use Rattle.rules.proofs.Lengths.{line-length as length-of-line}
 use Rattle.report.specs.Lines.{LineFits}
 use Rattle.report.specs.Bound.{lineWidth, linesBound, HasType}
-use Rattle.report.specs.Passes.{Adds, Marked, objectLine, allObjects, lineBound, allBound, RoomFor, AddsLines}
+use Rattle.report.specs.Passes.{Adds, HasRoom, Marked, objectLine, allObjects, lineBound, allBound, RoomFor, AddsLines}
 use Rattle.report.proofs.BoundLaws.{width-small}
 use Rattle.report.proofs.ReportLaws.{lines-object, lines-before, bound-object, bound-before}
 
@@ -184,6 +184,14 @@ added-end k a q = ⊎-elim
     (λ h. omega (arith, a .is (k .sheet) (k .rule) (k .marked) .end))
     (k .space .all q)
 
+-- room for a whole is room for a part that is left of it
+pub room-left : {keep : Bool} {t u m n c b room left : ℕ} → HasRoom keep t m c room → left ≡ room → u + n ≤ t + m → u + b ≤ t + c → HasRoom keep u n b left
+room-left k e p q = record {
+  all = λ h. ⊎-elim (λ i. inl (omega arith)) (λ i. inr (omega arith)) (k .all h);
+  line = omega (arith, k .line);
+  few = omega (arith, k .few);
+}
+
 module _ {st : Counts} {w0 w1 : List ℕ} {r : ℕ} {keep : Bool} {total : ℕ} where
   pub lines-none : (w2 : List ℕ) (out : Bytes) → LinesTo st w0 w1 r keep total w2 w2 out out 0 total
   unfolding objectLines
@@ -203,11 +211,7 @@ module _ {st : Counts} {w0 w1 : List ℕ} {r : ℕ} {keep : Bool} {total : ℕ} 
       rule = x;
       marked = k .marked;
       type = k .type;
-      space = record {
-        all = λ q. ⊎-elim (λ i. inl (omega (arith, so .size, bound))) (λ i. inr (omega (arith, so .size, part))) (k .space .all q);
-        line = omega (arith, k .space .line, so .size);
-        few = omega (arith, k .space .few, bound);
-      };
+      space = room-left (k .space) (omega (arith, so .size)) part bound;
     }
       where
         s : Sheet

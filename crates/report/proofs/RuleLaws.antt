@@ -1,7 +1,6 @@
 -- Lines of all rules, written one behind the other, or counted: the marks of a rule, and the lines of the first rules. Assumes
 -- nothing.
 use mathlib.Core.Path.{_≡_, refl, sym, ap, _∙_}
-use mathlib.Core.Logic.{inl, inr, ⊎-elim}
 use mathlib.Core.Bool.{Bool}
 use mathlib.Core.Option.{some}
 use mathlib.Core.List.{List}
@@ -23,7 +22,7 @@ use Rattle.rules.proofs.Ready.{ready}
 use Rattle.rules.proofs.Marks.{accepted-same, marks-in}
 use Rattle.report.specs.Bound.{linesBound, rulesBound, AllTyped}
 use Rattle.report.specs.Passes.{Adds, Marked, MarksRule, allObjects, allBound, RoomFor, AddsLines, RoomForAll, AddsAll}
-use Rattle.report.proofs.PassLaws.{adds-nothing, adds-then, added-end}
+use Rattle.report.proofs.PassLaws.{adds-nothing, adds-then, added-end, room-left}
 use Rattle.report.proofs.ReportLaws.{linesTo, lines-rule, lines-all, rule-before, boundTo, bound-rule, bound-all, bound-rule-before}
 
 -- ---- the marks of a rule
@@ -78,11 +77,7 @@ module _ {st : Counts} {w0 u1 : List ℕ} {keep : Bool} where
         rule = x;
         marked = marked s (k .accepted);
         type = k .types r x (rule s (k .accepted) .1);
-        space = record {
-          all = λ q. ⊎-elim (λ i. inl (omega (arith, so .size, bound))) (λ i. inr (omega (arith, so .size, part))) (k .space .all q);
-          line = omega (arith, k .space .line, so .size);
-          few = omega (arith, k .space .few, bound);
-        };
+        space = room-left (k .space) (omega (arith, so .size)) (omega (arith, part)) (omega (arith, bound));
       }
         where
           s : Sheet
