@@ -13,7 +13,6 @@ use Rattle.ocl.specs.Environment.{Env}
 use Rattle.ocl.specs.Forms.{Connective, and, or}
 use Rattle.ocl.specs.Evaluation.{Outcome, value, undefined, stuck, bind, onBool, decides, connectiveRun}
 use Rattle.values.specs.Cells.{bit}
-use Rattle.values.specs.declared.Simple.the-variants as simple
 use Rattle.nodes.specs.Nodes.{connectiveOf}
 use Rattle.operations.specs.declared.Ended.{Ended}
 use Rattle.operations.specs.declared.Ended.the-variants as ended

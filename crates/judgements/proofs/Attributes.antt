@@ -1,6 +1,6 @@
 -- `attr`: the row that the tables give a class, its type, and its mark. Assumes nothing.
 use mathlib.Core.Path.{_≡_, refl, sym, ap, _∙_}
-use mathlib.Core.Option.{none, some, Option·none-ne-some, Option·some-injective}
+use mathlib.Core.Option.{none, some, Option·none-ne-some}
 use mathlib.Core.List.{List}
 use Prim.Native.Nat.{ℕ, _+_, _<_, _≤_}
 use native.Mathlib.Omega.{arith}
@@ -18,11 +18,11 @@ use Rattle.types.specs.Flat.{tyOf}
 use Rattle.types.specs.Parts.{simpleClass, classOf, classNumber}
 use Rattle.types.specs.Rows.{rowReadIn, found}
 use Rattle.types.specs.Word.{typeIn}
+use Rattle.types.proofs.Members.{class-is}
 use Rattle.types.proofs.RowLaws.{ReadsTables, row-read-law}
 use Rattle.types.proofs.RowBounds.{row-below}
 use Rattle.judgements.specs.declared.Reply.the-variants as reply
-use Rattle.judgements.specs.Replies.{writeMarks, Tells}
-use Rattle.judgements.specs.Replies.{Reads}
+use Rattle.judgements.specs.Replies.{writeMarks, Tells, Reads}
 use Rattle.judgements.proofs.Composition.{done}
 
 -- ---- which types are classes
@@ -38,13 +38,8 @@ module _ (m : Model) (n name : ℕ) where
   attribute-not (around l t) h = done refl
 
   attribute-of : (t : Ty) (c : ℕ) → some c ≡ classOf t → attributeType m n name t ≡ rowType m n (rowRead m c name)
-  unfolding attributeType classOf simpleClass
-  attribute-of void c h = absurd (Option·none-ne-some _ (sym h))
-  attribute-of (simple any) c h = absurd (Option·none-ne-some _ (sym h))
-  attribute-of (simple boolean) c h = absurd (Option·none-ne-some _ (sym h))
-  attribute-of (simple integer) c h = absurd (Option·none-ne-some _ (sym h))
-  attribute-of (simple (class d)) c h = rw (Option·some-injective c d h)
-  attribute-of (around l t) c h = absurd (Option·none-ne-some _ (sym h))
+  unfolding attributeType
+  attribute-of t c h = ap (attributeType m n name) (class-is t c h)
 
   pub no-class : {B : List ℕ} (t : Ty) (x : ClassNumber) → classNumber x ≡ classOf t → x ≡ number.Nothing → Tells (attributeType m n name t) B B (reply.No 11 n)
   unfolding classNumber

@@ -1,7 +1,7 @@
 -- The type of each form as the code finds it: one law for each answer. Assumes nothing.
 use mathlib.Core.Path.{_≡_, refl, sym, ap, _∙_}
 use mathlib.Core.Bool.{Bool, true, false, _||_}
-use mathlib.Core.Option.{none, some, Option·none-ne-some, Option·some-injective}
+use mathlib.Core.Option.{none, some, Option·none-ne-some}
 use mathlib.Core.List.{List}
 use Prim.Native.Nat.{ℕ, zero, suc, _+_, _-_, _<_, _≤_}
 use native.Mathlib.Omega.{arith}
@@ -18,7 +18,7 @@ use Rattle.types.specs.declared.ClassNumber.{ClassNumber}
 use Rattle.types.specs.declared.ClassNumber.the-variants as number
 use Rattle.types.specs.Flat.{parentsIn, letterOf, tyOf, joinedType}
 use Rattle.types.specs.Parts.{codeOf, outerCode, memberType, simpleClass, classOf, isAny, classNumber}
-use Rattle.types.proofs.Members.{no-collection, is-collection}
+use Rattle.types.proofs.Members.{no-collection, is-collection, class-is}
 use Rattle.nodes.specs.Nodes.{variable, leafOf, unaryOf, binaryOf}
 use Rattle.judgements.proofs.Joins.{joined-yes, joined-no}
 
@@ -171,13 +171,8 @@ module _ (m : Model) (ps : List ℕ) (e : m .parent ≡ parentsIn ps) (n : ℕ) 
     cast-other t x h p q = cast-not t h (ap classNumber (sym q) ∙ p)
 
     cast-by : (t : Ty) (d : ℕ) → some d ≡ classOf t → castType m n c t ≡ (if simpleSubtype (m .parent) (class d) (class c) || simpleSubtype (m .parent) (class c) (class d) then typed (Class c) else refused 10 n)
-    unfolding castType classOf simpleClass subtype
-    cast-by void d p = absurd (Option·none-ne-some _ (sym p))
-    cast-by (simple any) d p = absurd (Option·none-ne-some _ (sym p))
-    cast-by (simple boolean) d p = absurd (Option·none-ne-some _ (sym p))
-    cast-by (simple integer) d p = absurd (Option·none-ne-some _ (sym p))
-    cast-by (simple (class f)) d p = rw (Option·some-injective d f p)
-    cast-by (around l t) d p = absurd (Option·none-ne-some _ (sym p))
+    unfolding castType subtype
+    cast-by t d p = ap (castType m n c) (class-is t d p)
 
     module _ (t : Ty) (d : ℕ) (x : ClassNumber) (p : classNumber x ≡ classOf t) (q : x ≡ number.Is d) where
       cast-is : castType m n c t ≡ (if simpleSubtype (parentsIn ps) (class d) (class c) || simpleSubtype (parentsIn ps) (class c) (class d) then typed (Class c) else refused 10 n)

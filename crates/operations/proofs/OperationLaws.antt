@@ -17,7 +17,6 @@ use Rattle.values.specs.Cells.{bias, fits-bool, fits-int}
 use Rattle.values.specs.Contracts.{means-bool, means-int, SortOf, PayloadOf, Converts}
 use Rattle.values.specs.declared.Simple.the-variants as simple
 use Rattle.values.specs.declared.Formed.{Formed}
-use Rattle.values.specs.declared.Num.the-variants as num
 use Rattle.values.proofs.Heads.{Shape, shape-bool, shape-int, shape-obj, shape-coll}
 use Rattle.nodes.specs.Nodes.{unaryOf}
 use Rattle.tables.specs.declared.Counts.{Counts}

@@ -9,7 +9,6 @@ use native.Mathlib.Numerals.{add-one}
 use native.Mathlib.Omega.{arith}
 use borrow.Author.Tests.{eq-eqb, ne-eqb}
 use lib.ListN.{length, getD}
-use Rattle.laws.specs.Choice.{if_then_else_}
 use Rattle.sheet.specs.Text.{Bytes, bytes, split, fieldsOf}
 use Rattle.sheet.specs.Lines.{is, lineOf, firstIsN}
 use Rattle.laws.proofs.Tests.{All?, all-some}

@@ -7,7 +7,7 @@ use native.Mathlib.Omega.{arith}
 use native.Mathlib.Nat.{mul-le-mul}
 use native.Mathlib.Numerals.{add-one}
 use Rattle.laws.specs.Choice.{if_then_else_}
-use Rattle.ocl.specs.Types.{class, Ty, void, simple, around, any, boolean, integer}
+use Rattle.ocl.specs.Types.{Ty}
 use Rattle.ocl.specs.Model.{Model}
 use Rattle.types.specs.declared.Base.{Base}
 use Rattle.types.specs.declared.FlatType.{FlatType}
@@ -17,6 +17,7 @@ use Rattle.tables.specs.declared.Counts.{Counts}
 use Rattle.tables.specs.Stored.{HoldsModel}
 use Rattle.operations.specs.Tables.{IsA}
 use Rattle.rules.specs.Width.{width}
+use Rattle.rules.proofs.Lengths.{width-within}
 use Rattle.report.specs.Bound.{objectsOf, CountsObjects, BoundsLines}
 
 -- ---- the width of a type
@@ -58,19 +59,10 @@ module _ {st : Counts} {w0 : List ℕ} {c : ℕ} where
 
 -- ---- a rule's lines
 
-pub width-small : (t : Ty) → width t ≤ 1536
-unfolding width
-width-small void = omega arith
-width-small (simple any) = omega arith
-width-small (simple boolean) = omega arith
-width-small (simple integer) = omega arith
-width-small (simple (class c)) = omega arith
-width-small (around l t) = omega arith
-
 module _ {st : Counts} {w0 : List ℕ} {c n w : ℕ} (t : Ty) (count : CountsObjects st w0 c n) (wide : w ≡ width t) where
   pub bound-few : n * (15 + w) ≤ 148896
   bound-few =
-      let h : 15 + w ≤ 1551 = omega (arith, width-small t, wide) in
+      let h : 15 + w ≤ 1551 = omega (arith, width-within t .1, wide) in
       omega (arith, mul-le-mul (count .few) h)
 
   pub bounds-lines : BoundsLines st w0 c t (n * (15 + w))

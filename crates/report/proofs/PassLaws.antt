@@ -27,11 +27,10 @@ use Rattle.rules.specs.Accepted.{Known}
 use Rattle.rules.specs.Numbered.{EvaluatesNumbered}
 use Rattle.rules.specs.Width.{width}
 use Rattle.rules.proofs.Ready.{ready}
-use Rattle.rules.proofs.Lengths.{line-length as length-of-line}
+use Rattle.rules.proofs.Lengths.{width-within, line-length as length-of-line}
 use Rattle.report.specs.Lines.{LineFits}
 use Rattle.report.specs.Bound.{lineWidth, linesBound, HasType}
 use Rattle.report.specs.Passes.{Adds, HasRoom, Marked, objectLine, allObjects, lineBound, allBound, RoomFor, AddsLines}
-use Rattle.report.proofs.BoundLaws.{width-small}
 use Rattle.report.proofs.ReportLaws.{lines-object, lines-before, bound-object, bound-before}
 
 -- ---- bytes added
@@ -85,7 +84,7 @@ module _ {st : Counts} {w0 w1 : List ℕ} {r : ℕ} {s : Sheet} {x : Rule} (m : 
       line-bounded = rw (class-is, yes, type .is) line-length
 
       line-short : length (reportLine r o (outcomeOf s x o)) ≤ 1551
-      line-short = omega (arith, line-length, width-small (type .type))
+      line-short = omega (arith, line-length, width-within (type .type) .1)
 
 module _ {st : Counts} {w0 w1 : List ℕ} {r o : ℕ} {keep : Bool} {total : ℕ} {b : Bool} (a : IsA st w0 o (getD w0 (4448 + r) 0) b) where
   -- an object that is not of the class

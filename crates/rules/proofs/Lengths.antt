@@ -97,14 +97,15 @@ value-width m (around q t) v h p l = length-laws .value-length v p l
 
 -- ---- an outcome
 
-width-three : (t : Ty) → 3 ≤ width t
+-- the width of each type is between these
+pub width-within : (t : Ty) → (3 ≤ width t) × (width t ≤ 1536)
 unfolding width
-width-three void = omega arith
-width-three (simple any) = omega arith
-width-three (simple boolean) = omega arith
-width-three (simple integer) = omega arith
-width-three (simple (class c)) = omega arith
-width-three (around l t) = omega arith
+width-within void = (omega arith, omega arith)
+width-within (simple any) = (omega arith, omega arith)
+width-within (simple boolean) = (omega arith, omega arith)
+width-within (simple integer) = (omega arith, omega arith)
+width-within (simple (class c)) = (omega arith, omega arith)
+width-within (around l t) = (omega arith, omega arith)
 
 stop-number : (c : ℕ) → (c ≢ 16 → c ≡ 17) → Dec (c ≡ 16) → c < 100
 stop-number c h (yes e) = omega arith
@@ -114,10 +115,10 @@ outcome-width : (m : Model) (t : Ty) (k : ℕ) (o : Outcome) → Sound m t k o �
     → length (spellOutcome o) ≤ width t
 unfolding spellOutcome bytes
 outcome-width m t k (value v n) h p = value-width m t v (h .of-type v n refl) (p v n refl) (h .of-size v n refl)
-outcome-width m t k (undefined n) h p = let w = width-three t in omega arith
+outcome-width m t k (undefined n) h p = let w = width-within t .0 in omega arith
 outcome-width m t k stuck h p = absurd (h .not-stuck refl)
 outcome-width m t k (stop c n) h p =
-    let w = width-three t in
+    let w = width-within t .0 in
     let d = length-laws .number-length 2 c (omega arith) (let l = stop-number c (h .known-stop c n refl) (ℕ-discrete c 16) in omega arith) in
     omega arith
 

@@ -10,7 +10,6 @@ ghost use Rattle.sheet.specs.Lines.{is};
 ghost use Rattle.sheet.specs.Refusals.{inOrder, partsKnown, suits};
 ghost use Rattle.text.specs.Parts.{Cut};
 ghost use Rattle.tables.specs.Layout.{Fine};
-ghost use Rattle.tables.specs.declared.Step.the-variants.{Next};
 ghost use Rattle.slots.specs.Slots.{lastBefore, ReadInto, SlotAnswer, slotCounts, SlotTook, TookSlot};
 use crate::objects::all_known;
 use crate::order::in_order;

@@ -1,6 +1,6 @@
 -- Decimal numbers and Integers as the code has them: cut at a bound, and Integers as natural numbers. proofs/NumberLaws.antt
 -- ties them to crates/sheet's `number` and `integer`, and shows that no test sees the cut.
-use Prim.Native.Nat.{ℕ, zero, suc, _+_, _-_, _≤_, min}
+use Prim.Native.Nat.{ℕ, zero, suc, _+_, _≤_, min}
 use mathlib.Core.Path.{_≡_}
 use mathlib.Core.Option.{Option, none, some}
 use mathlib.Core.List.{[], _∷_}

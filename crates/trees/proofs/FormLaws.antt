@@ -151,25 +151,26 @@ unary-plain code op w k e r = record { shape = λ es. unary op (getD es 0 0); re
     is (a ∷ []) h = record { within = w; apart = refl; known = k; operands = refl; words = λ line. simp (e, zero-add); said = no-type (unary op a) refl }
     is (a ∷ b ∷ es) h = absurd (omega arith)
 
-binary-plain : (code : ℕ) (op : Binary) → binaryCode op ≡ code → ((fs : List Bytes) → shapeBy code fs ≡ twoOperands (binary op) fs) → PlainForm code 2
-unfolding chain twoOperands formWithin twoVariables formKnown operandsOf shapeWords isIterate
-binary-plain code op e r = record { shape = λ es. binary op (getD es 0 0) (getD es 1 0); reads = r; is = is }
+-- a form of two operands and nothing else
+two-plain : (code : ℕ) (f : ℕ → ℕ → Shape) → ((a b : ℕ) → Plain code (a ∷ b ∷ []) (f a b)) → ((fs : List Bytes) → shapeBy code fs ≡ twoOperands f fs) → PlainForm code 2
+unfolding chain twoOperands
+two-plain code f p r = record { shape = λ es. f (getD es 0 0) (getD es 1 0); reads = r; is = is }
   where
-    is : (es : List ℕ) → length es ≡ 2 → Plain code es (binary op (getD es 0 0) (getD es 1 0))
+    is : (es : List ℕ) → length es ≡ 2 → Plain code es (f (getD es 0 0) (getD es 1 0))
     is [] h = absurd (omega arith)
     is (a ∷ []) h = absurd (omega arith)
-    is (a ∷ b ∷ []) h = record { within = refl; apart = refl; known = λ n. refl; operands = refl; words = λ line. simp (e, zero-add); said = no-type (binary op a b) refl }
+    is (a ∷ b ∷ []) h = p a b
     is (a ∷ b ∷ c ∷ es) h = absurd (omega arith)
 
+binary-plain : (code : ℕ) (op : Binary) → binaryCode op ≡ code → ((fs : List Bytes) → shapeBy code fs ≡ twoOperands (binary op) fs) → PlainForm code 2
+unfolding formWithin twoVariables formKnown operandsOf shapeWords isIterate
+binary-plain code op e = two-plain code (binary op) (λ a b.
+    record { within = refl; apart = refl; known = λ n. refl; operands = refl; words = λ line. simp (e, zero-add); said = no-type (binary op a b) refl })
+
 connective-plain : (code : ℕ) (op : Connective) → connectiveCode op ≡ code → ((fs : List Bytes) → shapeBy code fs ≡ twoOperands (connective op) fs) → PlainForm code 2
-unfolding chain twoOperands formWithin twoVariables formKnown operandsOf shapeWords isIterate
-connective-plain code op e r = record { shape = λ es. connective op (getD es 0 0) (getD es 1 0); reads = r; is = is }
-  where
-    is : (es : List ℕ) → length es ≡ 2 → Plain code es (connective op (getD es 0 0) (getD es 1 0))
-    is [] h = absurd (omega arith)
-    is (a ∷ []) h = absurd (omega arith)
-    is (a ∷ b ∷ []) h = record { within = refl; apart = refl; known = λ n. refl; operands = refl; words = λ line. simp (e, zero-add); said = no-type (connective op a b) refl }
-    is (a ∷ b ∷ c ∷ es) h = absurd (omega arith)
+unfolding formWithin twoVariables formKnown operandsOf shapeWords isIterate
+connective-plain code op e = two-plain code (connective op) (λ a b.
+    record { within = refl; apart = refl; known = λ n. refl; operands = refl; words = λ line. simp (e, zero-add); said = no-type (connective op a b) refl })
 
 isUndef-plain : PlainForm 30 1
 unfolding chain oneOperand formWithin twoVariables formKnown operandsOf shapeWords isIterate shapeBy

@@ -1,17 +1,17 @@
 -- Laws of a type's parts. Assumes nothing.
 use mathlib.Core.Path.{_≡_, refl, sym, ap, _∙_}
 use mathlib.Core.Bool.{Bool, false}
-use mathlib.Core.Option.{none}
+use mathlib.Core.Option.{none, some, Option·none-ne-some, Option·some-injective}
 use Prim.Native.Nat.{ℕ, zero, suc, _≤_, _<_}
 use native.Mathlib.Omega.{arith}
 use lib.Dec.{eqb}
-use Rattle.ocl.specs.Types.{set, sequence, bag, Letter, collection, exactly, Ty, void, simple, around, depth}
+use Rattle.ocl.specs.Types.{any, boolean, integer, class, set, sequence, bag, Letter, collection, exactly, Ty, void, simple, around, Class, depth}
 use Rattle.ocl.specs.Typing.{onCollection}
 use Rattle.types.specs.declared.Base.{Base}
 use Rattle.types.specs.declared.Base.the-variants as b
 use Rattle.types.specs.declared.FlatType.{FlatType}
 use Rattle.types.specs.Flat.{baseType, baseTag, letterOf, layer, tyOf, under, bare}
-use Rattle.types.specs.Parts.{codeOf, outerCode, memberType, classOf, isAny}
+use Rattle.types.specs.Parts.{codeOf, outerCode, memberType, simpleClass, classOf, isAny}
 use Rattle.types.proofs.Cases.{by-base, other-letter}
 use Rattle.types.proofs.Levels.{layer-on}
 
@@ -139,6 +139,15 @@ pub wrap-law : (k : ℕ) (t : FlatType) → 0 < k → depth (tyOf t) ≤ 2 → t
 wrap-law k t h d = layer-on k _ _ (λ e. omega arith) ∙ ap (around (letterOf k)) (shallow (t .outer) (t .middle) (t .inner) (baseType (t .base)) d)
 
 -- ---- classes and Any
+
+pub class-is : (t : Ty) (c : ℕ) → some c ≡ classOf t → t ≡ Class c
+unfolding classOf simpleClass
+class-is void c h = absurd (Option·none-ne-some _ (sym h))
+class-is (simple any) c h = absurd (Option·none-ne-some _ (sym h))
+class-is (simple boolean) c h = absurd (Option·none-ne-some _ (sym h))
+class-is (simple integer) c h = absurd (Option·none-ne-some _ (sym h))
+class-is (simple (class d)) c h = ap Class (sym (Option·some-injective c d h))
+class-is (around l t) c h = absurd (Option·none-ne-some _ (sym h))
 
 pub class-on : (t : FlatType) → (t .outer ≡ 0 → ⊥) → none ≡ classOf (tyOf t)
 unfolding classOf

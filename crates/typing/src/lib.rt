@@ -1,11 +1,11 @@
 // The typing of rules: a recursion over the nodes of a rule's tree that answers a type or a refusal and marks each `attr` node
-// with the row it reads. Document 01, The forms and their typing. It depends on `judgements` for the
-// type of each form, and on `nodes` for what a node's words say.
+// with the row it reads. Document 01, The forms and their typing. It depends on `judgements` for the type of each form, and on
+// `nodes` for what a node's words say.
 
 pub mod apply; // the recursion at forms that bind nothing
 pub mod scope; // the recursion at forms that bind a variable in a body
 pub mod walk; // the recursion over operand nodes
-pub mod rules; // a rule, and all rules in order
+pub mod rules; // a rule
 
 use judgements::Reply;
 use types::FlatType;
@@ -14,10 +14,4 @@ use types::FlatType;
 pub enum PairReply {
     Are(FlatType, FlatType),
     Refused(Reply),
-}
-
-// What typing all rules comes to: each has a type; or the first refusal's number and the number of its node.
-pub enum AllTyped {
-    Yes,
-    No(u64, u64),
 }

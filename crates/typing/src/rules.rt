@@ -1,19 +1,16 @@
-// A rule's typing on a cleared table of marks, and all rules in order.
+// A rule's typing on a cleared table of marks.
 ghost use mathlib.Core.Path.{_≡_};
-ghost use Prim.Native.Nat.{ℕ, _<_, _≤_};
-ghost use lib.ListN.{length, getD, replicate};
+ghost use Prim.Native.Nat.{_<_};
+ghost use lib.ListN.{length, replicate};
 ghost use Rattle.ocl.specs.Model.{Model};
 ghost use Rattle.ocl.specs.Typing.{typeRule};
 ghost use Rattle.nodes.specs.Nodes.{treeAt};
-ghost use Rattle.judgements.specs.Replies.{Tells};
-ghost use Rattle.judgements.specs.Replies.{Reads};
+ghost use Rattle.judgements.specs.Replies.{Tells, Reads};
 ghost use Rattle.typing.specs.Tables.{Room};
-ghost use Rattle.typing.specs.Rules.{Lent, TypesRule, TypesAll};
-use super::AllTyped;
+ghost use Rattle.typing.specs.Rules.{Lent, TypesRule};
 use super::walk::node;
 use judgements::Reply;
 use judgements::environment::start_env;
-use types::classes::wide;
 
 // Every word 0: no node is marked.
 fn clear(marks: &mut [u64])
@@ -62,39 +59,4 @@ pub fn type_rule(
     let parents = &tables[..classes];
     let table = &mut marks[..768];
     root_type(nodes, parents, tables, rows, root, context, table)
-}
-
-// All rules in order: the first refusal, or none.
-pub fn type_all(
-    tables: &[u64],
-    classes: usize,
-    rows: usize,
-    nodes: &[u64],
-    marks: &mut [u64],
-    contexts: &[u64],
-    roots: &[u64],
-    rules: usize,
-) -> AllTyped
-    requires { ⌜ (rules ≤ length (now contexts)) × (rules ≤ length (now roots)) ⌝ }
-    requires { ⌜ ((i : ℕ) → i < rules → getD (now roots) i 0 < 768) ⌝ }
-    requires { ⌜ Lent classes rows (length (now tables)) (length (now nodes)) (length (now marks)) ⌝ }
-    ensures { λ r. ⌜ TypesAll (now (tables .entry)) classes rows (now (nodes .entry)) (now (contexts .entry)) (now (roots .entry)) rules (now (marks .entry)) (now (marks .exit)) r ⌝ }
-{
-    let mut i = 0;
-    while i < rules {
-        let r = type_rule(
-            tables,
-            classes,
-            rows,
-            nodes,
-            marks,
-            contexts[i],
-            wide(roots[i]),
-        );
-        if let Reply::No(number, n) = r {
-            return AllTyped::No(number, n);
-        }
-        i += 1;
-    }
-    AllTyped::Yes
 }

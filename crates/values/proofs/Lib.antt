@@ -16,4 +16,3 @@ mod Merging
 mod Finishing
 mod Moving
 pub mod Arithmetic
-mod Worked

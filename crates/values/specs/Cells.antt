@@ -3,7 +3,7 @@
 -- (proofs/Heads.antt and proofs/Encoding.antt have the laws through which everything else knows `enc`).
 use mathlib.Core.Bool.{Bool, true, false}
 use mathlib.Core.List.{List, [], _∷_, _++_}
-use Prim.Native.Nat.{ℕ, zero, suc, _+_, _*_, _-_, _%_, _<_, compare, Ordering, Ordering·lt, Ordering·eq, Ordering·gt}
+use Prim.Native.Nat.{ℕ, zero, suc, _+_, _*_, _%_, _<_, compare, Ordering, Ordering·lt, Ordering·eq, Ordering·gt}
 use lib.IntN.{ℤ}
 use lib.Dec.{T, ltb}
 use Rattle.laws.specs.Choice.{if_then_else_}

@@ -2,6 +2,7 @@
 
 pub mod damage;
 pub mod draft;
+pub mod fields;
 pub mod forms;
 pub mod full;
 pub mod large;

@@ -1,7 +1,8 @@
 -- `lines_bound` meets its contract. Assumes nothing.
 use native.Mathlib.Omega.{arith}
 use borrow.Author.Needs.{needs}
-use Rattle.report.proofs.BoundLaws.{width-small, bound-few, bounds-lines}
+use Rattle.rules.proofs.Lengths.{width-within}
+use Rattle.report.proofs.BoundLaws.{bound-few, bounds-lines}
 use Rattle.types.specs.Flat.{tyOf}
 use Rattle.report.proofs.bound.lines_bound.Statement.{statement}
 use Rattle.report.proofs.bound.lines_bound.Tie as tie
@@ -13,7 +14,7 @@ width-requires : tie.Need-width-requires
 width-requires c κs = search needs
 
 add-result : tie.Need-add-result
-add-result c = omega (arith, c .width .ensures, width-small (tyOf (c .before .before .before .args .t)))
+add-result c = omega (arith, c .width .ensures, width-within (tyOf (c .before .before .before .args .t)) .1)
 
 mul-result : tie.Need-mul-result
 mul-result c = omega (arith, bound-few _ (c .before .count-objects .ensures) (c .width .ensures))
