@@ -4,7 +4,7 @@
  * A call is a function of the text, the numbers and the lengths that it is lent, and of nothing else. It keeps nothing
  * between calls, calls nothing but the C library's memset, memcpy and memmove, and never fails in another way than by the
  * number that it returns. So calls may run in several threads at a time, each with memory of its own; several may share
- * a text.
+ * a text. A call takes up to 64 KiB of stack (docs/USING.md, section 5).
  *
  * What is lent to each call:
  *
@@ -14,8 +14,8 @@
  *   output          where the answer is written, OCL_LEAST_OUTPUT bytes or more. ocl_read_sheet has none.
  *
  * Each is a pointer and a length, counted in elements: bytes of the text and the output, words of the rest. A pointer leads
- * to that many elements and is aligned for them. It may be null only where its length is 0. No slice overlaps another one,
- * and nothing else reads or writes them while the call runs.
+ * to that many elements and is aligned for them. It may be null only where its length is 0. No slice overlaps another one.
+ * While the call runs nothing else writes to any of them, or reads the words and the output.
  *
  * What the memory holds afterwards:
  *
@@ -25,7 +25,7 @@
  *   1               as they were                                    as it was
  *   any other       as after 0                                      as it was
  *
- * What is written is ASCII and has no byte 0 at its end.
+ * What is written is ASCII and not NUL-terminated.
  */
 #ifndef OCL_CHECKER_H
 #define OCL_CHECKER_H
@@ -46,7 +46,7 @@ extern "C" {
 /* What a call returns. */
 typedef struct ocl_answer {
     uint64_t number; /* OCL_ANSWERED, or why there is no answer: one of enum ocl_number */
-    uint64_t steps;  /* of an evaluation, stopped ones too; else 0 */
+    uint64_t steps;  /* of ocl_evaluate_rule, after a stop too; of the other calls 0 */
     uint64_t place;  /* the line that is to blame, counted from 1; 0 where there is none */
     uint64_t length; /* bytes written to the output; 0 unless the number is 0 */
 } ocl_answer;
@@ -57,13 +57,13 @@ enum ocl_number {
     OCL_SHORT_BENCH = 1,      /* a word slice or the output is too short; nothing was touched (RTEP) */
     OCL_LONG_SHEET = 2,       /* the text is longer than a sheet may be (RTEP) */
     OCL_BAD_LINE = 3,         /* a line is misspelled: fields, letter, form, number, line feed (RTEP, place) */
-    OCL_OVER_MEASURE = 4,     /* a number, count, size or nesting goes over its limit (RTEP, place) */
+    OCL_OVER_MEASURE = 4,     /* a number, count, size or nesting is outside its limits (RTEP, place) */
     OCL_OUT_OF_ROW = 5,       /* lines, numbers or members out of order; a name or variable twice (RTEP, place) */
     OCL_UNKNOWN_PART = 6,     /* a class, row or object that the sheet does not have by then (RTEP, place) */
     OCL_WRONG_THREAD = 7,     /* a value that its row, or a row that its object, does not take (RTEP, place) */
     OCL_BROKEN_TREE = 8,      /* the nodes of a rule make no tree, or one that is too deep (RTEP, place) */
     OCL_LOOSE_END = 9,        /* a variable that nothing binds (TEP, place) */
-    OCL_NO_MATCH = 10,        /* two types without a common one; a cast between strangers (TEP, place) */
+    OCL_NO_MATCH = 10,        /* two types without a common one; a cast between unrelated classes (TEP, place) */
     OCL_WRONG_PIECE = 11,     /* a form does not take an operand of this type (TEP, place) */
     OCL_NO_SUCH_MARK = 12,    /* the class has no attribute of this name (TEP, place) */
     OCL_TOO_MANY_LAYERS = 13, /* a type would be over three deep (TEP, place) */

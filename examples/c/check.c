@@ -2,8 +2,8 @@
  * check SHEET: reads a job sheet from a file and prints each rule's type, what the rule comes to for each of its objects, and
  * the report; or why the sheet is refused, in words. It shows the four calls of include/ocl_checker.h. All memory is static.
  *
- *     cc -std=c11 -Wall -Wextra -Werror -Iinclude examples/c/check.c target/staticlib/libchecker.a -o check
- *     ./check examples/cap.sheet
+ *     cc -std=c11 -Wall -Wextra -Werror -Iinclude examples/c/check.c target/staticlib/libchecker.a -o target/check
+ *     target/check examples/cap.sheet
  *
  * Its exit status is 0 after a report, 1 after a refusal and 2 where the file could not be read.
  */
@@ -28,13 +28,13 @@ static const char *const meanings[][2] = {
     [OCL_SHORT_BENCH] = {"short bench", "a lent slice is too short"},
     [OCL_LONG_SHEET] = {"long sheet", "the text is longer than a sheet may be"},
     [OCL_BAD_LINE] = {"bad line", "the line is misspelled"},
-    [OCL_OVER_MEASURE] = {"over measure", "a number, count, size or nesting goes over its limit"},
+    [OCL_OVER_MEASURE] = {"over measure", "a number, count, size or nesting is outside its limits"},
     [OCL_OUT_OF_ROW] = {"out of row", "something is out of order, or there twice"},
     [OCL_UNKNOWN_PART] = {"unknown part", "the sheet has no such class, row or object"},
     [OCL_WRONG_THREAD] = {"wrong thread", "the value does not suit its row, or the row its object"},
     [OCL_BROKEN_TREE] = {"broken tree", "the rule's nodes make no tree, or one that is too deep"},
     [OCL_LOOSE_END] = {"loose end", "nothing binds the variable"},
-    [OCL_NO_MATCH] = {"no match", "there is no common type, or the cast is between strangers"},
+    [OCL_NO_MATCH] = {"no match", "there is no common type, or the cast is between unrelated classes"},
     [OCL_WRONG_PIECE] = {"wrong piece", "the form does not take an operand of this type"},
     [OCL_NO_SUCH_MARK] = {"no such mark", "the class has no attribute of this name"},
     [OCL_TOO_MANY_LAYERS] = {"too many layers", "the type would be over three deep"},

@@ -11,7 +11,8 @@ use Rattle.ocl.specs.Model.{Model, isA}
 use Rattle.ocl.specs.Environment.{Env, extend, start}
 use Rattle.ocl.specs.Forms.{Arith, plus, minus, times, div, modulo, Connective, and, or, Quantifier, forAll, exists, Leaf, truth, undef, number, self, var, all, Unary, negation, sizeOf, convert, castTo, Binary, equal, less, arith, includes, including, union, Expr, node, Form, leaf, unary, binary, connective, isUndef, conditional, letIn, attribute, quantified, iterate, collect, Operands, noOperand, operand}
 
--- a value, or undefined, with the steps begun; stuck; or a stop with its number, 16 or 17, and the steps begun
+-- a value, or undefined, with the steps begun; stuck (document 01's word): an operand of a kind that the form does not take, or an
+-- unbound variable; or a stop with its number, 16 or 17, and the steps begun
 pub data Outcome : Type 0 where
   value : Value → ℕ → Outcome
   undefined : ℕ → Outcome
@@ -36,11 +37,11 @@ bind (undefined n) k = undefined n
 bind stuck k = stuck
 bind (stop c n) k = stop c n
 
--- a node's beginning is one step; 16 where 1,000,000 have begun already
+-- a node's beginning is one step; 16, document 01's step stop, where 1,000,000 have begun already
 unfoldable pub tick : Run → Run
 tick f ρ n = if ltb n 1000000 then f ρ (n + 1) else stop 16 n
 
--- a collection is formed; 17 where its size is over 128
+-- a collection is formed; 17, document 01's size stop, where its size is over 128
 unfoldable pub form : Value → ℕ → Outcome
 form v n = if leb (size v) 128 then value v n else stop 17 n
 
@@ -49,7 +50,7 @@ abbrev pub given : Option Value → ℕ → Outcome
 given none n = undefined n
 given (some v) n = value v n
 
--- ---- the kinds that an operand may have; one of any other kind is stuck
+-- ---- the kinds that an operand may have; one of any other kind ends the whole evaluation stuck
 
 abbrev pub onBool : Value → (Bool → Outcome) → Outcome
 onBool (bool b) k = k b
@@ -135,7 +136,7 @@ unfoldable pub instances : Model → ℕ → ℕ → Values
 instances s c zero = nil
 instances s c (suc n) = if isA s n (class c) then append (obj n) (instances s c n) else instances s c n
 
--- an unbound variable is stuck
+-- an unbound variable ends the whole evaluation stuck
 abbrev pub bound : Option Value → ℕ → Outcome
 bound none n = stuck
 bound (some v) n = value v n
@@ -150,7 +151,7 @@ leafRun s (all c) ρ n = form (coll set (instances s c (s .objectCount))) n
 
 -- ---- forms with one strict operand
 
--- `as`: a collection is of no kind that it takes; a simple value stays where it is an object of c, also by descent
+-- `as`: a collection is of no kind that it takes; a simple value stays where it is an object of c or below
 unfoldable pub cast : Model → ℕ → Value → ℕ → Outcome
 cast s c (bool b) n = undefined n
 cast s c (int z) n = undefined n

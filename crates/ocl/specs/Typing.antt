@@ -220,7 +220,7 @@ unfoldable mutual
 unfoldable pub typeRule : Model → ℕ → Expr → Typed
 typeRule s c e = typing s e (start (Class c))
 
--- the row that node p is marked with, the last one where it was marked again, and d where it was not
+-- the row that node p is marked with, and d where it is not; no node of a rule is marked twice
 unfoldable pub markOr : ℕ → Marks → ℕ → ℕ
 markOr d [] p = d
 markOr d (x ∷ m) p = markOr (if eqb p (x .0) then x .1 else d) m p

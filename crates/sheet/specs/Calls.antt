@@ -15,7 +15,8 @@ use Rattle.sheet.specs.Spelling.{spellType, spellValue}
 use Rattle.sheet.specs.Sheet.{Rule, Sheet, modelOf}
 use Rattle.sheet.specs.Reading.{Reading, accepted, rejected, readText}
 
--- what a call comes to: its number, steps and place, and the bytes that it writes, none where it refuses
+-- what a call comes to: its number, steps and place (document 01's word: the line that is to blame), and the bytes that it writes, none
+-- where it refuses
 pub record Verdict : Type 0 where
   pub number : ℕ
   pub steps : ℕ
@@ -25,7 +26,7 @@ pub record Verdict : Type 0 where
 unfoldable pub answer : Bytes → Verdict
 answer b = record { number = 0; steps = 0; place = 0; output = b }
 
--- a refusal with no place, and one at a line
+-- a refusal at a line, and one with no place
 unfoldable pub refusalAt : ℕ → ℕ → Verdict
 refusalAt n k = record { number = n; steps = 0; place = k; output = [] }
 

@@ -35,7 +35,7 @@ stepSpelled s k (some l) = stepLine s k l
 unfoldable pub step : Sheet → ℕ → List Bytes → Step
 step s k fields = stepSpelled s k (lineOf fields)
 
--- a whole text: a sheet, or a refusal's number and line
+-- a whole text: a sheet (the text is accepted, in document 01's word), or a refusal's number and line
 pub data Reading : Type 0 where
   accepted : Sheet → Reading
   rejected : ℕ → ℕ → Reading
@@ -59,7 +59,7 @@ unfoldable pub readLast : ℕ → Bytes → Sheet → Reading
 readLast k [] s = accepted s
 readLast k (b ∷ l) s = rejected 3 (suc k)
 
--- the parts after k lines
+-- the parts after k lines; there is one at least, so that [] is never asked for
 unfoldable pub readLines : Sheet → ℕ → List Bytes → Reading
 readLines s k [] = accepted s
 readLines s k (l ∷ []) = closing s k (fieldsOf l) (readLast k l)

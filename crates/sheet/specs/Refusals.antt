@@ -78,9 +78,9 @@ unfoldable mutual
   allOrdered k nil = true
   allOrdered k (cons v vs) = ordered v && followed k v vs && allOrdered k vs
 
--- ---- 4: what is spelled well and goes over a limit
+-- ---- 4: what is spelled well and outside its limits
 
--- classes 0 to 63, names 0 to 255, nodes 0 to 767, variables 1 to 15
+-- classes 0 to 63, variables 1 to 15, nodes 0 to 767
 unfoldable pub isClass : ℕ → Bool
 isClass c = ltb c 64
 

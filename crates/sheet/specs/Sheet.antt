@@ -196,7 +196,7 @@ unfoldable pub allUsed : List ℕ → ℕ → Bool
 allUsed used zero = true
 allUsed used (suc n) = member n used && allUsed used n
 
--- the sheet with the rule put down
+-- the sheet with the rule added
 unfoldable pub withRule : Sheet → ℕ → Expr → Sheet
 withRule s c body = record {
   block = s .block;

@@ -74,7 +74,7 @@ unfoldable mutual
   moreParser zero = nothing
   moreParser (suc n) = literal ")" nil or behind "," (valueParser n then (λ v. mapped (cons v) (moreParser n)))
 
--- a field that spells a value; it has fewer parts than bytes
+-- a field that spells a value; it has no more parts than bytes
 unfoldable pub readValue : Bytes → Option Value
 readValue f = whole (valueParser (length f)) f
 

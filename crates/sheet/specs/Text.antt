@@ -20,7 +20,7 @@ unfoldable pub bytes : String → Bytes
 bytes noChar = []
 bytes (char c s) = code c ∷ bytes s
 
--- a byte in front of the first part
+-- a byte in front of the first part; there is one, so that [] is never asked for
 unfoldable pub onto : ℕ → List Bytes → List Bytes
 onto b [] = (b ∷ []) ∷ []
 onto b (p ∷ ps) = (b ∷ p) ∷ ps
@@ -126,7 +126,7 @@ integerParser = behind "-" (numberParser then negative) or mapped pos numberPars
 -- at most f digits of n
 unfoldable pub spellDigits : ℕ → ℕ → Bytes
 spellDigits zero n = []
-spellDigits (suc f) n = let longer = spellDigits f (n / 10) ++ ((48 + n % 10) ∷ []) in if ltb n 10 then (48 + n) ∷ [] else longer
+spellDigits (suc f) n = if ltb n 10 then (48 + n) ∷ [] else spellDigits f (n / 10) ++ ((48 + n % 10) ∷ [])
 
 -- a number has no more digits than one more than itself
 unfoldable pub spellNumber : ℕ → Bytes

@@ -13,7 +13,7 @@ pub enum Refusal {
     LongSheet,
     /// A line is misspelled: its fields, letter, form, numbers or line feed.
     BadLine,
-    /// A number, count, size or nesting goes over its limit.
+    /// A number, count, size or nesting is outside its limits.
     OverMeasure,
     /// Lines, numbers or members are out of order; a name or variable is there
     /// twice.
@@ -26,7 +26,7 @@ pub enum Refusal {
     BrokenTree,
     /// Nothing binds the variable.
     LooseEnd,
-    /// Two types have no common one, or a cast is between strangers.
+    /// Two types have no common one, or a cast is between unrelated classes.
     NoMatch,
     /// A form does not take an operand of this type.
     WrongPiece,
@@ -111,13 +111,13 @@ impl Refusal {
             Refusal::ShortBench => "a lent slice is too short",
             Refusal::LongSheet => "the text is longer than a sheet may be",
             Refusal::BadLine => "the line is misspelled",
-            Refusal::OverMeasure => "a number, count, size or nesting goes over its limit",
+            Refusal::OverMeasure => "a number, count, size or nesting is outside its limits",
             Refusal::OutOfRow => "something is out of order, or there twice",
             Refusal::UnknownPart => "the sheet has no such class, row or object",
             Refusal::WrongThread => "the value does not suit its row, or the row its object",
             Refusal::BrokenTree => "the rule's nodes make no tree, or one that is too deep",
             Refusal::LooseEnd => "nothing binds the variable",
-            Refusal::NoMatch => "there is no common type, or the cast is between strangers",
+            Refusal::NoMatch => "there is no common type, or the cast is between unrelated classes",
             Refusal::WrongPiece => "the form does not take an operand of this type",
             Refusal::NoSuchMark => "the class has no attribute of this name",
             Refusal::TooManyLayers => "the type would be over three deep",
