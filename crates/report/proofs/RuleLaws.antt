@@ -1,14 +1,13 @@
 -- Lines of all rules, written one behind the other, or counted: the marks of a rule, and the lines of the first rules. Assumes
 -- nothing.
-use mathlib.Core.Path.{_≡_, refl, sym, ap, _∙_}
+use mathlib.Core.Path.{_≡_, refl, _∙_}
 use mathlib.Core.Bool.{Bool}
 use mathlib.Core.Option.{some}
 use mathlib.Core.List.{List}
 use Prim.Native.Nat.{ℕ, _+_, _≤_, _<_}
 use native.Mathlib.Omega.{arith}
 use native.Mathlib.Numerals.{add-one}
-use lib.ListN.{length, getElem?, drop}
-use lib.Seq.{drop-drop}
+use lib.ListN.{length, getElem?}
 use Rattle.sheet.specs.Text.{Bytes}
 use Rattle.sheet.specs.Sheet.{Rule, Sheet}
 use Rattle.sheet.specs.Report.{objectLines, ruleLines}
@@ -19,16 +18,13 @@ use Rattle.judgements.specs.declared.Reply.{Reply}
 use Rattle.rules.specs.Accepted.{Accepted}
 use Rattle.rules.specs.Numbered.{TypesNumbered, KeepsMarks}
 use Rattle.rules.proofs.Ready.{ready}
-use Rattle.rules.proofs.Marks.{accepted-same, marks-in}
+use Rattle.rules.proofs.Marks.{accepted-same, marks-kept, marks-in}
 use Rattle.report.specs.Bound.{linesBound, rulesBound, AllTyped}
 use Rattle.report.specs.Passes.{Adds, Marked, MarksRule, allObjects, allBound, RoomFor, AddsLines, RoomForAll, AddsAll}
 use Rattle.report.proofs.PassLaws.{adds-nothing, adds-then, added-end, room-left}
 use Rattle.report.proofs.ReportLaws.{linesTo, lines-rule, lines-all, rule-before, boundTo, bound-rule, bound-all, bound-rule-before}
 
 -- ---- the marks of a rule
-
-marks-kept : {w2 w1 v1 : List ℕ} → KeepsMarks w2 w1 v1 → Kept w1 v1
-marks-kept {w2} {w1} {v1} k = record { size = k .size; rest = sym (drop-drop 1280 6912 v1) ∙ ap (drop 1280) (k .above) ∙ drop-drop 1280 6912 w1 }
 
 pub rule-marked : {st : Counts} {w0 w1 v1 before w2 : List ℕ} {r : ℕ} {a : Reply} → TypesNumbered st w0 w1 r before w2 a → KeepsMarks w2 w1 v1
     → MarksRule st w0 w1 v1 r
