@@ -37,7 +37,7 @@ module _ {a : Answer} {after : Bytes} (out : Bytes) where
   answer-ending : {m : Model} {t : Ty} {v : Verdict} → Ending m t v → a ≡ answerOf v → after ≡ outputAfter v out → AnswerEnding m t a after
   unfolding outputAfter
   answer-ending (undefined-end {n}) e q = undefined-said (answer-says (bytes "u") n e q)
-  answer-ending (value-end {n} v b l r) e q = value-said v b l r (answer-says (spellValue v) n e q)
+  answer-ending (value-end {n} v b l r f) e q = value-said v b l r f (answer-says (spellValue v) n e q)
   answer-ending step-stop e q = step-stopped (ap (λ (b : Answer). b .number) e)
   answer-ending size-stop e q = size-stopped (ap (λ (b : Answer). b .number) e)
 

@@ -9,6 +9,7 @@ use Rattle.ocl.specs.Types.{Ty}
 use Rattle.ocl.specs.Values.{Value, size}
 use Rattle.ocl.specs.Model.{Model, belongs}
 use Rattle.ocl.specs.Evaluation.{integersInRange}
+use Rattle.ocl.specs.Laws.{Formed}
 use Rattle.sheet.specs.Text.{Bytes, bytes}
 use Rattle.sheet.specs.Spelling.{spellType, spellValue}
 use Rattle.sheet.specs.Sheet.{modelOf}
@@ -26,7 +27,8 @@ pub record Says (w : Bytes) (a : Answer) (out : Bytes) : Type 0 where
 -- how the call may answer for a rule of type t
 pub data AnswerEnding (m : Model) (t : Ty) (a : Answer) (out : Bytes) : Type 0 where
   undefined-said : Says (bytes "u") a out → AnswerEnding m t a out
-  value-said : (v : Value) → T (belongs m t v) → size v ≤ 128 → T (integersInRange v) → Says (spellValue v) a out → AnswerEnding m t a out
+  value-said : (v : Value) → T (belongs m t v) → size v ≤ 128 → T (integersInRange v) → Formed v → Says (spellValue v) a out
+      → AnswerEnding m t a out
   step-stopped : a .number ≡ 16 → AnswerEnding m t a out
   size-stopped : a .number ≡ 17 → AnswerEnding m t a out
 

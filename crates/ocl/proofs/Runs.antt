@@ -13,6 +13,7 @@ use Rattle.ocl.specs.Values.{Value, bool, int, obj, coll, Values, count,
 use Rattle.ocl.specs.Model.{Model, belongs}
 use Rattle.ocl.specs.Forms.{Quantifier}
 use Rattle.ocl.specs.Evaluation.{Outcome, value, undefined, stuck, stop, Run, resume, bind, tick, form, onBool, integersInRange, endsAt, search, fold}
+use Rattle.ocl.specs.Laws.{Formed}
 use Rattle.ocl.specs.Soundness.{stepsOf, Sound}
 use Rattle.laws.proofs.Tests.{by-if}
 use Rattle.ocl.proofs.Values.{Every, every-nil, every-cons}
@@ -140,13 +141,15 @@ fine-steps P k (undefined n) h = h
 fine-steps P k stuck h = absurd h
 fine-steps P k (stop c n) h = h .0
 
-pub fine-sound : (s : Model) (t : Ty) (k : ℕ) (o : Outcome) → Fine (Fits s t) k o → ((v : Value) (n : ℕ) → o ≡ value v n → T (integersInRange v)) → Sound s t k o
+pub fine-sound : (s : Model) (t : Ty) (k : ℕ) (o : Outcome) → Fine (Fits s t) k o → ((v : Value) (n : ℕ) → o ≡ value v n → T (integersInRange v))
+    → ((v : Value) (n : ℕ) → o ≡ value v n → Formed v) → Sound s t k o
 unfolding Fine
-fine-sound s t k o h r = record {
+fine-sound s t k o h r f = record {
   not-stuck = λ e. subst (Fine (Fits s t) k) e h;
   of-type = λ v n e. (subst (Fine (Fits s t) k) e h) .0 .belong;
   of-size = λ v n e. (subst (Fine (Fits s t) k) e h) .0 .small;
   in-range = r;
+  formed = f;
   known-stop = λ c n e. (subst (Fine (Fits s t) k) e h) .2;
   in-reach = fine-steps (Fits s t) k o h;
   no-step-stop = λ l n e. let q = (subst (Fine (Fits s t) k) e h) .1 refl in omega arith;

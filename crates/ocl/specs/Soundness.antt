@@ -12,6 +12,7 @@ use Rattle.ocl.specs.Model.{Model, isA, belongs}
 use Rattle.ocl.specs.Forms.{Expr, reach, numbers, literals}
 use Rattle.ocl.specs.Typing.{typed, typeRule, markOf}
 use Rattle.ocl.specs.Evaluation.{Outcome, value, undefined, stuck, stop, inRange, integersInRange, evaluateRule}
+use Rattle.ocl.specs.Laws.{Formed}
 
 -- what reading makes sure of
 pub record AcceptedModel (s : Model) : Type 0 where
@@ -21,8 +22,10 @@ pub record AcceptedModel (s : Model) : Type 0 where
   pub values-belong : (o i : ℕ) (v : Value) → s .valueOf o i ≡ some v → T (belongs s (s .row i .type) v)
   -- is of an allowed size
   pub values-small : (o i : ℕ) (v : Value) → s .valueOf o i ≡ some v → size v ≤ 128
-  -- and its Integers are in range
+  -- its Integers are in range
   pub values-in-range : (o i : ℕ) (v : Value) → s .valueOf o i ≡ some v → T (integersInRange v)
+  -- and it is formed: Sets strictly ascending, Bags ascending (5 refuses every other)
+  pub values-formed : (o i : ℕ) (v : Value) → s .valueOf o i ≡ some v → Formed v
 
 -- the steps that an outcome returns
 unfoldable pub stepsOf : Outcome → ℕ
@@ -34,10 +37,11 @@ stepsOf (stop c n) = n
 -- how a rule of type t and reach k may end
 pub record Sound (s : Model) (t : Ty) (k : ℕ) (o : Outcome) : Type 0 where
   pub not-stuck : o ≢ stuck
-  -- a value belongs to the rule's type, is of an allowed size, and its Integers are in range
+  -- a value belongs to the rule's type, is of an allowed size, its Integers are in range, and it is formed
   pub of-type : (v : Value) (n : ℕ) → o ≡ value v n → T (belongs s t v)
   pub of-size : (v : Value) (n : ℕ) → o ≡ value v n → size v ≤ 128
   pub in-range : (v : Value) (n : ℕ) → o ≡ value v n → T (integersInRange v)
+  pub formed : (v : Value) (n : ℕ) → o ≡ value v n → Formed v
   -- a stop is the step stop or the size stop
   pub known-stop : (c n : ℕ) → o ≡ stop c n → c ≢ 16 → c ≡ 17
   -- the steps are within the reach

@@ -44,7 +44,7 @@ module _ (m : Model) (t : Ty) (k : ℕ) where
 
   end-of : (o : Outcome) → Sound m t k o → Ending m t (ended o)
   unfolding ended
-  end-of (value v n) h = value-end v (h .of-type v n refl) (h .of-size v n refl) (h .in-range v n refl)
+  end-of (value v n) h = value-end v (h .of-type v n refl) (h .of-size v n refl) (h .in-range v n refl) (h .formed v n refl)
   end-of (undefined n) h = undefined-end
   end-of stuck h = absurd (h .not-stuck refl)
   end-of (stop c n) h = stop-end c n (h .known-stop c n refl) (ℕ-discrete c 16)

@@ -12,6 +12,7 @@ use Rattle.ocl.specs.Values.{Value, size}
 use Rattle.ocl.specs.Model.{Model, isA, belongs}
 use Rattle.ocl.specs.Forms.{reach}
 use Rattle.ocl.specs.Evaluation.{integersInRange}
+use Rattle.ocl.specs.Laws.{Formed}
 use Rattle.sheet.specs.Text.{Bytes, bytes}
 use Rattle.sheet.specs.Spelling.{spellType, spellValue}
 use Rattle.sheet.specs.Sheet.{Rule, Sheet, empty, modelOf}
@@ -49,11 +50,11 @@ contextHas s (some x) o = isA (modelOf s) o (class (x .context))
 unfoldable pub ofContext : Bytes → ℕ → ℕ → Bool
 ofContext text r o = contextHas (sheetIn text) (getElem? (sheetIn text .rules) r) o
 
--- how evaluate may end for a rule of type t: undefined, a value of that type and of an allowed size whose Integers are in range, the
--- step stop, the size stop
+-- how evaluate may end for a rule of type t: undefined; a value of that type and of an allowed size whose Integers are in range and which
+-- is formed; the step stop; the size stop
 pub data Ending (m : Model) (t : Ty) : Verdict → Type 0 where
   undefined-end : {n : ℕ} → Ending m t (record { number = 0; steps = n; place = 0; output = bytes "u" })
-  value-end : {n : ℕ} (v : Value) → T (belongs m t v) → size v ≤ 128 → T (integersInRange v)
+  value-end : {n : ℕ} (v : Value) → T (belongs m t v) → size v ≤ 128 → T (integersInRange v) → Formed v
       → Ending m t (record { number = 0; steps = n; place = 0; output = spellValue v })
   step-stop : {n : ℕ} → Ending m t (record { number = 16; steps = n; place = 0; output = [] })
   size-stop : {n : ℕ} → Ending m t (record { number = 17; steps = n; place = 0; output = [] })
