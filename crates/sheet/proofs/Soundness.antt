@@ -127,7 +127,8 @@ type-given s (some x) t e y q = let z : x ≡ y = cc in
 
 -- ---- on a sheet, and on a text
 
-record SoundOn (s : Sheet) (x : Option Rule) (t : Ty) (v : Verdict) : Type 0 where
+record SoundOn (s : Sheet) (x : Option Rule) (o : ℕ) (t : Ty) (v : Verdict) : Type 0 where
+  not-stuck : (y : Rule) → x ≡ some y → outcomeOf s y o ≢ stuck
   ending : Ending (modelOf s) t v
   in-reach : v .steps ≤ ruleReach x
   no-step-stop : ruleReach x ≤ 1000000 → v .number ≢ 16
@@ -140,7 +141,7 @@ object-there m (some d) o c v e h = by-if (λ w. w ≡ v) (isA m o (class c)) v 
 
 sound-sheet : (s : Sheet) → Good s → (r o : ℕ) (t : Ty) (x : Option Rule) → getElem? (s .rules) r ≡ x
     → onRule x (λ y. onType s (typingOf s y .answer) (λ u. answer (spellType u))) ≡ answer (spellType t) → T (contextHas s x o)
-    → SoundOn s x t (onRule x (λ y. onObject (modelOf s) (modelOf s .classOf o) o (y .context) (onType s (typingOf s y .answer) (λ u. ended (outcomeOf s y o)))))
+    → SoundOn s x o t (onRule x (λ y. onObject (modelOf s) (modelOf s .classOf o) o (y .context) (onType s (typingOf s y .answer) (λ u. ended (outcomeOf s y o)))))
 unfolding contextHas onRule onType ruleReach
 sound-sheet s g r o t none e h c = absurd c
 sound-sheet s g r o t (some y) e h c =
@@ -148,6 +149,7 @@ sound-sheet s g r o t (some y) e h c =
     let z = sound-rule s g r o y t e d c in
     rw (object-there (modelOf s) (modelOf s .classOf o) o (y .context) (onType s (typingOf s y .answer) (λ u. ended (outcomeOf s y o))) refl c, d)
     (record {
+      not-stuck = λ w q. let i : y ≡ w = cc in subst (λ u. outcomeOf s u o ≢ stuck) i (z .not-stuck);
       ending = end-of (modelOf s) t (reach (y .body)) (outcomeOf s y o) z;
       in-reach = steps-of (modelOf s) t (reach (y .body)) (outcomeOf s y o) z;
       no-step-stop = no-stop (modelOf s) t (reach (y .body)) (outcomeOf s y o) z;
@@ -155,7 +157,7 @@ sound-sheet s g r o t (some y) e h c =
 
 sound-reading : (text : Bytes) (r o : ℕ) (t : Ty) (x : Reading) → readText text ≡ x → onSheet x (λ s. answer []) .number ≡ 0
     → onSheet x (λ s. typeOn s r) ≡ answer (spellType t) → T (contextHas (sheetFrom x) (getElem? (sheetFrom x .rules) r) o)
-    → SoundOn (sheetFrom x) (getElem? (sheetFrom x .rules) r) t (onSheet x (λ s. evaluateOn s r o))
+    → SoundOn (sheetFrom x) (getElem? (sheetFrom x .rules) r) o t (onSheet x (λ s. evaluateOn s r o))
 unfolding onSheet sheetFrom typeOn evaluateOn refusalAt
 sound-reading text r o t (accepted s) e q h c = sound-sheet s (accepted-good text s e) r o t (getElem? (s .rules) r) refl h c
 sound-reading text r o t (rejected n k) e q h c = absurd (no-number n (read-number text n k e) q)
@@ -164,7 +166,7 @@ pub demand3 : Demand3
 unfolding reachOf ofContext sheetIn
 demand3 text w0 w1 w2 out l r o t a b c =
     let z = sound-reading text r o t (readText text) refl (rw (read-lent text w0 w1 w2 out l) at a) (rw (type-lent text w0 w1 w2 out l r) at b) c in
-    rw (evaluate-lent text w0 w1 w2 out l r o) (record { ending = z .ending; in-reach = z .in-reach; no-step-stop = z .no-step-stop })
+    rw (evaluate-lent text w0 w1 w2 out l r o) (record { not-stuck = z .not-stuck; ending = z .ending; in-reach = z .in-reach; no-step-stop = z .no-step-stop })
 
 -- ---- typing's refusals, on an accepted sheet
 

@@ -11,13 +11,13 @@ use Rattle.ocl.specs.Types.{class, Ty}
 use Rattle.ocl.specs.Values.{Value, size}
 use Rattle.ocl.specs.Model.{Model, isA, belongs}
 use Rattle.ocl.specs.Forms.{reach}
-use Rattle.ocl.specs.Evaluation.{integersInRange}
+use Rattle.ocl.specs.Evaluation.{stuck, integersInRange}
 use Rattle.ocl.specs.Laws.{Formed}
 use Rattle.sheet.specs.Text.{Bytes, bytes}
 use Rattle.sheet.specs.Spelling.{spellType, spellValue}
 use Rattle.sheet.specs.Sheet.{Rule, Sheet, empty, modelOf}
 use Rattle.sheet.specs.Reading.{Reading, accepted, rejected, readText}
-use Rattle.sheet.specs.Calls.{Verdict, answer, readCall, typeCall, evaluateCall}
+use Rattle.sheet.specs.Calls.{Verdict, answer, readCall, typeCall, outcomeOf, evaluateCall}
 
 -- every lent slice is at its minimum or above
 pub record Lent (w0 w1 w2 : List ℕ) (out : Bytes) : Type 0 where
@@ -59,7 +59,10 @@ pub data Ending (m : Model) (t : Ty) : Verdict → Type 0 where
   step-stop : {n : ℕ} → Ending m t (record { number = 16; steps = n; place = 0; output = [] })
   size-stop : {n : ℕ} → Ending m t (record { number = 17; steps = n; place = 0; output = [] })
 
-pub record SoundCall (text : Bytes) (r : ℕ) (t : Ty) (v : Verdict) : Type 0 where
+-- what evaluate comes to for rule r, of type t, and object o
+pub record SoundCall (text : Bytes) (r o : ℕ) (t : Ty) (v : Verdict) : Type 0 where
+  -- the evaluation never ends stuck
+  pub not-stuck : (x : Rule) → getElem? (sheetIn text .rules) r ≡ some x → outcomeOf (sheetIn text) x o ≢ stuck
   pub ending : Ending (modelOf (sheetIn text)) t v
   -- the steps are within the rule's reach
   pub in-reach : v .steps ≤ reachOf text r
@@ -73,4 +76,4 @@ Demand3 =
     → readCall text w0 w1 w2 .number ≡ 0
     → typeCall text r w0 w1 w2 out ≡ answer (spellType t)
     → T (ofContext text r o)
-    → SoundCall text r t (evaluateCall text r o w0 w1 w2 out)
+    → SoundCall text r o t (evaluateCall text r o w0 w1 w2 out)
