@@ -1,12 +1,11 @@
 -- Demand 3, from the bytes: what reading accepts is what the language's theorem asks, and the calls answer by its outcome. Assumes nothing.
 use mathlib.Core.Path.{_≡_, refl, sym, ap, _∙_, subst}
-use mathlib.Core.Logic.{_≢_}
+use mathlib.Core.Logic.{_≢_, _⊎_, inl, inr}
 use mathlib.Core.Bool.{false}
 use mathlib.Core.Option.{Option, none, some, Option·some-injective}
 use mathlib.Core.List.{List, []}
 use Prim.Native.Nat.{ℕ, _≤_}
 use native.Mathlib.Omega.{arith}
-use native.Mathlib.Decide.{ℕ-discrete}
 use borrow.Author.Tests.{le-ltb}
 use lib.ListN.{length, getElem?}
 use lib.Dec.{T, T-not}
@@ -38,16 +37,16 @@ use Rattle.sheet.proofs.Acceptance.{accepted-good, good-model}
 -- ---- an outcome and what evaluate answers for it
 
 module _ (m : Model) (t : Ty) (k : ℕ) where
-  stop-end : (c n : ℕ) → (c ≢ 16 → c ≡ 17) → (b : Dec (c ≡ 16)) → Ending m t (record { number = c; steps = n; place = 0; output = [] })
-  stop-end c n h (yes e) = rw e step-stop
-  stop-end c n h (no q) = rw (h q) size-stop
+  stop-end : (c n : ℕ) → (c ≡ 16) ⊎ (c ≡ 17) → Ending m t (record { number = c; steps = n; place = 0; output = [] })
+  stop-end c n (inl e) = rw e step-stop
+  stop-end c n (inr e) = rw e size-stop
 
   end-of : (o : Outcome) → Sound m t k o → Ending m t (ended o)
   unfolding ended
   end-of (value v n) h = value-end v (h .of-type v n refl) (h .of-size v n refl) (h .in-range v n refl) (h .formed v n refl)
   end-of (undefined n) h = undefined-end
   end-of stuck h = absurd (h .not-stuck refl)
-  end-of (stop c n) h = stop-end c n (h .known-stop c n refl) (ℕ-discrete c 16)
+  end-of (stop c n) h = stop-end c n (h .known-stop c n refl)
 
   steps-of : (o : Outcome) → Sound m t k o → ended o .steps ≤ k
   unfolding ended stepsOf refusal refusalAt
