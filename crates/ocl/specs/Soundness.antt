@@ -11,7 +11,7 @@ use Rattle.ocl.specs.Values.{Value, size}
 use Rattle.ocl.specs.Model.{Model, isA, belongs}
 use Rattle.ocl.specs.Forms.{Expr, reach, numbers, literals}
 use Rattle.ocl.specs.Typing.{typed, typeRule, markOf}
-use Rattle.ocl.specs.Evaluation.{Outcome, value, undefined, stuck, stop, inRange, integersInRange, evaluateRule}
+use Rattle.ocl.specs.Evaluation.{Outcome, value, stuck, stop, stepsOf, inRange, integersInRange, evaluateRule}
 use Rattle.ocl.specs.Laws.{Formed}
 
 -- what reading makes sure of
@@ -26,13 +26,6 @@ pub record AcceptedModel (s : Model) : Type 0 where
   pub values-in-range : (o i : ℕ) (v : Value) → s .valueOf o i ≡ some v → T (integersInRange v)
   -- and it is formed: Sets strictly ascending, Bags ascending (5 refuses every other)
   pub values-formed : (o i : ℕ) (v : Value) → s .valueOf o i ≡ some v → Formed v
-
--- the steps that an outcome returns
-unfoldable pub stepsOf : Outcome → ℕ
-stepsOf (value v n) = n
-stepsOf (undefined n) = n
-stepsOf stuck = 0
-stepsOf (stop c n) = n
 
 -- how a rule of type t and reach k may end
 pub record Sound (s : Model) (t : Ty) (k : ℕ) (o : Outcome) : Type 0 where

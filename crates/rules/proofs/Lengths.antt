@@ -16,8 +16,8 @@ use Rattle.ocl.specs.Values.{Value, bool, int, obj, coll, Values, size, everyPa
 use Rattle.ocl.specs.Model.{Model, classIsA, isA, every, belongs}
 use Rattle.ocl.specs.Forms.{reach}
 use Rattle.ocl.specs.Typing.{typed}
-use Rattle.ocl.specs.Evaluation.{Outcome, value, undefined, stuck, stop}
-use Rattle.ocl.specs.Soundness.{stepsOf, Sound}
+use Rattle.ocl.specs.Evaluation.{Outcome, value, undefined, stuck, stop, stepsOf}
+use Rattle.ocl.specs.Soundness.{Sound}
 use Rattle.ocl.proofs.SimpleTypes.{integer-not-class}
 use Rattle.ocl.proofs.Steps.{steps-limited}
 use Rattle.sheet.specs.Text.{bytes, spellNumber}

@@ -18,8 +18,8 @@ use Rattle.ocl.specs.Forms.{reach, numbers}
 use Rattle.ocl.specs.Typing.{Answer, typed, refused, typeRule}
 use Rattle.ocl.specs.Environment.{start}
 use Rattle.ocl.specs.Types.{Class}
-use Rattle.ocl.specs.Evaluation.{Outcome, value, undefined, stuck, stop}
-use Rattle.ocl.specs.Soundness.{stepsOf, Sound}
+use Rattle.ocl.specs.Evaluation.{Outcome, value, undefined, stuck, stop, stepsOf}
+use Rattle.ocl.specs.Soundness.{Sound}
 use Rattle.ocl.proofs.Soundness.{soundness}
 use Rattle.ocl.proofs.Places.{typing-places}
 use Rattle.sheet.specs.Text.{Bytes}
