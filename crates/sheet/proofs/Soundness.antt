@@ -28,7 +28,7 @@ use Rattle.sheet.specs.Sheet.{Rule, Sheet, modelOf}
 use Rattle.sheet.specs.Reading.{Reading, accepted, rejected, readText}
 use Rattle.sheet.specs.Calls.{Verdict, answer, refusalAt, refusal, shortWords, shortOutput, onSheet, readCall, onRule, typingOf, onType, typeOn, typeCall, onObject, outcomeOf, ended, evaluateOn, evaluateCall}
 use Rattle.sheet.specs.Soundness.{Lent, sheetFrom, sheetIn, ruleReach, reachOf, contextHas, ofContext, Ending, undefined-end, value-end, step-stop, size-stop, Demand3}
-use Rattle.sheet.specs.Laws.{ReadRefusal, long-sheet, at-line, TypeRefusals}
+use Rattle.sheet.specs.Laws.{ReadRefusal, over-length, at-line, TypeRefusals}
 use Rattle.sheet.proofs.Spelling.{type-back}
 use Rattle.sheet.proofs.Listed.{read-refusals}
 use Rattle.sheet.proofs.Good.{Good}
@@ -103,7 +103,7 @@ read-number : (text : Bytes) (n k : ℕ) → readText text ≡ rejected n k → 
 read-number text n k e = by (read-refusals text n k e)
   where
     by : ReadRefusal text n k → 1 ≤ n
-    by (long-sheet a b) = omega arith
+    by (over-length a b) = omega arith
     by (at-line a b c d) = omega arith
 
 -- a type has a spelling of its own

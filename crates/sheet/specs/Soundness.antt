@@ -19,7 +19,7 @@ use Rattle.sheet.specs.Sheet.{Rule, Sheet, empty, modelOf}
 use Rattle.sheet.specs.Reading.{Reading, accepted, rejected, readText}
 use Rattle.sheet.specs.Calls.{Verdict, answer, readCall, typeCall, outcomeOf, evaluateCall}
 
--- every lent slice is at its minimum or above
+-- every lent slice (document 01's word for the words and the output that a caller hands over) is at its minimum or above
 pub record Lent (w0 w1 w2 : List ℕ) (out : Bytes) : Type 0 where
   pub words0 : 8192 ≤ length w0
   pub words1 : 8192 ≤ length w1
@@ -51,7 +51,7 @@ unfoldable pub ofContext : Bytes → ℕ → ℕ → Bool
 ofContext text r o = contextHas (sheetIn text) (getElem? (sheetIn text .rules) r) o
 
 -- how evaluate may end for a rule of type t: undefined; a value of that type and of an allowed size whose Integers are in range and which
--- is formed; the step stop; the size stop
+-- is formed; the step stop, 16; the size stop, 17 (document 01's words)
 pub data Ending (m : Model) (t : Ty) : Verdict → Type 0 where
   undefined-end : {n : ℕ} → Ending m t (record { number = 0; steps = n; place = 0; output = bytes "u" })
   value-end : {n : ℕ} (v : Value) → T (belongs m t v) → size v ≤ 128 → T (integersInRange v) → Formed v
