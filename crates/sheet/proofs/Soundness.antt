@@ -167,11 +167,32 @@ demand3 text w0 w1 w2 out l r o t a b c =
     let z = sound-reading text r o t (readText text) refl (rw (read-lent text w0 w1 w2 out l) at a) (rw (type-lent text w0 w1 w2 out l r) at b) c in
     rw (evaluate-lent text w0 w1 w2 out l r o) (record { not-stuck = z .not-stuck; ending = z .ending; in-reach = z .in-reach; no-step-stop = z .no-step-stop })
 
--- ---- typing's refusals, on an accepted sheet
+-- ---- what the call that types answers
 
+-- typing's refusals, on an accepted sheet
 pub type-refusals : TypeRefusals
 unfolding typingOf typeRule
 type-refusals text s e r x q n p h =
     let g = each-elem r (accepted-good text s e .rules) q in
     let k = typing-places (modelOf s) (x .body) (start (Class (x .context))) .refusals n p h in
     record { low = k .low; high = k .high; node-of-rule = k .placed; on-sheet = each-at (g .on-sheet) (member-exact p (numbers (x .body)) .0 (k .placed)) }
+
+-- with number 0 it gives no steps and no place
+abbrev Plain : Verdict → Type 0
+Plain v = v .number ≡ 0 → v ≡ answer (v .output)
+
+pub type-plain : (text : Bytes) (w0 w1 w2 : List ℕ) (out : Bytes) → Lent w0 w1 w2 out → (r : ℕ) → Plain (typeCall text r w0 w1 w2 out)
+unfolding onSheet typeOn onRule onType answer refusal refusalAt
+type-plain text w0 w1 w2 out l r = rw (type-lent text w0 w1 w2 out l r) (of-reading (readText text) refl)
+  where
+    of-answer : (s : Sheet) → readText text ≡ accepted s → (x : Rule) → getElem? (s .rules) r ≡ some x → (a : Answer) → typingOf s x .answer ≡ a → Plain (onType s a (λ t. answer (spellType t)))
+    of-answer s e x q (typed t) h z = refl
+    of-answer s e x q (refused n p) h z = absurd (omega (arith, type-refusals text s e r x q n p h .low))
+
+    of-rule : (s : Sheet) → readText text ≡ accepted s → (x : Option Rule) → getElem? (s .rules) r ≡ x → Plain (onRule x (λ y. onType s (typingOf s y .answer) (λ t. answer (spellType t))))
+    of-rule s e none q z = absurd (omega arith)
+    of-rule s e (some x) q z = of-answer s e x q (typingOf s x .answer) refl z
+
+    of-reading : (x : Reading) → readText text ≡ x → Plain (onSheet x (λ s. typeOn s r))
+    of-reading (accepted s) e z = of-rule s e (getElem? (s .rules) r) refl z
+    of-reading (rejected n k) e z = absurd (no-number n (read-number text n k e) z)
