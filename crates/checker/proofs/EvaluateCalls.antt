@@ -1,6 +1,6 @@
 -- The call that evaluates a rule for an object. Assumes nothing.
 use mathlib.Core.Path.{_≡_, refl, sym, ap, _∙_}
-use mathlib.Core.Logic.{_≢_}
+use mathlib.Core.Logic.{_≢_, ⊎-elim}
 use mathlib.Core.Bool.{Bool, true, false}
 use mathlib.Core.Option.{Option, none, some}
 use mathlib.Core.List.{List}
@@ -125,15 +125,12 @@ module _ {st : Counts} {w0 w1 : List ℕ} where
 
 -- ---- the whole call
 
-stop-number : (c : ℕ) → (c ≢ 16 → c ≡ 17) → c ≢ 1
-stop-number c h q = let z = h (λ e. absurd (omega arith)) in omega arith
-
 outcome-number : {m : Model} {t : Ty} {k : ℕ} (o : Outcome) → Sound m t k o → ended o .number ≢ 1
 unfolding ended refusal refusalAt
 outcome-number (value v n) h q = omega arith
 outcome-number (undefined n) h q = omega arith
 outcome-number stuck h q = omega arith
-outcome-number (stop c n) h q = stop-number c (h .known-stop c n refl) q
+outcome-number (stop c n) h q = ⊎-elim (λ e. omega arith) (λ e. omega arith) (h .known-stop c n refl)
 
 module _ (text : Bytes) (s : Sheet) (r o : ℕ) (was : readText text ≡ accepted s) where
   typed-number : (x : Rule) → getElem? (s .rules) r ≡ some x → T (isA (modelOf s) o (class (x .context))) → (a : TypeAnswer) → typingOf s x .answer ≡ a

@@ -10,7 +10,7 @@ use Rattle.sheet.specs.Text.{Bytes}
 use Rattle.sheet.specs.Sheet.{Sheet}
 use Rattle.sheet.specs.Reading.{Reading, accepted, rejected, readText}
 use Rattle.sheet.specs.Calls.{Verdict, answer, refusalAt, onSheet}
-use Rattle.sheet.specs.Laws.{ReadRefusal, long-sheet, at-line}
+use Rattle.sheet.specs.Laws.{ReadRefusal, over-length, at-line}
 use Rattle.sheet.proofs.Listed.{read-refusals}
 use Rattle.tables.specs.declared.Counts.{Counts}
 use Rattle.tables.proofs.Tables.{kept-refl}
@@ -63,7 +63,7 @@ unfolding onSheet refusalAt
 read-number text f h = by (readText text) refl
   where
     refusal-number : {n k : ℕ} → ReadRefusal text n k → n ≢ 1
-    refusal-number (long-sheet a b) q = omega arith
+    refusal-number (over-length a b) q = omega arith
     refusal-number (at-line a b c d) q = omega arith
 
     by : (x : Reading) → readText text ≡ x → onSheet x f .number ≢ 1

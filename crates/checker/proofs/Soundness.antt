@@ -1,4 +1,4 @@
--- Demand 3 of the call that evaluates: from demand 3 of its definition and the call's contract. Assumes nothing.
+-- Demand 3 of the calls that type and evaluate: from demand 3 of their definitions and the calls' contracts. Assumes nothing.
 use mathlib.Core.Path.{_≡_, refl, sym, ap, _∙_}
 use mathlib.Core.List.{List, [], _++_}
 use Prim.Native.Nat.{ℕ}
@@ -11,10 +11,21 @@ use Rattle.sheet.specs.Spelling.{spellType, spellValue}
 use Rattle.sheet.specs.Reading.{Reading, accepted, rejected, readText}
 use Rattle.sheet.specs.Calls.{Verdict, answer, refusalAt, outputAfter, onSheet, readCall, typeOn, typeCall}
 use Rattle.sheet.specs.Soundness.{Lent, Ending, undefined-end, value-end, step-stop, size-stop}
-use Rattle.sheet.proofs.Soundness.{read-lent, type-lent, demand3}
+use Rattle.sheet.proofs.Soundness.{read-lent, type-lent, demand3, type-plain}
 use Rattle.checker.specs.declared.Answer.{Answer}
-use Rattle.checker.specs.Answers.{answerOf}
+use Rattle.checker.specs.Answers.{answerOf, AnswersWith}
 use Rattle.checker.specs.Soundness.{Says, AnswerEnding, undefined-said, value-said, step-stopped, size-stopped, Demand3OfCall}
+
+-- an answer that says t is typing's answer t
+types-as : (text : Bytes) (r : ℕ) (t : Ty) {x0 x1 x2 y0 y1 y2 : List ℕ} {put after : Bytes} {b : Answer} → Lent x0 x1 x2 put
+    → AnswersWith (typeCall text r x0 x1 x2 put) b x0 x1 x2 put y0 y1 y2 after → Says (spellType t) b after → typeCall text r x0 x1 x2 put ≡ answer (spellType t)
+unfolding outputAfter
+types-as text r t {x0} {x1} {x2} {put = put} {after = after} l z s =
+    let v = typeCall text r x0 x1 x2 put in
+    let i = z .answers .is in
+    let n : length (v .output) ≡ length (spellType t) = sym (ap (λ (c : Answer). c .length) i) ∙ s .length-of in
+    let w : v .output ≡ spellType t = sym (take-append-seam (v .output) (drop (length (v .output)) put)) ∙ ap (take (length (v .output))) (sym (z .output)) ∙ ap (λ k. take k after) n ∙ s .begins in
+    type-plain text x0 x1 x2 put l r (sym (ap (λ (c : Answer). c .number) i) ∙ s .number) ∙ ap answer w
 
 -- a rule has a type only on a sheet that is accepted
 read-accepts : (text : Bytes) (w0 w1 w2 : List ℕ) (out : Bytes) → Lent w0 w1 w2 out → (r : ℕ) (t : Ty) → typeCall text r w0 w1 w2 out ≡ answer (spellType t)
@@ -37,12 +48,13 @@ module _ {a : Answer} {after : Bytes} (out : Bytes) where
   answer-ending : {m : Model} {t : Ty} {v : Verdict} → Ending m t v → a ≡ answerOf v → after ≡ outputAfter v out → AnswerEnding m t a after
   unfolding outputAfter
   answer-ending (undefined-end {n}) e q = undefined-said (answer-says (bytes "u") n e q)
-  answer-ending (value-end {n} v b l r) e q = value-said v b l r (answer-says (spellValue v) n e q)
+  answer-ending (value-end {n} v b l r f) e q = value-said v b l r f (answer-says (spellValue v) n e q)
   answer-ending step-stop e q = step-stopped (ap (λ (b : Answer). b .number) e)
   answer-ending size-stop e q = size-stopped (ap (λ (b : Answer). b .number) e)
 
 pub demand3-of-call : Demand3OfCall
-demand3-of-call text w0 w1 w2 out l r o t e h a v0 v1 v2 after z =
+demand3-of-call text r o t x0 x1 x2 put k b y0 y1 y2 said y s h w0 w1 w2 out l a v0 v1 v2 after z =
+    let e = type-lent text w0 w1 w2 out l r ∙ sym (type-lent text x0 x1 x2 put k r) ∙ types-as text r t k y s in
     let d = demand3 text w0 w1 w2 out l r o t (read-accepts text w0 w1 w2 out l r t e) e h in
     let i = z .answers .is in
     record {

@@ -26,6 +26,7 @@ use Rattle.ocl.proofs.Means.{Gives, no-type, gives, Means, means-pure, 
 use Rattle.ocl.proofs.ByType.{Ok, Below, EnvOk, Sem, SemAll, below-by, gives-below, joined, below-same, below-then, extend-ok, ok-up, is-bool, bool-sem, int-of, int-sem, int-fits, obj-sem, coll-of, coll-sem, coll-fits, bool-ok, int-ok, give-bool, give-int, given-sem, form-sem, bels}
 use Rattle.ocl.proofs.Ends.{arithmetic-all}
 use Rattle.ocl.proofs.InRange.{ends-in-range}
+use Rattle.ocl.proofs.Formed.{formed-ends}
 use Rattle.ocl.proofs.Marks.{Agree, agree-one, marked, agree-marks}
 
 module _ (s : Model) (ok : AcceptedModel s) (mark : ℕ → ℕ) where
@@ -251,6 +252,7 @@ module _ (s : Model) (ok : AcceptedModel s) (mark : ℕ → ℕ) where
   unfolding typeRule evaluateRule start Belongs size
   sound-with e l c o t h g a = fine-sound s t _ _ (safe-zero (safe-weak (λ v. fits-of) (omega linear) (sound e (start (Class c)) .means t h g .run _
       (extend-ok 0 (record { vars = λ i. all-none }) (record { bel = a; fits = omega linear }))))) (λ v n q. ends-in-range s ok mark e l o n v q)
+      (λ v n q. formed-ends s (record { stored-formed = ok .values-formed }) mark e .of-rule o n v q)
 
 pub soundness : Soundness
 unfolding markOf typeRule

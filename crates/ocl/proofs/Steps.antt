@@ -13,8 +13,7 @@ use Rattle.ocl.specs.Values.{Value, bool, int, obj, coll, Values, nil, c
 use Rattle.ocl.specs.Model.{Model, isA}
 use Rattle.ocl.specs.Environment.{Env, extend, start}
 use Rattle.ocl.specs.Forms.{Connective, Quantifier, Leaf, truth, undef, number, self, var, all, Unary, negation, sizeOf, convert, castTo, Binary, equal, less, arith, includes, including, union, Expr, node, Form, leaf, unary, binary, connective, isUndef, conditional, letIn, attribute, quantified, iterate, collect, Operands, noOperand, operand}
-use Rattle.ocl.specs.Evaluation.{Outcome, value, undefined, stuck, stop, Run, resume, bind, tick, form, given, bound, onBool, onInt, onObj, onColl, arithmetic, leafRun, cast, unaryApply, unaryRun, leftFits, binaryApply, binaryRun, decides, connectiveRun, isUndefRun, conditionalRun, letRun, attributeRun, endsAt, search, quantifiedRun, fold, iterateRun, Gather, noOperandRun, operandRun, collectRun, evaluation, formRun, operandsRun, evaluateRule}
-use Rattle.ocl.specs.Soundness.{stepsOf}
+use Rattle.ocl.specs.Evaluation.{Outcome, value, undefined, stuck, stop, stepsOf, Run, resume, bind, tick, form, given, bound, onBool, onInt, onObj, onColl, arithmetic, leafRun, cast, unaryApply, unaryRun, leftFits, binaryApply, binaryRun, decides, connectiveRun, isUndefRun, conditionalRun, letRun, attributeRun, endsAt, search, quantifiedRun, fold, iterateRun, Gather, noOperandRun, operandRun, collectRun, evaluation, formRun, operandsRun, evaluateRule}
 
 pub data Limited : Outcome → Type 0 where
   limited-value : {v : Value} {n : ℕ} → n ≤ 1000000 → Limited (value v n)

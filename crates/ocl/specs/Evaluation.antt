@@ -19,6 +19,13 @@ pub data Outcome : Type 0 where
   stuck : Outcome
   stop : ℕ → ℕ → Outcome
 
+-- the steps that an outcome returns
+unfoldable pub stepsOf : Outcome → ℕ
+stepsOf (value v n) = n
+stepsOf (undefined n) = n
+stepsOf stuck = 0
+stepsOf (stop c n) = n
+
 -- a node's evaluation
 abbrev pub Run : Type 0
 Run = Env Value → ℕ → Outcome

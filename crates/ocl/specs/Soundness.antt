@@ -1,7 +1,7 @@
 -- Document 01, Evaluation, on demand 3: stated over the language, for every model and tree that reading can give.
 -- sheet/specs/Soundness.antt states it from the bytes.
 use mathlib.Core.Path.{_≡_}
-use mathlib.Core.Logic.{_≢_}
+use mathlib.Core.Logic.{_≢_, _⊎_}
 use mathlib.Core.Option.{some}
 use Prim.Native.Nat.{ℕ, _≤_, _<_}
 use lib.Dec.{T}
@@ -11,7 +11,8 @@ use Rattle.ocl.specs.Values.{Value, size}
 use Rattle.ocl.specs.Model.{Model, isA, belongs}
 use Rattle.ocl.specs.Forms.{Expr, reach, numbers, literals}
 use Rattle.ocl.specs.Typing.{typed, typeRule, markOf}
-use Rattle.ocl.specs.Evaluation.{Outcome, value, undefined, stuck, stop, inRange, integersInRange, evaluateRule}
+use Rattle.ocl.specs.Evaluation.{Outcome, value, stuck, stop, stepsOf, inRange, integersInRange, evaluateRule}
+use Rattle.ocl.specs.Laws.{Formed}
 
 -- what reading makes sure of
 pub record AcceptedModel (s : Model) : Type 0 where
@@ -21,25 +22,21 @@ pub record AcceptedModel (s : Model) : Type 0 where
   pub values-belong : (o i : ℕ) (v : Value) → s .valueOf o i ≡ some v → T (belongs s (s .row i .type) v)
   -- is of an allowed size
   pub values-small : (o i : ℕ) (v : Value) → s .valueOf o i ≡ some v → size v ≤ 128
-  -- and its Integers are in range
+  -- its Integers are in range
   pub values-in-range : (o i : ℕ) (v : Value) → s .valueOf o i ≡ some v → T (integersInRange v)
-
--- the steps that an outcome returns
-unfoldable pub stepsOf : Outcome → ℕ
-stepsOf (value v n) = n
-stepsOf (undefined n) = n
-stepsOf stuck = 0
-stepsOf (stop c n) = n
+  -- and it is formed: Sets strictly ascending, Bags ascending (5 refuses every other)
+  pub values-formed : (o i : ℕ) (v : Value) → s .valueOf o i ≡ some v → Formed v
 
 -- how a rule of type t and reach k may end
 pub record Sound (s : Model) (t : Ty) (k : ℕ) (o : Outcome) : Type 0 where
   pub not-stuck : o ≢ stuck
-  -- a value belongs to the rule's type, is of an allowed size, and its Integers are in range
+  -- a value belongs to the rule's type, is of an allowed size, its Integers are in range, and it is formed
   pub of-type : (v : Value) (n : ℕ) → o ≡ value v n → T (belongs s t v)
   pub of-size : (v : Value) (n : ℕ) → o ≡ value v n → size v ≤ 128
   pub in-range : (v : Value) (n : ℕ) → o ≡ value v n → T (integersInRange v)
-  -- a stop is the step stop or the size stop
-  pub known-stop : (c n : ℕ) → o ≡ stop c n → c ≢ 16 → c ≡ 17
+  pub formed : (v : Value) (n : ℕ) → o ≡ value v n → Formed v
+  -- a stop is the step stop, 16, or the size stop, 17 (document 01's words)
+  pub known-stop : (c n : ℕ) → o ≡ stop c n → (c ≡ 16) ⊎ (c ≡ 17)
   -- the steps are within the reach
   pub in-reach : stepsOf o ≤ k
   -- no step stop where the reach is within the limit

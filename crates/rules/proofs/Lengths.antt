@@ -1,12 +1,11 @@
 -- How long a report line can be, for a rule of an accepted sheet with a type and an object of its context. Assumes nothing.
 use mathlib.Core.Path.{_≡_, refl}
-use mathlib.Core.Logic.{_≢_}
+use mathlib.Core.Logic.{⊎-elim}
 use mathlib.Core.Bool.{Bool, true, false}
 use mathlib.Core.Option.{Option, none, some}
 use mathlib.Core.List.{List}
 use Prim.Native.Nat.{ℕ, _+_, _≤_, _<_}
 use native.Mathlib.Omega.{arith}
-use native.Mathlib.Decide.{ℕ-discrete}
 use borrow.Author.Tests.{lt-ltb}
 use lib.ListN.{length, getElem?, length-append}
 use lib.Dec.{T, ltb→lt}
@@ -17,8 +16,8 @@ use Rattle.ocl.specs.Values.{Value, bool, int, obj, coll, Values, size, everyPa
 use Rattle.ocl.specs.Model.{Model, classIsA, isA, every, belongs}
 use Rattle.ocl.specs.Forms.{reach}
 use Rattle.ocl.specs.Typing.{typed}
-use Rattle.ocl.specs.Evaluation.{Outcome, value, undefined, stuck, stop}
-use Rattle.ocl.specs.Soundness.{stepsOf, Sound}
+use Rattle.ocl.specs.Evaluation.{Outcome, value, undefined, stuck, stop, stepsOf}
+use Rattle.ocl.specs.Soundness.{Sound}
 use Rattle.ocl.proofs.SimpleTypes.{integer-not-class}
 use Rattle.ocl.proofs.Steps.{steps-limited}
 use Rattle.sheet.specs.Text.{bytes, spellNumber}
@@ -107,10 +106,6 @@ width-within (simple integer) = (omega arith, omega arith)
 width-within (simple (class c)) = (omega arith, omega arith)
 width-within (around l t) = (omega arith, omega arith)
 
-stop-number : (c : ℕ) → (c ≢ 16 → c ≡ 17) → Dec (c ≡ 16) → c < 100
-stop-number c h (yes e) = omega arith
-stop-number c h (no n) = let e = h n in omega arith
-
 outcome-width : (m : Model) (t : Ty) (k : ℕ) (o : Outcome) → Sound m t k o → ((v : Value) (n : ℕ) → o ≡ value v n → T (everyPart partWithin v))
     → length (spellOutcome o) ≤ width t
 unfolding spellOutcome bytes
@@ -119,7 +114,7 @@ outcome-width m t k (undefined n) h p = let w = width-within t .0 in omega arith
 outcome-width m t k stuck h p = absurd (h .not-stuck refl)
 outcome-width m t k (stop c n) h p =
     let w = width-within t .0 in
-    let d = length-laws .number-length 2 c (omega arith) (let l = stop-number c (h .known-stop c n refl) (ℕ-discrete c 16) in omega arith) in
+    let d = length-laws .number-length 2 c (omega arith) (⊎-elim (λ q. omega arith) (λ q. omega arith) (h .known-stop c n refl)) in
     omega arith
 
 -- what lies in the words fits

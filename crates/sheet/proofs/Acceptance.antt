@@ -1,5 +1,6 @@
--- What every sheet that reading accepts has: parents that are smaller, slots that ascend, values that belong to their rows' types,
--- rules whose trees have no node twice and at most 12 levels, Integers in range. The induction over the lines, over the laws of proofs/Good.antt. Assumes nothing.
+-- What every sheet that reading accepts has: parents that are smaller, slots that ascend, values that belong to their rows' types and are
+-- formed, rules whose trees have no node twice and at most 12 levels, Integers in range. The induction over the lines, over the laws of
+-- proofs/Good.antt. Assumes nothing.
 use mathlib.Core.Path.{_≡_, refl, subst}
 use mathlib.Core.Bool.{Bool, true, false, _&&_}
 use mathlib.Core.Option.{Option, none, some}
@@ -16,6 +17,7 @@ use Rattle.ocl.specs.Values.{Value, size}
 use Rattle.ocl.specs.Model.{Model, belongs}
 use Rattle.ocl.specs.Forms.{Expr, numbers, levels, literals}
 use Rattle.ocl.specs.Evaluation.{integersInRange}
+use Rattle.ocl.specs.Laws.{Formed}
 use Rattle.ocl.specs.Soundness.{AcceptedModel}
 use Rattle.sheet.specs.Text.{Bytes, fieldsOf, linesOf}
 use Rattle.sheet.specs.Lines.{Line, lineOf, firstIsN}
@@ -151,6 +153,7 @@ record ValueOk (m : Model) (i : ℕ) (v : Value) : Type 0 where
   belong : T (belongs m (m .row i .type) v)
   small : size v ≤ 128
   in-range : T (integersInRange v)
+  formed : Formed v
 
 lookup-ok : (m : Model) (l : List Slot) (o i : ℕ) (v : Value) → Each (SlotOk m) l → lookup l o i ≡ some v → ValueOk m i v
 unfolding lookup
@@ -158,7 +161,7 @@ lookup-ok m [] o i v each-nil e = absurd (let z : _≡_ {A = ℕ} 0 1 = cc in om
 lookup-ok m (x ∷ l) o i v (each-cons h hs) e =
     by-if (λ y. y ≡ some v → ValueOk m i v) (eqb o (x .object) && eqb i (x .row)) _ _
     (λ t q. let z : x .value ≡ v = cc in let r : i ≡ x .row = eqb→eq i (x .row) (and-r (eqb o (x .object)) _ t) in
-    rw (← z, r) (record { belong = h .belong; small = h .small; in-range = h .in-range }))
+    rw (← z, r) (record { belong = h .belong; small = h .small; in-range = h .in-range; formed = h .formed }))
     (λ t q. lookup-ok m l o i v hs q) e
 
 pub good-model : (s : Sheet) → Good s → AcceptedModel (modelOf s)
@@ -168,4 +171,5 @@ good-model s g = record {
   values-belong = λ o i v e. subst T (belongs-same (plain s) (modelOf s) refl refl (getD (s .rows) i noRow .type) v) (lookup-ok (plain s) (s .slots) o i v (g .slots) e .belong);
   values-small = λ o i v e. lookup-ok (plain s) (s .slots) o i v (g .slots) e .small;
   values-in-range = λ o i v e. lookup-ok (plain s) (s .slots) o i v (g .slots) e .in-range;
+  values-formed = λ o i v e. lookup-ok (plain s) (s .slots) o i v (g .slots) e .formed;
 }

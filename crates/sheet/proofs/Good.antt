@@ -1,6 +1,6 @@
 -- What holds of a sheet after every line that is taken: parents that are smaller, slots that ascend, values that belong to their rows'
--- types, rules of at most 12 levels, a forest of the open rule's nodes, room for that rule, and Integers in range. One law for each line
--- kind. Assumes nothing.
+-- types and are formed, rules of at most 12 levels, a forest of the open rule's nodes, room for that rule, and Integers in range. One law
+-- for each line kind. Assumes nothing.
 use mathlib.Core.Path.{_≡_, refl, sym, ap, _∙_, subst}
 use mathlib.Core.Bool.{Bool, true, false, _&&_}
 use mathlib.Core.Option.{Option, none, some}
@@ -20,11 +20,13 @@ use Rattle.ocl.specs.Values.{Value, bool, int, obj, coll, Values, nil, cons, si
 use Rattle.ocl.specs.Model.{Model, every, isA, belongs}
 use Rattle.ocl.specs.Forms.{node, numbers, levels, literals}
 use Rattle.ocl.specs.Evaluation.{integersInRange}
+use Rattle.ocl.specs.Laws.{Formed}
 use Rattle.sheet.specs.Lines.{Line, classLine, rowLine, objectLine, valueLine, ruleLine, nodeLine, Shape}
 use Rattle.sheet.specs.Sheet.{Slot, Rule, Current, Sheet, empty, noRow, modelOf, operandsOf, grow, treeOf, withNode, added}
 use Rattle.sheet.specs.Refusals.{partWithin, valueWithin, isNode, formWithin, withinLimits, blockOf, numbered, inOrder, afterSlots, ordered, parentSmaller, partsKnown, suits, operandsFresh, treeHolds}
 use Rattle.sheet.proofs.Ascending.{Ascending, ascending-nil, ascending-more}
 use Rattle.sheet.proofs.InRange.{InRange, value-in-range, tree-in-range, grown-in-range}
+use Rattle.sheet.proofs.Formed.{value-formed}
 use Rattle.sheet.proofs.Forest.{Forest, forest-empty, forest-more}
 
 -- ---- belonging looks at classes alone
@@ -68,6 +70,7 @@ pub record SlotOk (m : Model) (x : Slot) : Type 0 where
   pub belong : T (belongs m (m .row (x .row) .type) (x .value))
   pub small : size (x .value) ≤ 128
   pub in-range : T (integersInRange (x .value))
+  pub formed : Formed (x .value)
   pub low-row : x .row < 64
 
 -- an ended rule's tree, on a sheet with n nodes
@@ -204,9 +207,9 @@ good-object s k n c g m = let e = no-slot s (objectLine n c) g m (omega arith) i
   room = g .room;
 }
 
--- the value of a V line belongs to its row's type, and is small
+-- the value of a V line belongs to its row's type, is small and is formed
 slot-ok : (s : Sheet) (o a : ℕ) (v : Value) → Met s (valueLine o a v) → SlotOk (plain s) (record { object = o; row = a; value = v })
-unfolding plain modelOf suits withinLimits valueWithin
+unfolding plain modelOf suits withinLimits valueWithin numbered
 slot-ok s o a v m =
     let x = and-l (ltb o 96 && ltb a 64 && valueWithin v) _ (and-l (ltb o 96 && ltb a 64 && valueWithin v && ltb (length (s .slots)) 1024) _ (m .limits)) in
     let y = and-l (everyPart partWithin v && leb (size v) 128) _ (and-r (ltb o 96 && ltb a 64) _ x) in
@@ -214,6 +217,7 @@ slot-ok s o a v m =
       belong = subst T (belongs-same (modelOf s) (plain s) refl refl (getD (s .rows) a noRow .type) v) (and-r (isA (modelOf s) o _) _ (m .suit));
       small = leb→le (size v) 128 (and-r (everyPart partWithin v) _ y);
       in-range = value-in-range v (and-l (everyPart partWithin v) _ y);
+      formed = value-formed v (and-r (afterSlots (s .slots) o a) (ordered v) (met-numbered s (valueLine o a v) m));
       low-row = ltb→lt a 64 (and-r (ltb o 96) (ltb a 64) (and-l (ltb o 96 && ltb a 64) (valueWithin v) x));
     }
 

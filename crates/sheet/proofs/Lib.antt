@@ -1,6 +1,7 @@
 pub mod Forest
 pub mod Ascending
 pub mod InRange
+pub mod Formed
 pub mod Good
 pub mod Acceptance
 pub mod Listed

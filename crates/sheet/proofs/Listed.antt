@@ -13,7 +13,7 @@ use Rattle.sheet.specs.Lines.{Line, lineOf, firstIsN}
 use Rattle.sheet.specs.Sheet.{Current, Sheet, empty, endFor, endRule}
 use Rattle.sheet.specs.Refusals.{withinLimits, inOrder, partsKnown, suits, treeHolds}
 use Rattle.sheet.specs.Reading.{Step, taken, refuse, must, stepLine, stepSpelled, step, Reading, accepted, rejected, onStep, onEnd, closing, readLast, readLines, readText}
-use Rattle.sheet.specs.Laws.{ReadRefusal, long-sheet, at-line, ReadRefusals}
+use Rattle.sheet.specs.Laws.{lineCount, ReadRefusal, over-length, at-line, ReadRefusals}
 
 -- a line's refusal is 3 to 8
 data LineStep : Step → Type 0 where
@@ -57,15 +57,15 @@ on-closing : {m : ℕ} (s : Sheet) (k : ℕ) (fs : List Bytes) {f : Sheet → Re
 unfolding closing endRule
 on-closing {m} s k fs h l g = by-if (Listed m) (firstIsN fs) _ _ (λ t. g s) (λ t. on-end s k (s .current) h l g (endFor s (s .current)) refl)
 
-on-last : {m : ℕ} (k : ℕ) (l : Bytes) (s : Sheet) → suc k ≤ m → Listed m (readLast k l s)
-unfolding readLast
+on-last : {m : ℕ} (k : ℕ) (l : Bytes) (s : Sheet) → k + lineCount (l ∷ []) ≤ m → Listed m (readLast k l s)
+unfolding readLast lineCount
 on-last k [] s h = sheet-there
-on-last k (b ∷ l) s h = listed {n = 3} {k = suc k} (omega arith) (omega arith) (omega arith) h
+on-last k (b ∷ l) s h = listed {n = 3} {k = suc k} (omega arith) (omega arith) (omega arith) (omega arith)
 
-listed-lines : {m : ℕ} (s : Sheet) (k : ℕ) (ls : List Bytes) → Opened k s → k + length ls ≤ m → Listed m (readLines s k ls)
-unfolding readLines step
+listed-lines : {m : ℕ} (s : Sheet) (k : ℕ) (ls : List Bytes) → Opened k s → k + lineCount ls ≤ m → Listed m (readLines s k ls)
+unfolding readLines step lineCount
 listed-lines s k [] h l = sheet-there
-listed-lines s k (x ∷ []) h l = on-closing s k (fieldsOf x) h (omega arith) (λ t. on-last k x t (omega arith))
+listed-lines s k (x ∷ []) h l = on-closing s k (fieldsOf x) h (omega arith) (λ t. on-last k x t l)
 listed-lines s k (x ∷ y ∷ ls) h l =
     on-closing s k (fieldsOf x) h (omega arith) (λ t. on-step (suc k) (spelled-listed t (suc k) (lineOf (fieldsOf x))) (omega arith) (omega arith)
     (λ u. listed-lines u (suc k) (y ∷ ls) (λ e. absurd (omega arith)) (omega arith)))
@@ -78,5 +78,5 @@ pub read-refusals : ReadRefusals
 unfolding readText
 read-refusals text n k e =
     by-if (λ r. r ≡ rejected n k → ReadRefusal text n k) (ltb 49152 (length text)) _ _
-    (λ t q. long-sheet (let z : n ≡ 2 = cc in z) (let z : k ≡ 0 = cc in z))
+    (λ t q. over-length (let z : n ≡ 2 = cc in z) (let z : k ≡ 0 = cc in z))
     (λ t q. let h = refusal-of (listed-lines empty 0 (linesOf text) (λ z. unfold empty in refl) (omega arith)) n k q in at-line (h .0) (h .1) (h .2) (h .3)) e

@@ -1,12 +1,11 @@
 -- Demand 3, from the bytes: what reading accepts is what the language's theorem asks, and the calls answer by its outcome. Assumes nothing.
 use mathlib.Core.Path.{_≡_, refl, sym, ap, _∙_, subst}
-use mathlib.Core.Logic.{_≢_}
+use mathlib.Core.Logic.{_≢_, _⊎_, inl, inr}
 use mathlib.Core.Bool.{false}
 use mathlib.Core.Option.{Option, none, some, Option·some-injective}
 use mathlib.Core.List.{List, []}
 use Prim.Native.Nat.{ℕ, _≤_}
 use native.Mathlib.Omega.{arith}
-use native.Mathlib.Decide.{ℕ-discrete}
 use borrow.Author.Tests.{le-ltb}
 use lib.ListN.{length, getElem?}
 use lib.Dec.{T, T-not}
@@ -19,8 +18,8 @@ use Rattle.ocl.specs.Forms.{reach, numbers}
 use Rattle.ocl.specs.Typing.{Answer, typed, refused, typeRule}
 use Rattle.ocl.specs.Environment.{start}
 use Rattle.ocl.specs.Types.{Class}
-use Rattle.ocl.specs.Evaluation.{Outcome, value, undefined, stuck, stop}
-use Rattle.ocl.specs.Soundness.{stepsOf, Sound}
+use Rattle.ocl.specs.Evaluation.{Outcome, value, undefined, stuck, stop, stepsOf}
+use Rattle.ocl.specs.Soundness.{Sound}
 use Rattle.ocl.proofs.Soundness.{soundness}
 use Rattle.ocl.proofs.Places.{typing-places}
 use Rattle.sheet.specs.Text.{Bytes}
@@ -29,7 +28,7 @@ use Rattle.sheet.specs.Sheet.{Rule, Sheet, modelOf}
 use Rattle.sheet.specs.Reading.{Reading, accepted, rejected, readText}
 use Rattle.sheet.specs.Calls.{Verdict, answer, refusalAt, refusal, shortWords, shortOutput, onSheet, readCall, onRule, typingOf, onType, typeOn, typeCall, onObject, outcomeOf, ended, evaluateOn, evaluateCall}
 use Rattle.sheet.specs.Soundness.{Lent, sheetFrom, sheetIn, ruleReach, reachOf, contextHas, ofContext, Ending, undefined-end, value-end, step-stop, size-stop, Demand3}
-use Rattle.sheet.specs.Laws.{ReadRefusal, long-sheet, at-line, TypeRefusals}
+use Rattle.sheet.specs.Laws.{ReadRefusal, over-length, at-line, TypeRefusals}
 use Rattle.sheet.proofs.Spelling.{type-back}
 use Rattle.sheet.proofs.Listed.{read-refusals}
 use Rattle.sheet.proofs.Good.{Good}
@@ -38,16 +37,16 @@ use Rattle.sheet.proofs.Acceptance.{accepted-good, good-model}
 -- ---- an outcome and what evaluate answers for it
 
 module _ (m : Model) (t : Ty) (k : ℕ) where
-  stop-end : (c n : ℕ) → (c ≢ 16 → c ≡ 17) → (b : Dec (c ≡ 16)) → Ending m t (record { number = c; steps = n; place = 0; output = [] })
-  stop-end c n h (yes e) = rw e step-stop
-  stop-end c n h (no q) = rw (h q) size-stop
+  stop-end : (c n : ℕ) → (c ≡ 16) ⊎ (c ≡ 17) → Ending m t (record { number = c; steps = n; place = 0; output = [] })
+  stop-end c n (inl e) = rw e step-stop
+  stop-end c n (inr e) = rw e size-stop
 
   end-of : (o : Outcome) → Sound m t k o → Ending m t (ended o)
   unfolding ended
-  end-of (value v n) h = value-end v (h .of-type v n refl) (h .of-size v n refl) (h .in-range v n refl)
+  end-of (value v n) h = value-end v (h .of-type v n refl) (h .of-size v n refl) (h .in-range v n refl) (h .formed v n refl)
   end-of (undefined n) h = undefined-end
   end-of stuck h = absurd (h .not-stuck refl)
-  end-of (stop c n) h = stop-end c n (h .known-stop c n refl) (ℕ-discrete c 16)
+  end-of (stop c n) h = stop-end c n (h .known-stop c n refl)
 
   steps-of : (o : Outcome) → Sound m t k o → ended o .steps ≤ k
   unfolding ended stepsOf refusal refusalAt
@@ -104,7 +103,7 @@ read-number : (text : Bytes) (n k : ℕ) → readText text ≡ rejected n k → 
 read-number text n k e = by (read-refusals text n k e)
   where
     by : ReadRefusal text n k → 1 ≤ n
-    by (long-sheet a b) = omega arith
+    by (over-length a b) = omega arith
     by (at-line a b c d) = omega arith
 
 -- a type has a spelling of its own
@@ -127,7 +126,8 @@ type-given s (some x) t e y q = let z : x ≡ y = cc in
 
 -- ---- on a sheet, and on a text
 
-record SoundOn (s : Sheet) (x : Option Rule) (t : Ty) (v : Verdict) : Type 0 where
+record SoundOn (s : Sheet) (x : Option Rule) (o : ℕ) (t : Ty) (v : Verdict) : Type 0 where
+  not-stuck : (y : Rule) → x ≡ some y → outcomeOf s y o ≢ stuck
   ending : Ending (modelOf s) t v
   in-reach : v .steps ≤ ruleReach x
   no-step-stop : ruleReach x ≤ 1000000 → v .number ≢ 16
@@ -140,7 +140,7 @@ object-there m (some d) o c v e h = by-if (λ w. w ≡ v) (isA m o (class c)) v 
 
 sound-sheet : (s : Sheet) → Good s → (r o : ℕ) (t : Ty) (x : Option Rule) → getElem? (s .rules) r ≡ x
     → onRule x (λ y. onType s (typingOf s y .answer) (λ u. answer (spellType u))) ≡ answer (spellType t) → T (contextHas s x o)
-    → SoundOn s x t (onRule x (λ y. onObject (modelOf s) (modelOf s .classOf o) o (y .context) (onType s (typingOf s y .answer) (λ u. ended (outcomeOf s y o)))))
+    → SoundOn s x o t (onRule x (λ y. onObject (modelOf s) (modelOf s .classOf o) o (y .context) (onType s (typingOf s y .answer) (λ u. ended (outcomeOf s y o)))))
 unfolding contextHas onRule onType ruleReach
 sound-sheet s g r o t none e h c = absurd c
 sound-sheet s g r o t (some y) e h c =
@@ -148,6 +148,7 @@ sound-sheet s g r o t (some y) e h c =
     let z = sound-rule s g r o y t e d c in
     rw (object-there (modelOf s) (modelOf s .classOf o) o (y .context) (onType s (typingOf s y .answer) (λ u. ended (outcomeOf s y o))) refl c, d)
     (record {
+      not-stuck = λ w q. let i : y ≡ w = cc in subst (λ u. outcomeOf s u o ≢ stuck) i (z .not-stuck);
       ending = end-of (modelOf s) t (reach (y .body)) (outcomeOf s y o) z;
       in-reach = steps-of (modelOf s) t (reach (y .body)) (outcomeOf s y o) z;
       no-step-stop = no-stop (modelOf s) t (reach (y .body)) (outcomeOf s y o) z;
@@ -155,7 +156,7 @@ sound-sheet s g r o t (some y) e h c =
 
 sound-reading : (text : Bytes) (r o : ℕ) (t : Ty) (x : Reading) → readText text ≡ x → onSheet x (λ s. answer []) .number ≡ 0
     → onSheet x (λ s. typeOn s r) ≡ answer (spellType t) → T (contextHas (sheetFrom x) (getElem? (sheetFrom x .rules) r) o)
-    → SoundOn (sheetFrom x) (getElem? (sheetFrom x .rules) r) t (onSheet x (λ s. evaluateOn s r o))
+    → SoundOn (sheetFrom x) (getElem? (sheetFrom x .rules) r) o t (onSheet x (λ s. evaluateOn s r o))
 unfolding onSheet sheetFrom typeOn evaluateOn refusalAt
 sound-reading text r o t (accepted s) e q h c = sound-sheet s (accepted-good text s e) r o t (getElem? (s .rules) r) refl h c
 sound-reading text r o t (rejected n k) e q h c = absurd (no-number n (read-number text n k e) q)
@@ -164,13 +165,34 @@ pub demand3 : Demand3
 unfolding reachOf ofContext sheetIn
 demand3 text w0 w1 w2 out l r o t a b c =
     let z = sound-reading text r o t (readText text) refl (rw (read-lent text w0 w1 w2 out l) at a) (rw (type-lent text w0 w1 w2 out l r) at b) c in
-    rw (evaluate-lent text w0 w1 w2 out l r o) (record { ending = z .ending; in-reach = z .in-reach; no-step-stop = z .no-step-stop })
+    rw (evaluate-lent text w0 w1 w2 out l r o) (record { not-stuck = z .not-stuck; ending = z .ending; in-reach = z .in-reach; no-step-stop = z .no-step-stop })
 
--- ---- typing's refusals, on an accepted sheet
+-- ---- what the call that types answers
 
+-- typing's refusals, on an accepted sheet
 pub type-refusals : TypeRefusals
 unfolding typingOf typeRule
 type-refusals text s e r x q n p h =
     let g = each-elem r (accepted-good text s e .rules) q in
     let k = typing-places (modelOf s) (x .body) (start (Class (x .context))) .refusals n p h in
     record { low = k .low; high = k .high; node-of-rule = k .placed; on-sheet = each-at (g .on-sheet) (member-exact p (numbers (x .body)) .0 (k .placed)) }
+
+-- with number 0 it gives no steps and no place
+abbrev Plain : Verdict → Type 0
+Plain v = v .number ≡ 0 → v ≡ answer (v .output)
+
+pub type-plain : (text : Bytes) (w0 w1 w2 : List ℕ) (out : Bytes) → Lent w0 w1 w2 out → (r : ℕ) → Plain (typeCall text r w0 w1 w2 out)
+unfolding onSheet typeOn onRule onType answer refusal refusalAt
+type-plain text w0 w1 w2 out l r = rw (type-lent text w0 w1 w2 out l r) (of-reading (readText text) refl)
+  where
+    of-answer : (s : Sheet) → readText text ≡ accepted s → (x : Rule) → getElem? (s .rules) r ≡ some x → (a : Answer) → typingOf s x .answer ≡ a → Plain (onType s a (λ t. answer (spellType t)))
+    of-answer s e x q (typed t) h z = refl
+    of-answer s e x q (refused n p) h z = absurd (omega (arith, type-refusals text s e r x q n p h .low))
+
+    of-rule : (s : Sheet) → readText text ≡ accepted s → (x : Option Rule) → getElem? (s .rules) r ≡ x → Plain (onRule x (λ y. onType s (typingOf s y .answer) (λ t. answer (spellType t))))
+    of-rule s e none q z = absurd (omega arith)
+    of-rule s e (some x) q z = of-answer s e x q (typingOf s x .answer) refl z
+
+    of-reading : (x : Reading) → readText text ≡ x → Plain (onSheet x (λ s. typeOn s r))
+    of-reading (accepted s) e z = of-rule s e (getElem? (s .rules) r) refl z
+    of-reading (rejected n k) e z = absurd (no-number n (read-number text n k e) z)

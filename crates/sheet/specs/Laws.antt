@@ -1,9 +1,10 @@
 -- What is proved of reading and the calls, besides demand 3 (Soundness.antt): the statements. proofs/ has the proofs.
 use mathlib.Core.Path.{_≡_}
-use Prim.Native.Nat.{ℕ, _≤_, _<_}
+use Prim.Native.Nat.{ℕ, suc, _≤_, _<_}
 use lib.ListN.{length, getElem?}
 use lib.Dec.{T}
 use mathlib.Core.Option.{some}
+use mathlib.Core.List.{List, [], _∷_}
 use Rattle.laws.specs.Lists.{member}
 use Rattle.ocl.specs.Forms.{numbers}
 use Rattle.ocl.specs.Typing.{refused}
@@ -12,10 +13,17 @@ use Rattle.sheet.specs.Sheet.{Rule, Sheet}
 use Rattle.sheet.specs.Reading.{accepted, rejected, readText}
 use Rattle.sheet.specs.Calls.{typingOf}
 
+-- how many of a text's parts are lines: what follows the last line feed is one only where it is not empty
+unfoldable pub lineCount : List Bytes → ℕ
+lineCount [] = 0
+lineCount ([] ∷ []) = 0
+lineCount ((b ∷ l) ∷ []) = 1
+lineCount (l ∷ m ∷ ls) = suc (lineCount (m ∷ ls))
+
 -- reading refuses with 2 and no place, or with 3 to 8 at a line of the text
 pub data ReadRefusal (text : Bytes) (n k : ℕ) : Type 0 where
-  long-sheet : n ≡ 2 → k ≡ 0 → ReadRefusal text n k
-  at-line : 3 ≤ n → n ≤ 8 → 1 ≤ k → k ≤ length (linesOf text) → ReadRefusal text n k
+  over-length : n ≡ 2 → k ≡ 0 → ReadRefusal text n k
+  at-line : 3 ≤ n → n ≤ 8 → 1 ≤ k → k ≤ lineCount (linesOf text) → ReadRefusal text n k
 
 abbrev pub ReadRefusals : Type 0
 ReadRefusals = (text : Bytes) (n k : ℕ) → readText text ≡ rejected n k → ReadRefusal text n k

@@ -11,14 +11,15 @@ use Rattle.ocl.specs.Types.{class, Ty}
 use Rattle.ocl.specs.Values.{Value, size}
 use Rattle.ocl.specs.Model.{Model, isA, belongs}
 use Rattle.ocl.specs.Forms.{reach}
-use Rattle.ocl.specs.Evaluation.{integersInRange}
+use Rattle.ocl.specs.Evaluation.{stuck, integersInRange}
+use Rattle.ocl.specs.Laws.{Formed}
 use Rattle.sheet.specs.Text.{Bytes, bytes}
 use Rattle.sheet.specs.Spelling.{spellType, spellValue}
 use Rattle.sheet.specs.Sheet.{Rule, Sheet, empty, modelOf}
 use Rattle.sheet.specs.Reading.{Reading, accepted, rejected, readText}
-use Rattle.sheet.specs.Calls.{Verdict, answer, readCall, typeCall, evaluateCall}
+use Rattle.sheet.specs.Calls.{Verdict, answer, readCall, typeCall, outcomeOf, evaluateCall}
 
--- every lent slice is at its minimum or above
+-- every lent slice (document 01's word for the words and the output that a caller hands over) is at its minimum or above
 pub record Lent (w0 w1 w2 : List ℕ) (out : Bytes) : Type 0 where
   pub words0 : 8192 ≤ length w0
   pub words1 : 8192 ≤ length w1
@@ -49,16 +50,19 @@ contextHas s (some x) o = isA (modelOf s) o (class (x .context))
 unfoldable pub ofContext : Bytes → ℕ → ℕ → Bool
 ofContext text r o = contextHas (sheetIn text) (getElem? (sheetIn text .rules) r) o
 
--- how evaluate may end for a rule of type t: undefined, a value of that type and of an allowed size whose Integers are in range, the
--- step stop, the size stop
+-- how evaluate may end for a rule of type t: undefined; a value of that type and of an allowed size whose Integers are in range and which
+-- is formed; the step stop, 16; the size stop, 17 (document 01's words)
 pub data Ending (m : Model) (t : Ty) : Verdict → Type 0 where
   undefined-end : {n : ℕ} → Ending m t (record { number = 0; steps = n; place = 0; output = bytes "u" })
-  value-end : {n : ℕ} (v : Value) → T (belongs m t v) → size v ≤ 128 → T (integersInRange v)
+  value-end : {n : ℕ} (v : Value) → T (belongs m t v) → size v ≤ 128 → T (integersInRange v) → Formed v
       → Ending m t (record { number = 0; steps = n; place = 0; output = spellValue v })
   step-stop : {n : ℕ} → Ending m t (record { number = 16; steps = n; place = 0; output = [] })
   size-stop : {n : ℕ} → Ending m t (record { number = 17; steps = n; place = 0; output = [] })
 
-pub record SoundCall (text : Bytes) (r : ℕ) (t : Ty) (v : Verdict) : Type 0 where
+-- what evaluate comes to for rule r, of type t, and object o
+pub record SoundCall (text : Bytes) (r o : ℕ) (t : Ty) (v : Verdict) : Type 0 where
+  -- the evaluation never ends stuck
+  pub not-stuck : (x : Rule) → getElem? (sheetIn text .rules) r ≡ some x → outcomeOf (sheetIn text) x o ≢ stuck
   pub ending : Ending (modelOf (sheetIn text)) t v
   -- the steps are within the rule's reach
   pub in-reach : v .steps ≤ reachOf text r
@@ -72,4 +76,4 @@ Demand3 =
     → readCall text w0 w1 w2 .number ≡ 0
     → typeCall text r w0 w1 w2 out ≡ answer (spellType t)
     → T (ofContext text r o)
-    → SoundCall text r t (evaluateCall text r o w0 w1 w2 out)
+    → SoundCall text r o t (evaluateCall text r o w0 w1 w2 out)
