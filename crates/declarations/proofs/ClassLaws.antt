@@ -9,6 +9,7 @@ use borrow.Author.Needs.{needs}
 use borrow.Author.Tests.{lt-ltb, le-ltb, eq-eqb, ne-eqb}
 use lib.ListN.{length, getD, drop, set, length-drop, length-set}
 use lib.Seq.{getD-set-same}
+use Rattle.laws.proofs.Lists.{length-more}
 use Rattle.sheet.specs.Text.{Bytes, bytes, fieldsOf}
 use Rattle.sheet.specs.Lines.{classLine, is, next, done, aNumber, aParent, lineOf}
 use Rattle.sheet.specs.Sheet.{Sheet, added}
@@ -23,7 +24,7 @@ use Rattle.tables.specs.declared.Counts.{Counts}
 use Rattle.tables.specs.declared.Step.the-variants.{Next, Stop}
 use Rattle.tables.specs.Layout.{parentCode, Holds, Fine}
 use Rattle.tables.proofs.Tables.{kept-set}
-use Rattle.tables.proofs.Entries.{length-more, tab-more-of, holds-kept, spare-parent, open-kept}
+use Rattle.tables.proofs.Entries.{tab-more-of, holds-kept, spare-parent, open-kept}
 use Rattle.tables.proofs.Steps.{over-limits, steps-on}
 use Rattle.tables.proofs.LineFields.{word-is, takes-none, takes-more, field-bad, field-some, fields-done, the, num-some, num-exact}
 use Rattle.declarations.specs.Fields.{parentNum}

@@ -9,6 +9,7 @@ use borrow.Author.Tests.{lt-ltb, le-ltb, eq-eqb, ne-eqb}
 use lib.Dec.{ltb}
 use lib.ListN.{length, getD, set, length-set}
 use lib.Seq.{getD-set-same}
+use Rattle.laws.proofs.Lists.{length-more}
 use Rattle.sheet.specs.Lines.{objectLine}
 use Rattle.sheet.specs.Sheet.{Sheet, added}
 use Rattle.sheet.specs.Refusals.{isClass, withinLimits, blockOf, numbered, inOrder, partsKnown, suits, treeHolds}
@@ -16,7 +17,7 @@ use Rattle.tables.specs.declared.Counts.{Counts}
 use Rattle.tables.specs.declared.Step.the-variants.{Next, Stop}
 use Rattle.tables.specs.Layout.{Holds, Fine}
 use Rattle.tables.proofs.Tables.{kept-set}
-use Rattle.tables.proofs.Entries.{length-more, tab-next, holds-kept, spare-object, open-kept}
+use Rattle.tables.proofs.Entries.{tab-next, holds-kept, spare-object, open-kept}
 use Rattle.tables.proofs.Steps.{steps-on}
 use Rattle.declarations.specs.Taken.{TookSpelled}
 use Rattle.declarations.proofs.TakenLaws.{passed, past-block, order-by-number, misnumbered, unknown}

@@ -10,6 +10,7 @@ use lib.Dec.{ltb}
 use lib.ListN.{length, getD, set, length-set}
 use lib.Seq.{getD-set-same, getD-set-other}
 use Rattle.laws.proofs.Bounds.{cut-lt}
+use Rattle.laws.proofs.Lists.{length-more}
 use Rattle.ocl.specs.Types.{Ty}
 use Rattle.ocl.specs.Model.{Row}
 use Rattle.sheet.specs.Lines.{rowLine}
@@ -20,7 +21,7 @@ use Rattle.tables.specs.declared.Counts.{Counts}
 use Rattle.tables.specs.declared.Step.the-variants.{Next, Stop}
 use Rattle.tables.specs.Layout.{tab, Holds, Fine, Kept}
 use Rattle.tables.proofs.Tables.{kept-set, kept-then}
-use Rattle.tables.proofs.Entries.{length-more, tab-more-of, tab-more-by, holds-kept, spare-owner, spare-name, spare-type, open-kept}
+use Rattle.tables.proofs.Entries.{tab-more-of, tab-more-by, holds-kept, spare-owner, spare-name, spare-type, open-kept}
 use Rattle.tables.proofs.Steps.{over-limits, steps-on}
 use Rattle.declarations.specs.Fields.{namedIn}
 use Rattle.declarations.specs.Taken.{TookSpelled}

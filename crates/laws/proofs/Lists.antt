@@ -1,14 +1,18 @@
--- Laws of lists of numbers: members, what holds of each, no number twice. Assumes nothing.
-use mathlib.Core.Path.{_≡_, refl}
+-- Laws of lists: one element more, members, what holds of each, no number twice. Assumes nothing.
+use mathlib.Core.Path.{_≡_, refl, _∙_}
 use mathlib.Core.Logic.{_≢_, _↔_}
 use mathlib.Core.Bool.{Bool, true, false, _||_}
 use mathlib.Core.List.{List, [], _∷_, _++_, map, List·Memᴰ, List·Memᴰ·head, List·Memᴰ·tail}
-use Prim.Native.Nat.{ℕ, _<_}
+use Prim.Native.Nat.{ℕ, suc, _<_}
 use native.Mathlib.Omega.{arith}
+use lib.ListN.{length, length-append}
 use borrow.Author.Tests.{ne-eqb}
 use lib.Dec.{T, eqb, eqb→eq, eqb-refl}
 use Rattle.laws.specs.Lists.{member, Each, each-nil, each-cons, Distinct, distinct-nil, distinct-cons}
 use Rattle.laws.proofs.Tests.{or-l, or-r, or-e}
+
+pub length-more : {A : Type 0} (xs : List A) (x : A) → length (xs ++ (x ∷ [])) ≡ suc (length xs)
+length-more xs x = length-append xs (x ∷ []) ∙ omega arith
 
 -- ---- members
 

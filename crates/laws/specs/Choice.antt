@@ -22,8 +22,3 @@ onSome (some x) f = f x
 unfoldable pub mapSome : {A B : Type 0} → (A → B) → Option A → Option B
 mapSome f none = none
 mapSome f (some x) = some (f x)
-
--- is there a content
-unfoldable pub isSome : {A : Type 0} → Option A → Bool
-isSome none = false
-isSome (some x) = true

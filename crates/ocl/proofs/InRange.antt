@@ -12,8 +12,9 @@ use Rattle.laws.proofs.Tests.{and-i, and-l, and-r, by-if}
 use Rattle.ocl.specs.Types.{class, Kind}
 use Rattle.ocl.specs.Values.{Value, int, obj, coll, Values, nil, cons, count, size, sizes, everyPart, everyParts}
 use Rattle.ocl.specs.Model.{Model, isA}
-use Rattle.ocl.specs.Forms.{Expr, literals}
-use Rattle.ocl.specs.Evaluation.{value, inRange, integerInRange, integersInRange, instances, evaluateRule}
+use Rattle.ocl.specs.Forms.{Expr}
+use Rattle.ocl.specs.Laws.{literals, integerInRange, integersInRange}
+use Rattle.ocl.specs.Evaluation.{value, inRange, instances, evaluateRule}
 use Rattle.ocl.specs.Soundness.{AcceptedModel}
 use Rattle.ocl.proofs.Values.{Every, every-nil, every-cons, append-every, add-every, count-sizes}
 use Rattle.ocl.proofs.Kept.{Keeps, kept-rule}

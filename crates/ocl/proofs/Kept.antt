@@ -13,7 +13,8 @@ use Rattle.ocl.specs.Types.{class, Kind, set, sameKind}
 use Rattle.ocl.specs.Values.{Value, bool, int, obj, coll, Values, nil, count, size, orderInt, same, has, add, addAll}
 use Rattle.ocl.specs.Model.{Model, isA}
 use Rattle.ocl.specs.Environment.{Env, extend, start}
-use Rattle.ocl.specs.Forms.{Connective, Quantifier, Leaf, truth, undef, number, self, var, all, Unary, negation, sizeOf, convert, castTo, Binary, equal, less, arith, includes, including, union, Expr, node, Form, leaf, unary, binary, connective, isUndef, conditional, letIn, attribute, quantified, iterate, collect, Operands, noOperand, operand, leafLiterals, literals, literalsIn, literalsOf}
+use Rattle.ocl.specs.Forms.{Connective, Quantifier, Leaf, truth, undef, number, self, var, all, Unary, negation, sizeOf, convert, castTo, Binary, equal, less, arith, includes, including, union, Expr, node, Form, leaf, unary, binary, connective, isUndef, conditional, letIn, attribute, quantified, iterate, collect, Operands, noOperand, operand}
+use Rattle.ocl.specs.Laws.{leafLiterals, literals, literalsIn, literalsOf}
 use Rattle.ocl.specs.Evaluation.{value, Run, isLess, inRange, instances, leafRun, cast, unaryApply, unaryRun, leftFits, binaryApply, binaryRun, decides, connectiveRun, isUndefRun, conditionalRun, letRun, attributeRun, quantifiedRun, iterateRun, Gather, noOperandRun, operandRun, collectRun, evaluation, formRun, operandsRun, evaluateRule}
 use Rattle.laws.proofs.Tests.{All?, all-none, all-some, all-imp, all-self}
 use Rattle.laws.proofs.Lists.{each-head, each-left, each-right}

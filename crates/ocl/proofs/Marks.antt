@@ -11,7 +11,8 @@ use Rattle.laws.specs.Choice.{if_then_else_}
 use Rattle.ocl.specs.Environment.{Env, extend}
 use Rattle.ocl.specs.Types.{any, boolean, integer, class, Letter, Ty, void, simple, around, subtype}
 use Rattle.ocl.specs.Model.{Model, rowRead}
-use Rattle.ocl.specs.Forms.{Expr, node, Form, leaf, unary, binary, connective, isUndef, conditional, letIn, attribute, quantified, iterate, collect, Operands, noOperand, operand, numbers, numbersIn, numbersOf}
+use Rattle.ocl.specs.Forms.{Expr, node, Form, leaf, unary, binary, connective, isUndef, conditional, letIn, attribute, quantified, iterate, collect, Operands, noOperand, operand}
+use Rattle.ocl.specs.Laws.{numbers, numbersIn, numbersOf}
 use Rattle.ocl.specs.Typing.{Answer, typed, refused, Marks, Typed, pure, thenFor, andThen, onCollection, rowType, attributeType, leafTyping, unaryTyping, binaryTyping, connectiveTyping, isUndefTyping, conditionalTyping, letTyping, attributeTyping, quantifiedTyping, iterateTyping, noOperandTyping, operandTyping, collectTyping, typing, formTyping, operandsTyping, markOr}
 use Rattle.laws.specs.Lists.{Each, each-nil, each-cons, Distinct, distinct-nil, distinct-cons}
 

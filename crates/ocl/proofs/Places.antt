@@ -11,9 +11,9 @@ use Rattle.laws.specs.Lists.{member, Each}
 use Rattle.ocl.specs.Environment.{Env, extend}
 use Rattle.ocl.specs.Types.{any, boolean, integer, class, Kind, Letter, collection, exactly, Ty, void, simple, around, Class, Boolean, Integer, depth, sameKind, subtype, join}
 use Rattle.ocl.specs.Model.{Model}
-use Rattle.ocl.specs.Forms.{Leaf, truth, undef, number, self, var, all, Unary, negation, sizeOf, convert, castTo, Binary, equal, less, arith, includes, including, union, Expr, node, Form, leaf, unary, binary, connective, isUndef, conditional, letIn, attribute, quantified, iterate, collect, Operands, noOperand, operand, numbers, numbersIn, numbersOf}
+use Rattle.ocl.specs.Forms.{Leaf, truth, undef, number, self, var, all, Unary, negation, sizeOf, convert, castTo, Binary, equal, less, arith, includes, including, union, Expr, node, Form, leaf, unary, binary, connective, isUndef, conditional, letIn, attribute, quantified, iterate, collect, Operands, noOperand, operand}
 use Rattle.ocl.specs.Typing.{Answer, typed, refused, Marks, Typed, pure, thenFor, andThen, below, common, wrap, onCollection, onKind, boundType, leafType, castType, unaryType, bothBelow, binaryType, conditionalType, rowType, attributeType, leafTyping, unaryTyping, binaryTyping, connectiveTyping, isUndefTyping, conditionalTyping, letTyping, attributeTyping, quantifiedTyping, iterateTyping, noOperandTyping, operandTyping, collectTyping, typing, formTyping, operandsTyping, markOr, markOf}
-use Rattle.ocl.specs.Laws.{Refusal, EachMark, no-mark, mark-then, TypingPlacesLaw}
+use Rattle.ocl.specs.Laws.{Refusal, EachMark, no-mark, mark-then, TypingPlacesLaw, numbers, numbersIn, numbersOf}
 use Rattle.laws.proofs.Tests.{and-l, and-r, by-if, All?, all-none, all-some}
 use Rattle.laws.proofs.Lists.{each-left, each-right, each-head, each-member}
 use Rattle.ocl.proofs.Values.{rowRead-row}

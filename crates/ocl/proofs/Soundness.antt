@@ -12,7 +12,8 @@ use Rattle.ocl.specs.Environment.{Env, extend, start}
 use Rattle.ocl.specs.Types.{Simple, any, boolean, integer, class, Kind, set, Letter, exactly, Ty, void, simple, around, Boolean, Integer, Class, letterSubtype, sameKind, subtype}
 use Rattle.ocl.specs.Values.{Value, bool, int, obj, coll, nil, count, size, orderInt, same, has, add}
 use Rattle.ocl.specs.Model.{Model, isA}
-use Rattle.ocl.specs.Forms.{Connective, Quantifier, Leaf, truth, undef, number, self, var, all, Unary, negation, sizeOf, convert, castTo, Binary, equal, less, arith, includes, including, union, Expr, node, Form, leaf, unary, binary, connective, isUndef, conditional, letIn, attribute, quantified, iterate, collect, Operands, noOperand, operand, reach, inside, reaches, literals}
+use Rattle.ocl.specs.Forms.{Connective, Quantifier, Leaf, truth, undef, number, self, var, all, Unary, negation, sizeOf, convert, castTo, Binary, equal, less, arith, includes, including, union, Expr, node, Form, leaf, unary, binary, connective, isUndef, conditional, letIn, attribute, quantified, iterate, collect, Operands, noOperand, operand, reach, inside, reaches}
+use Rattle.ocl.specs.Laws.{literals}
 use Rattle.ocl.specs.Typing.{typed, boundType, leafType, castType, unaryType, bothBelow, binaryType, conditionalType, rowType, attributeType, leafTyping, unaryTyping, binaryTyping, connectiveTyping, isUndefTyping, conditionalTyping, letTyping, attributeTyping, quantifiedTyping, iterateTyping, noOperandTyping, operandTyping, collectTyping, typing, formTyping, operandsTyping, typeRule, markOf}
 use Rattle.ocl.specs.Evaluation.{Run, isLess, inRange, instances, leafRun, cast, unaryApply, unaryRun, leftFits, binaryApply, binaryRun, decides, connectiveRun, isUndefRun, conditionalRun, letRun, attributeRun, quantifiedRun, iterateRun, Gather, noOperandRun, operandRun, collectRun, evaluation, formRun, operandsRun, evaluateRule}
 use Rattle.ocl.specs.Evaluation.{bound as boundRun}

@@ -6,7 +6,7 @@ use lib.IntN.{ℤ, pos, negsuc, negℤ, natAbs, _+ℤ_, _-ℤ_, _*ℤ_}
 use lib.Dec.{leb, ltb}
 use Rattle.laws.specs.Choice.{if_then_else_}
 use Rattle.ocl.specs.Types.{class, Kind, set, sameKind}
-use Rattle.ocl.specs.Values.{Value, bool, int, obj, coll, Values, nil, cons, count, size, everyPart, orderInt, same, has, append, add, addAll}
+use Rattle.ocl.specs.Values.{Value, bool, int, obj, coll, Values, nil, cons, count, size, orderInt, same, has, append, add, addAll}
 use Rattle.ocl.specs.Model.{Model, isA}
 use Rattle.ocl.specs.Environment.{Env, extend, start}
 use Rattle.ocl.specs.Forms.{Arith, plus, minus, times, div, modulo, Connective, and, or, Quantifier, forAll, exists, Leaf, truth, undef, number, self, var, all, Unary, negation, sizeOf, convert, castTo, Binary, equal, less, arith, includes, including, union, Expr, node, Form, leaf, unary, binary, connective, isUndef, conditional, letIn, attribute, quantified, iterate, collect, Operands, noOperand, operand}
@@ -95,17 +95,6 @@ isLess Ordering·gt = false
 unfoldable pub inRange : ℤ → Bool
 inRange (pos n) = ltb n 2147483648
 inRange (negsuc n) = ltb n 2147483648
-
--- of a value that is no collection
-unfoldable pub integerInRange : Value → Bool
-integerInRange (bool b) = true
-integerInRange (int z) = inRange z
-integerInRange (obj o) = true
-integerInRange (coll k vs) = true
-
--- every Integer in a value, at every depth
-unfoldable pub integersInRange : Value → Bool
-integersInRange v = everyPart integerInRange v
 
 -- a result outside the range is undefined
 unfoldable pub ranged : ℤ → Option Value

@@ -1,6 +1,5 @@
 -- Document 01, The forms and their typing: a rule as a tree of nodes. Evaluation: its reach.
 use mathlib.Core.Bool.{Bool}
-use mathlib.Core.List.{List, [], _∷_, _++_}
 use Prim.Native.Nat.{ℕ, suc, _+_, _*_, max}
 use lib.IntN.{ℤ}
 use Rattle.ocl.specs.Types.{Kind, Ty}
@@ -113,55 +112,3 @@ unfoldable mutual
   pub levelsOf : Operands → ℕ
   levelsOf noOperand = 0
   levelsOf (operand e es) = max (levels e) (levelsOf es)
-
--- the numbers of a tree's nodes, operands first
-unfoldable mutual
-  pub numbers : Expr → List ℕ
-  numbers (node n f) = numbersIn f ++ (n ∷ [])
-
-  pub numbersIn : Form → List ℕ
-  numbersIn (leaf l) = []
-  numbersIn (unary op a) = numbers a
-  numbersIn (binary op a b) = numbers a ++ numbers b
-  numbersIn (connective c a b) = numbers a ++ numbers b
-  numbersIn (isUndef a) = numbers a
-  numbersIn (conditional c a b) = numbers c ++ (numbers a ++ numbers b)
-  numbersIn (letIn i a b) = numbers a ++ numbers b
-  numbersIn (attribute name a) = numbers a
-  numbersIn (quantified q i a b) = numbers a ++ numbers b
-  numbersIn (iterate i j t a e b) = numbers a ++ (numbers e ++ numbers b)
-  numbersIn (collect k es) = numbersOf es
-
-  pub numbersOf : Operands → List ℕ
-  numbersOf noOperand = []
-  numbersOf (operand e es) = numbers e ++ numbersOf es
-
--- a tree's Integer literals, operands from left to right
-unfoldable pub leafLiterals : Leaf → List ℤ
-leafLiterals (truth b) = []
-leafLiterals undef = []
-leafLiterals (number z) = z ∷ []
-leafLiterals self = []
-leafLiterals (var i) = []
-leafLiterals (all c) = []
-
-unfoldable mutual
-  pub literals : Expr → List ℤ
-  literals (node n f) = literalsIn f
-
-  pub literalsIn : Form → List ℤ
-  literalsIn (leaf l) = leafLiterals l
-  literalsIn (unary op a) = literals a
-  literalsIn (binary op a b) = literals a ++ literals b
-  literalsIn (connective c a b) = literals a ++ literals b
-  literalsIn (isUndef a) = literals a
-  literalsIn (conditional c a b) = literals c ++ (literals a ++ literals b)
-  literalsIn (letIn i a b) = literals a ++ literals b
-  literalsIn (attribute name a) = literals a
-  literalsIn (quantified q i a b) = literals a ++ literals b
-  literalsIn (iterate i j t a e b) = literals a ++ (literals e ++ literals b)
-  literalsIn (collect k es) = literalsOf es
-
-  pub literalsOf : Operands → List ℤ
-  literalsOf noOperand = []
-  literalsOf (operand e es) = literals e ++ literalsOf es

@@ -1,21 +1,86 @@
 -- What is proved of types, values, evaluation and typing, besides demand 3 (Soundness.antt): the statements. proofs/ has the proofs.
 use mathlib.Core.Path.{_≡_}
 use mathlib.Core.Logic.{_↔_}
-use mathlib.Core.Bool.{Bool}
+use mathlib.Core.Bool.{Bool, true}
 use mathlib.Core.Option.{none, some}
-use mathlib.Core.List.{List, [], _∷_}
+use mathlib.Core.List.{List, [], _∷_, _++_}
 use Prim.Native.Nat.{ℕ, _≤_, _<_, Ordering, Ordering·lt, Ordering·eq}
 use lib.IntN.{ℤ}
 use lib.Dec.{T}
 use Rattle.laws.specs.Lists.{member}
 use Rattle.laws.specs.Orders.{TotalOrder}
 use Rattle.ocl.specs.Types.{Kind, set, sequence, bag, Ty, Parents, Subtype, subtype, join}
-use Rattle.ocl.specs.Values.{Value, bool, int, obj, coll, Values, nil, cons, order, same, has, add, addAll}
+use Rattle.ocl.specs.Values.{Value, bool, int, obj, coll, Values, nil, cons, everyPart, order, same, has, add, addAll}
 use Rattle.ocl.specs.Model.{Model, belongs}
 use Rattle.ocl.specs.Environment.{Env}
-use Rattle.ocl.specs.Forms.{Expr, numbers}
+use Rattle.ocl.specs.Forms.{Leaf, truth, undef, number, self, var, all, Expr, node, Form, leaf, unary, binary, connective, isUndef, conditional, letIn, attribute, quantified, iterate, collect, Operands, noOperand, operand}
 use Rattle.ocl.specs.Typing.{refused, Marks, typing}
-use Rattle.ocl.specs.Evaluation.{value, instances, evaluation, evaluateRule}
+use Rattle.ocl.specs.Evaluation.{value, inRange, instances, evaluation, evaluateRule}
+
+-- ---- what the statements speak of: the nodes and literals of a tree, the Integers of a value
+
+-- the numbers of a tree's nodes, operands first
+unfoldable mutual
+  pub numbers : Expr → List ℕ
+  numbers (node n f) = numbersIn f ++ (n ∷ [])
+
+  pub numbersIn : Form → List ℕ
+  numbersIn (leaf l) = []
+  numbersIn (unary op a) = numbers a
+  numbersIn (binary op a b) = numbers a ++ numbers b
+  numbersIn (connective c a b) = numbers a ++ numbers b
+  numbersIn (isUndef a) = numbers a
+  numbersIn (conditional c a b) = numbers c ++ (numbers a ++ numbers b)
+  numbersIn (letIn i a b) = numbers a ++ numbers b
+  numbersIn (attribute name a) = numbers a
+  numbersIn (quantified q i a b) = numbers a ++ numbers b
+  numbersIn (iterate i j t a e b) = numbers a ++ (numbers e ++ numbers b)
+  numbersIn (collect k es) = numbersOf es
+
+  pub numbersOf : Operands → List ℕ
+  numbersOf noOperand = []
+  numbersOf (operand e es) = numbers e ++ numbersOf es
+
+-- a tree's Integer literals, operands from left to right
+unfoldable pub leafLiterals : Leaf → List ℤ
+leafLiterals (truth b) = []
+leafLiterals undef = []
+leafLiterals (number z) = z ∷ []
+leafLiterals self = []
+leafLiterals (var i) = []
+leafLiterals (all c) = []
+
+unfoldable mutual
+  pub literals : Expr → List ℤ
+  literals (node n f) = literalsIn f
+
+  pub literalsIn : Form → List ℤ
+  literalsIn (leaf l) = leafLiterals l
+  literalsIn (unary op a) = literals a
+  literalsIn (binary op a b) = literals a ++ literals b
+  literalsIn (connective c a b) = literals a ++ literals b
+  literalsIn (isUndef a) = literals a
+  literalsIn (conditional c a b) = literals c ++ (literals a ++ literals b)
+  literalsIn (letIn i a b) = literals a ++ literals b
+  literalsIn (attribute name a) = literals a
+  literalsIn (quantified q i a b) = literals a ++ literals b
+  literalsIn (iterate i j t a e b) = literals a ++ (literals e ++ literals b)
+  literalsIn (collect k es) = literalsOf es
+
+  pub literalsOf : Operands → List ℤ
+  literalsOf noOperand = []
+  literalsOf (operand e es) = literals e ++ literalsOf es
+
+-- of a value that is no collection
+unfoldable pub integerInRange : Value → Bool
+integerInRange (bool b) = true
+integerInRange (int z) = inRange z
+integerInRange (obj o) = true
+integerInRange (coll k vs) = true
+
+-- every Integer in a value, at every depth
+unfoldable pub integersInRange : Value → Bool
+integersInRange v = everyPart integerInRange v
 
 -- ---- types, of any parents that are smaller classes, as reading makes sure
 

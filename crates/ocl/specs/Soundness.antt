@@ -9,10 +9,11 @@ use Rattle.laws.specs.Lists.{Each, Distinct}
 use Rattle.ocl.specs.Types.{class, Ty}
 use Rattle.ocl.specs.Values.{Value, size}
 use Rattle.ocl.specs.Model.{Model, isA, belongs}
-use Rattle.ocl.specs.Forms.{Expr, reach, numbers, literals}
+use Rattle.ocl.specs.Forms.{Expr, reach}
 use Rattle.ocl.specs.Typing.{typed, typeRule, markOf}
-use Rattle.ocl.specs.Evaluation.{Outcome, value, stuck, stop, stepsOf, inRange, integersInRange, evaluateRule}
-use Rattle.ocl.specs.Laws.{Formed}
+use Rattle.ocl.specs.Evaluation.{Outcome, value, stuck, stop, stepsOf, inRange, evaluateRule}
+use Rattle.ocl.specs.Laws.{integersInRange}
+use Rattle.ocl.specs.Laws.{Formed, numbers, literals}
 
 -- what reading makes sure of
 pub record AcceptedModel (s : Model) : Type 0 where

@@ -15,9 +15,9 @@ use Rattle.laws.proofs.Tests.{and-r, by-if, All?, all-none, all-some}
 use Rattle.laws.proofs.Lists.{each-append}
 use Rattle.ocl.specs.Values.{Value, size}
 use Rattle.ocl.specs.Model.{Model, belongs}
-use Rattle.ocl.specs.Forms.{Expr, numbers, levels, literals}
-use Rattle.ocl.specs.Evaluation.{integersInRange}
-use Rattle.ocl.specs.Laws.{Formed}
+use Rattle.ocl.specs.Forms.{Expr, levels}
+use Rattle.ocl.specs.Laws.{integersInRange}
+use Rattle.ocl.specs.Laws.{Formed, numbers, literals}
 use Rattle.ocl.specs.Soundness.{AcceptedModel}
 use Rattle.sheet.specs.Text.{Bytes, fieldsOf, linesOf}
 use Rattle.sheet.specs.Lines.{Line, lineOf, firstIsN}

@@ -6,14 +6,15 @@ use mathlib.Core.Bool.{Bool, true, false, not, _&&_, _||_}
 use mathlib.Core.List.{List, [], _∷_, _++_, append-nil}
 use Prim.Native.Nat.{ℕ, suc, _+_, _<_}
 use native.Mathlib.Omega.{arith}
-use lib.ListN.{length, length-append, List·getD-append}
+use lib.ListN.{length, List·getD-append}
 use lib.Seq.{getD-at}
 use borrow.Author.Tests.{ltb-true, ltb-false}
 use lib.Dec.{T, T-not, not-T, eqb, eqb-refl, ltb, ltb→lt}
 use Rattle.laws.specs.Lists.{member, Each, each-nil, each-cons, Distinct, distinct-nil, distinct-cons}
-use Rattle.laws.proofs.Lists.{member-append, each-imp, each-append, distinct-append}
+use Rattle.laws.proofs.Lists.{length-more, member-append, each-imp, each-append, distinct-append}
 use Rattle.laws.proofs.Tests.{and-l, and-r, or-l, or-r}
-use Rattle.ocl.specs.Forms.{Expr, node, numbers, numbersIn, numbersOf}
+use Rattle.ocl.specs.Forms.{Expr, node}
+use Rattle.ocl.specs.Laws.{numbers, numbersIn, numbersOf}
 use Rattle.sheet.specs.Lines.{Shape, leaf, unary, binary, connective, isUndef, conditional, letIn, attribute, quantified, iterate, collect}
 use Rattle.sheet.specs.Sheet.{operandsOf, growAll, grow, treeOf}
 use Rattle.sheet.specs.Refusals.{fresh}
@@ -186,9 +187,6 @@ place : (a n : ℕ) → a < suc n → Place a n
 place a n h = place-by a n h (ltb a n) refl
 
 module _ (trees : List Expr) (x : Expr) where
-  length-more : length (trees ++ (x ∷ [])) ≡ suc (length trees)
-  length-more = length-append trees (x ∷ []) ∙ (omega arith)
-
   pub tree-earlier : (a : ℕ) → a < length trees → treeOf (trees ++ (x ∷ [])) a ≡ treeOf trees a
   unfolding treeOf
   tree-earlier a h = List·getD-append trees (x ∷ []) _ a h

@@ -1,26 +1,26 @@
 -- What holds of a sheet after every line that is taken: parents that are smaller, slots that ascend, values that belong to their rows'
 -- types and are formed, rules of at most 12 levels, a forest of the open rule's nodes, room for that rule, and Integers in range. One law
 -- for each line kind. Assumes nothing.
-use mathlib.Core.Path.{_≡_, refl, sym, ap, _∙_, subst}
+use mathlib.Core.Path.{_≡_, refl, sym, ap, subst}
 use mathlib.Core.Bool.{Bool, true, false, _&&_}
 use mathlib.Core.Option.{Option, none, some}
 use mathlib.Core.List.{List, [], _∷_, _++_}
 use Prim.Native.Nat.{ℕ, suc, _+_, _<_, _≤_}
 use native.Mathlib.Omega.{arith}
 use borrow.Author.Tests.{ltb-true, ltb-false}
-use lib.ListN.{length, getD, getElem?, length-append, List·getD-append, List·getD-eq-default}
+use lib.ListN.{length, getD, getElem?, List·getD-append, List·getD-eq-default}
 use lib.Seq.{getD-at}
 use lib.Dec.{T, eqb→eq, ltb, ltb→lt, leb, leb→le}
 use Rattle.laws.specs.Choice.{onSome}
 use Rattle.laws.specs.Lists.{allOf, Each, each-nil, each-cons, Distinct}
 use Rattle.laws.proofs.Tests.{and-l, and-r}
-use Rattle.laws.proofs.Lists.{each-imp, each-append}
+use Rattle.laws.proofs.Lists.{length-more, each-imp, each-append}
 use Rattle.ocl.specs.Types.{Simple, Ty, void, simple, around, letterSubtype, exactly}
 use Rattle.ocl.specs.Values.{Value, bool, int, obj, coll, Values, nil, cons, size, everyPart}
 use Rattle.ocl.specs.Model.{Model, every, isA, belongs}
-use Rattle.ocl.specs.Forms.{node, numbers, levels, literals}
-use Rattle.ocl.specs.Evaluation.{integersInRange}
-use Rattle.ocl.specs.Laws.{Formed}
+use Rattle.ocl.specs.Forms.{node, levels}
+use Rattle.ocl.specs.Laws.{integersInRange}
+use Rattle.ocl.specs.Laws.{Formed, numbers, literals}
 use Rattle.sheet.specs.Lines.{Line, classLine, rowLine, objectLine, valueLine, ruleLine, nodeLine, Shape}
 use Rattle.sheet.specs.Sheet.{Slot, Rule, Current, Sheet, empty, noRow, modelOf, operandsOf, grow, treeOf, withNode, added}
 use Rattle.sheet.specs.Refusals.{partWithin, valueWithin, isNode, formWithin, withinLimits, blockOf, numbered, inOrder, afterSlots, ordered, parentSmaller, partsKnown, suits, operandsFresh, treeHolds}
@@ -115,9 +115,6 @@ good-empty = record {
 -- ---- each line kind
 
 -- a table with one entry more
-length-one : {A : Type 0} (l : List A) (x : A) → length (l ++ (x ∷ [])) ≡ suc (length l)
-length-one l x = length-append l (x ∷ []) ∙ (omega arith)
-
 module _ {A : Type 0} (l : List A) (x d : A) where
   data Entry (i : ℕ) : A → Type 0 where
     old : i < length l → Entry i (getD l i d)
@@ -126,7 +123,7 @@ module _ {A : Type 0} (l : List A) (x d : A) where
 
   entry-by : (i : ℕ) (p q : Bool) → ltb i (length l) ≡ p → ltb (length l) i ≡ q → Entry i (getD (l ++ (x ∷ [])) i d)
   entry-by i true q e f = let h = ltb-true i (length l) e in rw (List·getD-append l (x ∷ []) d i h) (old h)
-  entry-by i false true e f = let h = ltb-true (length l) i f in rw (List·getD-eq-default (l ++ (x ∷ [])) d {n = i} (omega (arith, length-one l x))) past
+  entry-by i false true e f = let h = ltb-true (length l) i f in rw (List·getD-eq-default (l ++ (x ∷ [])) d {n = i} (omega (arith, length-more l x))) past
   entry-by i false false e f =
       let g = ltb-false i (length l) e in let h = ltb-false (length l) i f in
       let z : i ≡ length l = omega arith in rw (getD-at l x [] d i (sym z)) (new z)
@@ -255,7 +252,7 @@ unfolding onSome withNode operandsFresh literals
 current-more n x no-rule w h = no-rule
 current-more n x (open-rule {c} r) w h = open-rule (record {
   forest = forest-more (c .first) (c .trees) (c .used) x (r .forest) h;
-  count = omega (arith, r .count, length-one (c .trees) (node (c .first + length (c .trees)) (grow (treeOf (c .trees)) x)));
+  count = omega (arith, r .count, length-more (c .trees) (node (c .first + length (c .trees)) (grow (treeOf (c .trees)) x)));
   in-range = each-append (r .in-range) (each-cons (grown-in-range (treeOf (c .trees)) (tree-in-range (r .in-range)) x w) each-nil);
 })
 
@@ -268,7 +265,7 @@ was-open (some d) f c e = (d, refl)
 good-node : (s : Sheet) (k n : ℕ) (x : Shape) → Good s → Met s (nodeLine n x) → Good (added s k (nodeLine n x))
 unfolding added plain treeHolds withinLimits
 good-node s k n x g m =
-    let e = length-one (s .lines) k in
+    let e = length-more (s .lines) k in
     let w = and-r (isNode n) _ (and-l (isNode n && formWithin x) _ (and-l (isNode n && formWithin x && allOf isNode (operandsOf x)) _ (m .limits))) in record {
       parents = g .parents;
       early = λ h. absurd (omega arith);

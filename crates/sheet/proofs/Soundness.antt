@@ -14,7 +14,8 @@ use Rattle.laws.proofs.Lists.{each-at, member-exact}
 use Rattle.laws.proofs.Elements.{each-elem}
 use Rattle.ocl.specs.Types.{class, Ty}
 use Rattle.ocl.specs.Model.{Model, classIsA, isA}
-use Rattle.ocl.specs.Forms.{reach, numbers}
+use Rattle.ocl.specs.Forms.{reach}
+use Rattle.ocl.specs.Laws.{numbers}
 use Rattle.ocl.specs.Typing.{Answer, typed, refused, typeRule}
 use Rattle.ocl.specs.Environment.{start}
 use Rattle.ocl.specs.Types.{Class}

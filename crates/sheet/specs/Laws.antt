@@ -6,7 +6,7 @@ use lib.Dec.{T}
 use mathlib.Core.Option.{some}
 use mathlib.Core.List.{List, [], _∷_}
 use Rattle.laws.specs.Lists.{member}
-use Rattle.ocl.specs.Forms.{numbers}
+use Rattle.ocl.specs.Laws.{numbers}
 use Rattle.ocl.specs.Typing.{refused}
 use Rattle.sheet.specs.Text.{Bytes, linesOf}
 use Rattle.sheet.specs.Sheet.{Rule, Sheet}

@@ -10,7 +10,7 @@ use lib.ListN.{length, getD, take, drop, set, length-set}
 use lib.Seq.{getD-set-same, getD-set-other, drop-set-lt, drop-drop, take-add}
 use lib.Dec.{ltb}
 use Rattle.laws.specs.Lists.{each-nil, each-cons, concat}
-use Rattle.laws.proofs.Lists.{each-append}
+use Rattle.laws.proofs.Lists.{length-more, each-append}
 use Rattle.laws.proofs.Slices.{cut-part}
 use Rattle.ocl.specs.Values.{Value, size, everyPart}
 use Rattle.sheet.specs.Lines.{valueLine}
@@ -21,7 +21,7 @@ use Rattle.tables.specs.declared.Counts.{Counts}
 use Rattle.tables.specs.declared.Step.the-variants.{Next, Stop}
 use Rattle.tables.specs.Layout.{tab, slotKey, startsFrom, cellsOf, Holds, Fine, Kept, moved-next, moved-stop}
 use Rattle.tables.proofs.Tables.{kept-refl, kept-set, kept-then}
-use Rattle.tables.proofs.Entries.{holds-kept, spare-key, spare-start, tab-next, tab-more-of, length-more, open-kept}
+use Rattle.tables.proofs.Entries.{holds-kept, spare-key, spare-start, tab-next, tab-more-of, open-kept}
 use Rattle.tables.proofs.Steps.{over-limits, out-of-order, unknown-part, not-suited, steps-on}
 use Rattle.slots.specs.Slots.{SmallRows, ValueAt, SlotAnswer, slotCounts, SlotTook}
 

@@ -7,8 +7,9 @@ use Prim.Native.Nat.{ℕ, suc, _+_, _≤_, _<_}
 use native.Mathlib.Omega.{arith}
 use native.Mathlib.Decide.{decLt}
 use borrow.Author.Needs.{needs}
-use lib.ListN.{length, getD, drop, set, length-append, length-drop}
+use lib.ListN.{length, getD, drop, set, length-drop}
 use lib.Seq.{take-suc, getD-drop}
+use Rattle.laws.proofs.Lists.{length-more}
 use Rattle.types.specs.Word.{typeIn}
 use Rattle.nodes.specs.Nodes.{treeAt}
 use Rattle.sheet.specs.Sheet.{Current, Sheet}
@@ -104,9 +105,6 @@ module _ {st : Counts} {s : Sheet} (fine : Fine st) (same : Counted st s) where
 pub tab-next : (off n : ℕ) (w : List ℕ) → off + n < length w → tab off (suc n) w ≡ tab off n w ++ (getD w (off + n) 0 ∷ [])
 tab-next off n w h =
     take-suc (drop off w) n 0 (simp length-drop (omega arith)) ∙ ap (λ (y : ℕ). tab off n w ++ (y ∷ [])) (getD-drop off w n 0)
-
-pub length-more : {A : Type 0} (xs : List A) (x : A) → length (xs ++ (x ∷ [])) ≡ suc (length xs)
-length-more xs x = length-append xs (x ∷ []) ∙ omega arith
 
 -- a table of what f says of each element
 pub tab-more-of : {A : Type 0} (f : A → ℕ) (off : ℕ) (w : List ℕ) (xs : List A) (x : A) → off + length xs < length w

@@ -11,7 +11,7 @@ use lib.ListN.{length, getD, set, length-set}
 use lib.Seq.{getD-set-same, getD-set-other}
 use Rattle.laws.specs.Choice.{if_then_else_, onSome}
 use Rattle.laws.specs.Lists.{member, each-nil, each-cons}
-use Rattle.laws.proofs.Lists.{each-append}
+use Rattle.laws.proofs.Lists.{length-more, each-append}
 use Rattle.ocl.specs.Forms.{Expr, levels}
 use Rattle.sheet.specs.Sheet.{Current, Sheet, Rule, treeOf, lastTree, allUsed, endOf, endFor, endRule}
 use Rattle.sheet.specs.Sheet.{withRule as ruleDown}
@@ -20,7 +20,7 @@ use Rattle.tables.specs.Layout.{tab, usedBit, HoldsCurrent, HoldsOpen, closed, 
 use Rattle.tables.specs.declared.Counts.{Counts}
 use Rattle.tables.specs.declared.Step.the-variants as code
 use Rattle.tables.proofs.Tables.{kept-refl, kept-set, kept-then}
-use Rattle.tables.proofs.Entries.{holds-kept, spare-context, spare-root, tab-next, length-more, tab-more-of, tab-more-by}
+use Rattle.tables.proofs.Entries.{holds-kept, spare-context, spare-root, tab-next, tab-more-of, tab-more-by}
 use Rattle.trees.specs.Operands.{depthAt}
 use Rattle.trees.specs.Rules.{RuleRoom, usedIn, withRule, EndMoved, ended, refused, Ended}
 use Rattle.trees.proofs.NodeLaws.{OpenRule, open-rule}
