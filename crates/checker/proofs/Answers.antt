@@ -17,7 +17,7 @@ use Rattle.tables.specs.Layout.{Kept}
 use Rattle.text.specs.Written.{Puts}
 use Rattle.checker.specs.declared.Answer.{Answer}
 use Rattle.checker.specs.Answers.{answerOf, Answers, AnswersWith}
-use Rattle.checker.specs.Parts.{Gives, Leaves, Wipes, writtenTo}
+use Rattle.checker.specs.Parts.{GivesAnswer, Leaves, Wipes, writtenTo}
 
 -- ---- lengths
 
@@ -62,12 +62,12 @@ still-long l k = (omega (arith, l .words0, k .kept0 .size), omega (arith, l .wor
 
 -- ---- a refusal, and an output with what was written
 
-pub gives-refusal : {a : Answer} (n k : ℕ) (out : Bytes) → a ≡ answerOf (refusalAt n k) → Gives (refusalAt n k) a out out
+pub gives-refusal : {a : Answer} (n k : ℕ) (out : Bytes) → a ≡ answerOf (refusalAt n k) → GivesAnswer (refusalAt n k) a out out
 unfolding refusalAt outputAfter
 gives-refusal n k out e = record { is = e; output = refl }
 
 pub gives-written : {a : Answer} {out after w : Bytes} {end steps : ℕ} → Puts 0 w out after end → a ≡ writtenTo end steps
-    → Gives (record { number = 0; steps = steps; place = 0; output = w }) a out after
+    → GivesAnswer (record { number = 0; steps = steps; place = 0; output = w }) a out after
 unfolding outputAfter
 gives-written {w = w} p e = record { is = rw (p .end, zero-add (length w)) at e; output = rw (zero-add (length w)) at (p .is) }
 

@@ -19,7 +19,7 @@ use Rattle.operations.specs.declared.Ended.the-variants as end
 use Rattle.operations.specs.Answers.{Ends, ends-value, ends-undefined, ends-stuck, ends-stop}
 use Rattle.checker.specs.declared.Answer.{Answer}
 use Rattle.checker.specs.Answers.{answerOf}
-use Rattle.checker.specs.Parts.{Gives, writtenTo}
+use Rattle.checker.specs.Parts.{GivesAnswer, writtenTo}
 use Rattle.checker.specs.Outcomes.{Fitting, GivesEnded}
 use Rattle.checker.proofs.Answers.{gives-refusal, gives-written}
 
@@ -38,14 +38,14 @@ module _ {w2 : List ℕ} {e : Ended} {a : Answer} {out after : Bytes} where
   unfolding ended
   gives-value {len} {steps} {to} q p i = rw q (record { for = go })
     where
-      go : (o : Outcome) → Ends 1 w2 o (end.Value len steps) → Gives (ended o) a out after
+      go : (o : Outcome) → Ends 1 w2 o (end.Value len steps) → GivesAnswer (ended o) a out after
       go o (ends-value {v} l small) = gives-written (p v (l .fits) (l .cells)) i
 
   pub gives-undefined : {steps to : ℕ} → e ≡ end.Undef steps → Puts 0 (117 ∷ []) out after to → a ≡ writtenTo to steps → GivesEnded w2 e a out after
   unfolding ended bytes
   gives-undefined {steps} {to} q p i = rw q (record { for = go })
     where
-      go : (o : Outcome) → Ends 1 w2 o (end.Undef steps) → Gives (ended o) a out after
+      go : (o : Outcome) → Ends 1 w2 o (end.Undef steps) → GivesAnswer (ended o) a out after
       go o ends-undefined = gives-written p i
 
 module _ {w2 : List ℕ} {e : Ended} {a : Answer} (out : Bytes) where
@@ -53,12 +53,12 @@ module _ {w2 : List ℕ} {e : Ended} {a : Answer} (out : Bytes) where
   unfolding ended refusal
   gives-stuck q i = rw q (record { for = go })
     where
-      go : (o : Outcome) → Ends 1 w2 o end.Stuck → Gives (ended o) a out out
+      go : (o : Outcome) → Ends 1 w2 o end.Stuck → GivesAnswer (ended o) a out out
       go o ends-stuck = gives-refusal 100 0 out i
 
   pub gives-stopped : {number steps : ℕ} → e ≡ end.Stop number steps → a ≡ record { number = number; steps = steps; place = 0; length = 0 } → GivesEnded w2 e a out out
   unfolding ended outputAfter
   gives-stopped {number} {steps} q i = rw q (record { for = go })
     where
-      go : (o : Outcome) → Ends 1 w2 o (end.Stop number steps) → Gives (ended o) a out out
+      go : (o : Outcome) → Ends 1 w2 o (end.Stop number steps) → GivesAnswer (ended o) a out out
       go o ends-stop = record { is = i; output = refl }

@@ -20,7 +20,7 @@ use Rattle.reader.specs.Contracts.{EndsAs, a-sheet, a-refusal, ReadsTo}
 use Rattle.rules.specs.Accepted.{Known}
 use Rattle.checker.specs.declared.Answer.{Answer}
 use Rattle.checker.specs.Answers.{answerOf}
-use Rattle.checker.specs.Parts.{ReadsText, Gives, GivesFor}
+use Rattle.checker.specs.Parts.{ReadsText, GivesAnswer, GivesFor}
 use Rattle.checker.proofs.Answers.{gives-refusal}
 
 -- ---- the text's length
@@ -45,14 +45,14 @@ module _ {v0 v1 : List ℕ} where
   refusal-on a-refusal f = refl
 
   pub gives-stop : {n k : ℕ} {x : Reading} {a : Answer} → EndsAs v0 v1 (sheet.Refused n k) x → (f : Sheet → Verdict) (out : Bytes)
-      → a ≡ answerOf (refusalAt n k) → Gives (onSheet x f) a out out
+      → a ≡ answerOf (refusalAt n k) → GivesAnswer (onSheet x f) a out out
   gives-stop {n} {k} h f out e = rw (refusal-on h f) (gives-refusal n k out e)
 
   pub known-on : {st : Counts} {x : Reading} → EndsAs v0 v1 (sheet.Sheet st) x → (text : Bytes) → readText text ≡ x → Known st v0 v1
   known-on (a-sheet {st} {s} f g) text e = record { sheet = s; accepted = record { text = text; was = e; fine = f; holds = g } }
 
   pub gives-on : {st : Counts} {x : Reading} {a : Answer} {before after : Bytes} {f : Sheet → Verdict} → EndsAs v0 v1 (sheet.Sheet st) x
-      → (text : Bytes) → readText text ≡ x → GivesFor st v0 v1 f a before after → Gives (onSheet x f) a before after
+      → (text : Bytes) → readText text ≡ x → GivesFor st v0 v1 f a before after → GivesAnswer (onSheet x f) a before after
   unfolding onSheet
   gives-on (a-sheet {st} {s} f g) text e h = h .for s (record { text = text; was = e; fine = f; holds = g })
 

@@ -22,17 +22,17 @@ use Rattle.reader.specs.declared.SheetRead.the-variants as sheet
 use Rattle.reader.specs.Contracts.{EndsAs}
 use Rattle.report.specs.declared.Reported.{Reported}
 use Rattle.report.specs.declared.Reported.the-variants as reported
-use Rattle.report.specs.Reports.{reportOn, Says, written, too-long, a-refusal, Reports}
+use Rattle.report.specs.Reports.{reportOn, SaysReport, written, too-long, a-refusal, Reports}
 use Rattle.checker.specs.declared.Answer.{Answer}
 use Rattle.checker.specs.Answers.{answerOf, AnswersWith}
-use Rattle.checker.specs.Parts.{Gives, GivesFor, Leaves, Wipes, writtenTo}
+use Rattle.checker.specs.Parts.{GivesAnswer, GivesFor, Leaves, Wipes, writtenTo}
 use Rattle.checker.proofs.Answers.{short-call, short-output-call, long-call}
 use Rattle.checker.proofs.Readings.{gives-on, gives-stop, read-number}
 
 -- ---- on a sheet that lies in the words
 
 module _ {st : Counts} {w0 u1 u2 v1 v2 : List ℕ} {out now : Bytes} {a : Answer} where
-  of-answer : {r : Reported} → Reports st w0 u1 u2 v1 v2 out now r → ((v : Verdict) → Says r v → a ≡ answerOf v)
+  of-answer : {r : Reported} → Reports st w0 u1 u2 v1 v2 out now r → ((v : Verdict) → SaysReport r v → a ≡ answerOf v)
       → GivesFor st w0 u1 (λ s. reportOn s (length out)) a out now
   of-answer d e = record { for = λ s is. record { is = e (reportOn s (length out)) (d .is s is); output = d .output s is } }
 
@@ -41,7 +41,7 @@ module _ {st : Counts} {w0 u1 u2 v1 v2 : List ℕ} {out now : Bytes} {a : Answer
   unfolding answer
   report-written {r} {n} d q e = of-answer (rw q at d) by
     where
-      by : (v : Verdict) → Says (reported.Written n) v → a ≡ answerOf v
+      by : (v : Verdict) → SaysReport (reported.Written n) v → a ≡ answerOf v
       by _ (written b l) = rw l at e
 
   pub report-short : {r : Reported} → Reports st w0 u1 u2 v1 v2 out now r → r ≡ reported.Short → a ≡ answerOf (refusalAt 18 0)
@@ -49,26 +49,26 @@ module _ {st : Counts} {w0 u1 u2 v1 v2 : List ℕ} {out now : Bytes} {a : Answer
   unfolding refusal
   report-short {r} d q e = of-answer (rw q at d) by
     where
-      by : (v : Verdict) → Says reported.Short v → a ≡ answerOf v
+      by : (v : Verdict) → SaysReport reported.Short v → a ≡ answerOf v
       by _ too-long = e
 
   pub report-refused : {r : Reported} {n k : ℕ} → Reports st w0 u1 u2 v1 v2 out now r → r ≡ reported.Refused n k → a ≡ answerOf (refusalAt n k)
       → GivesFor st w0 u1 (λ s. reportOn s (length out)) a out now
   report-refused {r} {n} {k} d q e = of-answer (rw q at d) by
     where
-      by : (v : Verdict) → Says (reported.Refused n k) v → a ≡ answerOf v
+      by : (v : Verdict) → SaysReport (reported.Refused n k) v → a ≡ answerOf v
       by _ a-refusal = e
 
 -- ---- after a reading
 
 module _ {v0 v1 : List ℕ} {a : Answer} (text : Bytes) where
   pub report-given : {st : Counts} {before after : Bytes} → EndsAs v0 v1 (sheet.Sheet st) (readText text)
-      → GivesFor st v0 v1 (λ s. reportOn s (length before)) a before after → Gives (reportOf text (length before)) a before after
+      → GivesFor st v0 v1 (λ s. reportOn s (length before)) a before after → GivesAnswer (reportOf text (length before)) a before after
   unfolding reportOf reportOn
   report-given h g = gives-on h text refl g
 
   pub report-stopped : {n k : ℕ} (out : Bytes) → EndsAs v0 v1 (sheet.Refused n k) (readText text) → a ≡ answerOf (refusalAt n k)
-      → Gives (reportOf text (length out)) a out out
+      → GivesAnswer (reportOf text (length out)) a out out
   unfolding reportOf
   report-stopped out h e = gives-stop h (λ s. onTypes s (s .rules) (fitting (length out) (ruleLines s 0 (s .rules)))) out e
 

@@ -18,7 +18,7 @@ use Rattle.rules.specs.Numbered.{TypesNumbered}
 use Rattle.rules.proofs.Ready.{ready}
 use Rattle.checker.specs.declared.Answer.{Answer}
 use Rattle.checker.specs.Answers.{answerOf}
-use Rattle.checker.specs.Parts.{Gives, GivesFor}
+use Rattle.checker.specs.Parts.{GivesAnswer, GivesFor}
 use Rattle.checker.proofs.Answers.{gives-refusal}
 
 module _ {st : Counts} {w0 w1 : List ℕ} where
@@ -29,7 +29,7 @@ module _ {st : Counts} {w0 w1 : List ℕ} where
 
   module _ {r : ℕ} (h : r < st .rules) where
     pub for-rule : {a : Answer} {before after : Bytes} (f : Sheet → Rule → Verdict)
-        → ((s : Sheet) → Accepted st w0 w1 s → (x : Rule) → getElem? (s .rules) r ≡ some x → Gives (f s x) a before after)
+        → ((s : Sheet) → Accepted st w0 w1 s → (x : Rule) → getElem? (s .rules) r ≡ some x → GivesAnswer (f s x) a before after)
         → GivesFor st w0 w1 (λ s. onRule (getElem? (s .rules) r) (f s)) a before after
     unfolding onRule
     for-rule f k = record { for = λ s g. let x = ready g .some-rule r h in rw (x .1) (k s g (x .0) (x .1)) }

@@ -11,7 +11,7 @@ use Rattle.sheet.specs.Calls.{ended}
 use Rattle.operations.specs.declared.Ended.{Ended}
 use Rattle.operations.specs.Answers.{Ends}
 use Rattle.checker.specs.declared.Answer.{Answer}
-use Rattle.checker.specs.Parts.{Gives}
+use Rattle.checker.specs.Parts.{GivesAnswer}
 
 -- it is the end of an outcome whose value, if it has one, is spelled in at most 2,048 bytes
 pub record Fitting (w2 : List ℕ) (e : Ended) : Type 0 where
@@ -21,4 +21,4 @@ pub record Fitting (w2 : List ℕ) (e : Ended) : Type 0 where
 
 -- the answer for each outcome that it is the end of
 pub record GivesEnded (w2 : List ℕ) (e : Ended) (a : Answer) (before after : Bytes) : Type 0 where
-  pub for : (o : Outcome) → Ends 1 w2 o e → Gives (ended o) a before after
+  pub for : (o : Outcome) → Ends 1 w2 o e → GivesAnswer (ended o) a before after

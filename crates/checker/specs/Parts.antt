@@ -22,17 +22,17 @@ pub record ReadsText (text : Bytes) (r : SheetRead) (w0 w1 v0 v1 : List ℕ) : T
   pub kept1 : Kept w1 v1
 
 -- the answer, and the output with what is written
-pub record Gives (v : Verdict) (a : Answer) (before after : Bytes) : Type 0 where
+pub record GivesAnswer (v : Verdict) (a : Answer) (before after : Bytes) : Type 0 where
   pub is : a ≡ answerOf v
   pub output : after ≡ outputAfter v before
 
 -- for each accepted sheet that lies in the words
 pub record GivesFor (st : Counts) (w0 w1 : List ℕ) (f : Sheet → Verdict) (a : Answer) (before after : Bytes) : Type 0 where
-  pub for : (s : Sheet) → Accepted st w0 w1 s → Gives (f s) a before after
+  pub for : (s : Sheet) → Accepted st w0 w1 s → GivesAnswer (f s) a before after
 
 -- an answer, with words that are still to be wiped
 pub record Leaves (v : Verdict) (a : Answer) (w0 w1 w2 : List ℕ) (out : Bytes) (v0 v1 v2 : List ℕ) (after : Bytes) : Type 0 where
-  pub gives : Gives v a out after
+  pub gives : GivesAnswer v a out after
   pub kept0 : Kept w0 v0
   pub kept1 : Kept w1 v1
   pub kept2 : Kept w2 v2

@@ -21,7 +21,7 @@ use Rattle.values.proofs.Growing.{append-cells}
 use Rattle.nodes.specs.Nodes.{word, kindOf, operandsIn, treesBelow}
 use Rattle.operations.specs.declared.Ended.{Ended}
 use Rattle.operations.specs.declared.Ended.the-variants as ended
-use Rattle.operations.specs.Answers.{Under, Ran, Small, formedAs}
+use Rattle.operations.specs.Answers.{Under, Ran, SmallAnswer, formedAs}
 use Rattle.operations.specs.Runs.{World, Rel, Evals}
 use Rattle.evaluation.specs.Evaluating.{operandFor, membersRun, collectNode}
 use Rattle.operations.proofs.Words.{under-refl, under-then, under-down, formed-small, formed-ran}
@@ -93,7 +93,7 @@ gather-starts {t = t} {n = n} {kind = kind} {S = S} {sp = sp} {count = count} {s
 
 module _ {Ok : World → Type 0} (t : List ℕ) (n k : ℕ) {env : List ℕ} {sp left count : ℕ} {S₀ S : List ℕ} {s₀ s end j : ℕ} (c : count ≡ word t n 5) (few : count ≤ 4)
     (G : Gathering Ok t n (kindOf k) env sp left count S₀ S s₀ s end j) where
-  collects : {A : List ℕ} {r : Ended} → Small r → ((w : World) → Ok w → (ρ : Env Value) → Rel env S₀ sp ρ → Ran (gatherRun t n w count 1 (kindOf k) nil ρ s₀) sp S₀ A r) → Evals Ok (collectNode t n k) env sp s₀ S₀ A r
+  collects : {A : List ℕ} {r : Ended} → SmallAnswer r → ((w : World) → Ok w → (ρ : Env Value) → Rel env S₀ sp ρ → Ran (gatherRun t n w count 1 (kindOf k) nil ρ s₀) sp S₀ A r) → Evals Ok (collectNode t n k) env sp s₀ S₀ A r
   unfolding collectNode membersRun collectRun gatherRun
   collects m x = record { small = m; ran = λ w ok ρ rel. rw (← c, le-ltb 4 count few) (x w ok ρ rel) }
 

@@ -20,7 +20,7 @@ use Rattle.ocl.specs.Evaluation.{Outcome, value, undefined, stuck, stop, bind, 
 use Rattle.operations.proofs.Ended.{the-type}
 use Rattle.operations.specs.declared.Ended.{Ended}
 use Rattle.operations.specs.declared.Ended.the-variants as ended
-use Rattle.operations.specs.Answers.{Lies, Ends, ends-value, ends-undefined, ends-stuck, ends-stop, Under, Ran, Small}
+use Rattle.operations.specs.Answers.{Lies, Ends, ends-value, ends-undefined, ends-stuck, ends-stop, Under, Ran, SmallAnswer}
 use Rattle.operations.specs.Runs.{World, Held, free, held, Rel, Meaning, Evals}
 use Rattle.operations.proofs.Words.{under-refl, under-then, under-down, lies-kept}
 
@@ -113,7 +113,7 @@ bind-value (undefined s) = refl
 bind-value stuck = refl
 bind-value (stop c s) = refl
 
-pub bounds : {r : Ended} {la sa : ℕ} → Small r → r ≡ ended.Value la sa → (1 ≤ la) × (la ≤ 128)
+pub bounds : {r : Ended} {la sa : ℕ} → SmallAnswer r → r ≡ ended.Value la sa → (1 ≤ la) × (la ≤ 128)
 bounds h q = rw q at h
 
 -- ---- meanings
@@ -125,7 +125,7 @@ module _ {Ok : World → Type 0} {f h : Meaning} {env B A : List ℕ} {sp s : �
   early o = record { small = x .small; ran = λ w ok ρ rel. rw (e w ρ) (falls (f w ρ s) (k w ρ) (omega arith) under-refl (x .ran w ok ρ rel) o) }
 
   -- a first operand has ended in a value: the rest is shown with the value's cells at sp
-  pub after : {la sa : ℕ} {C : List ℕ} {r' : Ended} → r ≡ ended.Value la sa → Small r'
+  pub after : {la sa : ℕ} {C : List ℕ} {r' : Ended} → r ≡ ended.Value la sa → SmallAnswer r'
       → ((w : World) → Ok w → (ρ : Env Value) → Rel env B sp ρ → (v : Value) → Lies v sp la A → Under sp A B → Ran (k w ρ v sa) sp B C r') → Evals Ok h env sp s B C r'
   after q m y = record {
     small = m;

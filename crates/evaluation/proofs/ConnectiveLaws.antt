@@ -16,7 +16,7 @@ use Rattle.values.specs.Cells.{bit}
 use Rattle.nodes.specs.Nodes.{connectiveOf}
 use Rattle.operations.specs.declared.Ended.{Ended}
 use Rattle.operations.specs.declared.Ended.the-variants as ended
-use Rattle.operations.specs.Answers.{Lies, ends-stop, Under, Ran, Small, Truth}
+use Rattle.operations.specs.Answers.{Lies, ends-stop, Under, Ran, SmallAnswer, Truth}
 use Rattle.operations.specs.Runs.{World, Rel, Meaning, Evals}
 use Rattle.evaluation.specs.Evaluating.{operandFor, connectiveNode, rightSide}
 use Rattle.operations.proofs.Words.{head-at}
@@ -72,7 +72,7 @@ module _ {Ok : World → Type 0} (t : List ℕ) (n k : ℕ) {env B A : List ℕ}
   connective-stops q = record { small = tt; ran = λ w ok ρ rel. let y = x .ran w ok ρ rel in rw (is-stop y q) (record { kept = y .kept; ends = ends-stop }) }
 
   module _ {la sa d : ℕ} (q : r ≡ ended.Value la sa) (z : Truth (getD A sp 0) d) where
-    left : {C : List ℕ} {r' : Ended} → Small r' → ((w : World) → Ok w → (ρ : Env Value) → Rel env B sp ρ → (v : Value) → Lies v sp la A → Under sp A B → Ran (onLeft w ρ v sa) sp B C r') → Evals Ok (connectiveNode t n k) env sp s B C r'
+    left : {C : List ℕ} {r' : Ended} → SmallAnswer r' → ((w : World) → Ok w → (ρ : Env Value) → Rel env B sp ρ → (v : Value) → Lies v sp la A → Under sp A B → Ran (onLeft w ρ v sa) sp B C r') → Evals Ok (connectiveNode t n k) env sp s B C r'
     unfolding connectiveNode connectiveRun
     left m y = record { small = m; ran = λ w ok ρ rel. let e = valued (x .ran w ok ρ rel) q in rw (e .is) (y w ok ρ rel (e .v) (e .lies) (e .kept)) }
 
@@ -116,7 +116,7 @@ module _ {Ok : World → Type 0} (known : Bool) (c : Connective) {g : Meaning} {
     right-stuck h = after rightRest (λ w ρ. refl) x q tt (λ w ok ρ rel v l u. rw (not-bool-at l z h (λ b. if known || Bool·beq b (decides c) then value (bool b) sa else undefined sa)) (ran-stuck-at u))
 
     module _ (h : d ≤ 1) where
-      right-by : {r' : Ended} → Small r' → ((b : Bool) → d ≡ bit b → Lies (bool b) sp la A → Under sp A B → Ran (if known || Bool·beq b (decides c) then value (bool b) sa else undefined sa) sp B A r') → Evals Ok (rightSide known c g) env sp s B A r'
+      right-by : {r' : Ended} → SmallAnswer r' → ((b : Bool) → d ≡ bit b → Lies (bool b) sp la A → Under sp A B → Ran (if known || Bool·beq b (decides c) then value (bool b) sa else undefined sa) sp B A r') → Evals Ok (rightSide known c g) env sp s B A r'
       unfolding rightSide
       right-by m y = after rightRest (λ w ρ. refl) x q m (λ w ok ρ rel v l u. let b = bool-at l z h in rw (b .is) (y (b .b) (b .code) (rw (b .is) at l) u))
 

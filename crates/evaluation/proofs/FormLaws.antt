@@ -26,7 +26,7 @@ use Rattle.operations.specs.Answers.{Lies, ends-stop, Under, Gives, Truth}
 use Rattle.operations.specs.Tables.{Attribute, attributeIn}
 use Rattle.operations.specs.Operations.{OfOne, OfTwo, FitsLeft, unaryFor}
 use Rattle.operations.specs.Runs.{World, held, Rel, Evals}
-use Rattle.evaluation.specs.Evaluating.{Reads, operandFor, unaryNode, binaryNode, isUndefNode, conditionalNode, letNode, attributeNode, quantifiedNode, iterateNode, Searches, Folds}
+use Rattle.evaluation.specs.Evaluating.{ReadsWorld, operandFor, unaryNode, binaryNode, isUndefNode, conditionalNode, letNode, attributeNode, quantifiedNode, iterateNode, Searches, Folds}
 use Rattle.operations.proofs.Words.{under-then, under-down, lies-kept, head-at, slid}
 use Rattle.operations.proofs.Sorts.{bit-one, no-coll, IsColl, is-coll}
 use Rattle.evaluation.proofs.Composition.{rel-kept, rel-bind, Other, valued, is-undefined, is-stuck, is-stop, falls, bind-value, bounds, early, after, ran-from, ran-value, ran-stuck-at}
@@ -43,8 +43,8 @@ module _ {Ok : World → Type 0} (t : List ℕ) (n k : ℕ) {env B A : List ℕ}
   unfolding unaryNode unaryRun
   unary-first o = early (λ w ρ v n'. unaryApply (w .model) (unaryOf k (word t n)) v n') (λ w ρ. refl) x o
 
-pub unary-done : {st : Counts} {w0 w1 : List ℕ} (t : List ℕ) (n k c : ℕ) {env B A C : List ℕ} {sp s la sa : ℕ} {r r' : Ended} → Evals (Reads st w0 w1) (operandFor t n 1) env sp s B A r → r ≡ ended.Value la sa → c ≡ word t n 2
-    → OfOne (HoldsModel st w0) (λ m. unaryApply m (unaryFor k c)) sp la sa A C r' → Evals (Reads st w0 w1) (unaryNode t n k) env sp s B C r'
+pub unary-done : {st : Counts} {w0 w1 : List ℕ} (t : List ℕ) (n k c : ℕ) {env B A C : List ℕ} {sp s la sa : ℕ} {r r' : Ended} → Evals (ReadsWorld st w0 w1) (operandFor t n 1) env sp s B A r → r ≡ ended.Value la sa → c ≡ word t n 2
+    → OfOne (HoldsModel st w0) (λ m. unaryApply m (unaryFor k c)) sp la sa A C r' → Evals (ReadsWorld st w0 w1) (unaryNode t n k) env sp s B C r'
 unfolding unaryNode unaryRun
 unary-done t n k c {sa = sa} x q e z = after (λ w ρ v n'. unaryApply (w .model) (unaryOf k (word t n)) v n') (λ w ρ. refl) x q (z .small)
     (λ w ok ρ rel v l u. rw (← unary-same t n k c e) (ran-from u (z .ran (w .model) (ok .holds) v l)))
@@ -216,8 +216,8 @@ pub attribute-first : {Ok : World → Type 0} (t : List ℕ) (n : ℕ) {env B A 
 unfolding attributeNode attributeRun
 attribute-first t n x o = early (λ w ρ v n'. attributeIn (w .model) (w .mark n) v n') (λ w ρ. refl) x o
 
-pub attribute-done : {st : Counts} {w0 : List ℕ} (t : List ℕ) (n : ℕ) {env B A C : List ℕ} {sp s la sa i : ℕ} {r r' : Ended} → Evals (Reads st w0 t) (operandFor t n 1) env sp s B A r → r ≡ ended.Value la sa → n < 768 → i ≡ getD t (6144 + n) 0
-    → Attribute st w0 i sp sa A C r' → Evals (Reads st w0 t) (attributeNode t n) env sp s B C r'
+pub attribute-done : {st : Counts} {w0 : List ℕ} (t : List ℕ) (n : ℕ) {env B A C : List ℕ} {sp s la sa i : ℕ} {r r' : Ended} → Evals (ReadsWorld st w0 t) (operandFor t n 1) env sp s B A r → r ≡ ended.Value la sa → n < 768 → i ≡ getD t (6144 + n) 0
+    → Attribute st w0 i sp sa A C r' → Evals (ReadsWorld st w0 t) (attributeNode t n) env sp s B C r'
 unfolding attributeNode attributeRun
 attribute-done t n {sa = sa} {i = i} x q h e g = after (λ w ρ v n'. attributeIn (w .model) (w .mark n) v n') (λ w ρ. refl) x q (g .small) (λ w ok ρ rel v l u.
     let k : w .mark n ≡ i = ok .mark n h ∙ sym e in

@@ -26,7 +26,7 @@ use Rattle.operations.specs.declared.Ended.{Ended}
 use Rattle.operations.specs.declared.Ended.the-variants as ended
 use Rattle.operations.specs.Answers.{answerIn, Packs}
 use Rattle.operations.specs.Runs.{World, ModelIn, free, held, Rel, Meaning, Evals, leafFor}
-use Rattle.evaluation.specs.Evaluating.{Reads, Rules, nodeFor, operandFor, unaryNode, binaryNode, connectiveNode, isUndefNode, conditionalNode, letNode, attributeNode, quantifiedNode, iterateNode, membersRun, collectNode, operandAt, Shallow}
+use Rattle.evaluation.specs.Evaluating.{ReadsWorld, Rules, nodeFor, operandFor, unaryNode, binaryNode, connectiveNode, isUndefNode, conditionalNode, letNode, attributeNode, quantifiedNode, iterateNode, membersRun, collectNode, operandTree, Shallow}
 use Rattle.operations.proofs.Words.{under-refl, gives}
 use Rattle.operations.proofs.Packing.{ends-packed}
 use Rattle.evaluation.proofs.Composition.{rel-bind, valued, tick-on, tick-stop, ran-undefined-at}
@@ -96,7 +96,7 @@ unfolding leafOf
 leaf-same t n k x e = rw e
 
 pub node-leaf : {st : Counts} {w0 w1 : List ℕ} (t : List ℕ) (n k x : ℕ) {env B A : List ℕ} {sp s : ℕ} {r : Ended} → k ≡ word t n 0 → s < 1000000 → k < 7 → x ≡ word t n 1
-    → Evals (ModelIn st w0) (leafFor k x) env sp (s + 1) B A r → Evals (Reads st w0 w1) (nodeFor t n) env sp s B A r
+    → Evals (ModelIn st w0) (leafFor k x) env sp (s + 1) B A r → Evals (ReadsWorld st w0 w1) (nodeFor t n) env sp s B A r
 unfolding nodeFor leafFor
 node-leaf t n k x e h a f y =
     tick-on (leafFor k x) (λ w. leaf-run (w .model) (w .mark) t n k e a ∙ rw (leaf-same t n k x f)) h
@@ -114,7 +114,7 @@ begins (node p f) w = refl
 
 pub below-stop : {Ok : World → Type 0} (t : List ℕ) (n k : ℕ) {env B : List ℕ} {sp s : ℕ} → 1000000 ≤ s → Evals Ok (operandFor t n k) env sp s B B (ended.Stop 16 s)
 unfolding operandFor
-below-stop t n k h = tick-stop (formFor (operandAt t n k)) (begins (operandAt t n k)) h
+below-stop t n k h = tick-stop (formFor (operandTree t n k)) (begins (operandTree t n k)) h
 
 module _ {Ok : World → Type 0} (t : List ℕ) (n k a : ℕ) {env B : List ℕ} {sp s : ℕ} (e : a ≡ word t n k) where
   pub below-done : {A : List ℕ} {r : Ended} → a < n → Evals Ok (nodeFor t a) env sp s B A r → Evals Ok (operandFor t n k) env sp s B A r
@@ -158,7 +158,7 @@ rule-done t n o B {S} room h p x = record {
 
 -- ---- levels
 
-pub below-levels : (t : List ℕ) (n k a : ℕ) → a ≡ word t n k → a < n → levels (operandAt t n k) ≡ levels (treeAt t a)
+pub below-levels : (t : List ℕ) (n k a : ℕ) → a ≡ word t n k → a < n → levels (operandTree t n k) ≡ levels (treeAt t a)
 below-levels t n k a e h = rw (← e) (ap levels (below-law t n a h))
 
 pub shallow : (t : List ℕ) (n k left : ℕ) → k ≡ word t n 0 → 27 ≤ k → k < 30 → levels (treeAt t n) ≤ left + 1 → Shallow t n left

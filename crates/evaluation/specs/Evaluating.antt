@@ -19,14 +19,14 @@ use Rattle.tables.specs.declared.Counts.{Counts}
 use Rattle.tables.specs.Layout.{Fine}
 use Rattle.tables.specs.Stored.{HoldsModel}
 use Rattle.operations.specs.declared.Ended.{Ended}
-use Rattle.operations.specs.Answers.{Lies, Ends, Ran, Small}
+use Rattle.operations.specs.Answers.{Lies, Ends, Ran, SmallAnswer}
 use Rattle.operations.specs.Tables.{Plain}
 use Rattle.operations.specs.Runs.{World, Rel, Meaning}
 
 -- ---- what is evaluated over
 
 -- the tables hold the model, and w1 the marks, from 6144 on
-pub record Reads (st : Counts) (w0 w1 : List ℕ) (w : World) : Type 0 where
+pub record ReadsWorld (st : Counts) (w0 w1 : List ℕ) (w : World) : Type 0 where
   pub holds : HoldsModel st w0 (w .model)
   pub plain : Plain st (w .model)
   pub mark : (p : ℕ) → p < 768 → w .mark p ≡ getD w1 (6144 + p) 0
@@ -34,24 +34,24 @@ pub record Reads (st : Counts) (w0 w1 : List ℕ) (w : World) : Type 0 where
 
 -- a rule's outcome, its value at 1
 pub record Rules (Ok : World → Type 0) (e : Expr) (o : ℕ) (A : List ℕ) (r : Ended) : Type 0 where
-  pub small : Small r
+  pub small : SmallAnswer r
   pub ends : (w : World) → Ok w → Ends 1 A (evaluateRule (w .model) (w .mark) e o) r
 
 -- ---- nodes and operands
 
 -- the tree of operand k of node n
-abbrev pub operandAt : List ℕ → ℕ → ℕ → Expr
-operandAt t n k = treesBelow t n (word t n k)
+abbrev pub operandTree : List ℕ → ℕ → ℕ → Expr
+operandTree t n k = treesBelow t n (word t n k)
 
 unfoldable pub nodeFor : List ℕ → ℕ → Meaning
 nodeFor t n w = evaluation (w .model) (w .mark) (treeAt t n)
 
 unfoldable pub operandFor : List ℕ → ℕ → ℕ → Meaning
-operandFor t n k w = evaluation (w .model) (w .mark) (operandAt t n k)
+operandFor t n k w = evaluation (w .model) (w .mark) (operandTree t n k)
 
 -- the counts are within the limits, the words are as many as are lent, n is a node, and the stack has room for left levels
 -- above sp: a level keeps at most 384 words below an operand, and 256 are for what is formed above
-pub record Room (st : Counts) (w0 w1 w2 n sp left : ℕ) : Type 0 where
+pub record StackRoom (st : Counts) (w0 w1 w2 n sp left : ℕ) : Type 0 where
   pub fine : Fine st
   pub tables : 8192 ≤ w0
   pub nodes : 8192 ≤ w1
@@ -101,17 +101,17 @@ collectNode t n k w = if ltb 4 (word t n 5) then leafRun (w .model) undef else m
 
 -- each operand of `coll` has few enough levels
 pub record Shallow (t : List ℕ) (n left : ℕ) : Type 0 where
-  pub members : word t n 5 ≤ 4 → (i : ℕ) → i < word t n 5 → levels (operandAt t n (i + 1)) ≤ left
+  pub members : word t n 5 ≤ 4 → (i : ℕ) → i < word t n 5 → levels (operandTree t n (i + 1)) ≤ left
 
 -- ---- loops over the members of the collection of la cells at sp
 
 pub record Searches (Ok : World → Type 0) (q : Quantifier) (i : ℕ) (g : Meaning) (env : List ℕ) (sp la s : ℕ) (B A : List ℕ) (r : Ended) : Type 0 where
-  pub small : Small r
+  pub small : SmallAnswer r
   pub ran : (w : World) → Ok w → (ρ : Env Value) → Rel env B sp ρ → (vs : Values) → AllFit vs → slice (sp + 1) (sp + la) B ≡ encs vs
       → Ran (search q (λ x. g w (extend ρ i x)) vs s) sp B A r
 
 -- the accumulator is the lb cells after the collection
 pub record Folds (Ok : World → Type 0) (i j : ℕ) (h : Meaning) (env : List ℕ) (sp la lb s : ℕ) (B A : List ℕ) (r : Ended) : Type 0 where
-  pub small : Small r
+  pub small : SmallAnswer r
   pub ran : (w : World) → Ok w → (ρ : Env Value) → Rel env B sp ρ → (vs : Values) → AllFit vs → slice (sp + 1) (sp + la) B ≡ encs vs
       → (a : Value) → Lies a (sp + la) lb B → Ran (fold (λ x y. h w (extend (extend ρ i x) j y)) vs a s) sp B A r

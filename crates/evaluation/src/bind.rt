@@ -17,7 +17,7 @@ ghost use lib.ListN.{length};
 ghost use Rattle.ocl.specs.Forms.{levels};
 ghost use Rattle.nodes.specs.Nodes.{word, variable, quantifierOf};
 ghost use Rattle.operations.specs.Runs.{Evals};
-ghost use Rattle.evaluation.specs.Evaluating.{Reads, Room, operandAt, operandFor, letNode, quantifiedNode, iterateNode, Searches, Folds};
+ghost use Rattle.evaluation.specs.Evaluating.{ReadsWorld, StackRoom, operandTree, operandFor, letNode, quantifiedNode, iterateNode, Searches, Folds};
 
 // `let`: the body's value is moved down over the bound one.
 pub fn let_in(
@@ -31,9 +31,9 @@ pub fn let_in(
     left: usize,
     steps: u64,
 ) -> Ended
-    requires { ⌜ Room st (length (now tables)) (length (now nodes)) (length (now stack)) n sp (left + 1) ⌝ }
-    requires { ⌜ (levels (operandAt (now nodes) n 1) ≤ left) × (levels (operandAt (now nodes) n 2) ≤ left) ⌝ }
-    ensures { λ r. ⌜ Evals (Reads st (now (tables .entry)) (now (nodes .entry))) (letNode (now (nodes .entry)) n) env sp steps (now (stack .entry)) (now (stack .exit)) r ⌝ }
+    requires { ⌜ StackRoom st (length (now tables)) (length (now nodes)) (length (now stack)) n sp (left + 1) ⌝ }
+    requires { ⌜ (levels (operandTree (now nodes) n 1) ≤ left) × (levels (operandTree (now nodes) n 2) ≤ left) ⌝ }
+    ensures { λ r. ⌜ Evals (ReadsWorld st (now (tables .entry)) (now (nodes .entry))) (letNode (now (nodes .entry)) n) env sp steps (now (stack .entry)) (now (stack .exit)) r ⌝ }
 {
     let i = wide(node_word(nodes, n, 3) % 16);
     let bound = below(tables, st, nodes, n, 1, env, stack, sp, left, steps);
@@ -65,10 +65,10 @@ pub fn quantified(
     left: usize,
     steps: u64,
 ) -> Ended
-    requires { ⌜ Room st (length (now tables)) (length (now nodes)) (length (now stack)) n sp (left + 1) ⌝ }
-    requires { ⌜ (25 ≤ form) × (form < 27) × (levels (operandAt (now nodes) n 1) ≤ left) × (levels (operandAt (now nodes) n 2) ≤ left) ⌝ }
+    requires { ⌜ StackRoom st (length (now tables)) (length (now nodes)) (length (now stack)) n sp (left + 1) ⌝ }
+    requires { ⌜ (25 ≤ form) × (form < 27) × (levels (operandTree (now nodes) n 1) ≤ left) × (levels (operandTree (now nodes) n 2) ≤ left) ⌝ }
     requires { ⌜ i ≡ variable (word (now nodes) n 3) ⌝ }
-    ensures { λ r. ⌜ Evals (Reads st (now (tables .entry)) (now (nodes .entry))) (quantifiedNode (now (nodes .entry)) n form) env sp steps (now (stack .entry)) (now (stack .exit)) r ⌝ }
+    ensures { λ r. ⌜ Evals (ReadsWorld st (now (tables .entry)) (now (nodes .entry))) (quantifiedNode (now (nodes .entry)) n form) env sp steps (now (stack .entry)) (now (stack .exit)) r ⌝ }
 {
     let first = below(tables, st, nodes, n, 1, env, stack, sp, left, steps);
     let Ended::Value { len: la, steps: sa } = first else {
@@ -95,10 +95,10 @@ fn search(
     left: usize,
     steps: u64,
 ) -> Ended
-    requires { ⌜ Room st (length (now tables)) (length (now nodes)) (length (now stack)) n sp (left + 1) ⌝ }
-    requires { ⌜ (25 ≤ form) × (form < 27) × (levels (operandAt (now nodes) n 2) ≤ left) × (1 ≤ la) × (la ≤ 128) ⌝ }
+    requires { ⌜ StackRoom st (length (now tables)) (length (now nodes)) (length (now stack)) n sp (left + 1) ⌝ }
+    requires { ⌜ (25 ≤ form) × (form < 27) × (levels (operandTree (now nodes) n 2) ≤ left) × (1 ≤ la) × (la ≤ 128) ⌝ }
     requires { ⌜ i ≡ variable (word (now nodes) n 3) ⌝ }
-    ensures { λ r. ⌜ Searches (Reads st (now (tables .entry)) (now (nodes .entry))) (quantifierOf form) (variable (word (now (nodes .entry)) n 3)) (operandFor (now (nodes .entry)) n 2) env sp la steps (now (stack .entry)) (now (stack .exit)) r ⌝ }
+    ensures { λ r. ⌜ Searches (ReadsWorld st (now (tables .entry)) (now (nodes .entry))) (quantifierOf form) (variable (word (now (nodes .entry)) n 3)) (operandFor (now (nodes .entry)) n 2) env sp la steps (now (stack .entry)) (now (stack .exit)) r ⌝ }
 {
     let end = sp + la;
     let mut s = steps;
@@ -135,9 +135,9 @@ pub fn iter(
     left: usize,
     steps: u64,
 ) -> Ended
-    requires { ⌜ Room st (length (now tables)) (length (now nodes)) (length (now stack)) n sp (left + 1) ⌝ }
-    requires { ⌜ (levels (operandAt (now nodes) n 1) ≤ left) × (levels (operandAt (now nodes) n 2) ≤ left) × (levels (operandAt (now nodes) n 3) ≤ left) ⌝ }
-    ensures { λ r. ⌜ Evals (Reads st (now (tables .entry)) (now (nodes .entry))) (iterateNode (now (nodes .entry)) n) env sp steps (now (stack .entry)) (now (stack .exit)) r ⌝ }
+    requires { ⌜ StackRoom st (length (now tables)) (length (now nodes)) (length (now stack)) n sp (left + 1) ⌝ }
+    requires { ⌜ (levels (operandTree (now nodes) n 1) ≤ left) × (levels (operandTree (now nodes) n 2) ≤ left) × (levels (operandTree (now nodes) n 3) ≤ left) ⌝ }
+    ensures { λ r. ⌜ Evals (ReadsWorld st (now (tables .entry)) (now (nodes .entry))) (iterateNode (now (nodes .entry)) n) env sp steps (now (stack .entry)) (now (stack .exit)) r ⌝ }
 {
     let first = below(tables, st, nodes, n, 1, env, stack, sp, left, steps);
     let Ended::Value { len: la, steps: sa } = first else {
@@ -171,10 +171,10 @@ fn fold(
     left: usize,
     steps: u64,
 ) -> Ended
-    requires { ⌜ Room st (length (now tables)) (length (now nodes)) (length (now stack)) n sp (left + 1) ⌝ }
-    requires { ⌜ (levels (operandAt (now nodes) n 3) ≤ left) × (1 ≤ la) × (la ≤ 128) × (1 ≤ lb) × (lb ≤ 128) ⌝ }
+    requires { ⌜ StackRoom st (length (now tables)) (length (now nodes)) (length (now stack)) n sp (left + 1) ⌝ }
+    requires { ⌜ (levels (operandTree (now nodes) n 3) ≤ left) × (1 ≤ la) × (la ≤ 128) × (1 ≤ lb) × (lb ≤ 128) ⌝ }
     requires { ⌜ (i ≡ variable (word (now nodes) n 4)) × (j ≡ variable (word (now nodes) n 5)) ⌝ }
-    ensures { λ r. ⌜ Folds (Reads st (now (tables .entry)) (now (nodes .entry))) (variable (word (now (nodes .entry)) n 4)) (variable (word (now (nodes .entry)) n 5)) (operandFor (now (nodes .entry)) n 3) env sp la lb steps (now (stack .entry)) (now (stack .exit)) r ⌝ }
+    ensures { λ r. ⌜ Folds (ReadsWorld st (now (tables .entry)) (now (nodes .entry))) (variable (word (now (nodes .entry)) n 4)) (variable (word (now (nodes .entry)) n 5)) (operandFor (now (nodes .entry)) n 3) env sp la lb steps (now (stack .entry)) (now (stack .exit)) r ⌝ }
 {
     let mid = sp + la;
     let mut len = lb;

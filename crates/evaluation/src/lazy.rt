@@ -10,7 +10,7 @@ ghost use lib.ListN.{length};
 ghost use Rattle.ocl.specs.Forms.{levels};
 ghost use Rattle.nodes.specs.Nodes.{connectiveOf};
 ghost use Rattle.operations.specs.Runs.{Evals};
-ghost use Rattle.evaluation.specs.Evaluating.{Reads, Room, operandAt, operandFor, connectiveNode, rightSide, isUndefNode, conditionalNode};
+ghost use Rattle.evaluation.specs.Evaluating.{ReadsWorld, StackRoom, operandTree, operandFor, connectiveNode, rightSide, isUndefNode, conditionalNode};
 
 // `and` (23) and `or` (24): a left side that decides leaves the right one unrun. `and` is decided by 0, `or` by 1.
 pub fn connective(
@@ -25,9 +25,9 @@ pub fn connective(
     left: usize,
     steps: u64,
 ) -> Ended
-    requires { ⌜ Room st (length (now tables)) (length (now nodes)) (length (now stack)) n sp (left + 1) ⌝ }
-    requires { ⌜ (23 ≤ form) × (form < 25) × (levels (operandAt (now nodes) n 1) ≤ left) × (levels (operandAt (now nodes) n 2) ≤ left) ⌝ }
-    ensures { λ r. ⌜ Evals (Reads st (now (tables .entry)) (now (nodes .entry))) (connectiveNode (now (nodes .entry)) n form) env sp steps (now (stack .entry)) (now (stack .exit)) r ⌝ }
+    requires { ⌜ StackRoom st (length (now tables)) (length (now nodes)) (length (now stack)) n sp (left + 1) ⌝ }
+    requires { ⌜ (23 ≤ form) × (form < 25) × (levels (operandTree (now nodes) n 1) ≤ left) × (levels (operandTree (now nodes) n 2) ≤ left) ⌝ }
+    ensures { λ r. ⌜ Evals (ReadsWorld st (now (tables .entry)) (now (nodes .entry))) (connectiveNode (now (nodes .entry)) n form) env sp steps (now (stack .entry)) (now (stack .exit)) r ⌝ }
 {
     let first = below(tables, st, nodes, n, 1, env, stack, sp, left, steps);
     match first {
@@ -73,9 +73,9 @@ fn right(
     left: usize,
     steps: u64,
 ) -> Ended
-    requires { ⌜ Room st (length (now tables)) (length (now nodes)) (length (now stack)) n sp (left + 1) ⌝ }
-    requires { ⌜ (23 ≤ form) × (form < 25) × (levels (operandAt (now nodes) n 2) ≤ left) ⌝ }
-    ensures { λ r. ⌜ Evals (Reads st (now (tables .entry)) (now (nodes .entry))) (rightSide known (connectiveOf form) (operandFor (now (nodes .entry)) n 2)) env sp steps (now (stack .entry)) (now (stack .exit)) r ⌝ }
+    requires { ⌜ StackRoom st (length (now tables)) (length (now nodes)) (length (now stack)) n sp (left + 1) ⌝ }
+    requires { ⌜ (23 ≤ form) × (form < 25) × (levels (operandTree (now nodes) n 2) ≤ left) ⌝ }
+    ensures { λ r. ⌜ Evals (ReadsWorld st (now (tables .entry)) (now (nodes .entry))) (rightSide known (connectiveOf form) (operandFor (now (nodes .entry)) n 2)) env sp steps (now (stack .entry)) (now (stack .exit)) r ⌝ }
 {
     let second = below(tables, st, nodes, n, 2, env, stack, sp, left, steps);
     let Ended::Value { len, steps: s } = second else {
@@ -106,9 +106,9 @@ pub fn is_undef(
     left: usize,
     steps: u64,
 ) -> Ended
-    requires { ⌜ Room st (length (now tables)) (length (now nodes)) (length (now stack)) n sp (left + 1) ⌝ }
-    requires { ⌜ levels (operandAt (now nodes) n 1) ≤ left ⌝ }
-    ensures { λ r. ⌜ Evals (Reads st (now (tables .entry)) (now (nodes .entry))) (isUndefNode (now (nodes .entry)) n) env sp steps (now (stack .entry)) (now (stack .exit)) r ⌝ }
+    requires { ⌜ StackRoom st (length (now tables)) (length (now nodes)) (length (now stack)) n sp (left + 1) ⌝ }
+    requires { ⌜ levels (operandTree (now nodes) n 1) ≤ left ⌝ }
+    ensures { λ r. ⌜ Evals (ReadsWorld st (now (tables .entry)) (now (nodes .entry))) (isUndefNode (now (nodes .entry)) n) env sp steps (now (stack .entry)) (now (stack .exit)) r ⌝ }
 {
     let first = below(tables, st, nodes, n, 1, env, stack, sp, left, steps);
     match first {
@@ -131,9 +131,9 @@ pub fn conditional(
     left: usize,
     steps: u64,
 ) -> Ended
-    requires { ⌜ Room st (length (now tables)) (length (now nodes)) (length (now stack)) n sp (left + 1) ⌝ }
-    requires { ⌜ (levels (operandAt (now nodes) n 1) ≤ left) × (levels (operandAt (now nodes) n 2) ≤ left) × (levels (operandAt (now nodes) n 3) ≤ left) ⌝ }
-    ensures { λ r. ⌜ Evals (Reads st (now (tables .entry)) (now (nodes .entry))) (conditionalNode (now (nodes .entry)) n) env sp steps (now (stack .entry)) (now (stack .exit)) r ⌝ }
+    requires { ⌜ StackRoom st (length (now tables)) (length (now nodes)) (length (now stack)) n sp (left + 1) ⌝ }
+    requires { ⌜ (levels (operandTree (now nodes) n 1) ≤ left) × (levels (operandTree (now nodes) n 2) ≤ left) × (levels (operandTree (now nodes) n 3) ≤ left) ⌝ }
+    ensures { λ r. ⌜ Evals (ReadsWorld st (now (tables .entry)) (now (nodes .entry))) (conditionalNode (now (nodes .entry)) n) env sp steps (now (stack .entry)) (now (stack .exit)) r ⌝ }
 {
     let first = below(tables, st, nodes, n, 1, env, stack, sp, left, steps);
     let Ended::Value { len: _, steps: s } = first else {

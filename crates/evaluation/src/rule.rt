@@ -9,7 +9,7 @@ ghost use Prim.Native.Nat.{_≤_, _<_};
 ghost use lib.ListN.{length};
 ghost use Rattle.ocl.specs.Forms.{levels};
 ghost use Rattle.nodes.specs.Nodes.{treeAt};
-ghost use Rattle.evaluation.specs.Evaluating.{Reads, Room, Rules};
+ghost use Rattle.evaluation.specs.Evaluating.{ReadsWorld, StackRoom, Rules};
 
 // The rule with this root, for an object, which is `self`: its cell is put at 0, and the value is formed at 1.
 pub fn evaluate_rule(
@@ -20,9 +20,9 @@ pub fn evaluate_rule(
     root: usize,
     object: u64,
 ) -> Ended
-    requires { ⌜ Room st (length (now tables)) (length (now nodes)) (length (now stack)) root 1 19 ⌝ }
+    requires { ⌜ StackRoom st (length (now tables)) (length (now nodes)) (length (now stack)) root 1 19 ⌝ }
     requires { ⌜ (levels (treeAt (now nodes) root) ≤ 19) × (object < 4294967296) ⌝ }
-    ensures { λ r. ⌜ Rules (Reads st (now (tables .entry)) (now (nodes .entry))) (treeAt (now (nodes .entry)) root) object (now (stack .exit)) r ⌝ }
+    ensures { λ r. ⌜ Rules (ReadsWorld st (now (tables .entry)) (now (nodes .entry))) (treeAt (now (nodes .entry)) root) object (now (stack .exit)) r ⌝ }
 {
     push(stack, 0, Simple::Object { number: object });
     let mut env = [0usize; 16];

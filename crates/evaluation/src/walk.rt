@@ -26,7 +26,7 @@ ghost use Rattle.ocl.specs.Forms.{levels};
 ghost use Rattle.nodes.specs.Nodes.{treeAt};
 ghost use Rattle.operations.specs.Answers.{answerIn};
 ghost use Rattle.operations.specs.Runs.{Evals};
-ghost use Rattle.evaluation.specs.Evaluating.{Reads, Room, operandAt, nodeFor, operandFor, unaryNode, binaryNode, attributeNode, collectNode, Shallow};
+ghost use Rattle.evaluation.specs.Evaluating.{ReadsWorld, StackRoom, operandTree, nodeFor, operandFor, unaryNode, binaryNode, attributeNode, collectNode, Shallow};
 
 // The step stop comes where this many steps have begun.
 const LIMIT: u64 = 1_000_000;
@@ -46,9 +46,9 @@ pub fn below(
     left: usize,
     steps: u64,
 ) -> Ended
-    requires { ⌜ Room st (length (now tables)) (length (now nodes)) (length (now stack)) n sp left ⌝ }
-    requires { ⌜ (k < 8) × (levels (operandAt (now nodes) n k) ≤ left) ⌝ }
-    ensures { λ r. ⌜ Evals (Reads st (now (tables .entry)) (now (nodes .entry))) (operandFor (now (nodes .entry)) n k) env sp steps (now (stack .entry)) (now (stack .exit)) r ⌝ }
+    requires { ⌜ StackRoom st (length (now tables)) (length (now nodes)) (length (now stack)) n sp left ⌝ }
+    requires { ⌜ (k < 8) × (levels (operandTree (now nodes) n k) ≤ left) ⌝ }
+    ensures { λ r. ⌜ Evals (ReadsWorld st (now (tables .entry)) (now (nodes .entry))) (operandFor (now (nodes .entry)) n k) env sp steps (now (stack .entry)) (now (stack .exit)) r ⌝ }
 {
     if LIMIT <= steps {
         return Ended::Stop { number: 16, steps };
@@ -73,9 +73,9 @@ pub fn word(
     left: usize,
     steps: u64,
 ) -> u64
-    requires { ⌜ Room st (length (now tables)) (length (now nodes)) (length (now stack)) n sp left ⌝ }
+    requires { ⌜ StackRoom st (length (now tables)) (length (now nodes)) (length (now stack)) n sp left ⌝ }
     requires { ⌜ (levels (treeAt (now nodes) n) ≤ left) × (steps < 1000000) ⌝ }
-    ensures { λ r. ⌜ Evals (Reads st (now (tables .entry)) (now (nodes .entry))) (nodeFor (now (nodes .entry)) n) env sp steps (now (stack .entry)) (now (stack .exit)) (answerIn r) ⌝ }
+    ensures { λ r. ⌜ Evals (ReadsWorld st (now (tables .entry)) (now (nodes .entry))) (nodeFor (now (nodes .entry)) n) env sp steps (now (stack .entry)) (now (stack .exit)) (answerIn r) ⌝ }
 {
     pack(node(tables, st, nodes, n, env, stack, sp, left, steps))
 }
@@ -92,9 +92,9 @@ fn node(
     left: usize,
     steps: u64,
 ) -> Ended
-    requires { ⌜ Room st (length (now tables)) (length (now nodes)) (length (now stack)) n sp left ⌝ }
+    requires { ⌜ StackRoom st (length (now tables)) (length (now nodes)) (length (now stack)) n sp left ⌝ }
     requires { ⌜ (levels (treeAt (now nodes) n) ≤ left) × (steps < 1000000) ⌝ }
-    ensures { λ r. ⌜ Evals (Reads st (now (tables .entry)) (now (nodes .entry))) (nodeFor (now (nodes .entry)) n) env sp steps (now (stack .entry)) (now (stack .exit)) r ⌝ }
+    ensures { λ r. ⌜ Evals (ReadsWorld st (now (tables .entry)) (now (nodes .entry))) (nodeFor (now (nodes .entry)) n) env sp steps (now (stack .entry)) (now (stack .exit)) r ⌝ }
 {
     let s = steps + 1;
     let deeper = left - 1;
@@ -131,9 +131,9 @@ fn unary(
     left: usize,
     steps: u64,
 ) -> Ended
-    requires { ⌜ Room st (length (now tables)) (length (now nodes)) (length (now stack)) n sp (left + 1) ⌝ }
-    requires { ⌜ (7 ≤ form) × (form < 13) × (levels (operandAt (now nodes) n 1) ≤ left) ⌝ }
-    ensures { λ r. ⌜ Evals (Reads st (now (tables .entry)) (now (nodes .entry))) (unaryNode (now (nodes .entry)) n form) env sp steps (now (stack .entry)) (now (stack .exit)) r ⌝ }
+    requires { ⌜ StackRoom st (length (now tables)) (length (now nodes)) (length (now stack)) n sp (left + 1) ⌝ }
+    requires { ⌜ (7 ≤ form) × (form < 13) × (levels (operandTree (now nodes) n 1) ≤ left) ⌝ }
+    ensures { λ r. ⌜ Evals (ReadsWorld st (now (tables .entry)) (now (nodes .entry))) (unaryNode (now (nodes .entry)) n form) env sp steps (now (stack .entry)) (now (stack .exit)) r ⌝ }
 {
     let first = below(tables, st, nodes, n, 1, env, stack, sp, left, steps);
     let Ended::Value { len, steps: s } = first else {
@@ -155,9 +155,9 @@ fn binary(
     left: usize,
     steps: u64,
 ) -> Ended
-    requires { ⌜ Room st (length (now tables)) (length (now nodes)) (length (now stack)) n sp (left + 1) ⌝ }
-    requires { ⌜ (13 ≤ form) × (form < 23) × (levels (operandAt (now nodes) n 1) ≤ left) × (levels (operandAt (now nodes) n 2) ≤ left) ⌝ }
-    ensures { λ r. ⌜ Evals (Reads st (now (tables .entry)) (now (nodes .entry))) (binaryNode (now (nodes .entry)) n form) env sp steps (now (stack .entry)) (now (stack .exit)) r ⌝ }
+    requires { ⌜ StackRoom st (length (now tables)) (length (now nodes)) (length (now stack)) n sp (left + 1) ⌝ }
+    requires { ⌜ (13 ≤ form) × (form < 23) × (levels (operandTree (now nodes) n 1) ≤ left) × (levels (operandTree (now nodes) n 2) ≤ left) ⌝ }
+    ensures { λ r. ⌜ Evals (ReadsWorld st (now (tables .entry)) (now (nodes .entry))) (binaryNode (now (nodes .entry)) n form) env sp steps (now (stack .entry)) (now (stack .exit)) r ⌝ }
 {
     let first = below(tables, st, nodes, n, 1, env, stack, sp, left, steps);
     let Ended::Value { len: la, steps: sa } = first else {
@@ -186,9 +186,9 @@ fn attr(
     left: usize,
     steps: u64,
 ) -> Ended
-    requires { ⌜ Room st (length (now tables)) (length (now nodes)) (length (now stack)) n sp (left + 1) ⌝ }
-    requires { ⌜ levels (operandAt (now nodes) n 1) ≤ left ⌝ }
-    ensures { λ r. ⌜ Evals (Reads st (now (tables .entry)) (now (nodes .entry))) (attributeNode (now (nodes .entry)) n) env sp steps (now (stack .entry)) (now (stack .exit)) r ⌝ }
+    requires { ⌜ StackRoom st (length (now tables)) (length (now nodes)) (length (now stack)) n sp (left + 1) ⌝ }
+    requires { ⌜ levels (operandTree (now nodes) n 1) ≤ left ⌝ }
+    ensures { λ r. ⌜ Evals (ReadsWorld st (now (tables .entry)) (now (nodes .entry))) (attributeNode (now (nodes .entry)) n) env sp steps (now (stack .entry)) (now (stack .exit)) r ⌝ }
 {
     let first = below(tables, st, nodes, n, 1, env, stack, sp, left, steps);
     let Ended::Value { len: _, steps: s } = first else {
@@ -210,9 +210,9 @@ fn coll(
     left: usize,
     steps: u64,
 ) -> Ended
-    requires { ⌜ Room st (length (now tables)) (length (now nodes)) (length (now stack)) n sp (left + 1) ⌝ }
+    requires { ⌜ StackRoom st (length (now tables)) (length (now nodes)) (length (now stack)) n sp (left + 1) ⌝ }
     requires { ⌜ (27 ≤ form) × (form < 30) × Shallow (now nodes) n left ⌝ }
-    ensures { λ r. ⌜ Evals (Reads st (now (tables .entry)) (now (nodes .entry))) (collectNode (now (nodes .entry)) n form) env sp steps (now (stack .entry)) (now (stack .exit)) r ⌝ }
+    ensures { λ r. ⌜ Evals (ReadsWorld st (now (tables .entry)) (now (nodes .entry))) (collectNode (now (nodes .entry)) n form) env sp steps (now (stack .entry)) (now (stack .exit)) r ⌝ }
 {
     let count = wide(node_word(nodes, n, 5));
     if 4 < count {

@@ -22,7 +22,7 @@ use Rattle.types.proofs.Members.{class-is}
 use Rattle.types.proofs.RowLaws.{ReadsTables, row-read-law}
 use Rattle.types.proofs.RowBounds.{row-below}
 use Rattle.judgements.specs.declared.Reply.the-variants as reply
-use Rattle.judgements.specs.Replies.{writeMarks, Tells, Reads}
+use Rattle.judgements.specs.Replies.{writeMarks, Tells, ReadsRows}
 use Rattle.judgements.proofs.Composition.{done}
 
 -- ---- which types are classes
@@ -57,7 +57,7 @@ pub row-small : (ps owners names : List ℕ) (rows c name : ℕ) (x : Found) {i 
 unfolding found
 row-small ps owners names rows c name x {i} h q = row-below ps owners names rows c name i (sym h ∙ ap found q)
 
-module _ {ps tables : List ℕ} {rows : ℕ} (m : Model) (to : Reads ps tables rows m) where
+module _ {ps tables : List ℕ} {rows : ℕ} (m : Model) (to : ReadsRows ps tables rows m) where
   read-tables : ReadsTables m ps (ownersIn tables) (namesIn tables) rows
   read-tables = record {
     parents = to .classes .parent;

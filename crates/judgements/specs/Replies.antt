@@ -66,6 +66,6 @@ pub record Tells (x : Typed) (before after : List ℕ) (r : Reply) : Type 0 wher
 -- ---- the model
 
 -- the model has these parents, and the rows of the tables: owners from word 64, names from 128, types from 192
-pub record Reads (parents tables : List ℕ) (rows : ℕ) (m : Model) : Type 0 where
+pub record ReadsRows (parents tables : List ℕ) (rows : ℕ) (m : Model) : Type 0 where
   pub classes : HoldsClasses parents (take 64 (drop 64 tables)) (take 64 (drop 128 tables)) (take 64 (drop 192 tables)) m
   pub count : m .rowCount ≡ rows

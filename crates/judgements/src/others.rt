@@ -6,7 +6,7 @@ ghost use Rattle.ocl.specs.Model.{Model};
 ghost use Rattle.ocl.specs.Typing.{conditionalType, attributeType};
 ghost use Rattle.types.specs.Flat.{parentsIn, tyOf};
 ghost use Rattle.judgements.specs.Replies.{meaning, Tells};
-ghost use Rattle.judgements.specs.Replies.{Reads};
+ghost use Rattle.judgements.specs.Replies.{ReadsRows};
 use super::Reply;
 use super::forms::common_type;
 use types::Base;
@@ -41,7 +41,7 @@ pub fn attribute_type(
     marks: &mut [u64],
 ) -> Reply
     requires { ⌜ (rows ≤ 64) × (256 ≤ length (now tables)) × (n < 768) × (768 ≤ length (now marks)) ⌝ }
-    ensures { λ r. ⌜ ((m : Model) → Reads (now (parents .entry)) (now (tables .entry)) rows m → Tells (attributeType m n name (tyOf t)) (now (marks .entry)) (now (marks .exit)) r) ⌝ }
+    ensures { λ r. ⌜ ((m : Model) → ReadsRows (now (parents .entry)) (now (tables .entry)) rows m → Tells (attributeType m n name (tyOf t)) (now (marks .entry)) (now (marks .exit)) r) ⌝ }
 {
     let ClassNumber::Is(c) = is_class(t) else {
         return Reply::No(11, n as u64);

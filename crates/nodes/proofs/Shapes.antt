@@ -19,7 +19,7 @@ use Rattle.sheet.specs.Sheet.{operandsOf, growAll, grow}
 use Rattle.sheet.specs.Refusals.{isVariable, typeWithin, leafWithin, formWithin}
 use Rattle.types.specs.Word.{typeIn}
 use Rattle.ocl.proofs.Ranges.{unbias-bias, bias-small}
-use Rattle.nodes.specs.Nodes.{TypeSaid, word, variable, leafOf, unaryOf, arithOf, binaryOf, connectiveOf, quantifierOf, kindOf, operandsIn, formOf, treesBelow, treeAt, leafWords, unaryWords, arithCode, binaryCode, connectiveCode, quantifierCode, collectCode, operandWord, shapeWords}
+use Rattle.nodes.specs.Nodes.{TypeSaid, word, variable, leafOf, unaryOf, arithByCode, binaryOf, connectiveOf, quantifierOf, kindOf, operandsIn, formOf, treesBelow, treeAt, leafWords, unaryWords, arithCode, binaryCode, connectiveCode, quantifierCode, collectCode, operandWord, shapeWords}
 use Rattle.nodes.proofs.Nodes.{tree-law, below-law, collect-range}
 
 -- ---- numbers that the words hold
@@ -77,7 +77,7 @@ module _ (f g : ℕ → Expr) (w : ℕ → ℕ) (first n type line : ℕ) (near 
   unary-grow (castTo c) a l ws = rw (ws 0 (omega arith), ws 1 (omega arith), ws 2 (omega arith), near a l)
 
   binary-grow : (op : Binary) (a b : ℕ) → a < n → b < n → Words (binary op a b) → formOf f w (w 0) ≡ Form.binary op (g a) (g b)
-  unfolding Words shapeWords binaryCode arithCode formOf binaryOf arithOf
+  unfolding Words shapeWords binaryCode arithCode formOf binaryOf arithByCode
   binary-grow equal a b l m ws = rw (ws 0 (omega arith), ws 1 (omega arith), ws 2 (omega arith), near a l, near b m)
   binary-grow less a b l m ws = rw (ws 0 (omega arith), ws 1 (omega arith), ws 2 (omega arith), near a l, near b m)
   binary-grow (calculation plus) a b l m ws = rw (ws 0 (omega arith), ws 1 (omega arith), ws 2 (omega arith), near a l, near b m)

@@ -45,8 +45,8 @@ unaryOf k w =
     else castTo (w 2)
 
 -- codes 15 to 19 of the binary forms
-unfoldable pub arithOf : ℕ → Arith
-arithOf k =
+unfoldable pub arithByCode : ℕ → Arith
+arithByCode k =
     if eqb k 15 then plus else if eqb k 16 then minus else if eqb k 17 then times else if eqb k 18 then div else modulo
 
 -- codes 13 to 22
@@ -54,7 +54,7 @@ unfoldable pub binaryOf : ℕ → Binary
 binaryOf k =
     if eqb k 13 then equal
     else if eqb k 14 then less
-    else if ltb k 20 then arith (arithOf k)
+    else if ltb k 20 then arith (arithByCode k)
     else if eqb k 20 then includes
     else if eqb k 21 then including
     else union

@@ -7,10 +7,10 @@ use Rattle.ocl.specs.Environment.{extend, start}
 use Rattle.ocl.specs.Typing.{thenFor, andThen, common, onCollection, boundType, leafType, castType, unaryType, bothBelow, binaryType, conditionalType, rowType, attributeType, leafTyping, unaryTyping, binaryTyping, conditionalTyping, letTyping, attributeTyping, typing, typeRule, markOr, markOf}
 use Rattle.ocl.specs.Evaluation.{tick, leafRun, conditionalRun, letRun, attributeRun, evaluation, evaluateRule}
 use Rattle.ocl.specs.Worked.{parents, undef₀, int₀}
-use Rattle.ocl.specs.Mistakes.{redeclared, onlyObject, nineAndTrue, model, typeIn, outcomeIn, attribute₅, hidden, oneBranch, Mistakes}
+use Rattle.ocl.specs.Mistakes.{redeclared, onlyObject, nineAndTrue, model, ruleTyping, outcomeIn, attribute₅, hidden, oneBranch, Mistakes}
 
 pub mistakes : Mistakes
-unfolding orElse onSome join simpleJoin firstAbove simpleSubtype climbs sameSimple simpleCode up parentOr height subtype classIsA isA declared nearest rowRead extend start thenFor andThen common onCollection boundType leafType castType unaryType bothBelow binaryType conditionalType rowType attributeType leafTyping unaryTyping binaryTyping conditionalTyping letTyping attributeTyping typing typeRule markOr markOf tick leafRun conditionalRun letRun attributeRun evaluation evaluateRule parents undef₀ int₀ redeclared onlyObject nineAndTrue model typeIn outcomeIn attribute₅ hidden oneBranch
+unfolding orElse onSome join simpleJoin firstAbove simpleSubtype climbs sameSimple simpleCode up parentOr height subtype classIsA isA declared nearest rowRead extend start thenFor andThen common onCollection boundType leafType castType unaryType bothBelow binaryType conditionalType rowType attributeType leafTyping unaryTyping binaryTyping conditionalTyping letTyping attributeTyping typing typeRule markOr markOf tick leafRun conditionalRun letRun attributeRun evaluation evaluateRule parents undef₀ int₀ redeclared onlyObject nineAndTrue model ruleTyping outcomeIn attribute₅ hidden oneBranch
 mistakes = record {
   static-type = refl;
   static-row = refl;

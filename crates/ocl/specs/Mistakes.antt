@@ -32,11 +32,11 @@ unfoldable pub model : Model
 model = record { parent = parents; rowCount = 2; row = redeclared; objectCount = 1; classOf = onlyObject; valueOf = nineAndTrue }
 
 -- a rule of class 0, typed, and evaluated for the object
-unfoldable pub typeIn : Expr → Typed
-typeIn e = typeRule model 0 e
+unfoldable pub ruleTyping : Expr → Typed
+ruleTyping e = typeRule model 0 e
 
 unfoldable pub outcomeIn : Expr → Outcome
-outcomeIn e = evaluateRule model (markOf (typeIn e)) e 0
+outcomeIn e = evaluateRule model (markOf (ruleTyping e)) e 0
 
 -- `attr self 5`
 unfoldable pub attribute₅ : Expr
@@ -53,16 +53,16 @@ oneBranch = node 5 (conditional (node 0 (leaf (truth true))) (int₀ 1 (pos 1)) 
 
 pub record Mistakes : Type 0 where
   -- the attribute is found by the static class, not by the object's own
-  pub static-type : typeIn attribute₅ ≡ record { answer = typed Integer; marks = (1, 0) ∷ [] }
+  pub static-type : ruleTyping attribute₅ ≡ record { answer = typed Integer; marks = (1, 0) ∷ [] }
   pub static-row : outcomeIn attribute₅ ≡ value (int (pos 9)) 2
   -- `let` does not pass undefined on
   pub let-strict : outcomeIn (node 2 (letIn 1 (undef₀ 0) (int₀ 1 (pos 3)))) ≡ undefined 2
   -- a hidden binding is there again after the body
-  pub hidden-type : typeIn hidden .answer ≡ typed Integer
+  pub hidden-type : ruleTyping hidden .answer ≡ typed Integer
   pub hidden-value : outcomeIn hidden ≡ value (int (pos 2)) 7
   -- a branch that is not run is not counted
   pub branch-steps : outcomeIn oneBranch ≡ value (int (pos 1)) 3
   -- Void is no class and no collection
-  pub void-no-class : typeIn (node 1 (attribute 5 (undef₀ 0))) .answer ≡ refused 11 1
-  pub void-no-cast : typeIn (node 1 (unary (castTo 0) (undef₀ 0))) .answer ≡ refused 11 1
-  pub void-no-collection : typeIn (node 1 (unary sizeOf (undef₀ 0))) .answer ≡ refused 11 1
+  pub void-no-class : ruleTyping (node 1 (attribute 5 (undef₀ 0))) .answer ≡ refused 11 1
+  pub void-no-cast : ruleTyping (node 1 (unary (castTo 0) (undef₀ 0))) .answer ≡ refused 11 1
+  pub void-no-collection : ruleTyping (node 1 (unary sizeOf (undef₀ 0))) .answer ≡ refused 11 1

@@ -17,8 +17,8 @@ parents (suc zero) = some 0
 parents (suc (suc c)) = none
 
 -- the cases read nothing else of it
-unfoldable pub bare : Model
-bare = record {
+unfoldable pub bareModel : Model
+bareModel = record {
   parent = parents;
   rowCount = 0;
   row = λ i. record { owner = 0; name = 0; type = void };
@@ -29,7 +29,7 @@ bare = record {
 
 -- with no mark, no variable and no step so far
 unfoldable pub outcome : Expr → Outcome
-outcome e = evaluation bare (λ p. 0) e (λ i. none) 0
+outcome e = evaluation bareModel (λ p. 0) e (λ i. none) 0
 
 unfoldable pub false₀ : ℕ → Expr
 false₀ n = node n (leaf (truth false))
@@ -65,8 +65,8 @@ pub record Worked : Type 0 where
   pub p9 : outcome (node 3 (collect set (operand (int₀ 0 (pos 2)) (operand (int₀ 1 (pos 1)) (operand (int₀ 2 (pos 2)) noOperand)))))
       ≡ value (coll set (cons (int (pos 1)) (cons (int (pos 2)) nil))) 4
   -- #1 and Int: Any
-  pub p10 : join (bare .parent) (Class 1) Integer ≡ some Any
+  pub p10 : join (bareModel .parent) (Class 1) Integer ≡ some Any
   -- S(Int) and Q(Int): C(Int)
-  pub p11 : join (bare .parent) (around (exactly set) Integer) (around (exactly sequence) Integer) ≡ some (around collection Integer)
+  pub p11 : join (bareModel .parent) (around (exactly set) Integer) (around (exactly sequence) Integer) ≡ some (around collection Integer)
   -- forAll over S(): t
   pub p12 : outcome (node 2 (quantified forAll 1 (node 0 (collect set noOperand)) (false₀ 1))) ≡ value (bool true) 2

@@ -25,10 +25,10 @@ use Rattle.values.specs.declared.Num.the-variants as num
 use Rattle.values.proofs.Heads.{shape, Shape, shape-bool, shape-int, shape-obj, shape-coll, bias-small}
 use Rattle.values.proofs.Adding.{header}
 use Rattle.nodes.specs.Nodes.{binaryOf}
-use Rattle.nodes.specs.Nodes.{arithOf as arithCodeOf}
+use Rattle.nodes.specs.Nodes.{arithByCode as arithCodeOf}
 use Rattle.operations.specs.declared.Ended.{Ended}
 use Rattle.operations.specs.declared.Ended.the-variants as ended
-use Rattle.operations.specs.Answers.{Ran, Small, Gives, formedAs}
+use Rattle.operations.specs.Answers.{Ran, SmallAnswer, Gives, formedAs}
 use Rattle.operations.specs.Operations.{OfTwo, FitsLeft}
 use Rattle.operations.proofs.Words.{formed-small, formed-ran}
 use Rattle.operations.proofs.Sorts.{no-ints, no-int, no-coll, is-coll, is-int, sorted, int-test, coll-test, same-kind}
@@ -120,7 +120,7 @@ module _ {sp la lb s : ℕ} {B : List ℕ} where
         }
 
         module _ {o : Arith} {x : Num} (C : Calculates o p q x) where
-          calc : {A : List ℕ} {r : Ended} → Small r → ((z y : ℤ) → x ≡ numOf (arithmetic o z y) → T (inRange z) → T (inRange y) → Ran (given (arithmetic o z y) s) sp B A r) → OfTwo (binaryApply (calculation o)) sp la lb s B A r
+          calc : {A : List ℕ} {r : Ended} → SmallAnswer r → ((z y : ℤ) → x ≡ numOf (arithmetic o z y) → T (inRange z) → T (inRange y) → Ran (given (arithmetic o z y) s) sp B A r) → OfTwo (binaryApply (calculation o)) sp la lb s B A r
           unfolding binaryApply
           calc m g = record {
             small = m;

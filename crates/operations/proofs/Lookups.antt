@@ -29,8 +29,8 @@ use Rattle.operations.specs.declared.Ended.{Ended}
 use Rattle.operations.specs.declared.Ended.the-variants as ended
 use Rattle.operations.specs.declared.Place.{Place}
 use Rattle.operations.specs.declared.Place.the-variants as place
-use Rattle.operations.specs.Answers.{Ends, ends-undefined, ends-stuck, Ran, Small, formedAs}
-use Rattle.operations.specs.Tables.{Plain, IsA, Owner, FindsSlot, startOf, Stands, Attribute}
+use Rattle.operations.specs.Answers.{Ends, ends-undefined, ends-stuck, Ran, SmallAnswer, formedAs}
+use Rattle.operations.specs.Tables.{Plain, IsA, Owner, FindsSlot, cellsStart, SlotStands, Attribute}
 use Rattle.operations.proofs.Words.{under-refl, head-at, formed-small, formed-value, one-cell}
 
 -- ---- classes and rows
@@ -109,13 +109,13 @@ same-slot w0 slots a j k h i e = by (three j k)
 
 -- ---- a slot's value
 
-pub start-last : (st : Counts) (w0 : List ℕ) {j a : ℕ} → a ≡ st .slots → a ≡ j → st .cells ≡ startOf st w0 j
+pub start-last : (st : Counts) (w0 : List ℕ) {j a : ℕ} → a ≡ st .slots → a ≡ j → st .cells ≡ cellsStart st w0 j
 start-last st w0 {j} e f = rw (eq-eqb (st .slots) j (sym e ∙ f))
 
-pub start-other : (st : Counts) (w0 : List ℕ) {j a : ℕ} → a ≡ st .slots → (a ≡ j → ⊥) → getD w0 (1376 + j) 0 ≡ startOf st w0 j
+pub start-other : (st : Counts) (w0 : List ℕ) {j a : ℕ} → a ≡ st .slots → (a ≡ j → ⊥) → getD w0 (1376 + j) 0 ≡ cellsStart st w0 j
 start-other st w0 {j} e f = rw (ne-eqb (st .slots) j (λ g. f (e ∙ g)))
 
-module _ (st : Counts) (w0 : List ℕ) (j a e : ℕ) (p : a ≡ startOf st w0 j) (q : e ≡ startOf st w0 (j + 1)) where
+module _ (st : Counts) (w0 : List ℕ) (j a e : ℕ) (p : a ≡ cellsStart st w0 j) (q : e ≡ cellsStart st w0 (j + 1)) where
   begins : j < st .slots → 2400 + a ≡ startAt w0 j
   begins h = let z : eqb (st .slots) j ≡ false = ne-eqb (st .slots) j (λ g. omega arith) in let p' : a ≡ getD w0 (1376 + j) 0 = rw z at p in omega arith
 
@@ -139,13 +139,13 @@ module _ (st : Counts) (w0 : List ℕ) (j a e : ℕ) (p : a ≡ startOf st w0 j)
       (omega arith, omega arith)
 
   module _ (sp s : ℕ) {B : List ℕ} (room : 8192 ≤ length w0) where
-    pub stands-empty : e ≤ a → Stands st w0 j sp s B B ended.Stuck
+    pub stands-empty : e ≤ a → SlotStands st w0 j sp s B B ended.Stuck
     stands-empty k = record { small = tt; is = λ v f m h l x. absurd (let z = size-is v (omega arith) h l x in let y = one-cell v in omega arith) }
 
-    pub stands-far : 2048 < e → Stands st w0 j sp s B B ended.Stuck
+    pub stands-far : 2048 < e → SlotStands st w0 j sp s B B ended.Stuck
     stands-far k = record { small = tt; is = λ v f m h l x. absurd (let z = size-is v (omega arith) h l x in omega arith) }
 
-    pub stands : {A : List ℕ} {x y : ℕ} (f : Formed) {r : Ended} → sp ≤ length B → x ≡ 2400 + a → y ≡ 2400 + e → Brings w0 x y sp B A f → r ≡ formedAs f s → Stands st w0 j sp s B A r
+    pub stands : {A : List ℕ} {x y : ℕ} (f : Formed) {r : Ended} → sp ≤ length B → x ≡ 2400 + a → y ≡ 2400 + e → Brings w0 x y sp B A f → r ≡ formedAs f s → SlotStands st w0 j sp s B A r
     stands {A} {x} {y} f {r} k g h b q = rw q (record { small = formed-small f s (b .small); is = λ v t m i l z. formed-value B s k (b .is v t (rw (g, h) (part v i z))) m })
 
 -- ---- the value of a row for the object at sp
@@ -175,7 +175,7 @@ module _ {st : Counts} {w0 : List ℕ} {i sp s t : ℕ} {B : List ℕ} (S : Sort
   attribute-row n = record { small = tt; is = λ m H P h v len l. absurd (omega arith) }
 
   module _ {o c : ℕ} {b : Bool} (e : t ≡ 2) (Q : PayloadOf (getD B sp 0) o) (C : Owner st w0 i c) (I : IsA st w0 o c b) where
-    on-object : {A : List ℕ} {r : Ended} → Small r → ((m : Model) → HoldsModel st w0 m → Plain st m → i < 64 → Ran (if b then given (m .valueOf o i) s else stuck) sp B A r) → Attribute st w0 i sp s B A r
+    on-object : {A : List ℕ} {r : Ended} → SmallAnswer r → ((m : Model) → HoldsModel st w0 m → Plain st m → i < 64 → Ran (if b then given (m .valueOf o i) s else stuck) sp B A r) → Attribute st w0 i sp s B A r
     on-object sm k = record {
       small = sm;
       is = λ m H P h v len l.
@@ -194,7 +194,7 @@ module _ {st : Counts} {w0 : List ℕ} {i sp s t : ℕ} {B : List ℕ} (S : Sort
           by m H none q = ends-undefined
           by m H (some v) (slot j l q x y' z f) = absurd (let a : FindsSlot w0 slots key place.Nowhere = rw y at F in a (rw n (H .ascending)) j (omega arith) (q ∙ sym k))
 
-      pub attribute-some : {x : Place} {j : ℕ} {A : List ℕ} {r : Ended} → FindsSlot w0 slots key x → x ≡ place.At j → Stands st w0 j sp s B A r → Attribute st w0 i sp s B A r
+      pub attribute-some : {x : Place} {j : ℕ} {A : List ℕ} {r : Ended} → FindsSlot w0 slots key x → x ≡ place.At j → SlotStands st w0 j sp s B A r → Attribute st w0 i sp s B A r
       attribute-some {x} {j} {A} {r} F y d = on-object (d .small) (λ m H P h. rw g (by m H P (m .valueOf o i) refl (H .stored o i h)))
         where
           a : (j < slots) × (keyAt w0 j ≡ key)

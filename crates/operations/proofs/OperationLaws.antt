@@ -25,7 +25,7 @@ use Rattle.operations.specs.declared.Ended.{Ended}
 use Rattle.operations.specs.declared.Ended.the-variants as ended
 use Rattle.operations.specs.Answers.{Lies, ends-value, ends-undefined, ends-stuck, Ran, Gives, formedAs, Truth}
 use Rattle.operations.specs.Tables.{IsA}
-use Rattle.operations.specs.Operations.{Any, OfOne, kindFor, unaryFor}
+use Rattle.operations.specs.Operations.{AnyModel, OfOne, kindFor, unaryFor}
 use Rattle.operations.proofs.Words.{under-refl, head-at, formed-small, formed-ran}
 use Rattle.operations.proofs.Sorts.{no-bool, is-bool, bit-zero, no-coll, IsColl, is-coll, count-is, sorted, known, count-small, truth-T}
 use Rattle.operations.proofs.Lookups.{is-object}
@@ -49,11 +49,11 @@ total-is S P small l x =
     (a, omega arith)
 
 module _ {sp s len : ℕ} {B : List ℕ} where
-  pub negate-stuck : {t : ℕ} → Truth (getD B sp 0) t → 1 < t → OfOne Any (λ m. unaryApply m negation) sp len s B B ended.Stuck
+  pub negate-stuck : {t : ℕ} → Truth (getD B sp 0) t → 1 < t → OfOne AnyModel (λ m. unaryApply m negation) sp len s B B ended.Stuck
   unfolding unaryApply
   negate-stuck T h = record { small = tt; ran = λ m ok v l. rw (no-bool v (λ b. value (bool (not b)) s) (let e = T .is v (l .fits) (head-at l) in omega arith)) ran-stuck }
 
-  pub negate-done : {t : ℕ} {A : List ℕ} {r : Ended} → Truth (getD B sp 0) t → t ≤ 1 → Gives (simple.Bool (eqb t 0)) sp s B A r → OfOne Any (λ m. unaryApply m negation) sp len s B A r
+  pub negate-done : {t : ℕ} {A : List ℕ} {r : Ended} → Truth (getD B sp 0) t → t ≤ 1 → Gives (simple.Bool (eqb t 0)) sp s B A r → OfOne AnyModel (λ m. unaryApply m negation) sp len s B A r
   unfolding unaryApply
   negate-done {t} T h G = record {
     small = G .small;
@@ -65,16 +65,16 @@ module _ {sp s len : ℕ} {B : List ℕ} where
   }
 
   module _ {t : ℕ} (S : SortOf (getD B sp 0) t) where
-    pub total-stuck : t < 3 → OfOne Any (λ m. unaryApply m sizeOf) sp len s B B ended.Stuck
+    pub total-stuck : t < 3 → OfOne AnyModel (λ m. unaryApply m sizeOf) sp len s B B ended.Stuck
     unfolding unaryApply
     total-stuck h = record { small = tt; ran = λ m ok v l. rw (no-coll l S h (λ k vs. value (int (pos (count vs))) s)) ran-stuck }
 
-    pub change-stuck : (k : Kind) → t < 3 → OfOne Any (λ m. unaryApply m (convert k)) sp len s B B ended.Stuck
+    pub change-stuck : (k : Kind) → t < 3 → OfOne AnyModel (λ m. unaryApply m (convert k)) sp len s B B ended.Stuck
     unfolding unaryApply
     change-stuck k h = record { small = tt; ran = λ m ok v l. rw (no-coll l S h (λ j vs. form (coll k (addAll k vs nil)) s)) ran-stuck }
 
     pub change-done : {kind : ℕ} {A : List ℕ} (f : Formed) {r : Ended} → 3 ≤ t → kind ≡ kindCode (kindFor kind) → sp ≤ length B → Converts kind sp (sp + len) B A f → r ≡ formedAs f s
-        → OfOne Any (λ m. unaryApply m (convert (kindFor kind))) sp len s B A r
+        → OfOne AnyModel (λ m. unaryApply m (convert (kindFor kind))) sp len s B A r
     unfolding unaryApply
     change-done {kind} f h c room C q = rw q (record {
       small = formed-small f s (C .small);
@@ -84,10 +84,10 @@ module _ {sp s len : ℕ} {B : List ℕ} where
     })
 
     module _ {q : ℕ} (P : PayloadOf (getD B sp 0) q) (h : 3 ≤ t) (small : len ≤ 128) where
-      pub total-over : 128 < q → OfOne Any (λ m. unaryApply m sizeOf) sp len s B B ended.Stuck
+      pub total-over : 128 < q → OfOne AnyModel (λ m. unaryApply m sizeOf) sp len s B B ended.Stuck
       total-over g = record { small = tt; ran = λ m ok v l. absurd (let x = total-is S P small l (is-coll l S h) in omega arith) }
 
-      pub total-done : {A : List ℕ} {r : Ended} → Gives (simple.Integer (2147483648 + q)) sp s B A r → OfOne Any (λ m. unaryApply m sizeOf) sp len s B A r
+      pub total-done : {A : List ℕ} {r : Ended} → Gives (simple.Integer (2147483648 + q)) sp s B A r → OfOne AnyModel (λ m. unaryApply m sizeOf) sp len s B A r
       unfolding unaryApply inRange bias
       total-done G = record {
         small = G .small;
@@ -128,7 +128,7 @@ module _ {sp s len : ℕ} {B : List ℕ} where
 
 -- by the form's code
 
-pub any-model : {Ok : Model → Type 0} {op : Model → Value → ℕ → Outcome} {sp len s : ℕ} {B A : List ℕ} {r : Ended} → OfOne Any op sp len s B A r → OfOne Ok op sp len s B A r
+pub any-model : {Ok : Model → Type 0} {op : Model → Value → ℕ → Outcome} {sp len s : ℕ} {B A : List ℕ} {r : Ended} → OfOne AnyModel op sp len s B A r → OfOne Ok op sp len s B A r
 any-model x = record { small = x .small; ran = λ m ok v l. x .ran m (record {}) v l }
 
 kind-codes : (n : ℕ) → n < 3 → n ≡ kindCode (kindFor n)

@@ -7,7 +7,7 @@ use Rattle.ocl.specs.Evaluation.{Outcome}
 use Rattle.ocl.proofs.Steps.{Limited, limited-value, limited-undefined, limited-stuck, limited-stop}
 use Rattle.operations.specs.declared.Ended.{Ended}
 use Rattle.operations.specs.declared.Ended.the-variants as ended
-use Rattle.operations.specs.Answers.{Ends, ends-value, ends-undefined, ends-stuck, ends-stop, wordOf, answerOf, answerIn, Packs}
+use Rattle.operations.specs.Answers.{Ends, ends-value, ends-undefined, ends-stuck, ends-stop, wordOf, endedOf, answerIn, Packs}
 
 -- the parts of a word
 module _ (k x s : ℕ) (h : k < 4) where
@@ -23,7 +23,7 @@ module _ (k x s : ℕ) (h : k < 4) where
   unfolding wordOf
   steps-of = omega arith
 
-  pub answer-in : {w : ℕ} → w ≡ wordOf k x s → answerIn w ≡ answerOf k (x % 256) (s % 1048576)
+  pub answer-in : {w : ℕ} → w ≡ wordOf k x s → answerIn w ≡ endedOf k (x % 256) (s % 1048576)
   unfolding answerIn
   answer-in e = rw (e, variant-of, small-of, steps-of) refl
 
@@ -34,25 +34,25 @@ low-steps : (s : ℕ) → s < 1048576 → s % 1048576 ≡ s
 low-steps s h = omega arith
 
 pub packs-value : (len s : ℕ) {w : ℕ} → w ≡ wordOf 0 len s → Packs (ended.Value len s) w
-unfolding answerOf
+unfolding endedOf
 packs-value len s e = record {
   small = λ h. rw (answer-in 0 len s (omega arith) e) (omega arith);
   same = λ h. answer-in 0 len s (omega arith) e ∙ rw (low-small len (h .0), low-steps s (h .1)) refl;
 }
 
 pub packs-undefined : (s : ℕ) {w : ℕ} → w ≡ wordOf 1 0 s → Packs (ended.Undef s) w
-unfolding answerOf
+unfolding endedOf
 packs-undefined s e = record {
   small = λ h. rw (answer-in 1 0 s (omega arith) e) tt;
   same = λ h. answer-in 1 0 s (omega arith) e ∙ rw (low-steps s h) refl;
 }
 
 pub packs-stuck : {e : Ended} → ended.Stuck ≡ e → Packs e 2
-unfolding answerIn answerOf
+unfolding answerIn endedOf
 packs-stuck e = record { small = λ h. tt; same = λ h. e }
 
 pub packs-stop : (c s : ℕ) {w : ℕ} → w ≡ wordOf 3 c s → Packs (ended.Stop c s) w
-unfolding answerOf
+unfolding endedOf
 packs-stop c s e = record {
   small = λ h. rw (answer-in 3 c s (omega arith) e) tt;
   same = λ h. answer-in 3 c s (omega arith) e ∙ rw (low-small c (h .0), low-steps s (h .1)) refl;
@@ -61,19 +61,19 @@ packs-stop c s e = record {
 -- ---- and back
 
 pub in-value : (w : ℕ) {len : ℕ} → w % 4 ≡ 0 → len ≡ w / 4 % 256 → ended.Value len (w / 1024) ≡ answerIn w
-unfolding answerIn answerOf
+unfolding answerIn endedOf
 in-value w e f = rw (e, f) refl
 
 pub in-undefined : (w : ℕ) → w % 4 ≡ 1 → ended.Undef (w / 1024) ≡ answerIn w
-unfolding answerIn answerOf
+unfolding answerIn endedOf
 in-undefined w e = rw e refl
 
 pub in-stuck : (w : ℕ) → w % 4 ≡ 2 → ended.Stuck ≡ answerIn w
-unfolding answerIn answerOf
+unfolding answerIn endedOf
 in-stuck w e = rw e refl
 
 pub in-stop : (w : ℕ) → (w % 4 ≡ 0 → ⊥) → (w % 4 ≡ 1 → ⊥) → (w % 4 ≡ 2 → ⊥) → ended.Stop (w / 4 % 256) (w / 1024) ≡ answerIn w
-unfolding answerIn answerOf
+unfolding answerIn endedOf
 in-stop w a b c = let e : w % 4 ≡ 3 = omega arith in rw e refl
 
 -- ---- an outcome's answer has room in a word

@@ -15,14 +15,14 @@ use Rattle.ocl.specs.Values.{Value, size}
 use Rattle.ocl.specs.Evaluation.{value, stop, form}
 use Rattle.values.specs.Cells.{head, enc, Fits}
 use Rattle.values.specs.Contracts.{Means, means-bool, means-int, means-obj, Pushes, Forms, SortOf, PayloadOf}
-use Rattle.values.specs.Contracts.{Small as SmallForm}
+use Rattle.values.specs.Contracts.{SmallForm}
 use Rattle.values.specs.declared.Simple.{Simple}
 use Rattle.values.specs.declared.Formed.{Formed}
 use Rattle.values.specs.declared.Formed.the-variants as formed
 use Rattle.values.proofs.Heads.{enc-parts, shape, Shape, shape-bool, shape-int, shape-obj, shape-coll}
 use Rattle.values.proofs.Encoding.{size-law, some-cells}
 use Rattle.operations.specs.declared.Ended.the-variants as ended
-use Rattle.operations.specs.Answers.{Lies, Ends, ends-value, ends-stop, Under, Ran, Small, Gives, formedAs, truthOf, Truth}
+use Rattle.operations.specs.Answers.{Lies, Ends, ends-value, ends-stop, Under, Ran, SmallAnswer, Gives, formedAs, truthOf, Truth}
 
 -- ---- what lies below
 
@@ -114,7 +114,7 @@ truth-other {cell} {s} S e = record { is = λ v f h. by (shape f (S .is v f h) r
 
 -- ---- what was formed
 
-pub formed-small : (f : Formed) (s : ℕ) → SmallForm f → Small (formedAs f s)
+pub formed-small : (f : Formed) (s : ℕ) → SmallForm f → SmallAnswer (formedAs f s)
 formed-small (formed.Done n) s m = m
 formed-small formed.Over s m = tt
 

@@ -39,11 +39,11 @@ pub record Ran (o : Outcome) (sp : ℕ) (B A : List ℕ) (r : Ended) : Type 0 wh
   pub ends : Ends sp A o r
 
 -- whatever the words stand for, an answer has between 1 and 128 cells
-abbrev pub Small : Ended → Type 0
-Small (ended.Value len s) = (1 ≤ len) × (len ≤ 128)
-Small (ended.Undef s) = Unit {0}
-Small ended.Stuck = Unit {0}
-Small (ended.Stop c s) = Unit {0}
+abbrev pub SmallAnswer : Ended → Type 0
+SmallAnswer (ended.Value len s) = (1 ≤ len) × (len ≤ 128)
+SmallAnswer (ended.Undef s) = Unit {0}
+SmallAnswer ended.Stuck = Unit {0}
+SmallAnswer (ended.Stop c s) = Unit {0}
 
 -- ---- an answer as one word
 
@@ -51,15 +51,15 @@ Small (ended.Stop c s) = Unit {0}
 unfoldable pub wordOf : ℕ → ℕ → ℕ → ℕ
 wordOf variant small s = variant + 4 * (small % 256) + 1024 * (s % 1048576)
 
-unfoldable pub answerOf : ℕ → ℕ → ℕ → Ended
-answerOf variant small s =
+unfoldable pub endedOf : ℕ → ℕ → ℕ → Ended
+endedOf variant small s =
     if eqb variant 0 then ended.Value small s
     else if eqb variant 1 then ended.Undef s
     else if eqb variant 2 then ended.Stuck
     else ended.Stop small s
 
 unfoldable pub answerIn : ℕ → Ended
-answerIn w = answerOf (w % 4) (w / 4 % 256) (w / 1024)
+answerIn w = endedOf (w % 4) (w / 4 % 256) (w / 1024)
 
 -- what the word has room for
 abbrev pub Slim : Ended → Type 0
@@ -69,12 +69,12 @@ Slim ended.Stuck = Unit {0}
 Slim (ended.Stop c s) = (c < 256) × (s < 1048576)
 
 pub record Packs (e : Ended) (w : ℕ) : Type 0 where
-  pub small : Small e → Small (answerIn w)
+  pub small : SmallAnswer e → SmallAnswer (answerIn w)
   pub same : Slim e → answerIn w ≡ e
 
 -- a simple value is put down
 pub record Gives (x : Simple) (sp s : ℕ) (B A : List ℕ) (r : Ended) : Type 0 where
-  pub small : Small r
+  pub small : SmallAnswer r
   pub is : (v : Value) → Fits v → Means x v → Ran (value v s) sp B A r
 
 -- what was formed, with the steps

@@ -11,19 +11,19 @@ use Rattle.ocl.specs.Evaluation.{Outcome, leftFits}
 use Rattle.values.specs.Cells.{head, Fits}
 use Rattle.nodes.specs.Nodes.{unaryOf, binaryOf}
 use Rattle.operations.specs.declared.Ended.{Ended}
-use Rattle.operations.specs.Answers.{Lies, Ran, Small}
+use Rattle.operations.specs.Answers.{Lies, Ran, SmallAnswer}
 
 -- any model
-pub record Any (m : Model) : Type 0 where
+pub record AnyModel (m : Model) : Type 0 where
 
 -- over the value at sp
 pub record OfOne (Ok : Model → Type 0) (op : Model → Value → ℕ → Outcome) (sp len s : ℕ) (B A : List ℕ) (r : Ended) : Type 0 where
-  pub small : Small r
+  pub small : SmallAnswer r
   pub ran : (m : Model) → Ok m → (v : Value) → Lies v sp len B → Ran (op m v s) sp B A r
 
 -- over the value at sp and the value after it
 pub record OfTwo (op : Value → Value → ℕ → Outcome) (sp la lb s : ℕ) (B A : List ℕ) (r : Ended) : Type 0 where
-  pub small : Small r
+  pub small : SmallAnswer r
   pub ran : (v w : Value) → Lies v sp la B → Lies w (sp + la) lb B → Ran (op v w s) sp B A r
 
 -- does the form take the value on its left

@@ -13,7 +13,7 @@ use Rattle.nodes.specs.Nodes.{leafOf}
 use Rattle.tables.specs.declared.Counts.{Counts}
 use Rattle.tables.specs.Stored.{HoldsModel}
 use Rattle.operations.specs.declared.Ended.{Ended}
-use Rattle.operations.specs.Answers.{Lies, Ran, Small}
+use Rattle.operations.specs.Answers.{Lies, Ran, SmallAnswer}
 
 -- ---- what is evaluated over
 
@@ -41,12 +41,12 @@ abbrev pub Meaning : Type 0
 Meaning = World → Run
 
 pub record Evals (Ok : World → Type 0) (f : Meaning) (env : List ℕ) (sp s : ℕ) (B A : List ℕ) (r : Ended) : Type 0 where
-  pub small : Small r
+  pub small : SmallAnswer r
   pub ran : (w : World) → Ok w → (ρ : Env Value) → Rel env B sp ρ → Ran (f w ρ s) sp B A r
 
 -- a variable's value once more
 pub record Variable (i : ℕ) (env : List ℕ) (sp s : ℕ) (B A : List ℕ) (r : Ended) : Type 0 where
-  pub small : Small r
+  pub small : SmallAnswer r
   pub ran : (ρ : Env Value) → Rel env B sp ρ → Ran (bound (ρ i) s) sp B A r
 
 -- the form with no operand that has this code, and this literal, variable or class

@@ -14,7 +14,7 @@ use Rattle.ocl.specs.Model.{Model, isA}
 use Rattle.ocl.specs.Evaluation.{Outcome, value, stuck, onObj, given, instances}
 use Rattle.values.specs.Cells.{enc, Fits}
 use Rattle.values.specs.Contracts.{Forms}
-use Rattle.values.specs.Contracts.{Small as SmallForm}
+use Rattle.values.specs.Contracts.{SmallForm}
 use Rattle.values.specs.declared.Formed.{Formed}
 use Rattle.tables.specs.declared.Counts.{Counts}
 use Rattle.tables.specs.Layout.{Fine}
@@ -22,7 +22,7 @@ use Rattle.tables.specs.Stored.{keyAt, startAt, endAt, HoldsModel}
 use Rattle.operations.specs.declared.Ended.{Ended}
 use Rattle.operations.specs.declared.Place.{Place}
 use Rattle.operations.specs.declared.Place.the-variants as place
-use Rattle.operations.specs.Answers.{Lies, Ran, Small}
+use Rattle.operations.specs.Answers.{Lies, Ran, SmallAnswer}
 
 -- the counts are within the limits, and the words are as many as are lent
 pub record Bounds (st : Counts) (words : ℕ) : Type 0 where
@@ -47,12 +47,12 @@ FindsSlot w0 slots key place.Nowhere =
     ((j k : ℕ) → j < k → k < slots → keyAt w0 j < keyAt w0 k) → (j : ℕ) → j < slots → keyAt w0 j ≡ key → ⊥
 
 -- where slot j's cells start among the cells, and where the last slot's end
-abbrev pub startOf : Counts → List ℕ → ℕ → ℕ
-startOf st w0 j = if eqb (st .slots) j then st .cells else getD w0 (1376 + j) 0
+abbrev pub cellsStart : Counts → List ℕ → ℕ → ℕ
+cellsStart st w0 j = if eqb (st .slots) j then st .cells else getD w0 (1376 + j) 0
 
 -- slot j's value stands at sp
-pub record Stands (st : Counts) (w0 : List ℕ) (j sp s : ℕ) (B A : List ℕ) (r : Ended) : Type 0 where
-  pub small : Small r
+pub record SlotStands (st : Counts) (w0 : List ℕ) (j sp s : ℕ) (B A : List ℕ) (r : Ended) : Type 0 where
+  pub small : SmallAnswer r
   pub is : (v : Value) → Fits v → size v ≤ 128 → j < st .slots → endAt st w0 j ≤ 4448
       → slice (startAt w0 j) (endAt st w0 j) w0 ≡ enc v → Ran (value v s) sp B A r
 
@@ -61,7 +61,7 @@ abbrev pub attributeIn : Model → ℕ → Value → ℕ → Outcome
 attributeIn m i v n = onObj v (λ o. if isA m o (class (m .row i .owner)) then given (m .valueOf o i) n else stuck)
 
 pub record Attribute (st : Counts) (w0 : List ℕ) (i sp s : ℕ) (B A : List ℕ) (r : Ended) : Type 0 where
-  pub small : Small r
+  pub small : SmallAnswer r
   pub is : (m : Model) → HoldsModel st w0 m → Plain st m → i < 64 → (v : Value) (len : ℕ) → Lies v sp len B → Ran (attributeIn m i v s) sp B A r
 
 -- the Set of a class's objects before o, with o

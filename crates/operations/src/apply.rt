@@ -30,7 +30,7 @@ ghost use Rattle.nodes.specs.Nodes.{binaryOf};
 ghost use Rattle.values.specs.Integers.{arithOf};
 ghost use Rattle.tables.specs.Stored.{HoldsModel};
 ghost use Rattle.operations.specs.Tables.{Bounds};
-ghost use Rattle.operations.specs.Operations.{Any, OfOne, OfTwo, FitsLeft, kindFor, unaryFor};
+ghost use Rattle.operations.specs.Operations.{AnyModel, OfOne, OfTwo, FitsLeft, kindFor, unaryFor};
 
 // The most cells that a value may have.
 const LARGEST: u64 = 128;
@@ -38,7 +38,7 @@ const LARGEST: u64 = 128;
 // `not`
 fn negate(stack: &mut [u64], sp: usize, len: usize, steps: u64) -> Ended
     requires { ⌜ sp < length (now stack) ⌝ }
-    ensures { λ r. ⌜ OfOne Any (λ m. unaryApply m negation) sp len steps (now (stack .entry)) (now (stack .exit)) r ⌝ }
+    ensures { λ r. ⌜ OfOne AnyModel (λ m. unaryApply m negation) sp len steps (now (stack .entry)) (now (stack .exit)) r ⌝ }
 {
     let t = truth(stack[sp]);
     if 1 < t {
@@ -50,7 +50,7 @@ fn negate(stack: &mut [u64], sp: usize, len: usize, steps: u64) -> Ended
 // `size`
 fn member_total(stack: &mut [u64], sp: usize, len: usize, steps: u64) -> Ended
     requires { ⌜ (sp < length (now stack)) × (len ≤ 128) ⌝ }
-    ensures { λ r. ⌜ OfOne Any (λ m. unaryApply m sizeOf) sp len steps (now (stack .entry)) (now (stack .exit)) r ⌝ }
+    ensures { λ r. ⌜ OfOne AnyModel (λ m. unaryApply m sizeOf) sp len steps (now (stack .entry)) (now (stack .exit)) r ⌝ }
 {
     let cell = stack[sp];
     if sort_of(cell) < SET {
@@ -73,7 +73,7 @@ fn member_total(stack: &mut [u64], sp: usize, len: usize, steps: u64) -> Ended
 // `asSet` (0), `asSequence` (1), `asBag` (2)
 fn change(kind: u64, stack: &mut [u64], sp: usize, len: usize, steps: u64) -> Ended
     requires { ⌜ (kind < 3) × (1 ≤ len) × (sp + len + 256 ≤ length (now stack)) ⌝ }
-    ensures { λ r. ⌜ OfOne Any (λ m. unaryApply m (convertForm (kindFor kind))) sp len steps (now (stack .entry)) (now (stack .exit)) r ⌝ }
+    ensures { λ r. ⌜ OfOne AnyModel (λ m. unaryApply m (convertForm (kindFor kind))) sp len steps (now (stack .entry)) (now (stack .exit)) r ⌝ }
 {
     if sort_of(stack[sp]) < SET {
         return Ended::Stuck;

@@ -12,7 +12,7 @@ use values::cells::sort_of;
 ghost use mathlib.Core.Path.{_≡_};
 ghost use Prim.Native.Nat.{_+_, _≤_, _<_};
 ghost use lib.ListN.{length};
-ghost use Rattle.operations.specs.Tables.{Bounds, IsA, Owner, FindsSlot, startOf, Stands, Attribute};
+ghost use Rattle.operations.specs.Tables.{Bounds, IsA, Owner, FindsSlot, cellsStart, SlotStands, Attribute};
 
 // Whether object o is of class c or below it.
 pub fn is_a(tables: &[u64], st: Counts, o: u64, c: u64) -> bool
@@ -63,7 +63,7 @@ pub fn find_slot(tables: &[u64], slots: usize, key: u64) -> Place
 // Where slot j's cells start among the cells; after the last slot, where the cells end.
 fn start_of(tables: &[u64], st: Counts, j: usize) -> u64
     requires { ⌜ (j ≤ 1024) × (8192 ≤ length (now tables)) ⌝ }
-    ensures { λ r. ⌜ r ≡ startOf st (now (tables .entry)) j ⌝ }
+    ensures { λ r. ⌜ r ≡ cellsStart st (now (tables .entry)) j ⌝ }
 {
     if wide(st.slots) == j {
         return st.cells;
@@ -74,7 +74,7 @@ fn start_of(tables: &[u64], st: Counts, j: usize) -> u64
 // The value in slot j, at sp.
 fn bring(tables: &[u64], st: Counts, j: usize, stack: &mut [u64], sp: usize, steps: u64) -> Ended
     requires { ⌜ (j < 1024) × (8192 ≤ length (now tables)) × (sp + 128 ≤ length (now stack)) ⌝ }
-    ensures { λ r. ⌜ Stands st (now (tables .entry)) j sp steps (now (stack .entry)) (now (stack .exit)) r ⌝ }
+    ensures { λ r. ⌜ SlotStands st (now (tables .entry)) j sp steps (now (stack .entry)) (now (stack .exit)) r ⌝ }
 {
     let a = start_of(tables, st, j);
     let e = start_of(tables, st, j + 1);

@@ -13,12 +13,12 @@ use Rattle.sheet.specs.Refusals.{totalSize}
 use Rattle.sheet.specs.Reading.{Reading, rejected, step, onStep, closing, readLines}
 use Rattle.sheet.proofs.Split.{split-laws}
 use Rattle.sheet.proofs.Good.{good-empty}
-use Rattle.text.specs.Parts.{Ends}
+use Rattle.text.specs.Parts.{PartEnd}
 use Rattle.text.proofs.PartLaws.{first-part, only-part}
 use Rattle.tables.specs.declared.Counts.{Counts}
 use Rattle.tables.specs.Layout.{Holds, closed, Kept, noCounts, startsFrom, cellsOf, linesIn}
 use Rattle.tables.proofs.Tables.{kept-refl, kept-then}
-use Rattle.reader.specs.Contracts.{Held, GoesOn, goes-on, refuses, TookWhole, EndsAs, a-refusal, TookLast, ReadsTo}
+use Rattle.reader.specs.Contracts.{HeldSheet, GoesOn, goes-on, refuses, TookWhole, EndsAs, a-refusal, TookLast, ReadsTo}
 use Rattle.reader.specs.declared.LineRead.the-variants as line
 use Rattle.reader.specs.declared.SheetRead.{SheetRead}
 use Rattle.reader.specs.declared.SheetRead.the-variants as sheet
@@ -34,7 +34,7 @@ holds-empty w0 w1 = record {
   current = closed refl;
 }
 
-held-empty : (w0 w1 : List ℕ) → Held noCounts w0 w1
+held-empty : (w0 w1 : List ℕ) → HeldSheet noCounts w0 w1
 held-empty w0 w1 = record {
   sheet = empty;
   holds = holds-empty w0 w1;
@@ -45,14 +45,14 @@ held-empty w0 w1 = record {
 -- ---- on the way: the sheet so far, read on over what is left
 
 pub record Going (text : Bytes) (u0 u1 w0 w1 : List ℕ) (rest : Bytes) (st : Counts) (k e : ℕ) : Type 0 where
-  pub held : Held st w0 w1
+  pub held : HeldSheet st w0 w1
   pub same : readLines (held .sheet) k (linesOf rest) ≡ readLines empty 0 (linesOf text)
-  pub ends : Ends 10 rest e
+  pub ends : PartEnd 10 rest e
   pub kept0 : Kept u0 w0
   pub kept1 : Kept u1 w1
   pub short : k + length rest ≤ length text
 
-pub going-start : (text : Bytes) (w0 w1 : List ℕ) (st : Counts) {e : ℕ} → st ≡ noCounts → Ends 10 text e → Going text w0 w1 w0 w1 text st 0 e
+pub going-start : (text : Bytes) (w0 w1 : List ℕ) (st : Counts) {e : ℕ} → st ≡ noCounts → PartEnd 10 text e → Going text w0 w1 w0 w1 text st 0 e
 unfolding empty held-empty
 going-start text w0 w1 st {e} z n = subst (λ s. Going text w0 w1 w0 w1 text s 0 e) (sym z) (record {
   held = held-empty w0 w1;
@@ -78,7 +78,7 @@ refused-is : {v0 v1 : List ℕ} {f : Sheet → Reading} {n p : ℕ} {x : Reading
 refused-is refuses = refl
 
 record Onward (v0 v1 : List ℕ) (f : Sheet → Reading) (st : Counts) (x : Reading) : Type 0 where
-  held : Held st v0 v1
+  held : HeldSheet st v0 v1
   is : x ≡ f (held .sheet)
 
 next-is : {v0 v1 : List ℕ} {f : Sheet → Reading} {st : Counts} {x : Reading} → GoesOn v0 v1 f (line.Next st) x → Onward v0 v1 f st x
@@ -99,7 +99,7 @@ module _ {text : Bytes} {u0 u1 w0 w1 : List ℕ} {rest : Bytes} {st : Counts} {k
     kept1 = kept-then (going .kept1) (t .kept1);
   }
 
-  going-on : {v0 v1 : List ℕ} {su : Counts} {d : ℕ} → e < length rest → TookWhole st k (take e rest) (line.Next su) w0 w1 v0 v1 → Ends 10 (drop (e + 1) rest) d
+  going-on : {v0 v1 : List ℕ} {su : Counts} {d : ℕ} → e < length rest → TookWhole st k (take e rest) (line.Next su) w0 w1 v0 v1 → PartEnd 10 (drop (e + 1) rest) d
       → Going text u0 u1 v0 v1 (drop (e + 1) rest) su (k + 1) d
   going-on h t n = let x = next-is (t .is (going .held .sheet) (going .held .holds) (going .held .good) (λ u. readLines u (suc k) (linesOf (drop (e + 1) rest)))) in record {
     held = x .held;
@@ -112,7 +112,7 @@ module _ {text : Bytes} {u0 u1 w0 w1 : List ℕ} {rest : Bytes} {st : Counts} {k
 
   -- the rest as the code has it, a part with an end
   pub going-next : {v0 v1 : List ℕ} {su : Counts} {d : ℕ} → e < length rest → TookWhole st k (take e rest) (line.Next su) w0 w1 v0 v1
-      → Ends 10 (take (length rest - (e + 1)) (drop (e + 1) rest)) d → Going text u0 u1 v0 v1 (take (length rest - (e + 1)) (drop (e + 1) rest)) su (k + 1) d
+      → PartEnd 10 (take (length rest - (e + 1)) (drop (e + 1) rest)) d → Going text u0 u1 v0 v1 (take (length rest - (e + 1)) (drop (e + 1) rest)) su (k + 1) d
   going-next h t n = rw (part-all rest (e + 1)) (going-on h t (rw (part-all rest (e + 1)) at n))
 
   lines-last : length rest ≤ e → linesOf rest ≡ rest ∷ []

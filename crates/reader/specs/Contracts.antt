@@ -16,7 +16,7 @@ use Rattle.reader.specs.declared.SheetRead.{SheetRead}
 use Rattle.reader.specs.declared.SheetRead.the-variants as sheet-code
 
 -- the words hold a sheet, which is as lines leave it
-pub record Held (st : Counts) (w0 w1 : List ℕ) : Type 0 where
+pub record HeldSheet (st : Counts) (w0 w1 : List ℕ) : Type 0 where
   pub sheet : Sheet
   pub holds : Holds st w0 w1 sheet
   pub fine : Fine st

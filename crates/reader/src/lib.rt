@@ -9,7 +9,7 @@ ghost use Rattle.sheet.specs.Text.{fieldsOf};
 ghost use Rattle.text.specs.Parts.{Cut};
 ghost use Rattle.text.specs.Words.{byteKind, onlyByte};
 ghost use Rattle.tables.specs.Layout.{Fine};
-ghost use Rattle.reader.specs.Contracts.{Held, placedAt, TookLine, TookWhole, TookLast, ReadsTo};
+ghost use Rattle.reader.specs.Contracts.{HeldSheet, placedAt, TookLine, TookWhole, TookLast, ReadsTo};
 use declarations::classes::class_line;
 use declarations::objects::object_line;
 use declarations::rows::row_line;
@@ -65,7 +65,7 @@ fn placed(s: Step, k: u64) -> LineRead
 
 // One line, after k others. An open rule ends before a line that is no node line.
 fn line_read(line: &[u8], w0: &mut [u64], w1: &mut [u64], st: Counts, k: u64) -> LineRead
-    requires { ⌜ (8192 ≤ length (now w0)) × (8192 ≤ length (now w1)) × Held st (now w0) (now w1) × (k < 100000) ⌝ }
+    requires { ⌜ (8192 ≤ length (now w0)) × (8192 ≤ length (now w1)) × HeldSheet st (now w0) (now w1) × (k < 100000) ⌝ }
     ensures { λ r. ⌜ TookWhole st k (now (line .entry)) r (now (w0 .entry)) (now (w1 .entry)) (now (w0 .exit)) (now (w1 .exit)) ⌝ }
 {
     let f = cut(line);
@@ -81,7 +81,7 @@ fn line_read(line: &[u8], w0: &mut [u64], w1: &mut [u64], st: Counts, k: u64) ->
 
 // The text's last part, after k lines: it must be empty, and an open rule ends with the text.
 fn last_read(part: &[u8], w0: &mut [u64], w1: &[u64], st: Counts, k: u64) -> SheetRead
-    requires { ⌜ (8192 ≤ length (now w0)) × (8192 ≤ length (now w1)) × Held st (now w0) (now w1) × (k < 100000) ⌝ }
+    requires { ⌜ (8192 ≤ length (now w0)) × (8192 ≤ length (now w1)) × HeldSheet st (now w0) (now w1) × (k < 100000) ⌝ }
     ensures { λ r. ⌜ TookLast st k (now (part .entry)) r (now (w0 .entry)) (now (w1 .entry)) (now (w0 .exit)) (now (w1 .entry)) ⌝ }
 {
     let f = cut(part);

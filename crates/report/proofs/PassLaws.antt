@@ -30,12 +30,12 @@ use Rattle.rules.proofs.Ready.{ready}
 use Rattle.rules.proofs.Lengths.{width-within, line-length as length-of-line}
 use Rattle.report.specs.Lines.{LineFits}
 use Rattle.report.specs.Bound.{lineWidth, linesBound, HasType}
-use Rattle.report.specs.Passes.{Adds, HasRoom, Marked, objectLine, allObjects, lineBound, allBound, RoomFor, AddsLines}
+use Rattle.report.specs.Passes.{AddsBytes, HasRoom, Marked, objectLine, allObjects, lineBound, allBound, RoomFor, AddsLines}
 use Rattle.report.proofs.ReportLaws.{lines-object, lines-before, bound-object, bound-before}
 
 -- ---- bytes added
 
-pub adds-nothing : (keep : Bool) (total : ℕ) (out : Bytes) → Adds keep total [] out out total
+pub adds-nothing : (keep : Bool) (total : ℕ) (out : Bytes) → AddsBytes keep total [] out out total
 adds-nothing keep total out = record {
   end = omega arith;
   size = refl;
@@ -43,8 +43,8 @@ adds-nothing keep total out = record {
       rw z (sym (ap (λ (l : Bytes). l ++ drop total out) (append-nil (take total out)) ∙ take-append-drop total out));
 }
 
-pub adds-then : {keep : Bool} {total r q : ℕ} {v w a b c : Bytes} → Adds keep total v a b r → Adds keep r w b c q
-    → (keep ≡ true → total + length v + length w ≤ length a) → Adds keep total (v ++ w) a c q
+pub adds-then : {keep : Bool} {total r q : ℕ} {v w a b c : Bytes} → AddsBytes keep total v a b r → AddsBytes keep r w b c q
+    → (keep ≡ true → total + length v + length w ≤ length a) → AddsBytes keep total (v ++ w) a c q
 adds-then {keep} {total} {r} {q} {v} {w} {a} {b} {c} p s room = record {
   end = s .end ∙ simp length-append (omega (arith, p .end));
   size = s .size ∙ p .size;
@@ -169,7 +169,7 @@ module _ {st : Counts} {w0 w1 : List ℕ} {r o : ℕ} {keep : Bool} {total : ℕ
 -- ---- the objects of one rule: the lines of the first o are added
 
 pub record LinesTo (st : Counts) (w0 w1 : List ℕ) (r : ℕ) (keep : Bool) (total : ℕ) (before now : List ℕ) (out after : Bytes) (o sum : ℕ) : Type 0 where
-  pub is : (s : Sheet) (x : Rule) → Marked st w0 w1 r s x → Adds keep total (objectLines s r x o) out after sum
+  pub is : (s : Sheet) (x : Rule) → Marked st w0 w1 r s x → AddsBytes keep total (objectLines s r x o) out after sum
   pub bounded : (s : Sheet) (x : Rule) → Marked st w0 w1 r s x → HasType s x → sum ≤ total + linesBound s x o
   pub size : length after ≡ length out
   pub kept : Kept before now

@@ -20,7 +20,7 @@ use Rattle.rules.specs.Numbered.{TypesNumbered, KeepsMarks}
 use Rattle.rules.proofs.Ready.{ready}
 use Rattle.rules.proofs.Marks.{accepted-same, marks-kept, marks-in}
 use Rattle.report.specs.Bound.{linesBound, rulesBound, AllTyped}
-use Rattle.report.specs.Passes.{Adds, Marked, MarksRule, allObjects, allBound, RoomFor, AddsLines, RoomForAll, AddsAll}
+use Rattle.report.specs.Passes.{AddsBytes, Marked, MarksRule, allObjects, allBound, RoomFor, AddsLines, RoomForAll, AddsAll}
 use Rattle.report.proofs.PassLaws.{adds-nothing, adds-then, added-end, room-left}
 use Rattle.report.proofs.ReportLaws.{linesTo, lines-rule, lines-all, rule-before, boundTo, bound-rule, bound-all, bound-rule-before}
 
@@ -33,7 +33,7 @@ rule-marked t k = record { still = λ s is. accepted-same k is; marks = λ s is 
 -- ---- the lines of the first r rules are added: w1 and w2 were u1 and u2
 
 pub record RulesTo (st : Counts) (w0 u1 w1 u2 w2 : List ℕ) (keep : Bool) (out now : Bytes) (r total : ℕ) : Type 0 where
-  pub is : (s : Sheet) → Accepted st w0 u1 s → Adds keep 0 (linesTo s r) out now total
+  pub is : (s : Sheet) → Accepted st w0 u1 s → AddsBytes keep 0 (linesTo s r) out now total
   pub bounded : (s : Sheet) → Accepted st w0 u1 s → AllTyped s → total ≤ boundTo s r
   pub size : length now ≡ length out
   pub still : (s : Sheet) → Accepted st w0 u1 s → Accepted st w0 w1 s

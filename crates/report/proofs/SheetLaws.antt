@@ -14,7 +14,7 @@ use Rattle.sheet.specs.Text.{Bytes}
 use Rattle.sheet.specs.Sheet.{Sheet}
 use Rattle.sheet.specs.Calls.{answer, refusal, refusalAt, outputAfter}
 use Rattle.sheet.specs.Report.{ruleLines, onTypes, fitting}
-use Rattle.text.specs.Written.{put}
+use Rattle.text.specs.Written.{putBytes}
 use Rattle.tables.specs.declared.Counts.{Counts}
 use Rattle.tables.proofs.Tables.{kept-refl, kept-then}
 use Rattle.rules.specs.Accepted.{Accepted, Known}
@@ -57,7 +57,7 @@ unfolding outputAfter refusalAt
 untouched n k out = refl
 
 -- lines that were put from the first byte on
-written-output : (b out : Bytes) {now : Bytes} → now ≡ put 0 b out → now ≡ outputAfter (answer b) out
+written-output : (b out : Bytes) {now : Bytes} → now ≡ putBytes 0 b out → now ≡ outputAfter (answer b) out
 unfolding outputAfter answer
 written-output b out e = e ∙ rw (zero-add (length b))
 

@@ -13,17 +13,17 @@ use Rattle.sheet.specs.Text.{Bytes}
 use Rattle.sheet.specs.Sheet.{Rule, Sheet, modelOf}
 use Rattle.sheet.specs.Calls.{typingOf, outcomeOf}
 use Rattle.sheet.specs.Report.{reportLine, objectLines, ruleLines}
-use Rattle.text.specs.Written.{put}
+use Rattle.text.specs.Written.{putBytes}
 use Rattle.tables.specs.declared.Counts.{Counts}
 use Rattle.tables.specs.Layout.{Kept}
 use Rattle.rules.specs.Accepted.{Accepted, MarksIn}
 use Rattle.report.specs.Bound.{lineWidth, linesBound, rulesBound, HasType, AllTyped}
 
 -- b comes behind `total` bytes: it is put there where it is to be kept
-pub record Adds (keep : Bool) (total : ℕ) (b before after : Bytes) (r : ℕ) : Type 0 where
+pub record AddsBytes (keep : Bool) (total : ℕ) (b before after : Bytes) (r : ℕ) : Type 0 where
   pub end : r ≡ total + length b
   pub size : length after ≡ length before
-  pub kept : keep ≡ true → after ≡ put total b before
+  pub kept : keep ≡ true → after ≡ putBytes total b before
 
 -- where bytes are to be kept, their bound b or their number n fits behind `total`; where they are counted, one line fits; and the
 -- numbers stay small
@@ -71,7 +71,7 @@ pub record RoomFor (f : Sheet → Rule → Bytes) (g : Sheet → Rule → ℕ) (
 -- f is added; w2 was `before`
 pub record AddsLines (f : Sheet → Rule → Bytes) (g : Sheet → Rule → ℕ) (st : Counts) (w0 w1 : List ℕ) (r : ℕ) (keep : Bool) (total : ℕ)
     (before after : List ℕ) (out now : Bytes) (n : ℕ) : Type 0 where
-  pub is : (s : Sheet) (x : Rule) → Marked st w0 w1 r s x → Adds keep total (f s x) out now n
+  pub is : (s : Sheet) (x : Rule) → Marked st w0 w1 r s x → AddsBytes keep total (f s x) out now n
   pub bounded : (s : Sheet) (x : Rule) → Marked st w0 w1 r s x → HasType s x → n ≤ total + g s x
   pub size : length now ≡ length out
   pub kept : Kept before after
@@ -86,7 +86,7 @@ pub record RoomForAll (st : Counts) (w0 w1 : List ℕ) (keep : Bool) (room : ℕ
 
 -- the report is added from the first byte on; w1 and w2 were u1 and u2, and are v1 and v2
 pub record AddsAll (st : Counts) (w0 u1 u2 v1 v2 : List ℕ) (keep : Bool) (out now : Bytes) (n : ℕ) : Type 0 where
-  pub is : (s : Sheet) → Accepted st w0 u1 s → Adds keep 0 (ruleLines s 0 (s .rules)) out now n
+  pub is : (s : Sheet) → Accepted st w0 u1 s → AddsBytes keep 0 (ruleLines s 0 (s .rules)) out now n
   pub bounded : (s : Sheet) → Accepted st w0 u1 s → AllTyped s → n ≤ rulesBound s (s .rules)
   pub size : length now ≡ length out
   pub still : (s : Sheet) → Accepted st w0 u1 s → Accepted st w0 v1 s

@@ -20,14 +20,14 @@ unfoldable pub reportOn : Sheet → ℕ → Verdict
 reportOn s room = onTypes s (s .rules) (fitting room (ruleLines s 0 (s .rules)))
 
 -- the code's answer for a verdict
-pub data Says : Reported → Verdict → Type 0 where
-  written : (b : Bytes) {n : ℕ} → n ≡ length b → Says (code.Written n) (answer b)
-  too-long : Says code.Short (refusal 18)
-  a-refusal : {n k : ℕ} → Says (code.Refused n k) (refusalAt n k)
+pub data SaysReport : Reported → Verdict → Type 0 where
+  written : (b : Bytes) {n : ℕ} → n ≡ length b → SaysReport (code.Written n) (answer b)
+  too-long : SaysReport code.Short (refusal 18)
+  a-refusal : {n k : ℕ} → SaysReport (code.Refused n k) (refusalAt n k)
 
 -- words w1 and w2 were u1 and u2, and are v1 and v2; the output was `out` and is `now`
 pub record Reports (st : Counts) (w0 u1 u2 v1 v2 : List ℕ) (out now : Bytes) (r : Reported) : Type 0 where
-  pub is : (s : Sheet) → Accepted st w0 u1 s → Says r (reportOn s (length out))
+  pub is : (s : Sheet) → Accepted st w0 u1 s → SaysReport r (reportOn s (length out))
   pub output : (s : Sheet) → Accepted st w0 u1 s → now ≡ outputAfter (reportOn s (length out)) out
   pub kept1 : Kept u1 v1
   pub kept2 : Kept u2 v2

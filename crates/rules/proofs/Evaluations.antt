@@ -15,7 +15,7 @@ use Rattle.nodes.specs.Nodes.{treeAt}
 use Rattle.tables.specs.declared.Counts.{Counts}
 use Rattle.operations.specs.declared.Ended.{Ended}
 use Rattle.operations.specs.Answers.{Ends, ends-value, ends-undefined, ends-stuck, ends-stop}
-use Rattle.evaluation.specs.Evaluating.{Reads, Rules}
+use Rattle.evaluation.specs.Evaluating.{ReadsWorld, Rules}
 use Rattle.rules.specs.Accepted.{Accepted, RuleIn, MarksIn}
 use Rattle.rules.specs.Numbered.{EvaluatesNumbered}
 use Rattle.rules.proofs.Ready.{ready}
@@ -41,13 +41,13 @@ rule-shallow i e = rw (e, i .body) (omega (arith, i .shallow))
 module _ {st : Counts} {w0 w1 : List ℕ} where
   -- the sheet's model and the rule's marks, as evaluation reads them
   world-in : (r : ℕ) (s : Sheet) → Accepted st w0 w1 s → (x : Rule) → getElem? (s .rules) r ≡ some x → MarksIn w1 (typingOf s x)
-      → Reads st w0 w1 (record { model = modelOf s; mark = markOf (typingOf s x) })
+      → ReadsWorld st w0 w1 (record { model = modelOf s; mark = markOf (typingOf s x) })
   world-in r s g x q m =
       let a = ready g in
       record { holds = a .model; plain = a .plain; mark = m .at; row = λ p h. a .mark r x q p }
 
   pub evaluates-numbered : {r o root : ℕ} {before part : List ℕ} {e : Ended} → 8192 ≤ length before → length part ≡ length (take 8192 before)
-      → root ≡ getD w0 (4512 + r) 0 → Rules (Reads st w0 w1) (treeAt w1 root) o part e
+      → root ≡ getD w0 (4512 + r) 0 → Rules (ReadsWorld st w0 w1) (treeAt w1 root) o part e
       → EvaluatesNumbered st w0 w1 r o before (part ++ drop 8192 before) e
   evaluates-numbered {r} {o} {root} {before} {part} {e} room long at t =
       let size : length part ≡ 8192 = long ∙ length-take-le 8192 before room in

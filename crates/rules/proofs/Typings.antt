@@ -11,7 +11,7 @@ use Rattle.nodes.specs.Nodes.{treeAt}
 use Rattle.tables.specs.declared.Counts.{Counts}
 use Rattle.tables.specs.Layout.{Kept}
 use Rattle.judgements.specs.declared.Reply.{Reply}
-use Rattle.typing.specs.Rules.{Kept as KeptMarks, TypesRule}
+use Rattle.typing.specs.Rules.{KeptMarks, TypesRule}
 use Rattle.rules.specs.Accepted.{Known, RuleIn}
 use Rattle.rules.specs.Numbered.{TypesNumbered}
 use Rattle.rules.proofs.Ready.{ready}

@@ -15,7 +15,7 @@ use Rattle.nodes.specs.Nodes.{word, treeAt}
 use Rattle.tables.specs.declared.Counts.{Counts}
 use Rattle.tables.specs.Layout.{Holds, Fine}
 use Rattle.tables.specs.Stored.{HoldsModel}
-use Rattle.judgements.specs.Replies.{Reads as TypingReads}
+use Rattle.judgements.specs.Replies.{ReadsRows as TypingReads}
 use Rattle.operations.specs.Tables.{Plain}
 
 -- the sheet of an accepted text lies in the words

@@ -12,7 +12,7 @@ use Rattle.tables.specs.Layout.{Kept}
 use Rattle.judgements.specs.declared.Reply.{Reply}
 use Rattle.judgements.specs.Replies.{meaning}
 use Rattle.operations.specs.declared.Ended.{Ended}
-use Rattle.operations.specs.Answers.{Ends, Small}
+use Rattle.operations.specs.Answers.{Ends, SmallAnswer}
 use Rattle.rules.specs.Accepted.{Accepted, MarksIn}
 
 -- the typing of rule r, its marks in the first 768 words of w2
@@ -31,7 +31,7 @@ pub record KeepsMarks (w2 before after : List ℕ) : Type 0 where
 
 -- the evaluation of rule r for object o: a value's cells lie in w2 from 1 on
 pub record EvaluatesNumbered (st : Counts) (w0 w1 : List ℕ) (r o : ℕ) (before after : List ℕ) (e : Ended) : Type 0 where
-  pub small : Small e
+  pub small : SmallAnswer e
   pub ends : (s : Sheet) → Accepted st w0 w1 s → (x : Rule) → getElem? (s .rules) r ≡ some x → MarksIn w1 (typingOf s x)
       → Ends 1 after (outcomeOf s x o) e
   pub kept : Kept before after

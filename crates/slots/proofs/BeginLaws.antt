@@ -16,7 +16,7 @@ use Rattle.values.specs.Cells.{head, enc}
 use Rattle.slots.specs.declared.parts.Part.the-variants as part
 use Rattle.slots.specs.declared.reader.Open.{Open}
 use Rattle.slots.specs.Parts.{Alone, alone-bool, alone-int, alone-obj, told-simple, told-wide, PartIs, part-bad, part-alone, part-opens}
-use Rattle.slots.specs.Machine.{Frame, resume, enter, laid, beyond, Deep, FramesWithin, within-none, within-more, heads-nil, Wanted, Ending, Live, live-wanted, live-opened, AddsCell, OpensCell}
+use Rattle.slots.specs.Machine.{Frame, resumeRead, enter, laid, beyond, Deep, FramesWithin, within-none, within-more, heads-nil, Wanted, ValueEnd, Live, live-wanted, live-opened, AddsCell, OpensCell}
 use Rattle.slots.proofs.MachineLaws.{start-alone, start-none, start-opens, resumed}
 use Rattle.slots.proofs.LimitLaws.{never-part}
 use Rattle.slots.proofs.TurnLaws.{later, some-parts}
@@ -51,7 +51,7 @@ alone-part alone-bool = refl
 alone-part alone-int = refl
 alone-part alone-obj = refl
 
-deep-by : {f : Bytes} {fs : List Frame} (u : Value) (s : Bytes) → readValue f ≡ resume fs u s → 1 ≤ size u → Deep f fs 0
+deep-by : {f : Bytes} {fs : List Frame} (u : Value) (s : Bytes) → readValue f ≡ resumeRead fs u s → 1 ≤ size u → Deep f fs 0
 deep-by {f} {fs} u s e h = record {
   wide = λ v g. let b = resumed fs u s (sym e ∙ g) .wide in omega arith;
   deep = λ v g. let b = resumed fs u s (sym e ∙ g) .deep in omega arith;
@@ -72,10 +72,10 @@ module _ {f : Bytes} {A : List ℕ} {at : ℕ} {o : Open} (w : Wanted f A at o) 
   begin-bad (part-bad q n) = let m = wanted-parts in w .same ∙ start-none (w .parts) (w .frames) (drop at f) (ap (λ (k : ℕ). valueParser k (drop at f)) (m .1) ∙ n (m .0))
   begin-bad (part-opens k q l n) = absurd (let z : _≡_ {A = ℕ} 0 1 = cc in omega arith)
 
-  read-to : {v : Value} {r : Bytes} → ((n : ℕ) → valueParser (suc n) (drop at f) ≡ some (v, r)) → readValue f ≡ resume (w .frames) v r
+  read-to : {v : Value} {r : Bytes} → ((n : ℕ) → valueParser (suc n) (drop at f) ≡ some (v, r)) → readValue f ≡ resumeRead (w .frames) v r
   read-to n = let m = wanted-parts in w .same ∙ start-alone (w .parts) (w .frames) (drop at f) (ap (λ (k : ℕ). valueParser k (drop at f)) (m .1) ∙ n (m .0))
 
-  pub begin-simple : {c e : ℕ} {B : List ℕ} {s : Open} → PartIs f at (part.Simple c e) → AddsCell c A o B s → Ending f B e s
+  pub begin-simple : {c e : ℕ} {B : List ℕ} {s : Open} → PartIs f at (part.Simple c e) → AddsCell c A o B s → ValueEnd f B e s
   begin-simple (part-bad q n) a = absurd (let z : _≡_ {A = ℕ} 0 1 = cc in omega arith)
   begin-simple (part-opens k q l n) a = absurd (let z : _≡_ {A = ℕ} 0 1 = cc in omega arith)
   begin-simple {c} {e} {B} {s} (part-alone v al (told-simple af ce t) n) a =
@@ -91,7 +91,7 @@ module _ {f : Bytes} {A : List ℕ} {at : ℕ} {o : Open} (w : Wanted f A at o) 
         same = q;
       }
 
-  pub begin-wide : {e : ℕ} {s : Open} → PartIs f at (part.Wide e) → s ≡ beyond o → Ending f A e s
+  pub begin-wide : {e : ℕ} {s : Open} → PartIs f at (part.Wide e) → s ≡ beyond o → ValueEnd f A e s
   begin-wide (part-bad q n) z = absurd (let z : _≡_ {A = ℕ} 0 1 = cc in omega arith)
   begin-wide (part-opens k q l n) z = absurd (let z : _≡_ {A = ℕ} 0 1 = cc in omega arith)
   begin-wide {e} {s} (part-alone v al (told-wide af t) n) z =
@@ -135,7 +135,7 @@ module _ {f : Bytes} {A : List ℕ} {at : ℕ} {o : Open} (w : Wanted f A at o) 
 -- ---- the beginning
 
 pub begun : (f : Bytes) (A : List ℕ) {o : Open} → o ≡ record { depth = 0; size = 0; second = 0; third = 0 } → Live f A 0 0 o
-unfolding readValue whole resume laid
+unfolding readValue whole resumeRead laid
 begun f A z = rw z (live-wanted refl (record {
   frames = [];
   parts = length f;

@@ -17,7 +17,7 @@ use Rattle.sheet.specs.Refusals.{partWithin, nesting, nestings}
 use Rattle.values.specs.Cells.{enc}
 use Rattle.values.proofs.Encoding.{size-law}
 use Rattle.values.proofs.Growing.{append-grows}
-use Rattle.slots.specs.Machine.{Frame, glue, resume, among, start, enter, laid}
+use Rattle.slots.specs.Machine.{Frame, glue, resumeRead, among, startRead, enter, laid}
 
 -- ---- members put together
 
@@ -41,7 +41,7 @@ unfolding valueParser bytes after literal behind _or_ mapped nothing orElse onSo
 value-nil zero = refl
 value-nil (suc n) = refl
 
-pub start-end : (n : ℕ) (fs : List Frame) → start n fs [] ≡ none
+pub start-end : (n : ℕ) (fs : List Frame) → startRead n fs [] ≡ none
 unfolding onSome
 start-end n fs = rw (value-nil n)
 
@@ -57,54 +57,54 @@ among-end x fs = go (x .parts)
     go zero = refl
     go (suc m) = refl
 
-pub start-alone : (n : ℕ) (fs : List Frame) (s : Bytes) {v : Value} {r : Bytes} → valueParser n s ≡ some (v, r) → start n fs s ≡ resume fs v r
+pub start-alone : (n : ℕ) (fs : List Frame) (s : Bytes) {v : Value} {r : Bytes} → valueParser n s ≡ some (v, r) → startRead n fs s ≡ resumeRead fs v r
 unfolding onSome
 start-alone n fs s e = rw e
 
-pub start-none : (n : ℕ) (fs : List Frame) (s : Bytes) → valueParser n s ≡ none → start n fs s ≡ none
+pub start-none : (n : ℕ) (fs : List Frame) (s : Bytes) → valueParser n s ≡ none → startRead n fs s ≡ none
 unfolding onSome
 start-none n fs s e = rw e
 
-pub start-opens : (n : ℕ) (fs : List Frame) (s : Bytes) (m : ℕ) (k : Kind) (r : Bytes) → valueParser n s ≡ mapped (coll k) (membersParser m) r → start n fs s ≡ enter m k fs r
+pub start-opens : (n : ℕ) (fs : List Frame) (s : Bytes) (m : ℕ) (k : Kind) (r : Bytes) → valueParser n s ≡ mapped (coll k) (membersParser m) r → startRead n fs s ≡ enter m k fs r
 unfolding onSome mapped mapSome
 start-opens n fs s m k r e = rw e (go (membersParser m r))
   where
-    go : (o : Option (Values × Bytes)) → onSome {B = Value} (mapSome {B = Value × Bytes} (λ x. (coll k (x .0), x .1)) o) (λ x. resume fs (x .0) (x .1)) ≡ onSome o (λ y. resume fs (coll k (y .0)) (y .1))
+    go : (o : Option (Values × Bytes)) → onSome {B = Value} (mapSome {B = Value × Bytes} (λ x. (coll k (x .0), x .1)) o) (λ x. resumeRead fs (x .0) (x .1)) ≡ onSome o (λ y. resumeRead fs (coll k (y .0)) (y .1))
     go none = refl
     go (some y) = refl
 
 module _ (k : Kind) (us : Values) (fs : List Frame) (m : ℕ) where
   -- the members after one that is read
-  joins : (v : Value) (q : Option (Values × Bytes)) → onSome {B = Value} (mapSome {B = Values × Bytes} (λ y. (cons v (y .0), y .1)) q) (λ y. resume fs (coll k (glue us (y .0))) (y .1)) ≡ onSome q (λ y. resume fs (coll k (glue (append v us) (y .0))) (y .1))
+  joins : (v : Value) (q : Option (Values × Bytes)) → onSome {B = Value} (mapSome {B = Values × Bytes} (λ y. (cons v (y .0), y .1)) q) (λ y. resumeRead fs (coll k (glue us (y .0))) (y .1)) ≡ onSome q (λ y. resumeRead fs (coll k (glue (append v us) (y .0))) (y .1))
   unfolding onSome mapSome
   joins v none = refl
-  joins v (some y) = ap (λ (l : Values). resume fs (coll k l) (y .1)) (sym (glue-append v us (y .0)))
+  joins v (some y) = ap (λ (l : Values). resumeRead fs (coll k l) (y .1)) (sym (glue-append v us (y .0)))
 
-  member : (o : Option (Value × Bytes)) → onSome {B = Value} (onSome {B = Values × Bytes} o (λ x. mapSome (λ y. (cons (x .0) (y .0), y .1)) (moreParser m (x .1)))) (λ y. resume fs (coll k (glue us (y .0))) (y .1)) ≡ onSome o (λ x. resume (frame k us m ∷ fs) (x .0) (x .1))
-  unfolding onSome resume
+  member : (o : Option (Value × Bytes)) → onSome {B = Value} (onSome {B = Values × Bytes} o (λ x. mapSome (λ y. (cons (x .0) (y .0), y .1)) (moreParser m (x .1)))) (λ y. resumeRead fs (coll k (glue us (y .0))) (y .1)) ≡ onSome o (λ x. resumeRead (frame k us m ∷ fs) (x .0) (x .1))
+  unfolding onSome resumeRead
   member none = refl
   member (some x) = joins (x .0) (moreParser m (x .1))
 
-  comma : (s : Bytes) → among (frame k us (suc m)) fs (44 ∷ s) ≡ start m (frame k us m ∷ fs) s
+  comma : (s : Bytes) → among (frame k us (suc m)) fs (44 ∷ s) ≡ startRead m (frame k us m ∷ fs) s
   unfolding moreParser bytes after literal behind _or_ _then_ mapped orElse onSome mapSome
   comma s = member (valueParser m s)
 
-  pub close : (s : Bytes) → among (frame k us (suc m)) fs (41 ∷ s) ≡ resume fs (coll k us) s
+  pub close : (s : Bytes) → among (frame k us (suc m)) fs (41 ∷ s) ≡ resumeRead fs (coll k us) s
   unfolding moreParser bytes after literal _or_ orElse onSome mapSome
-  close s = ap (λ (l : Values). resume fs (coll k l) s) (glue-nil us)
+  close s = ap (λ (l : Values). resumeRead fs (coll k l) s) (glue-nil us)
 
   pub other : (b : ℕ) (s : Bytes) → (b ≡ 41 → ⊥) → (b ≡ 44 → ⊥) → among (frame k us (suc m)) fs (b ∷ s) ≡ none
   unfolding moreParser bytes after literal behind _or_ orElse onSome mapSome
   other b s p q = rw (ne-eqb 41 b (λ e. p (sym e)), ne-eqb 44 b (λ e. q (sym e)))
 
-pub among-comma : (x : Frame) (fs : List Frame) (m : ℕ) (s : Bytes) → x .parts ≡ suc m → among x fs (44 ∷ s) ≡ start m (frame (x .kind) (x .inside) m ∷ fs) s
+pub among-comma : (x : Frame) (fs : List Frame) (m : ℕ) (s : Bytes) → x .parts ≡ suc m → among x fs (44 ∷ s) ≡ startRead m (frame (x .kind) (x .inside) m ∷ fs) s
 among-comma x fs m s e = rw e (comma (x .kind) (x .inside) fs m s)
 
-pub enter-close : (n : ℕ) (k : Kind) (fs : List Frame) (s : Bytes) → enter (suc n) k fs (41 ∷ s) ≡ resume fs (coll k nil) s
+pub enter-close : (n : ℕ) (k : Kind) (fs : List Frame) (s : Bytes) → enter (suc n) k fs (41 ∷ s) ≡ resumeRead fs (coll k nil) s
 unfolding membersParser bytes after literal _or_ orElse onSome mapSome
 enter-close n k fs s = refl
 
-pub enter-value : (n : ℕ) (k : Kind) (fs : List Frame) (b : ℕ) (s : Bytes) → (b ≡ 41 → ⊥) → enter (suc n) k fs (b ∷ s) ≡ start n (frame k nil n ∷ fs) (b ∷ s)
+pub enter-value : (n : ℕ) (k : Kind) (fs : List Frame) (b : ℕ) (s : Bytes) → (b ≡ 41 → ⊥) → enter (suc n) k fs (b ∷ s) ≡ startRead n (frame k nil n ∷ fs) (b ∷ s)
 unfolding membersParser bytes after literal _or_ _then_ mapped orElse onSome mapSome glue
 enter-value n k fs b s p = rw (ne-eqb 41 b (λ e. p (sym e))) (member k nil fs n (valueParser n (b ∷ s)))
 
@@ -153,8 +153,8 @@ pub record Big (fs : List Frame) (u v : Value) : Type 0 where
   pub deep : length fs + nesting u ≤ nesting v
   pub parts : everyPart partWithin u ≡ false → everyPart partWithin v ≡ false
 
-pub resumed : (fs : List Frame) (u : Value) (s : Bytes) {v : Value} → resume fs u s ≡ some v → Big fs u v
-unfolding resume laid size nesting everyPart atEnd
+pub resumed : (fs : List Frame) (u : Value) (s : Bytes) {v : Value} → resumeRead fs u s ≡ some v → Big fs u v
+unfolding resumeRead laid size nesting everyPart atEnd
 resumed [] u s {v} e = go s e
   where
     go : (s : Bytes) → atEnd u s ≡ some v → Big [] u v

@@ -19,7 +19,7 @@ use Rattle.slots.specs.declared.reader.Read.{Read}
 use Rattle.slots.specs.declared.reader.Read.the-variants as read
 use Rattle.slots.specs.declared.reader.Turn.{Turn}
 use Rattle.slots.specs.declared.reader.Turn.the-variants as turn
-use Rattle.slots.specs.Machine.{Frame, grown, resume, among, start, enter, laid, headAt, outward, Tidy, InFront, Sure, Enough, Wanted, Joined, Ending, Live, live-wanted, live-opened, live-joined, ReadIs, read-bad, read-over, read-is, TurnIs, turn-on, turn-stop, Raises, Last}
+use Rattle.slots.specs.Machine.{Frame, grown, resumeRead, among, startRead, enter, laid, headAt, outward, Tidy, InFront, Sure, Enough, Wanted, Joined, ValueEnd, Live, live-wanted, live-opened, live-joined, ReadIs, read-bad, read-over, read-is, TurnIs, turn-on, turn-stop, Raises, Last}
 use Rattle.slots.proofs.MachineLaws.{start-end, enter-end, among-end, among-comma, close, other, enter-close, enter-value}
 use Rattle.slots.proofs.LimitLaws.{may}
 use Rattle.slots.proofs.PartLaws.{from-byte}
@@ -34,18 +34,18 @@ alone v (x ∷ fs) z l = absurd (omega arith)
 
 module _ {f : Bytes} {at : ℕ} {o : Open} where
   pub last-bad : at < length f → Last f at o read.Bad
-  unfolding resume atEnd
+  unfolding resumeRead atEnd
   last-bad h = record { is = λ cells e d. read-bad (e .same ∙ rw (at-next 0 f at h) (go _ _ _ (e .frames) (sym (e .sure .depth) ∙ d))) }
     where
-      go : (v : Value) (b : ℕ) (s : Bytes) (fs : List Frame) → length fs ≡ 0 → resume fs v (b ∷ s) ≡ none
+      go : (v : Value) (b : ℕ) (s : Bytes) (fs : List Frame) → length fs ≡ 0 → resumeRead fs v (b ∷ s) ≡ none
       go v b s [] z = refl
       go v b s (x ∷ fs) z = absurd (omega arith)
 
-  at-last : {cells : List ℕ} (e : Ending f cells at o) → o .depth ≡ 0 → length f ≤ at → readValue f ≡ some (e .value)
-  unfolding resume atEnd
+  at-last : {cells : List ℕ} (e : ValueEnd f cells at o) → o .depth ≡ 0 → length f ≤ at → readValue f ≡ some (e .value)
+  unfolding resumeRead atEnd
   at-last e d h = e .same ∙ rw (drop-of-length-le f h) (go _ (e .frames) (sym (e .sure .depth) ∙ d))
     where
-      go : (v : Value) (fs : List Frame) → length fs ≡ 0 → resume fs v [] ≡ some v
+      go : (v : Value) (fs : List Frame) → length fs ≡ 0 → resumeRead fs v [] ≡ some v
       go v [] z = refl
       go v (x ∷ fs) z = absurd (omega arith)
 
@@ -55,7 +55,7 @@ module _ {f : Bytes} {at : ℕ} {o : Open} where
   pub last-is : length f ≤ at → o .size ≤ 128 → Last f at o (read.Is (o .size))
   last-is h t = record { is = λ cells e d. made cells e d (e .sure .fine t) (e .tidy t) }
     where
-      made : (cells : List ℕ) (e : Ending f cells at o) → o .depth ≡ 0 → InFront cells o (e .frames) (enc (e .value)) → Tidy (e .value) (length (e .frames)) → ReadIs f cells (read.Is (o .size))
+      made : (cells : List ℕ) (e : ValueEnd f cells at o) → o .depth ≡ 0 → InFront cells o (e .frames) (enc (e .value)) → Tidy (e .value) (length (e .frames)) → ReadIs f cells (read.Is (o .size))
       made cells e d l y =
           let lies = alone (e .value) (e .frames) (sym (e .sure .depth) ∙ d) l in
           let n : o .size ≡ size (e .value) = sym (length-take-le (o .size) cells (l .room)) ∙ ap length lies ∙ size-law (e .value) in
@@ -81,7 +81,7 @@ head-enough {f} {at} {x} {fs} e = first (e .parts)
     first : Each (λ (y : Frame). length f ≤ at + y .parts) (x ∷ fs) → length f ≤ at + x .parts
     first (each-cons p ps) = p
 
-module _ {f : Bytes} {A : List ℕ} {at : ℕ} {o : Open} (e : Ending f A at o) (inside : o .depth ≡ 0 → ⊥) where
+module _ {f : Bytes} {A : List ℕ} {at : ℕ} {o : Open} (e : ValueEnd f A at o) (inside : o .depth ≡ 0 → ⊥) where
   pub may-raise : o .size ≤ 128 → (headAt o (o .depth) < length A) × (getD A (headAt o (o .depth)) 0 < 18446744073709551615)
   may-raise t = go (e .frames) (e .sure .depth) (e .sure .fine t)
     where
@@ -90,10 +90,10 @@ module _ {f : Bytes} {A : List ℕ} {at : ℕ} {o : Open} (e : Ending f A at o) 
       go (x ∷ fs) d l = raise-may (first-at d l)
 
   pub ended-on : {B : List ℕ} → Raises A o B → TurnIs f B at (turn.On at 2 o)
-  unfolding resume
+  unfolding resumeRead
   ended-on {B} r = turn-on {at = at} (omega arith) (live-joined refl (go (e .frames) (e .sure .depth) (e .sure) (e .tidy) (e .enough) (e .same)))
     where
-      go : (fs : List Frame) → o .depth ≡ length fs → Sure f A o fs (enc (e .value)) → (o .size ≤ 128 → Tidy (e .value) (length fs)) → Enough f at fs → readValue f ≡ resume fs (e .value) (drop at f) → Joined f B at o
+      go : (fs : List Frame) → o .depth ≡ length fs → Sure f A o fs (enc (e .value)) → (o .size ≤ 128 → Tidy (e .value) (length fs)) → Enough f at fs → readValue f ≡ resumeRead fs (e .value) (drop at f) → Joined f B at o
       go [] d s t n q = absurd (inside d)
       go (x ∷ fs) d s t n q = record {
         frame = grown x (e .value);
@@ -129,7 +129,7 @@ module _ {f : Bytes} {A : List ℕ} {at : ℕ} {o : Open} where
     joined-parts : (w : Joined f A at o) → (m : ℕ) × (w .frame .parts ≡ suc m)
     joined-parts w = some-parts (w .frame .parts) (let p = head-enough (w .enough) in omega arith)
 
-    pub closes : {phase : ℕ} {r : Open} → Live f A at phase o → (phase ≡ 0 → ⊥) → getD f at 0 ≡ 41 → r ≡ outward o → Ending f A (at + 1) r
+    pub closes : {phase : ℕ} {r : Open} → Live f A at phase o → (phase ≡ 0 → ⊥) → getD f at 0 ≡ 41 → r ≡ outward o → ValueEnd f A (at + 1) r
     closes (live-wanted p w) n e z = absurd (n p)
     closes (live-opened p w) n e z = rw z (record {
       frames = w .frames;
@@ -158,7 +158,7 @@ module _ {f : Bytes} {A : List ℕ} {at : ℕ} {o : Open} where
       sure = w .sure;
       enough = w .enough;
       left = head-enough (w .enough);
-      same = w .same ∙ ap (enter (suc (w .parts)) (w .kind) (w .frames)) (from-byte f at h refl) ∙ enter-value (w .parts) (w .kind) (w .frames) (getD f at 0) (drop (at + 1) f) n ∙ ap (start (w .parts) (record { kind = w .kind; inside = nil; parts = w .parts } ∷ w .frames)) (sym (from-byte f at h refl));
+      same = w .same ∙ ap (enter (suc (w .parts)) (w .kind) (w .frames)) (from-byte f at h refl) ∙ enter-value (w .parts) (w .kind) (w .frames) (getD f at 0) (drop (at + 1) f) n ∙ ap (startRead (w .parts) (record { kind = w .kind; inside = nil; parts = w .parts } ∷ w .frames)) (sym (from-byte f at h refl));
     }
     begins (live-joined p w) e n = absurd (omega arith)
 

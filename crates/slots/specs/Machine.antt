@@ -40,21 +40,21 @@ abbrev pub grown : Frame → Value → Frame
 grown x v = record { kind = x .kind; inside = append v (x .inside); parts = x .parts }
 
 -- v is read, and s is left
-unfoldable pub resume : List Frame → Value → Bytes → Option Value
-resume [] v s = atEnd v s
-resume (x ∷ fs) v s = onSome (moreParser (x .parts) s) (λ y. resume fs (coll (x .kind) (glue (append v (x .inside)) (y .0))) (y .1))
+unfoldable pub resumeRead : List Frame → Value → Bytes → Option Value
+resumeRead [] v s = atEnd v s
+resumeRead (x ∷ fs) v s = onSome (moreParser (x .parts) s) (λ y. resumeRead fs (coll (x .kind) (glue (append v (x .inside)) (y .0))) (y .1))
 
 -- a member of x is read
 abbrev pub among : Frame → List Frame → Bytes → Option Value
-among x fs s = onSome (moreParser (x .parts) s) (λ y. resume fs (coll (x .kind) (glue (x .inside) (y .0))) (y .1))
+among x fs s = onSome (moreParser (x .parts) s) (λ y. resumeRead fs (coll (x .kind) (glue (x .inside) (y .0))) (y .1))
 
 -- a value is to be read
-abbrev pub start : ℕ → List Frame → Bytes → Option Value
-start n fs s = onSome (valueParser n s) (λ x. resume fs (x .0) (x .1))
+abbrev pub startRead : ℕ → List Frame → Bytes → Option Value
+startRead n fs s = onSome (valueParser n s) (λ x. resumeRead fs (x .0) (x .1))
 
 -- a collection's bracket is read
 abbrev pub enter : ℕ → Kind → List Frame → Bytes → Option Value
-enter n k fs s = onSome (membersParser n s) (λ y. resume fs (coll k (y .0)) (y .1))
+enter n k fs s = onSome (membersParser n s) (λ y. resumeRead fs (coll k (y .0)) (y .1))
 
 -- ---- their cells
 
@@ -130,7 +130,7 @@ pub record Wanted (f : Bytes) (cells : List ℕ) (at : ℕ) (o : Open) : Type 0 
   pub sure : Sure f cells o frames []
   pub enough : Enough f at frames
   pub left : length f ≤ at + parts
-  pub same : readValue f ≡ start parts frames (drop at f)
+  pub same : readValue f ≡ startRead parts frames (drop at f)
 
 pub record Opened (f : Bytes) (cells : List ℕ) (at : ℕ) (o : Open) : Type 0 where
   pub kind : Kind
@@ -147,13 +147,13 @@ pub record Joined (f : Bytes) (cells : List ℕ) (at : ℕ) (o : Open) : Type 0 
   pub enough : Enough f at (frame ∷ frames)
   pub same : readValue f ≡ among frame frames (drop at f)
 
-pub record Ending (f : Bytes) (cells : List ℕ) (at : ℕ) (o : Open) : Type 0 where
+pub record ValueEnd (f : Bytes) (cells : List ℕ) (at : ℕ) (o : Open) : Type 0 where
   pub frames : List Frame
   pub value : Value
   pub sure : Sure f cells o frames (enc value)
   pub tidy : o .size ≤ 128 → Tidy value (length frames)
   pub enough : Enough f at frames
-  pub same : readValue f ≡ resume frames value (drop at f)
+  pub same : readValue f ≡ resumeRead frames value (drop at f)
 
 pub data Live (f : Bytes) (cells : List ℕ) (at phase : ℕ) (o : Open) : Type 0 where
   live-wanted : phase ≡ 0 → Wanted f cells at o → Live f cells at phase o
@@ -188,4 +188,4 @@ pub record Raises (before : List ℕ) (o : Open) (after : List ℕ) : Type 0 whe
       → Sure f after o (grown x u ∷ fs) []
 
 pub record Last (f : Bytes) (at : ℕ) (o : Open) (r : Read) : Type 0 where
-  pub is : (cells : List ℕ) → Ending f cells at o → o .depth ≡ 0 → ReadIs f cells r
+  pub is : (cells : List ℕ) → ValueEnd f cells at o → o .depth ≡ 0 → ReadIs f cells r

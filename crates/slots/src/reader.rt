@@ -5,7 +5,7 @@ ghost use mathlib.Core.Path.{_≡_};
 ghost use Rattle.laws.specs.Choice.{if_then_else_};
 ghost use Prim.Native.Nat.{_+_, _<_, _≤_};
 ghost use lib.ListN.{length, getD};
-ghost use Rattle.slots.specs.Machine.{headAt, outward, beyond, Last, AddsCell, OpensCell, Raises, Wanted, Ending, Live, TurnIs, ReadIs};
+ghost use Rattle.slots.specs.Machine.{headAt, outward, beyond, Last, AddsCell, OpensCell, Raises, Wanted, ValueEnd, Live, TurnIs, ReadIs};
 use crate::parts::Part;
 use crate::parts::part_at;
 use values::cells::LARGEST;
@@ -116,7 +116,7 @@ fn last(f: &[u8], at: usize, o: Open) -> Read
 
 // A value ends at `at`.
 fn ended(f: &[u8], cells: &mut [u64], at: usize, o: Open) -> Turn
-    requires { ⌜ Ending (now f) (now cells) at o ⌝ }
+    requires { ⌜ ValueEnd (now f) (now cells) at o ⌝ }
     ensures { λ r. ⌜ TurnIs (now (f .entry)) (now (cells .exit)) at r ⌝ }
 {
     if o.depth == 0 {

@@ -12,18 +12,18 @@ use Rattle.text.specs.Written.{Puts}
 use Rattle.values.specs.Cells.{enc, encs, Fits, AllFit, fit-cons}
 use Rattle.values.proofs.Encoding.{some-cells}
 use Rattle.spelling.specs.declared.Next.{Next}
-use Rattle.spelling.specs.Contracts.{Stands, ValueWaits, MembersWait, Wrote}
+use Rattle.spelling.specs.Contracts.{CellsStand, ValueWaits, MembersWait, Wrote}
 use Rattle.spelling.proofs.PutLaws.{puts-behind}
 use Rattle.spelling.proofs.CellLaws.{stands-left, stands-right, value-within}
 use Rattle.spelling.proofs.ValueLaws.{members-some}
 
 -- what `put_next` and `put_members` promise
 abbrev ValueWrote : List ℕ → ℕ → ℕ → Bytes → Bytes → Next → Type 0
-ValueWrote cells at from a b r = (v : Value) → Fits v → Stands (enc v) cells from → Wrote (spellValue v) (length (enc v)) at from a b r
+ValueWrote cells at from a b r = (v : Value) → Fits v → CellsStand (enc v) cells from → Wrote (spellValue v) (length (enc v)) at from a b r
 
 abbrev MembersWrote : ℕ → List ℕ → ℕ → ℕ → Bytes → Bytes → Next → Type 0
 MembersWrote n cells at from a b r =
-    (vs : Values) → AllFit vs → n ≡ count vs → Stands (encs vs) cells from → Wrote (spellMembers vs) (length (encs vs)) at from a b r
+    (vs : Values) → AllFit vs → n ≡ count vs → CellsStand (encs vs) cells from → Wrote (spellMembers vs) (length (encs vs)) at from a b r
 
 -- ---- no member
 
@@ -53,8 +53,8 @@ record First (n at from : ℕ) (cells : List ℕ) (room : ℕ) : Type 0 where
   fits : Fits v
   more-fit : AllFit vs
   many : n ≡ suc (count vs)
-  stands : Stands (enc v) cells from
-  more-stand : Stands (encs vs) cells (from + length (enc v))
+  stands : CellsStand (enc v) cells from
+  more-stand : CellsStand (encs vs) cells (from + length (enc v))
   enough : at + length (spellValue v) + length (spellMore vs) ≤ room
 
 module _ {n at from room : ℕ} {cells : List ℕ} (w : MembersWait n at from cells room) (some : n ≡ 0 → ⊥) where
@@ -62,7 +62,7 @@ module _ {n at from room : ℕ} {cells : List ℕ} (w : MembersWait n at from ce
   unfolding count encs spellMembers
   first = go (w .vs) (w .fits) (w .many) (w .stands) (w .enough)
     where
-      go : (vs : Values) → AllFit vs → n ≡ count vs → Stands (encs vs) cells from → at + length (spellMembers vs) ≤ room → First n at from cells room
+      go : (vs : Values) → AllFit vs → n ≡ count vs → CellsStand (encs vs) cells from → at + length (spellMembers vs) ≤ room → First n at from cells room
       go nil f m s e = absurd (some m)
       go (cons v vs) (fit-cons f g) m s e = record {
         v = v;

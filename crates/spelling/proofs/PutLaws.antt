@@ -6,10 +6,10 @@ use mathlib.Core.List.{_++_}
 use native.Mathlib.Omega.{arith}
 use lib.ListN.{length, take, drop, length-append, length-take, length-drop}
 use Rattle.sheet.specs.Text.{Bytes}
-use Rattle.text.specs.Written.{Puts, put}
+use Rattle.text.specs.Written.{Puts, putBytes}
 use Rattle.text.proofs.WrittenLaws.{puts-then}
 
-put-length : (at : ℕ) (w a : Bytes) → length (put at w a) ≡ length (take at a) + length w + length (drop (at + length w) a)
+put-length : (at : ℕ) (w a : Bytes) → length (putBytes at w a) ≡ length (take at a) + length w + length (drop (at + length w) a)
 put-length at w a = simp length-append
 
 pub puts-room : {at r : ℕ} {w a b : Bytes} → Puts at w a b r → length b ≡ length a → 0 < length w → at + length w ≤ length a

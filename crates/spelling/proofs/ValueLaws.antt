@@ -19,7 +19,7 @@ use Rattle.values.specs.Contracts.{SortOf, SimpleOf, Means, means-bool, means-i
 use Rattle.values.specs.declared.Simple.{Simple}
 use Rattle.values.proofs.Heads.{members-fit, enc-parts, kids-head, sort-kind}
 use Rattle.spelling.specs.declared.Next.{Next}
-use Rattle.spelling.specs.Contracts.{simpleSpelling, Stands, ValueWaits, MembersWait, Wrote}
+use Rattle.spelling.specs.Contracts.{simpleSpelling, CellsStand, ValueWaits, MembersWait, Wrote}
 use Rattle.spelling.proofs.PutLaws.{puts-behind}
 use Rattle.spelling.proofs.CellLaws.{first-cell, members-stand}
 
@@ -58,7 +58,7 @@ members-some (cons v (cons w ws)) = simp length-append (omega arith)
 
 module _ {from s : ℕ} {cells : List ℕ} (so : SortOf (getD cells from 0) s) where
   module _ {x : Simple} (is : SimpleOf (getD cells from 0) x) (low : s < 3) where
-    simple-value : (v : Value) → Fits v → Stands (enc v) cells from → simpleSpelling x ≡ spellValue v
+    simple-value : (v : Value) → Fits v → CellsStand (enc v) cells from → simpleSpelling x ≡ spellValue v
     simple-value v f st =
         let e = so .is v f (first-cell v st) in
         means-spelling (is .is v f (omega arith) (first-cell v st)) f
@@ -66,7 +66,7 @@ module _ {from s : ℕ} {cells : List ℕ} (so : SortOf (getD cells from 0) s) w
     pub simple-room : {at room : ℕ} → ValueWaits at from cells room → at + length (simpleSpelling x) ≤ room
     simple-room {at} {room} w = omega (arith, w .enough, ap length (simple-value (w .v) (w .fits) (w .stands)))
 
-    pub wrote-simple : {at r : ℕ} {a b : Bytes} → Puts at (simpleSpelling x) a b r → (v : Value) → Fits v → Stands (enc v) cells from
+    pub wrote-simple : {at r : ℕ} {a b : Bytes} → Puts at (simpleSpelling x) a b r → (v : Value) → Fits v → CellsStand (enc v) cells from
         → Wrote (spellValue v) (length (enc v)) at from a b (record { at = r; from = from + 1 })
     wrote-simple p v f st = record {
       bytes = rw (← simple-value v f st) p;
@@ -74,14 +74,14 @@ module _ {from s : ℕ} {cells : List ℕ} (so : SortOf (getD cells from 0) s) w
     }
 
   module _ (high : 3 ≤ s) where
-    opened : (v : Value) → Fits v → Stands (enc v) cells from → Opens v
+    opened : (v : Value) → Fits v → CellsStand (enc v) cells from → Opens v
     opened v f st = opens v (let e = so .is v f (first-cell v st) in omega arith)
 
     pub opening-room : {at room : ℕ} → ValueWaits at from cells room → at + 2 ≤ room
     opening-room w = omega (arith, w .enough, ap length (opened (w .v) (w .fits) (w .stands) .spelled))
 
     module _ {at q : ℕ} {a b : Bytes} (put : (k : Kind) → s ≡ 3 + kindCode k → Puts at (kindByte k ∷ 40 ∷ []) a b q) (same : length b ≡ length a) where
-      opening : (v : Value) (f : Fits v) (st : Stands (enc v) cells from) → Puts at (kindByte (opened v f st .kind) ∷ 40 ∷ []) a b q
+      opening : (v : Value) (f : Fits v) (st : CellsStand (enc v) cells from) → Puts at (kindByte (opened v f st .kind) ∷ 40 ∷ []) a b q
       opening v f st = put (opened v f st .kind) (so .is v f (first-cell v st) ∙ opened v f st .sorted)
 
       pub members-wait : {n : ℕ} → n ≡ kids (getD cells from 0) → ValueWaits at from cells (length a) → MembersWait n q (from + 1) cells (length b)
@@ -94,8 +94,8 @@ module _ {from s : ℕ} {cells : List ℕ} (so : SortOf (getD cells from 0) s) w
       }
 
       pub wrote-opened : {n : ℕ} {c : Bytes} {r : Next}
-          → ((vs : Values) → AllFit vs → n ≡ count vs → Stands (encs vs) cells (from + 1) → Wrote (spellMembers vs) (length (encs vs)) q (from + 1) b c r)
-          → length c ≡ length b → n ≡ kids (getD cells from 0) → (v : Value) → Fits v → Stands (enc v) cells from
+          → ((vs : Values) → AllFit vs → n ≡ count vs → CellsStand (encs vs) cells (from + 1) → Wrote (spellMembers vs) (length (encs vs)) q (from + 1) b c r)
+          → length c ≡ length b → n ≡ kids (getD cells from 0) → (v : Value) → Fits v → CellsStand (enc v) cells from
           → Wrote (spellValue v) (length (enc v)) at from a c r
       wrote-opened more kept many v f st =
           let m = more (members v) (members-fit f) (many ∙ ap kids (first-cell v st) ∙ kids-head f) (members-stand v st) in

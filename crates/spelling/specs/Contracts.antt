@@ -32,7 +32,7 @@ simpleSpelling (simple.Integer n) = spellInteger (unbias n)
 simpleSpelling (simple.Object n) = byte "@" ∷ spellNumber n
 
 -- cs are the first of the cells from `from` on
-pub record Stands (cs cells : List ℕ) (from : ℕ) : Type 0 where
+pub record CellsStand (cs cells : List ℕ) (from : ℕ) : Type 0 where
   pub rest : List ℕ
   pub is : drop from cells ≡ cs ++ rest
 
@@ -40,7 +40,7 @@ pub record Stands (cs cells : List ℕ) (from : ℕ) : Type 0 where
 pub record ValueWaits (at from : ℕ) (cells : List ℕ) (room : ℕ) : Type 0 where
   pub v : Value
   pub fits : Fits v
-  pub stands : Stands (enc v) cells from
+  pub stands : CellsStand (enc v) cells from
   pub enough : at + length (spellValue v) ≤ room
 
 -- n values stand there, with room for the bytes of members
@@ -48,7 +48,7 @@ pub record MembersWait (n at from : ℕ) (cells : List ℕ) (room : ℕ) : Type 
   pub vs : Values
   pub fits : AllFit vs
   pub many : n ≡ count vs
-  pub stands : Stands (encs vs) cells from
+  pub stands : CellsStand (encs vs) cells from
   pub enough : at + length (spellMembers vs) ≤ room
 
 -- w is written for the first n cells from `from` on

@@ -17,7 +17,7 @@ ghost use Rattle.ocl.specs.Values.{Value, Values, count};
 ghost use Rattle.sheet.specs.Spelling.{kindByte, spellBool, spellValue, spellMembers};
 ghost use Rattle.text.specs.Written.{Puts};
 ghost use Rattle.values.specs.Cells.{enc, encs, Fits, AllFit};
-ghost use Rattle.spelling.specs.Contracts.{simpleSpelling, Stands, ValueWaits, MembersWait, Wrote, ValueFits};
+ghost use Rattle.spelling.specs.Contracts.{simpleSpelling, CellsStand, ValueWaits, MembersWait, Wrote, ValueFits};
 
 // Where the next byte is written, and where the next value's cells begin.
 pub struct Next {
@@ -69,7 +69,7 @@ fn put_opening(out: &mut [u8], at: usize, sort: u64) -> usize
 // The value whose cells begin at `from`.
 fn put_next(out: &mut [u8], at: usize, cells: &[u64], from: usize) -> Next
     requires { ⌜ ValueWaits at from (now cells) (length (now out)) ⌝ }
-    ensures { λ r. ⌜ ((v : Value) → Fits v → Stands (enc v) (now (cells .entry)) from → Wrote (spellValue v) (length (enc v)) at from (now (out .entry)) (now (out .exit)) r) ⌝ }
+    ensures { λ r. ⌜ ((v : Value) → Fits v → CellsStand (enc v) (now (cells .entry)) from → Wrote (spellValue v) (length (enc v)) at from (now (out .entry)) (now (out .exit)) r) ⌝ }
 {
     let cell = cells[from];
     let sort = sort_of(cell);
@@ -86,7 +86,7 @@ fn put_next(out: &mut [u8], at: usize, cells: &[u64], from: usize) -> Next
 // n members, parted by commas, and the bracket behind them.
 fn put_members(out: &mut [u8], at: usize, cells: &[u64], from: usize, n: usize) -> Next
     requires { ⌜ MembersWait n at from (now cells) (length (now out)) ⌝ }
-    ensures { λ r. ⌜ ((vs : Values) → AllFit vs → n ≡ count vs → Stands (encs vs) (now (cells .entry)) from → Wrote (spellMembers vs) (length (encs vs)) at from (now (out .entry)) (now (out .exit)) r) ⌝ }
+    ensures { λ r. ⌜ ((vs : Values) → AllFit vs → n ≡ count vs → CellsStand (encs vs) (now (cells .entry)) from → Wrote (spellMembers vs) (length (encs vs)) at from (now (out .entry)) (now (out .exit)) r) ⌝ }
 {
     if n == 0 {
         return Next {

@@ -13,7 +13,7 @@ use lib.Seq.{take-all, getD-set-same, getD-set-other, getD-drop, drop-drop}
 use Rattle.laws.specs.Choice.{if_then_else_}
 use Rattle.laws.proofs.Parts.{at-next, part-all}
 use Rattle.sheet.specs.Text.{Bytes, onto, split, fieldsOf}
-use Rattle.text.specs.Parts.{untilSep, Ends, Lies, startOf, Cut}
+use Rattle.text.specs.Parts.{untilSep, PartEnd, BytesAt, fieldStart, Cut}
 use Rattle.text.specs.declared.parts.Fields.{Fields}
 
 -- ---- the first separator: the turns of `find`
@@ -54,10 +54,10 @@ split-last sep (b ∷ s) h = go (eqb b sep) (split-last sep s) h
     go false ih h = rw (ih (omega arith))
 
 -- what `find` answers parts a text: the first part and the parts after it, or all of it
-pub first-part : {sep r : ℕ} {s : Bytes} → Ends sep s r → r < length s → split sep s ≡ take r s ∷ split sep (drop (r + 1) s)
+pub first-part : {sep r : ℕ} {s : Bytes} → PartEnd sep s r → r < length s → split sep s ≡ take r s ∷ split sep (drop (r + 1) s)
 first-part {sep} {r} {s} to h = rw (to .is) (split-more sep s (omega arith))
 
-pub only-part : {sep r : ℕ} {s : Bytes} → Ends sep s r → length s ≤ r → split sep s ≡ s ∷ []
+pub only-part : {sep r : ℕ} {s : Bytes} → PartEnd sep s r → length s ≤ r → split sep s ≡ s ∷ []
 only-part {sep} {r} {s} to h = split-last sep s (omega arith)
 
 -- ---- a line, cut as far as its first n fields
@@ -65,22 +65,22 @@ only-part {sep} {r} {s} to h = split-last sep s (omega arith)
 pub record CutTo (line : Bytes) (n at : ℕ) (ends : List ℕ) : Type 0 where
   pub within : at ≤ length line
   pub room : length ends ≡ 10
-  pub start : at ≡ startOf ends n
+  pub start : at ≡ fieldStart ends n
   pub rest : drop n (fieldsOf line) ≡ split 9 (drop at line)
-  pub each : (k : ℕ) → k < n → Lies line (startOf ends k) (getD ends k 0) (getD (fieldsOf line) k [])
+  pub each : (k : ℕ) → k < n → BytesAt line (fieldStart ends k) (getD ends k 0) (getD (fieldsOf line) k [])
 
 pub cut-none : (line : Bytes) (ends : List ℕ) → length ends ≡ 10 → CutTo line 0 0 ends
-unfolding startOf fieldsOf
+unfolding fieldStart fieldsOf
 cut-none line ends h = record { within = omega arith; room = h; start = refl; rest = refl; each = λ k l. absurd (omega arith) }
 
 -- the starts up to that of the field whose end is set stay
-start-kept : (ends : List ℕ) (n e k : ℕ) → k < n + 1 → startOf (set ends n e) k ≡ startOf ends k
-unfolding startOf
+start-kept : (ends : List ℕ) (n e k : ℕ) → k < n + 1 → fieldStart (set ends n e) k ≡ fieldStart ends k
+unfolding fieldStart
 start-kept ends n e zero h = refl
 start-kept ends n e (suc k) h = rw (getD-set-other ends n k e 0 (omega arith))
 
-start-next : (ends : List ℕ) (n e : ℕ) → n < length ends → e + 1 ≡ startOf (set ends n e) (n + 1)
-unfolding startOf
+start-next : (ends : List ℕ) (n e : ℕ) → n < length ends → e + 1 ≡ fieldStart (set ends n e) (n + 1)
+unfolding fieldStart
 start-next ends n e h = rw (add-one n, getD-set-same ends n e 0 h)
 
 split-some : (sep : ℕ) (s : Bytes) → 0 < length (split sep s)
@@ -93,7 +93,7 @@ split-some sep (b ∷ s) = go (eqb b sep) (split sep s)
     go false [] = omega arith
     go false (p ∷ ps) = omega arith
 
-head-part : {r : ℕ} {s : Bytes} → Ends 9 s r → getD (split 9 s) 0 [] ≡ take r s
+head-part : {r : ℕ} {s : Bytes} → PartEnd 9 s r → getD (split 9 s) 0 [] ≡ take r s
 head-part {r} {s} to = go (decLt r (length s))
   where
     go : Dec (r < length s) → getD (split 9 s) 0 [] ≡ take r s
@@ -101,8 +101,8 @@ head-part {r} {s} to = go (decLt r (length s))
     go (no l) = rw (only-part to (omega arith)) (sym (take-all r s (omega arith)))
 
 -- one turn: the part `rest` starts at `at`, and its first tab stands at r
-module _ {line : Bytes} {n at r : ℕ} {ends : List ℕ} (so : CutTo line n at ends) (low : n < 10) (to : Ends 9 (take (length line - at) (drop at line)) r) where
-  ends-at : Ends 9 (drop at line) r
+module _ {line : Bytes} {n at r : ℕ} {ends : List ℕ} (so : CutTo line n at ends) (low : n < 10) (to : PartEnd 9 (take (length line - at) (drop at line)) r) where
+  ends-at : PartEnd 9 (drop at line) r
   ends-at = rw (part-all line at) at to
 
   pub end-within : at + r ≤ length line
@@ -111,10 +111,10 @@ module _ {line : Bytes} {n at r : ℕ} {ends : List ℕ} (so : CutTo line n at e
   here : take r (drop at line) ≡ getD (fieldsOf line) n []
   here = let z : n + 0 ≡ n = omega arith in sym (head-part ends-at) ∙ rw (← so .rest) (rw z at (getD-drop n (fieldsOf line) 0 []))
 
-  each-more : (k : ℕ) → k < n + 1 → Lies line (startOf (set ends n (at + r)) k) (getD (set ends n (at + r)) k 0) (getD (fieldsOf line) k [])
+  each-more : (k : ℕ) → k < n + 1 → BytesAt line (fieldStart (set ends n (at + r)) k) (getD (set ends n (at + r)) k 0) (getD (fieldsOf line) k [])
   each-more k h = go (decLt k n)
     where
-      go : Dec (k < n) → Lies line (startOf (set ends n (at + r)) k) (getD (set ends n (at + r)) k 0) (getD (fieldsOf line) k [])
+      go : Dec (k < n) → BytesAt line (fieldStart (set ends n (at + r)) k) (getD (set ends n (at + r)) k 0) (getD (fieldsOf line) k [])
       go (yes l) = rw (start-kept ends n (at + r) k h, getD-set-other ends n k (at + r) 0 (omega arith)) (so .each k l)
       go (no l) =
           let e : k ≡ n = omega arith in
@@ -154,12 +154,12 @@ counted-some {line} is = omega (arith, is .counted, split-some 9 line)
 pub counted-exact : {line : Bytes} {f : Fields} → Cut line f → f .count < 11 → length (fieldsOf line) ≡ f .count
 counted-exact is h = omega (arith, is .counted)
 
-start-first : (ends : List ℕ) (k : ℕ) → k ≡ 0 → startOf ends k ≡ 0
-unfolding startOf
+start-first : (ends : List ℕ) (k : ℕ) → k ≡ 0 → fieldStart ends k ≡ 0
+unfolding fieldStart
 start-first ends k h = rw h
 
-start-later : (ends : List ℕ) (k : ℕ) → (k ≡ 0 → ⊥) → startOf ends k ≡ getD ends (k - 1) 0 + 1
-unfolding startOf
+start-later : (ends : List ℕ) (k : ℕ) → (k ≡ 0 → ⊥) → fieldStart ends k ≡ getD ends (k - 1) 0 + 1
+unfolding fieldStart
 start-later ends zero h = absurd (h refl)
 start-later ends (suc k) h = rw (sub-one (suc k))
 
@@ -172,5 +172,5 @@ module _ {line : Bytes} {f : Fields} {k : ℕ} (is : Cut line f) (counted : k < 
       let q : getD (f .ends) k 0 - 0 ≡ getD (f .ends) k 0 = omega arith in
       rw (start-first (f .ends) k z, q) at (is .each k counted low .is)
 
-  pub later-field : (k ≡ 0 → ⊥) → Lies line (getD (f .ends) (k - 1) 0 + 1) (getD (f .ends) k 0) (getD (fieldsOf line) k [])
+  pub later-field : (k ≡ 0 → ⊥) → BytesAt line (getD (f .ends) (k - 1) 0 + 1) (getD (f .ends) k 0) (getD (fieldsOf line) k [])
   later-field h = rw (start-later (f .ends) k h) at (is .each k counted low)

@@ -13,22 +13,22 @@ unfoldable pub untilSep : ℕ → Bytes → ℕ
 untilSep sep [] = 0
 untilSep sep (b ∷ s) = if eqb b sep then 0 else untilSep sep s + 1
 
-pub record Ends (sep : ℕ) (s : Bytes) (r : ℕ) : Type 0 where
+pub record PartEnd (sep : ℕ) (s : Bytes) (r : ℕ) : Type 0 where
   pub is : r ≡ untilSep sep s
   pub within : r ≤ length s
 
 -- the bytes of s from a up to e are x
-pub record Lies (s : Bytes) (a e : ℕ) (x : Bytes) : Type 0 where
+pub record BytesAt (s : Bytes) (a e : ℕ) (x : Bytes) : Type 0 where
   pub order : a ≤ e
   pub within : e ≤ length s
   pub is : take (e - a) (drop a s) ≡ x
 
 -- where the field k starts: after the field before it and a tab
-unfoldable pub startOf : List ℕ → ℕ → ℕ
-startOf ends zero = 0
-startOf ends (suc k) = getD ends k 0 + 1
+unfoldable pub fieldStart : List ℕ → ℕ → ℕ
+fieldStart ends zero = 0
+fieldStart ends (suc k) = getD ends k 0 + 1
 
 -- the first ten fields at most lie where the ends say
 pub record Cut (line : Bytes) (f : Fields) : Type 0 where
   pub counted : f .count ≡ min (length (fieldsOf line)) 11
-  pub each : (k : ℕ) → k < f .count → k < 10 → Lies line (startOf (f .ends) k) (getD (f .ends) k 0) (getD (fieldsOf line) k [])
+  pub each : (k : ℕ) → k < f .count → k < 10 → BytesAt line (fieldStart (f .ends) k) (getD (f .ends) k 0) (getD (fieldsOf line) k [])

@@ -7,11 +7,11 @@ use Rattle.sheet.specs.Text.{Bytes}
 use Rattle.text.specs.declared.spelling.Tail.{Tail}
 
 -- w in the place of as many bytes from `at` on
-abbrev pub put : ℕ → Bytes → Bytes → Bytes
-put at w out = take at out ++ w ++ drop (at + length w) out
+abbrev pub putBytes : ℕ → Bytes → Bytes → Bytes
+putBytes at w out = take at out ++ w ++ drop (at + length w) out
 
 pub record Puts (at : ℕ) (w before after : Bytes) (r : ℕ) : Type 0 where
-  pub is : after ≡ put at w before
+  pub is : after ≡ putBytes at w before
   pub end : r ≡ at + length w
 
 -- the last digit of n, and what stands before it

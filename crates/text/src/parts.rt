@@ -4,7 +4,7 @@ ghost use mathlib.Core.Path.{_≡_};
 ghost use mathlib.Core.List.{[]};
 ghost use Prim.Native.Nat.{_<_};
 ghost use Rattle.sheet.specs.Text.{fieldsOf};
-ghost use Rattle.text.specs.Parts.{Ends, Cut};
+ghost use Rattle.text.specs.Parts.{PartEnd, Cut};
 
 // The fields of a line by their ends. No line has more than nine fields, so that ten ends are enough: `count` is 11 where
 // there are more than ten fields, and then the ends are those of the first ten.
@@ -15,7 +15,7 @@ pub struct Fields {
 
 // How many bytes stand before the first `sep`: all of them where there is none.
 pub fn find(s: &[u8], sep: u8) -> usize
-    ensures { λ r. ⌜ Ends sep (now (s .entry)) r ⌝ }
+    ensures { λ r. ⌜ PartEnd sep (now (s .entry)) r ⌝ }
 {
     let mut i = 0;
     while i < s.len() {

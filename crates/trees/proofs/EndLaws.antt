@@ -22,7 +22,7 @@ use Rattle.tables.specs.declared.Step.the-variants as code
 use Rattle.tables.proofs.Tables.{kept-refl, kept-set, kept-then}
 use Rattle.tables.proofs.Entries.{holds-kept, spare-context, spare-root, tab-next, tab-more-of, tab-more-by}
 use Rattle.trees.specs.Operands.{depthAt}
-use Rattle.trees.specs.Rules.{RuleRoom, usedIn, withRule, EndMoved, ended, refused, Ended}
+use Rattle.trees.specs.Rules.{RuleRoom, usedIn, endedCounts, EndMoved, ended, refused, Ended}
 use Rattle.trees.proofs.NodeLaws.{OpenRule, open-rule}
 
 -- ---- the turns of `all_used`
@@ -176,8 +176,8 @@ module _ (st : Counts) (w0 : List ℕ) (long : 8192 ≤ length w0) (fine : Fine 
         ∙ tab-next 4512 (length (s .rules)) down (omega (arith, many-rules, down-long))
         ∙ ap (λ (x : ℕ). tab 4512 (length (s .rules)) down ++ (x ∷ [])) (ap (λ (i : ℕ). getD down (4512 + i) 0) (sym many-rules) ∙ root-there)
 
-    down-holds : Holds (withRule st) down w1 (ruleDown s c body)
-    unfolding withRule ruleDown
+    down-holds : Holds (endedCounts st) down w1 (ruleDown s c body)
+    unfolding endedCounts ruleDown
     down-holds = record {
       counted = record {
         block = h .counted .block;
@@ -213,8 +213,8 @@ module _ (st : Counts) (w0 : List ℕ) (long : 8192 ≤ length w0) (fine : Fine 
       current = closed refl;
     }
 
-    down-fine : Fine (withRule st)
-    unfolding withRule
+    down-fine : Fine (endedCounts st)
+    unfolding endedCounts
     down-fine = record {
       classes = fine .classes;
       rows = fine .rows;
@@ -227,9 +227,9 @@ module _ (st : Counts) (w0 : List ℕ) (long : 8192 ≤ length w0) (fine : Fine 
     }
 
 pub end-down : {st : Counts} {w1 : List ℕ} {b : Bool} {r : Counts} (w0 : List ℕ) → st .«open» ≡ 1 → Fine st → (st .first ≡ st .nodes → ⊥)
-    → b ≡ usedIn w1 (st .first) (st .nodes - 1 - st .first) → not b ≡ false → getD w1 (6912 + (st .nodes - 1)) 0 / 2 ≤ 12 → 8192 ≤ length w0 → RuleRoom st → r ≡ withRule st
+    → b ≡ usedIn w1 (st .first) (st .nodes - 1 - st .first) → not b ≡ false → getD w1 (6912 + (st .nodes - 1)) 0 / 2 ≤ 12 → 8192 ≤ length w0 → RuleRoom st → r ≡ endedCounts st
     → Ended st (code.Next r) w0 w1 (set (set w0 (4448 + st .rules) (st .context)) (4512 + st .rules) (st .nodes - 1))
-unfolding withRule
+unfolding endedCounts
 end-down {st} {w1} {b} w0 is-open fine node told q l long room e = rw e (record {
   is = λ s h.
       let o = open-rule h is-open in

@@ -32,7 +32,7 @@ use Rattle.text.proofs.FormLaws.{above}
 use Rattle.trees.specs.declared.Parsed.{Parsed}
 use Rattle.trees.specs.declared.numbers.Numbers.{Numbers}
 use Rattle.trees.specs.Fields.{cut, four, Read, unread, read, NumbersRead}
-use Rattle.trees.specs.Forms.{StandsFor, Spelled, misspelled, spelled, FormRead, kindCode}
+use Rattle.trees.specs.Forms.{StandsFor, Spelled, misspelled, spelled, FormRead, kindByteCode}
 use Rattle.trees.proofs.ExactLaws.{each-length}
 use Rattle.trees.proofs.FormLaws.{nodes-small, isIterate, no-type}
 
@@ -102,28 +102,28 @@ module _ (fs : List Bytes) (many : length fs ≡ 1) where
 -- ---- the kind of `coll`
 
 module _ (b : ℕ) where
-  pub kind-set : b ≡ 83 → 27 ≡ kindCode b
-  unfolding kindCode
+  pub kind-set : b ≡ 83 → 27 ≡ kindByteCode b
+  unfolding kindByteCode
   kind-set e = rw e
 
-  pub kind-sequence : b ≡ 81 → 28 ≡ kindCode b
-  unfolding kindCode
+  pub kind-sequence : b ≡ 81 → 28 ≡ kindByteCode b
+  unfolding kindByteCode
   kind-sequence e = rw e
 
-  pub kind-bag : b ≡ 66 → 29 ≡ kindCode b
-  unfolding kindCode
+  pub kind-bag : b ≡ 66 → 29 ≡ kindByteCode b
+  unfolding kindByteCode
   kind-bag e = rw e
 
-  pub kind-other : (b ≡ 83 → ⊥) → (b ≡ 81 → ⊥) → (b ≡ 66 → ⊥) → 0 ≡ kindCode b
-  unfolding kindCode
+  pub kind-other : (b ≡ 83 → ⊥) → (b ≡ 81 → ⊥) → (b ≡ 66 → ⊥) → 0 ≡ kindByteCode b
+  unfolding kindByteCode
   kind-other s q g = rw (ne-eqb b 83 s, ne-eqb b 81 q, ne-eqb b 66 g)
 
 data KindSaid : Option Kind → ℕ → Type 0 where
   no-kind : KindSaid none 0
   a-kind : {k : Kind} → KindSaid (some k) (collectCode k)
 
-kind-one : (b : ℕ) → KindSaid (aKind (b ∷ [])) (kindCode b)
-unfolding aKind whole _or_ literal after bytes orElse onSome mapSome atEnd kindCode collectCode
+kind-one : (b : ℕ) → KindSaid (aKind (b ∷ [])) (kindByteCode b)
+unfolding aKind whole _or_ literal after bytes orElse onSome mapSome atEnd kindByteCode collectCode
 kind-one b = go (eqb b 83) (eqb b 81) (eqb b 66) refl refl refl
   where
     turn : (c : ℕ) (t : Bool) → eqb b c ≡ t → eqb c b ≡ t
@@ -146,8 +146,8 @@ kind-more b c s = go (eqb 83 b) (eqb 81 b) (eqb 66 b) refl refl refl
     go false false true d e f = rw (d, e, f)
     go false false false d e f = rw (d, e, f)
 
-kind-said : (f : Bytes) → KindSaid (aKind f) (kindCode (onlyByte f))
-unfolding onlyByte kindCode aKind whole _or_ literal after bytes orElse onSome mapSome atEnd
+kind-said : (f : Bytes) → KindSaid (aKind f) (kindByteCode (onlyByte f))
+unfolding onlyByte kindByteCode aKind whole _or_ literal after bytes orElse onSome mapSome atEnd
 kind-said [] = no-kind
 kind-said (b ∷ []) = kind-one b
 kind-said (b ∷ c ∷ s) = rw (kind-more b c s) no-kind
@@ -209,7 +209,7 @@ collect-over (f ∷ gs) h = go (aKind f)
     go none = refl
     go (some k) = collect-many k gs (omega arith)
 
-pub collect-other : {code : ℕ} (f : Bytes) (gs : List Bytes) → code ≡ kindCode (onlyByte f) → code ≡ 0 → shapeBy 27 (f ∷ gs) ≡ none
+pub collect-other : {code : ℕ} (f : Bytes) (gs : List Bytes) → code ≡ kindByteCode (onlyByte f) → code ≡ 0 → shapeBy 27 (f ∷ gs) ≡ none
 unfolding shapeBy collectFields next onSome collectCode
 collect-other {code} f gs c z = go (kind-said f) (sym c ∙ z)
   where
@@ -222,7 +222,7 @@ collect-other {code} f gs c z = go (kind-said f) (sym c ∙ z)
     go no-kind e = refl
     go (a-kind {k}) e = absurd (never k e)
 
-pub collect-read : {line m code : ℕ} {r : Numbers} (f : Bytes) (gs : List Bytes) → code ≡ kindCode (onlyByte f) → (code ≡ 0 → ⊥) → length gs ≡ m → m ≤ 4 → NumbersRead (each aNumber gs) r
+pub collect-read : {line m code : ℕ} {r : Numbers} (f : Bytes) (gs : List Bytes) → code ≡ kindByteCode (onlyByte f) → (code ≡ 0 → ⊥) → length gs ≡ m → m ≤ 4 → NumbersRead (each aNumber gs) r
     → FormRead line (shapeBy 27 (f ∷ gs)) (record { spelled = r .good; words = code ∷ getD (r .at) 0 0 ∷ getD (r .at) 1 0 ∷ getD (r .at) 2 0 ∷ getD (r .at) 3 0 ∷ m ∷ 0 ∷ line ∷ []; count = m; within = true; apart = true; classes = 0 })
 unfolding shapeBy collectFields next onSome atMostFour
 collect-read {line} {m} {code} {r} f gs c z n few is = record { is = go (kind-said f) c; few = few; size = refl }

@@ -30,7 +30,7 @@ use Rattle.trees.specs.declared.Parsed.{Parsed}
 use Rattle.trees.specs.Fields.{cut}
 use Rattle.trees.specs.Forms.{operandsAt, StandsFor}
 use Rattle.trees.specs.Operands.{broken, deepest, depthAt, marking, shifted, WroteWords}
-use Rattle.trees.specs.Rules.{limits, order, withNode, Placed}
+use Rattle.trees.specs.Rules.{nodeLimits, nodeOrder, nodeCounts, Placed}
 use Rattle.trees.proofs.MarkLaws.{wordsOf, depthOf, Framed, mark-frame, mark-small, Depths, deepestOf, Marks, marks-law, fresh-low, broken-fresh, deepest-fresh}
 use Rattle.trees.proofs.ShapeLaws.{grow-same, grow-depth, shape-shifted, shape-line}
 use Rattle.trees.proofs.PlaceLaws.{nodes-low, is-open, is-next, limits-same, form-within, operands-small, operands-are, order-same, known-same}
@@ -108,8 +108,8 @@ module _ {st : Counts} {line : ℕ} {p : Parsed} {w0 w1 v1 : List ℕ} {s : Shee
   unfolding levels usedBit new
   new-depth = rw unused (depth ∙ (let e = grow-depth (treeOf (o .rule .trees)) x in omega arith))
 
-  more-current : HoldsCurrent (withNode st) v1 (length (s .lines ++ (line ∷ []))) (growRule (o .rule) x)
-  unfolding withNode growRule new
+  more-current : HoldsCurrent (nodeCounts st) v1 (length (s .lines ++ (line ∷ []))) (growRule (o .rule) x)
+  unfolding nodeCounts growRule new
   more-current = record {
     is-open = o .holds .is-open;
     context = o .holds .context;
@@ -129,8 +129,8 @@ module _ {st : Counts} {line : ℕ} {p : Parsed} {w0 w1 v1 : List ℕ} {s : Shee
       depthsAt a l (yes k) = depths .at a k ∙ rw (tree-left a k)
       depthsAt a l (no k) = let e : a ≡ length (o .rule .trees) = omega (arith, more) in rw (tree-last a e, e) (ap (λ (j : ℕ). getD v1 (6912 + j) 0) place ∙ new-depth)
 
-  pub node-holds : Holds (withNode st) w0 v1 (added s line (nodeLine i x))
-  unfolding withNode added onSome linesIn
+  pub node-holds : Holds (nodeCounts st) w0 v1 (added s line (nodeLine i x))
+  unfolding nodeCounts added onSome linesIn
   node-holds = record {
     counted = record {
       block = refl;
@@ -155,14 +155,14 @@ module _ {st : Counts} {line : ℕ} {p : Parsed} {w0 w1 v1 : List ℕ} {s : Shee
 
 -- ---- 8, and a node that is taken
 
-pub place-room : (st : Counts) (n : ℕ) (p : Parsed) → Fine st → limits st n p ≡ true → order st n p ≡ true → st .first + n ≤ 768
+pub place-room : (st : Counts) (n : ℕ) (p : Parsed) → Fine st → nodeLimits st n p ≡ true → nodeOrder st n p ≡ true → st .first + n ≤ 768
 place-room st n p fine ok ordered = omega (arith, is-next st n p ordered, nodes-low st n p ok, fine .first)
 
 pub deepest-small : (first n d : ℕ) (es : List ℕ) (w v : List ℕ) → first + n ≤ 768 → deepest d v ≡ marking first n 0 es w → d ≤ 1000
 unfolding depthOf
 deepest-small first n d es w v room e = rw (ap depthOf e) (mark-small first n room es 0 w (omega arith))
 
-module _ (st : Counts) (n : ℕ) (p : Parsed) (w1 : List ℕ) (fine : Fine st) (long : 8192 ≤ length w1) (ok : limits st n p ≡ true) (ordered : order st n p ≡ true) (classes : p .classes ≤ st .classes) where
+module _ (st : Counts) (n : ℕ) (p : Parsed) (w1 : List ℕ) (fine : Fine st) (long : 8192 ≤ length w1) (ok : nodeLimits st n p ≡ true) (ordered : nodeOrder st n p ≡ true) (classes : p .classes ≤ st .classes) where
   room : st .first + n ≤ 768
   room = place-room st n p fine ok ordered
 
@@ -221,8 +221,8 @@ module _ (st : Counts) (n : ℕ) (p : Parsed) (w1 : List ℕ) (fine : Fine st) (
     kept-after : Kept w1 (set v (6912 + st .nodes) (2 * (d + 1)))
     kept-after = kept-then (framed .kept) (kept-then (wrote .kept) (kept-set v (6912 + st .nodes) (2 * (d + 1)) (omega (arith, low-room))))
 
-    more-fine : Fine (withNode st)
-    unfolding withNode
+    more-fine : Fine (nodeCounts st)
+    unfolding nodeCounts
     more-fine = record {
       classes = fine .classes;
       rows = fine .rows;
@@ -263,13 +263,13 @@ module _ (st : Counts) (n : ℕ) (p : Parsed) (w1 : List ℕ) (fine : Fine st) (
             ∙ told .2 .at a l;
       }
 
-      next-holds : Holds (withNode st) w0 (set v (6912 + st .nodes) (2 * (d + 1))) (added s line (nodeLine i x))
+      next-holds : Holds (nodeCounts st) w0 (set v (6912 + st .nodes) (2 * (d + 1))) (added s line (nodeLine i x))
       next-holds =
           node-holds i d h fine o z within (omega (arith, z .counted)) (fresh-low (length (o .rule .trees)) (o .rule .used) (operandsOf x) (told .0)) (told .1)
           (λ j l. low-after j (omega (arith, h .counted .nodes))) new-words (ap (λ (m : ℕ). getD (set v (6912 + st .nodes) (2 * (d + 1))) (6912 + m) 0) (sym (h .counted .nodes)) ∙ depth-after) new-depths
 
-    pub place-on : {r : Counts} → p .count ≤ 4 → r ≡ withNode st → Placed st n p (code.Next r) w1 (set v (6912 + st .nodes) (2 * (d + 1)))
-    unfolding suits withNode
+    pub place-on : {r : Counts} → p .count ≤ 4 → r ≡ nodeCounts st → Placed st n p (code.Next r) w1 (set v (6912 + st .nodes) (2 * (d + 1)))
+    unfolding suits nodeCounts
     place-on few q = rw q (record {
       is = λ line w0 s i x number z h.
           let o = open-rule h (is-open st n p ordered) in

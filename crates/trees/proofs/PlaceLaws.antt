@@ -22,50 +22,50 @@ use Rattle.tables.proofs.Steps.{over-limits, out-of-order, unknown-part}
 use Rattle.trees.specs.declared.Parsed.{Parsed}
 use Rattle.trees.specs.Fields.{cut}
 use Rattle.trees.specs.Forms.{operandsAt, StandsFor}
-use Rattle.trees.specs.Rules.{limits, order, Placed}
+use Rattle.trees.specs.Rules.{nodeLimits, nodeOrder, Placed}
 use Rattle.trees.proofs.FormLaws.{nodes-small}
 
 -- ---- what the code's tests answer
 
 module _ (st : Counts) (n : ℕ) (p : Parsed) where
-  pub limits-number : 768 ≤ n → false ≡ limits st n p
-  unfolding limits isNode
+  pub limits-number : 768 ≤ n → false ≡ nodeLimits st n p
+  unfolding nodeLimits isNode
   limits-number h = rw (le-ltb n 768 h)
 
-  pub limits-form : n < 768 → not (p .within) ≡ true → false ≡ limits st n p
-  unfolding limits isNode
+  pub limits-form : n < 768 → not (p .within) ≡ true → false ≡ nodeLimits st n p
+  unfolding nodeLimits isNode
   limits-form h k = rw (lt-ltb n 768 h, not-true (p .within) k)
 
   module _ {b : Bool} (told : b ≡ allOf isNode (operandsAt (p .words) (p .count))) where
-    pub limits-operands : n < 768 → not (p .within) ≡ false → not b ≡ true → false ≡ limits st n p
-    unfolding limits isNode
+    pub limits-operands : n < 768 → not (p .within) ≡ false → not b ≡ true → false ≡ nodeLimits st n p
+    unfolding nodeLimits isNode
     limits-operands h k q = rw (lt-ltb n 768 h, not-false (p .within) k, ← told, not-true b q)
 
-    pub limits-nodes : n < 768 → not (p .within) ≡ false → not b ≡ false → ltb (st .nodes) 768 ≡ limits st n p
-    unfolding limits isNode
+    pub limits-nodes : n < 768 → not (p .within) ≡ false → not b ≡ false → ltb (st .nodes) 768 ≡ nodeLimits st n p
+    unfolding nodeLimits isNode
     limits-nodes h k q = rw (lt-ltb n 768 h, not-false (p .within) k, ← told, not-false b q)
 
-  pub order-block : 4 < st .block → false ≡ order st n p
-  unfolding order
+  pub order-block : 4 < st .block → false ≡ nodeOrder st n p
+  unfolding nodeOrder
   order-block h = rw (lt-leb (st .block) 4 h)
 
-  pub order-open : st .block ≤ 4 → (st .«open» ≡ 1 → ⊥) → false ≡ order st n p
-  unfolding order
+  pub order-open : st .block ≤ 4 → (st .«open» ≡ 1 → ⊥) → false ≡ nodeOrder st n p
+  unfolding nodeOrder
   order-open h k = rw (le-leb (st .block) 4 h, ne-eqb (st .«open») 1 k)
 
-  pub order-number : st .block ≤ 4 → st .«open» ≡ 1 → (n ≡ st .nodes - st .first → ⊥) → false ≡ order st n p
-  unfolding order
+  pub order-number : st .block ≤ 4 → st .«open» ≡ 1 → (n ≡ st .nodes - st .first → ⊥) → false ≡ nodeOrder st n p
+  unfolding nodeOrder
   order-number h k q = rw (le-leb (st .block) 4 h, eq-eqb (st .«open») 1 k, ne-eqb n (st .nodes - st .first) q)
 
-  pub order-apart : st .block ≤ 4 → st .«open» ≡ 1 → n ≡ st .nodes - st .first → p .apart ≡ order st n p
-  unfolding order
+  pub order-apart : st .block ≤ 4 → st .«open» ≡ 1 → n ≡ st .nodes - st .first → p .apart ≡ nodeOrder st n p
+  unfolding nodeOrder
   order-apart h k q = rw (le-leb (st .block) 4 h, eq-eqb (st .«open») 1 k, eq-eqb n (st .nodes - st .first) q)
 
   -- ---- what a node that passes them has
 
-  module _ (ok : limits st n p ≡ true) where
+  module _ (ok : nodeLimits st n p ≡ true) where
     front : (isNode n && p .within && allOf isNode (operandsAt (p .words) (p .count))) ≡ true
-    unfolding limits
+    unfolding nodeLimits
     front = and-true _ (ltb (st .nodes) 768) ok .0
 
     pub node-low : n < 768
@@ -79,12 +79,12 @@ module _ (st : Counts) (n : ℕ) (p : Parsed) where
     operands-fine = and-true (isNode n && p .within) _ front .1
 
     pub nodes-low : st .nodes < 768
-    unfolding limits
+    unfolding nodeLimits
     nodes-low = ltb-true (st .nodes) 768 (and-true (isNode n && p .within && allOf isNode (operandsAt (p .words) (p .count))) (ltb (st .nodes) 768) ok .1)
 
-  module _ (ok : order st n p ≡ true) where
+  module _ (ok : nodeOrder st n p ≡ true) where
     behind : (eqb (st .«open») 1 && eqb n (st .nodes - st .first) && p .apart) ≡ true
-    unfolding order
+    unfolding nodeOrder
     behind = and-true (leb (st .block) 4) _ ok .1
 
     pub is-open : st .«open» ≡ 1
@@ -102,11 +102,11 @@ nodes-cut (a ∷ l) = rw (cut-lt a 1000000 768 (omega arith), nodes-cut l)
 
 module _ {st : Counts} {n line : ℕ} {p : Parsed} {w0 w1 : List ℕ} {s : Sheet} {x : Shape} (i : ℕ)
     (number : n ≡ cut i) (z : StandsFor line x p) (h : Holds st w0 w1 s) where
-  pub limits-same : limits st n p ≡ withinLimits s (nodeLine i x)
-  unfolding limits withinLimits isNode
+  pub limits-same : nodeLimits st n p ≡ withinLimits s (nodeLine i x)
+  unfolding nodeLimits withinLimits isNode
   limits-same = rw (number, cut-lt i 1000000 768 (omega arith), z .within, z .operands, nodes-cut (operandsOf x), h .counted .nodes)
 
-  module _ (fine : Fine st) (ok : limits st n p ≡ true) where
+  module _ (fine : Fine st) (ok : nodeLimits st n p ≡ true) where
     pub form-within : formWithin x ≡ true
     form-within = sym (z .within) ∙ form-fine st n p ok
 
@@ -119,8 +119,8 @@ module _ {st : Counts} {n line : ℕ} {p : Parsed} {w0 w1 : List ℕ} {s : Sheet
     pub number-is : n ≡ i
     number-is = omega (arith, number, node-low st n p ok)
 
-    pub order-same : order st n p ≡ inOrder s (nodeLine i x)
-    unfolding order inOrder blockOf numbered nextNode
+    pub order-same : nodeOrder st n p ≡ inOrder s (nodeLine i x)
+    unfolding nodeOrder inOrder blockOf numbered nextNode
     order-same = rw (h .counted .block, z .apart form-within) (ap (λ (b : Bool). leb (s .block) 4 && (b && twoVariables x)) (go (s .current) (h .current)))
       where
         go : (o : Option Current) → HoldsOpen st w1 (length (s .lines)) o → (eqb (st .«open») 1 && eqb n (st .nodes - st .first)) ≡ nextNode o i
@@ -136,20 +136,20 @@ module _ {st : Counts} {n line : ℕ} {p : Parsed} {w0 w1 : List ℕ} {s : Sheet
 -- ---- 4, 5 and 6
 
 module _ {st : Counts} {n : ℕ} {p : Parsed} (w1 : List ℕ) (fine : Fine st) where
-  pub place-4 : {b : Bool} → b ≡ limits st n p → not b ≡ true → Placed st n p (code.Stop 4) w1 w1
+  pub place-4 : {b : Bool} → b ≡ nodeLimits st n p → not b ≡ true → Placed st n p (code.Stop 4) w1 w1
   place-4 {b} e q = record {
     is = λ line w0 s i x u z h. rw (over-limits s line (nodeLine i x) (sym (limits-same i u z h) ∙ sym e ∙ not-true b q)) moved-stop;
     kept = kept-refl w1;
   }
 
-  module _ (ok : limits st n p ≡ true) where
-    pub place-5 : {b : Bool} → b ≡ order st n p → not b ≡ true → Placed st n p (code.Stop 5) w1 w1
+  module _ (ok : nodeLimits st n p ≡ true) where
+    pub place-5 : {b : Bool} → b ≡ nodeOrder st n p → not b ≡ true → Placed st n p (code.Stop 5) w1 w1
     place-5 {b} e q = record {
       is = λ line w0 s i x u z h. rw (out-of-order s line (nodeLine i x) (sym (limits-same i u z h) ∙ ok) (sym (order-same i u z h fine ok) ∙ sym e ∙ not-true b q)) moved-stop;
       kept = kept-refl w1;
     }
 
-    pub place-6 : order st n p ≡ true → st .classes < p .classes → Placed st n p (code.Stop 6) w1 w1
+    pub place-6 : nodeOrder st n p ≡ true → st .classes < p .classes → Placed st n p (code.Stop 6) w1 w1
     place-6 o l = record {
       is = λ line w0 s i x u z h.
           rw (unknown-part s line (nodeLine i x) (sym (limits-same i u z h) ∙ ok) (sym (order-same i u z h fine ok) ∙ o) (sym (known-same i u z h fine ok) ∙ lt-leb (p .classes) (st .classes) l)) moved-stop;

@@ -57,5 +57,5 @@ pub record QuantifierCode (k : ℕ) : Type 0 where
   pub high : k < 27
 
 -- of `coll` by the letter of its kind, 0 for another
-unfoldable pub kindCode : ℕ → ℕ
-kindCode b = if eqb b (byte "S") then 27 else if eqb b (byte "Q") then 28 else if eqb b (byte "B") then 29 else 0
+unfoldable pub kindByteCode : ℕ → ℕ
+kindByteCode b = if eqb b (byte "S") then 27 else if eqb b (byte "Q") then 28 else if eqb b (byte "B") then 29 else 0

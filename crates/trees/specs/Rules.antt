@@ -28,16 +28,16 @@ pub record RuleRoom (st : Counts) : Type 0 where
 -- ---- a node line
 
 -- 4: node n of the form p, where there are nodes already
-unfoldable pub limits : Counts → ℕ → Parsed → Bool
-limits st n p = isNode n && p .within && allOf isNode (operandsAt (p .words) (p .count)) && ltb (st .nodes) 768
+unfoldable pub nodeLimits : Counts → ℕ → Parsed → Bool
+nodeLimits st n p = isNode n && p .within && allOf isNode (operandsAt (p .words) (p .count)) && ltb (st .nodes) 768
 
 -- 5
-unfoldable pub order : Counts → ℕ → Parsed → Bool
-order st n p = leb (st .block) 4 && (eqb (st .«open») 1 && eqb n (st .nodes - st .first) && p .apart)
+unfoldable pub nodeOrder : Counts → ℕ → Parsed → Bool
+nodeOrder st n p = leb (st .block) 4 && (eqb (st .«open») 1 && eqb n (st .nodes - st .first) && p .apart)
 
 -- the counts with one node more
-unfoldable pub withNode : Counts → Counts
-withNode st = record {
+unfoldable pub nodeCounts : Counts → Counts
+nodeCounts st = record {
   block = 4;
   classes = st .classes;
   rows = st .rows;
@@ -68,8 +68,8 @@ usedIn w first zero = true
 usedIn w first (suc n) = eqb (getD w (depthAt first n) 0 % 2) 1 && usedIn w first n
 
 -- the counts with the rule put down
-unfoldable pub withRule : Counts → Counts
-withRule st = record {
+unfoldable pub endedCounts : Counts → Counts
+endedCounts st = record {
   block = st .block;
   classes = st .classes;
   rows = st .rows;

@@ -3,7 +3,7 @@ ghost use mathlib.Core.Path.{_≡_};
 ghost use Prim.Native.Nat.{_+_, _≤_};
 ghost use lib.ListN.{length};
 ghost use Rattle.tables.specs.Layout.{Fine};
-ghost use Rattle.trees.specs.Rules.{RuleRoom, usedIn, withRule, Ended};
+ghost use Rattle.trees.specs.Rules.{RuleRoom, usedIn, endedCounts, Ended};
 use tables::Counts;
 use tables::Step;
 
@@ -24,7 +24,7 @@ fn all_used(w1: &[u64], first: usize, count: usize) -> bool
 
 fn with_rule(st: Counts) -> Counts
     requires { ⌜ Fine st ⌝ }
-    ensures { λ r. ⌜ r ≡ withRule st ⌝ }
+    ensures { λ r. ⌜ r ≡ endedCounts st ⌝ }
 {
     let mut next = st;
     next.rules = st.rules + 1;

@@ -11,7 +11,7 @@ ghost use Rattle.text.specs.Parts.{Cut};
 ghost use Rattle.text.specs.Forms.{shapeBy};
 ghost use Rattle.text.specs.Numbers.{wholeOf};
 ghost use Rattle.text.specs.Words.{onlyByte};
-ghost use Rattle.trees.specs.Forms.{PlainCode, QuantifierCode, FormRead, kindCode};
+ghost use Rattle.trees.specs.Forms.{PlainCode, QuantifierCode, FormRead, kindByteCode};
 use super::Parsed;
 use super::iterate::iterate_form;
 use super::numbers::exactly;
@@ -201,7 +201,7 @@ fn integer_form(line: &[u8], f: Fields, k: u64) -> Parsed
 
 // The code of `coll` by its kind; 0 where there is no such kind.
 fn kind_code(f: &[u8]) -> u64
-    ensures { λ r. ⌜ r ≡ kindCode (onlyByte (now (f .entry))) ⌝ }
+    ensures { λ r. ⌜ r ≡ kindByteCode (onlyByte (now (f .entry))) ⌝ }
 {
     match letter(f) {
         b'S' => 27,

@@ -7,7 +7,7 @@ ghost use Rattle.sheet.specs.Text.{fieldsOf};
 ghost use Rattle.sheet.specs.Lines.{firstIsN};
 ghost use Rattle.text.specs.Parts.{Cut};
 ghost use Rattle.tables.specs.Layout.{Fine};
-ghost use Rattle.trees.specs.Rules.{limits, order, withNode, Placed, TookNode};
+ghost use Rattle.trees.specs.Rules.{nodeLimits, nodeOrder, nodeCounts, Placed, TookNode};
 use super::Parsed;
 use super::forms::read_form;
 use super::operands::Marked;
@@ -24,7 +24,7 @@ use text::words::form_code;
 
 fn within_limits(st: Counts, n: u64, p: Parsed) -> bool
     requires { ⌜ (length (p .words) ≡ 8) × (p .count ≤ 4) ⌝ }
-    ensures { λ r. ⌜ r ≡ limits st n p ⌝ }
+    ensures { λ r. ⌜ r ≡ nodeLimits st n p ⌝ }
 {
     let words = p.words;
     if n >= 768 {
@@ -41,7 +41,7 @@ fn within_limits(st: Counts, n: u64, p: Parsed) -> bool
 
 fn in_order(st: Counts, n: u64, p: Parsed) -> bool
     requires { ⌜ Fine st ⌝ }
-    ensures { λ r. ⌜ r ≡ order st n p ⌝ }
+    ensures { λ r. ⌜ r ≡ nodeOrder st n p ⌝ }
 {
     if st.block > 4 {
         return false;
@@ -57,7 +57,7 @@ fn in_order(st: Counts, n: u64, p: Parsed) -> bool
 
 fn with_node(st: Counts) -> Counts
     requires { ⌜ Fine st ⌝ }
-    ensures { λ r. ⌜ r ≡ withNode st ⌝ }
+    ensures { λ r. ⌜ r ≡ nodeCounts st ⌝ }
 {
     let mut next = st;
     next.block = 4;

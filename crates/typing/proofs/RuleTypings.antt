@@ -15,7 +15,7 @@ use Rattle.ocl.specs.Model.{Model}
 use Rattle.ocl.specs.Typing.{Marks, typeRule, markOr, markOf}
 use Rattle.nodes.specs.Nodes.{treeAt}
 use Rattle.judgements.specs.declared.Reply.{Reply}
-use Rattle.judgements.specs.Replies.{writeMarks, Tells, Reads}
+use Rattle.judgements.specs.Replies.{writeMarks, Tells, ReadsRows}
 use Rattle.typing.specs.Tables.{nodeAt}
 use Rattle.typing.specs.Rules.{TypesRule}
 
@@ -46,7 +46,7 @@ started m t n c h d = rw h at d
 module _ (tables : List ℕ) (classes rows : ℕ) (nodes : List ℕ) (context root : ℕ) (before part : List ℕ) (r : Reply) where
   -- what is said of the first 768 words, of the whole
   pub rule-done : 768 ≤ length before → length part ≡ length (take 768 before)
-      → ((m : Model) → Reads (take classes tables) tables rows m → Tells (typeRule m context (treeAt nodes root)) (replicate (length (take 768 before)) 0) part r)
+      → ((m : Model) → ReadsRows (take classes tables) tables rows m → Tells (typeRule m context (treeAt nodes root)) (replicate (length (take 768 before)) 0) part r)
       → TypesRule tables classes rows nodes context root before (part ++ drop 768 before) r
   unfolding markOf
   rule-done room size d =

@@ -7,10 +7,10 @@ use Rattle.ocl.specs.Model.{Model}
 use Rattle.ocl.specs.Typing.{typeRule, markOf}
 use Rattle.nodes.specs.Nodes.{treeAt}
 use Rattle.judgements.specs.declared.Reply.{Reply}
-use Rattle.judgements.specs.Replies.{meaning, Reads}
+use Rattle.judgements.specs.Replies.{meaning, ReadsRows}
 
 -- so many classes and rows, and what is lent, are within the limits
-pub record Lent (classes rows tables nodes marks : ℕ) : Type 0 where
+pub record LentTables (classes rows tables nodes marks : ℕ) : Type 0 where
   pub in-classes : classes ≤ 64
   pub in-rows : rows ≤ 64
   pub in-tables : 256 ≤ tables
@@ -18,12 +18,12 @@ pub record Lent (classes rows tables nodes marks : ℕ) : Type 0 where
   pub all-marks : 768 ≤ marks
 
 -- the words of marks from 768 on are as they were
-pub record Kept (before after : List ℕ) : Type 0 where
+pub record KeptMarks (before after : List ℕ) : Type 0 where
   pub rest : drop 768 after ≡ drop 768 before
   pub size : length after ≡ length before
 
 -- the rule with its context class and its root: for every model that the tables hold, the answer and each node's mark
 pub record TypesRule (tables : List ℕ) (classes rows : ℕ) (nodes : List ℕ) (context root : ℕ) (before after : List ℕ) (r : Reply) : Type 0 where
-  pub is : (m : Model) → Reads (take classes tables) tables rows m → meaning r ≡ typeRule m context (treeAt nodes root) .answer
-  pub marked : (m : Model) → Reads (take classes tables) tables rows m → (p : ℕ) → p < 768 → getD after p 0 ≡ markOf (typeRule m context (treeAt nodes root)) p
-  pub kept : Kept before after
+  pub is : (m : Model) → ReadsRows (take classes tables) tables rows m → meaning r ≡ typeRule m context (treeAt nodes root) .answer
+  pub marked : (m : Model) → ReadsRows (take classes tables) tables rows m → (p : ℕ) → p < 768 → getD after p 0 ≡ markOf (typeRule m context (treeAt nodes root)) p
+  pub kept : KeptMarks before after

@@ -17,10 +17,10 @@ use Rattle.judgements.specs.declared.Slot.{Slot}
 use Rattle.judgements.specs.declared.Reply.{Reply}
 use Rattle.typing.specs.declared.PairReply.{PairReply}
 use Rattle.typing.specs.declared.PairReply.the-variants as two
-use Rattle.judgements.specs.Replies.{envOf, Tells, Reads}
+use Rattle.judgements.specs.Replies.{envOf, Tells, ReadsRows}
 
 -- node n and so many rows are within what is lent
-pub record Room (n rows tables nodes marks : ℕ) : Type 0 where
+pub record NodeRoom (n rows tables nodes marks : ℕ) : Type 0 where
   pub in-nodes : n < 768
   pub in-rows : rows ≤ 64
   pub in-tables : 256 ≤ tables
@@ -34,11 +34,11 @@ pub record TellsTwo (f g : Typed) (before after : List ℕ) (r : PairReply) : Ty
       → Tells (k (tyOf t) (tyOf u)) after last x → Tells (andThen f (λ t. andThen g (k t))) before last x
 
 abbrev pub Types : List ℕ → List ℕ → ℕ → (Model → Typing) → List Slot → List ℕ → List ℕ → Reply → Type 0
-Types parents tables rows f env before after r = (m : Model) → Reads parents tables rows m → Tells (f m (envOf env)) before after r
+Types parents tables rows f env before after r = (m : Model) → ReadsRows parents tables rows m → Tells (f m (envOf env)) before after r
 
 abbrev pub TypesTwo : List ℕ → List ℕ → ℕ → (Model → Typing) → (Model → Typing) → List Slot → List ℕ → List ℕ → PairReply → Type 0
 TypesTwo parents tables rows f g env before after r =
-    (m : Model) → Reads parents tables rows m → TellsTwo (f m (envOf env)) (g m (envOf env)) before after r
+    (m : Model) → ReadsRows parents tables rows m → TellsTwo (f m (envOf env)) (g m (envOf env)) before after r
 
 -- ---- the typing of node n of the table t, by what its form is
 

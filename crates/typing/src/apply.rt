@@ -2,7 +2,7 @@
 // Parameters as in walk.rt.
 ghost use Prim.Native.Nat.{_<_, _≤_};
 ghost use lib.ListN.{length};
-ghost use Rattle.typing.specs.Tables.{Room, Types, unaryAt, binaryAt, connectiveAt, isUndefAt, conditionalAt, attributeAt, collectAt};
+ghost use Rattle.typing.specs.Tables.{NodeRoom, Types, unaryAt, binaryAt, connectiveAt, isUndefAt, conditionalAt, attributeAt, collectAt};
 use super::PairReply;
 use super::walk::operand;
 use super::walk::pair;
@@ -31,7 +31,7 @@ pub fn unary(
     env: [Slot; 16],
     marks: &mut [u64],
 ) -> Reply
-    requires { ⌜ Room n rows (length (now tables)) (length (now nodes)) (length (now marks)) ⌝ }
+    requires { ⌜ NodeRoom n rows (length (now tables)) (length (now nodes)) (length (now marks)) ⌝ }
     ensures { λ r. ⌜ Types (now (parents .entry)) (now (tables .entry)) rows (unaryAt (now (nodes .entry)) n form) env (now (marks .entry)) (now (marks .exit)) r ⌝ }
 {
     let first = operand(nodes, parents, tables, rows, n, 1, env, marks);
@@ -52,7 +52,7 @@ pub fn binary(
     marks: &mut [u64],
 ) -> Reply
     requires { ⌜ 13 ≤ form ⌝ }
-    requires { ⌜ Room n rows (length (now tables)) (length (now nodes)) (length (now marks)) ⌝ }
+    requires { ⌜ NodeRoom n rows (length (now tables)) (length (now nodes)) (length (now marks)) ⌝ }
     ensures { λ r. ⌜ Types (now (parents .entry)) (now (tables .entry)) rows (binaryAt (now (nodes .entry)) n form) env (now (marks .entry)) (now (marks .exit)) r ⌝ }
 {
     let both = pair(nodes, parents, tables, rows, n, env, marks);
@@ -72,7 +72,7 @@ pub fn connective(
     env: [Slot; 16],
     marks: &mut [u64],
 ) -> Reply
-    requires { ⌜ Room n rows (length (now tables)) (length (now nodes)) (length (now marks)) ⌝ }
+    requires { ⌜ NodeRoom n rows (length (now tables)) (length (now nodes)) (length (now marks)) ⌝ }
     ensures { λ r. ⌜ Types (now (parents .entry)) (now (tables .entry)) rows (connectiveAt (now (nodes .entry)) n) env (now (marks .entry)) (now (marks .exit)) r ⌝ }
 {
     let both = pair(nodes, parents, tables, rows, n, env, marks);
@@ -92,7 +92,7 @@ pub fn is_undef(
     env: [Slot; 16],
     marks: &mut [u64],
 ) -> Reply
-    requires { ⌜ Room n rows (length (now tables)) (length (now nodes)) (length (now marks)) ⌝ }
+    requires { ⌜ NodeRoom n rows (length (now tables)) (length (now nodes)) (length (now marks)) ⌝ }
     ensures { λ r. ⌜ Types (now (parents .entry)) (now (tables .entry)) rows (isUndefAt (now (nodes .entry)) n) env (now (marks .entry)) (now (marks .exit)) r ⌝ }
 {
     let first = operand(nodes, parents, tables, rows, n, 1, env, marks);
@@ -112,7 +112,7 @@ pub fn conditional(
     env: [Slot; 16],
     marks: &mut [u64],
 ) -> Reply
-    requires { ⌜ Room n rows (length (now tables)) (length (now nodes)) (length (now marks)) ⌝ }
+    requires { ⌜ NodeRoom n rows (length (now tables)) (length (now nodes)) (length (now marks)) ⌝ }
     ensures { λ r. ⌜ Types (now (parents .entry)) (now (tables .entry)) rows (conditionalAt (now (nodes .entry)) n) env (now (marks .entry)) (now (marks .exit)) r ⌝ }
 {
     let both = pair(nodes, parents, tables, rows, n, env, marks);
@@ -137,7 +137,7 @@ pub fn attribute(
     env: [Slot; 16],
     marks: &mut [u64],
 ) -> Reply
-    requires { ⌜ Room n rows (length (now tables)) (length (now nodes)) (length (now marks)) ⌝ }
+    requires { ⌜ NodeRoom n rows (length (now tables)) (length (now nodes)) (length (now marks)) ⌝ }
     ensures { λ r. ⌜ Types (now (parents .entry)) (now (tables .entry)) rows (attributeAt (now (nodes .entry)) n) env (now (marks .entry)) (now (marks .exit)) r ⌝ }
 {
     let first = operand(nodes, parents, tables, rows, n, 1, env, marks);
@@ -161,7 +161,7 @@ pub fn collect(
     marks: &mut [u64],
 ) -> Reply
     requires { ⌜ (27 ≤ form) × (form < 30) ⌝ }
-    requires { ⌜ Room n rows (length (now tables)) (length (now nodes)) (length (now marks)) ⌝ }
+    requires { ⌜ NodeRoom n rows (length (now tables)) (length (now nodes)) (length (now marks)) ⌝ }
     ensures { λ r. ⌜ Types (now (parents .entry)) (now (tables .entry)) rows (collectAt (now (nodes .entry)) n form) env (now (marks .entry)) (now (marks .exit)) r ⌝ }
 {
     let count = wide(node_word(nodes, n, 5));

@@ -5,9 +5,9 @@ ghost use lib.ListN.{length, replicate};
 ghost use Rattle.ocl.specs.Model.{Model};
 ghost use Rattle.ocl.specs.Typing.{typeRule};
 ghost use Rattle.nodes.specs.Nodes.{treeAt};
-ghost use Rattle.judgements.specs.Replies.{Tells, Reads};
-ghost use Rattle.typing.specs.Tables.{Room};
-ghost use Rattle.typing.specs.Rules.{Lent, TypesRule};
+ghost use Rattle.judgements.specs.Replies.{Tells, ReadsRows};
+ghost use Rattle.typing.specs.Tables.{NodeRoom};
+ghost use Rattle.typing.specs.Rules.{LentTables, TypesRule};
 use super::walk::node;
 use judgements::Reply;
 use judgements::environment::start_env;
@@ -33,8 +33,8 @@ fn root_type(
     context: u64,
     marks: &mut [u64],
 ) -> Reply
-    requires { ⌜ Room root rows (length (now tables)) (length (now nodes)) (length (now marks)) ⌝ }
-    ensures { λ r. ⌜ ((m : Model) → Reads (now (parents .entry)) (now (tables .entry)) rows m → Tells (typeRule m context (treeAt (now (nodes .entry)) root)) (replicate (length (now (marks .entry))) 0) (now (marks .exit)) r) ⌝ }
+    requires { ⌜ NodeRoom root rows (length (now tables)) (length (now nodes)) (length (now marks)) ⌝ }
+    ensures { λ r. ⌜ ((m : Model) → ReadsRows (now (parents .entry)) (now (tables .entry)) rows m → Tells (typeRule m context (treeAt (now (nodes .entry)) root)) (replicate (length (now (marks .entry))) 0) (now (marks .exit)) r) ⌝ }
 {
     clear(marks);
     let env = start_env(context);
@@ -53,7 +53,7 @@ pub fn type_rule(
     root: usize,
 ) -> Reply
     requires { ⌜ root < 768 ⌝ }
-    requires { ⌜ Lent classes rows (length (now tables)) (length (now nodes)) (length (now marks)) ⌝ }
+    requires { ⌜ LentTables classes rows (length (now tables)) (length (now nodes)) (length (now marks)) ⌝ }
     ensures { λ r. ⌜ TypesRule (now (tables .entry)) classes rows (now (nodes .entry)) context root (now (marks .entry)) (now (marks .exit)) r ⌝ }
 {
     let parents = &tables[..classes];

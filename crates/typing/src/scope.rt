@@ -6,7 +6,7 @@ ghost use lib.ListN.{length};
 ghost use Rattle.types.specs.Flat.{tyOf};
 ghost use Rattle.nodes.specs.Nodes.{word};
 ghost use Rattle.nodes.specs.Nodes.{variable as variableIn};
-ghost use Rattle.typing.specs.Tables.{Room, Types, letAt, quantifiedAt, iterateAt, bodyAt};
+ghost use Rattle.typing.specs.Tables.{NodeRoom, Types, letAt, quantifiedAt, iterateAt, bodyAt};
 use super::PairReply;
 use super::walk::operand;
 use super::walk::pair;
@@ -40,7 +40,7 @@ pub fn let_in(
     env: [Slot; 16],
     marks: &mut [u64],
 ) -> Reply
-    requires { ⌜ Room n rows (length (now tables)) (length (now nodes)) (length (now marks)) ⌝ }
+    requires { ⌜ NodeRoom n rows (length (now tables)) (length (now nodes)) (length (now marks)) ⌝ }
     ensures { λ r. ⌜ Types (now (parents .entry)) (now (tables .entry)) rows (letAt (now (nodes .entry)) n) env (now (marks .entry)) (now (marks .exit)) r ⌝ }
 {
     let first = operand(nodes, parents, tables, rows, n, 1, env, marks);
@@ -61,7 +61,7 @@ pub fn quantified(
     env: [Slot; 16],
     marks: &mut [u64],
 ) -> Reply
-    requires { ⌜ Room n rows (length (now tables)) (length (now nodes)) (length (now marks)) ⌝ }
+    requires { ⌜ NodeRoom n rows (length (now tables)) (length (now nodes)) (length (now marks)) ⌝ }
     ensures { λ r. ⌜ Types (now (parents .entry)) (now (tables .entry)) rows (quantifiedAt (now (nodes .entry)) n) env (now (marks .entry)) (now (marks .exit)) r ⌝ }
 {
     let source = operand(nodes, parents, tables, rows, n, 1, env, marks);
@@ -89,7 +89,7 @@ pub fn iterate(
     env: [Slot; 16],
     marks: &mut [u64],
 ) -> Reply
-    requires { ⌜ Room n rows (length (now tables)) (length (now nodes)) (length (now marks)) ⌝ }
+    requires { ⌜ NodeRoom n rows (length (now tables)) (length (now nodes)) (length (now marks)) ⌝ }
     ensures { λ r. ⌜ Types (now (parents .entry)) (now (tables .entry)) rows (iterateAt (now (nodes .entry)) n) env (now (marks .entry)) (now (marks .exit)) r ⌝ }
 {
     let both = pair(nodes, parents, tables, rows, n, env, marks);
@@ -120,7 +120,7 @@ fn body(
     env: [Slot; 16],
     marks: &mut [u64],
 ) -> Reply
-    requires { ⌜ Room n rows (length (now tables)) (length (now nodes)) (length (now marks)) ⌝ }
+    requires { ⌜ NodeRoom n rows (length (now tables)) (length (now nodes)) (length (now marks)) ⌝ }
     ensures { λ r. ⌜ Types (now (parents .entry)) (now (tables .entry)) rows (bodyAt (now (nodes .entry)) n (tyOf t)) env (now (marks .entry)) (now (marks .exit)) r ⌝ }
 {
     let inner = bind(env, variable(nodes, n, 5), t);

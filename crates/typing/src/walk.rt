@@ -3,7 +3,7 @@
 // types of the variables; the marks.
 ghost use Prim.Native.Nat.{_<_};
 ghost use lib.ListN.{length};
-ghost use Rattle.typing.specs.Tables.{Room, Types, TypesTwo, nodeAt, operandAt};
+ghost use Rattle.typing.specs.Tables.{NodeRoom, Types, TypesTwo, nodeAt, operandAt};
 use super::PairReply;
 use super::apply::attribute;
 use super::apply::binary;
@@ -33,7 +33,7 @@ pub fn node(
     env: [Slot; 16],
     marks: &mut [u64],
 ) -> Reply
-    requires { ⌜ Room n rows (length (now tables)) (length (now nodes)) (length (now marks)) ⌝ }
+    requires { ⌜ NodeRoom n rows (length (now tables)) (length (now nodes)) (length (now marks)) ⌝ }
     ensures { λ r. ⌜ Types (now (parents .entry)) (now (tables .entry)) rows (nodeAt (now (nodes .entry)) n) env (now (marks .entry)) (now (marks .exit)) r ⌝ }
 {
     let form = node_word(nodes, n, 0);
@@ -65,7 +65,7 @@ pub fn operand(
     marks: &mut [u64],
 ) -> Reply
     requires { ⌜ k < 8 ⌝ }
-    requires { ⌜ Room n rows (length (now tables)) (length (now nodes)) (length (now marks)) ⌝ }
+    requires { ⌜ NodeRoom n rows (length (now tables)) (length (now nodes)) (length (now marks)) ⌝ }
     ensures { λ r. ⌜ Types (now (parents .entry)) (now (tables .entry)) rows (operandAt (now (nodes .entry)) n k) env (now (marks .entry)) (now (marks .exit)) r ⌝ }
 {
     let a = wide(node_word(nodes, n, k));
@@ -85,7 +85,7 @@ pub fn pair(
     env: [Slot; 16],
     marks: &mut [u64],
 ) -> PairReply
-    requires { ⌜ Room n rows (length (now tables)) (length (now nodes)) (length (now marks)) ⌝ }
+    requires { ⌜ NodeRoom n rows (length (now tables)) (length (now nodes)) (length (now marks)) ⌝ }
     ensures { λ r. ⌜ TypesTwo (now (parents .entry)) (now (tables .entry)) rows (operandAt (now (nodes .entry)) n 1) (operandAt (now (nodes .entry)) n 2) env (now (marks .entry)) (now (marks .exit)) r ⌝ }
 {
     let first = operand(nodes, parents, tables, rows, n, 1, env, marks);

@@ -12,7 +12,7 @@ use Rattle.laws.specs.Choice.{if_then_else_}
 use Rattle.laws.proofs.Slices.{cut-part, slice-join, trim}
 use Rattle.ocl.specs.Values.{Value, size}
 use Rattle.values.specs.Cells.{enc, past, Fits}
-use Rattle.values.specs.Contracts.{Skips, Small, Forms, Copies, Brings}
+use Rattle.values.specs.Contracts.{Skips, SmallForm, Forms, Copies, Brings}
 use Rattle.values.specs.declared.Formed.{Formed}
 use Rattle.values.specs.declared.Formed.the-variants as formed
 use Rattle.values.proofs.Encoding.{size-law, past-law}
@@ -42,10 +42,10 @@ over-size {w} F q = by (leb (size w) 128) refl (sym q ∙ F .is)
     by true e i = absurd (let z : _≡_ {A = ℕ} 0 1 = cc in omega arith)
     by false e i = leb-false (size w) 128 e
 
-pub small-over : {f : Formed} → f ≡ formed.Over → Small f
+pub small-over : {f : Formed} → f ≡ formed.Over → SmallForm f
 small-over e = rw e tt
 
-pub bounds : {f : Formed} {n : ℕ} → Small f → f ≡ formed.Done n → (1 ≤ n) × (n ≤ 128)
+pub bounds : {f : Formed} {n : ℕ} → SmallForm f → f ≡ formed.Done n → (1 ≤ n) × (n ≤ 128)
 bounds x e = rw e at x
 
 -- ---- a part's length is the value's size

@@ -102,9 +102,9 @@ pub record Finds (S : List ℕ) (from end le : ℕ) (r : Spot) : Type 0 where
 -- ---- forming
 
 -- what was formed has between 1 and 128 cells
-abbrev pub Small : Formed → Type 0
-Small (formed.Done n) = (1 ≤ n) × (n ≤ 128)
-Small formed.Over = Unit {0}
+abbrev pub SmallForm : Formed → Type 0
+SmallForm (formed.Done n) = (1 ≤ n) × (n ≤ 128)
+SmallForm formed.Over = Unit {0}
 
 -- the value w is formed at sp: Over exactly when its size is over 128, else its cells lie there
 pub record Forms (w : Value) (sp : ℕ) (low after : List ℕ) (r : Formed) : Type 0 where
@@ -115,7 +115,7 @@ pub record Forms (w : Value) (sp : ℕ) (low after : List ℕ) (r : Formed) : Ty
 
 -- the le cells at mid go in at `at`, and the first cell at sp counts one more
 pub record PutsIn (sp at mid le : ℕ) (before after : List ℕ) (r : Formed) : Type 0 where
-  pub small : Small r
+  pub small : SmallForm r
   pub low : take sp after ≡ take sp before
   pub over : 128 < mid - sp + le → r ≡ formed.Over
   pub done : mid - sp + le ≤ 128 → getD before sp 0 < 25769803776 → r ≡ formed.Done (mid - sp + le)
@@ -125,7 +125,7 @@ pub record PutsIn (sp at mid le : ℕ) (before after : List ℕ) (r : Formed) : 
 
 -- the value from mid on is added to the collection from sp to mid
 pub record Adds (sp mid le : ℕ) (before after : List ℕ) (r : Formed) : Type 0 where
-  pub small : Small r
+  pub small : SmallForm r
   pub low : take sp after ≡ take sp before
   pub is : (k : Kind) (vs : Values) (v : Value) → Fits (coll k vs) → Fits v
       → slice sp mid before ≡ enc (coll k vs) → slice mid (mid + le) before ≡ enc v
@@ -133,14 +133,14 @@ pub record Adds (sp mid le : ℕ) (before after : List ℕ) (r : Formed) : Type 
 
 -- the simple value is put at the end of the collection from sp to mid, whatever its kind
 pub record Appends (s : Simple) (sp mid : ℕ) (before after : List ℕ) (r : Formed) : Type 0 where
-  pub small : Small r
+  pub small : SmallForm r
   pub low : take sp after ≡ take sp before
   pub is : (k : Kind) (vs : Values) (v : Value) → Fits (coll k vs) → Fits v → Means s v → slice sp mid before ≡ enc (coll k vs)
       → Forms (coll k (append v vs)) sp (take sp before) after r
 
 -- the members from `from` to end are added to the collection of len cells at top
 pub record Gathers (from end top len : ℕ) (before after : List ℕ) (r : Formed) : Type 0 where
-  pub small : Small r
+  pub small : SmallForm r
   pub low : take top after ≡ take top before
   pub is : (k : Kind) (us vs : Values) → Fits (coll k us) → AllFit vs
       → slice top (top + len) before ≡ enc (coll k us) → slice from end before ≡ encs vs
@@ -183,21 +183,21 @@ pub record MergesBy (apart h from mid start top : ℕ) (before after : List ℕ)
 
 -- the members from `from` to end, as a collection of the kind
 pub record Collects (kind sp from end : ℕ) (before after : List ℕ) (r : Formed) : Type 0 where
-  pub small : Small r
+  pub small : SmallForm r
   pub low : take sp after ≡ take sp before
   pub is : (k : Kind) (vs : Values) → kind ≡ kindCode k → AllFit vs → slice from end before ≡ encs vs
       → Forms (coll k (addAll k vs nil)) sp (take sp before) after r
 
 -- the collection from sp to mid, as one of the kind
 pub record Converts (kind sp mid : ℕ) (before after : List ℕ) (r : Formed) : Type 0 where
-  pub small : Small r
+  pub small : SmallForm r
   pub low : take sp after ≡ take sp before
   pub is : (j k : Kind) (vs : Values) → kind ≡ kindCode k → Fits (coll j vs) → slice sp mid before ≡ enc (coll j vs)
       → Forms (coll k (addAll k vs nil)) sp (take sp before) after r
 
 -- the collections of one kind from sp to mid and from mid to end
 pub record Unites (sp mid end : ℕ) (before after : List ℕ) (r : Formed) : Type 0 where
-  pub small : Small r
+  pub small : SmallForm r
   pub low : take sp after ≡ take sp before
   pub is : (k : Kind) (us vs : Values) → Fits (coll k us) → Fits (coll k vs)
       → slice sp mid before ≡ enc (coll k us) → slice mid end before ≡ enc (coll k vs)
@@ -205,12 +205,12 @@ pub record Unites (sp mid end : ℕ) (before after : List ℕ) (r : Formed) : Ty
 
 -- the value at p, below sp, once more at sp
 pub record Copies (p sp : ℕ) (before after : List ℕ) (r : Formed) : Type 0 where
-  pub small : Small r
+  pub small : SmallForm r
   pub low : take sp after ≡ take sp before
   pub is : (v : Value) → Fits v → p + size v ≤ sp → slice p (p + size v) before ≡ enc v → Forms v sp (take sp before) after r
 
 -- the value from a to e of other cells, at sp
 pub record Brings (cells : List ℕ) (a e sp : ℕ) (before after : List ℕ) (r : Formed) : Type 0 where
-  pub small : Small r
+  pub small : SmallForm r
   pub low : take sp after ≡ take sp before
   pub is : (v : Value) → Fits v → slice a e cells ≡ enc v → Forms v sp (take sp before) after r

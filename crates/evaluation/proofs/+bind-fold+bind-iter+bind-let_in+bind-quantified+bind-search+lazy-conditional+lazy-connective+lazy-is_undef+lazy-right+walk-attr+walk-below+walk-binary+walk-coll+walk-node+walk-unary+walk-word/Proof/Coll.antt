@@ -3,7 +3,7 @@ use mathlib.Core.Path.{_∙_}
 use Prim.Native.Nat.{_+_, _-_}
 use Rattle.nodes.specs.Nodes.{kindOf}
 use Rattle.nodes.proofs.Levels.{some-level}
-use Rattle.evaluation.specs.Evaluating.{Reads, operandAt}
+use Rattle.evaluation.specs.Evaluating.{ReadsWorld, operandTree}
 use Rattle.evaluation.proofs.Composition.{bounds}
 use Rattle.evaluation.proofs.CollectLaws.{Gathering, gather-starts, collect-done, collect-early, collect-again, collect-over, kind-number}
 use Prim.Native.Nat.{ℕ}
@@ -23,7 +23,7 @@ module _ (t : ℕ) where
   calls = (node-word-reads.Asked, node-word-reads.Learnt, wide-reads.Asked, wide-reads.Learnt, below-below t, below.Post, collect-reads.Asked, collect-reads.Learnt, formed-reads.Asked, formed-reads.Learnt)
 
   abbrev Inv : lts.InvT-loop
-  Inv tables st nodes n form env stack₀ sp left steps count end₀ s₀ k₀ stack end s k = Gathering (Reads st tables nodes) nodes n (kindOf form) env sp left count stack₀ stack s₀ s end k
+  Inv tables st nodes n form env stack₀ sp left steps count end₀ s₀ k₀ stack end s k = Gathering (ReadsWorld st tables nodes) nodes n (kindOf form) env sp left count stack₀ stack s₀ s end k
 
   abbrev μ : lts.MeasureT-loop
   μ tables st nodes n form env stack₀ sp left steps count end₀ s₀ k₀ stack end s k = count - k
@@ -65,7 +65,7 @@ module _ (t : ℕ) where
   loop-less c = omega (arith, c .before .before .before .before .before .before .before .loop-test .taken)
 
   loop-again : lts.Need-loop-again calls (coll-at t) coll.Post Inv μ
-  loop-again c = collect-again _ _ _ (c .before .before .before .before .before .before .before .before .before .before .wide .ensures ∙ c .before .before .before .before .before .before .before .before .before .before .before .node-word .ensures) (c .before .before .before .before .before .before .before .before .before .if1 .left) (c .before .before .before .before .before .before .before .before .loop .inv) (c .before .before .before .before .before .before .before .loop-test .taken) (c .before .before .before .before .before .below .ensures) (c .before .member .given .1) (c .before .before .before .before .before .below .kept .1 .1 .1 .1 .1 .1 .0) (omega (arith, some-level (operandAt (c .before .before .before .before .before .before .before .before .before .before .before .before .before .before .before .args .nodes .now) (c .before .before .before .before .before .before .before .before .before .before .before .before .before .before .before .args .n) (c .before .before .before .before .before .before .before .before .loop .k + 1)), c .before .before .before .before .before .before .before .before .before .before .before .before .before .before .before .pre .1 .1 .2 .members (omega (arith, c .before .before .before .before .before .before .before .before .before .before .wide .ensures, c .before .before .before .before .before .before .before .before .before .before .before .node-word .ensures, c .before .before .before .before .before .before .before .before .before .if1 .left)) (c .before .before .before .before .before .before .before .before .loop .k) (omega (arith, c .before .before .before .before .before .before .before .before .before .before .wide .ensures, c .before .before .before .before .before .before .before .before .before .before .before .node-word .ensures, c .before .before .before .before .before .before .before .loop-test .taken)))) (omega (arith, c .before .before .before .before .before .before .before .before .loop .inv .long, c .before .before .before .before .before .before .before .before .loop .inv .room, c .before .before .before .before .before .before .before .before .before .before .before .before .before .before .before .pre .1 .0, (c .before .before .before .before .before .below .kept .1 .1 .1 .1 .1 .1 .0)))
+  loop-again c = collect-again _ _ _ (c .before .before .before .before .before .before .before .before .before .before .wide .ensures ∙ c .before .before .before .before .before .before .before .before .before .before .before .node-word .ensures) (c .before .before .before .before .before .before .before .before .before .if1 .left) (c .before .before .before .before .before .before .before .before .loop .inv) (c .before .before .before .before .before .before .before .loop-test .taken) (c .before .before .before .before .before .below .ensures) (c .before .member .given .1) (c .before .before .before .before .before .below .kept .1 .1 .1 .1 .1 .1 .0) (omega (arith, some-level (operandTree (c .before .before .before .before .before .before .before .before .before .before .before .before .before .before .before .args .nodes .now) (c .before .before .before .before .before .before .before .before .before .before .before .before .before .before .before .args .n) (c .before .before .before .before .before .before .before .before .loop .k + 1)), c .before .before .before .before .before .before .before .before .before .before .before .before .before .before .before .pre .1 .1 .2 .members (omega (arith, c .before .before .before .before .before .before .before .before .before .before .wide .ensures, c .before .before .before .before .before .before .before .before .before .before .before .node-word .ensures, c .before .before .before .before .before .before .before .before .before .if1 .left)) (c .before .before .before .before .before .before .before .before .loop .k) (omega (arith, c .before .before .before .before .before .before .before .before .before .before .wide .ensures, c .before .before .before .before .before .before .before .before .before .before .before .node-word .ensures, c .before .before .before .before .before .before .before .loop-test .taken)))) (omega (arith, c .before .before .before .before .before .before .before .before .loop .inv .long, c .before .before .before .before .before .before .before .before .loop .inv .room, c .before .before .before .before .before .before .before .before .before .before .before .before .before .before .before .pre .1 .0, (c .before .before .before .before .before .below .kept .1 .1 .1 .1 .1 .1 .0)))
 
   sub-collect : lts.Need-sub-collect calls (coll-at t) coll.Post Inv μ
   sub-collect c = search needs

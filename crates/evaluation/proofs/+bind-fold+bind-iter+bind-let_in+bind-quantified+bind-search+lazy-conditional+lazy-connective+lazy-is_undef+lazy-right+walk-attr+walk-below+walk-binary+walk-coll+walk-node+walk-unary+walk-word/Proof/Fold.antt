@@ -3,7 +3,7 @@ use mathlib.Core.Logic.{inl}
 use mathlib.Core.Path.{_∙_}
 use Prim.Native.Nat.{_+_, _-_}
 use Rattle.nodes.specs.Nodes.{word, variable}
-use Rattle.evaluation.specs.Evaluating.{Reads, operandFor}
+use Rattle.evaluation.specs.Evaluating.{ReadsWorld, operandFor}
 use Rattle.evaluation.proofs.Composition.{bounds}
 use Rattle.evaluation.proofs.LoopLaws.{Folding, fold-starts, fold-none, fold-early, fold-again}
 use Prim.Native.Nat.{ℕ}
@@ -21,7 +21,7 @@ module _ (t : ℕ) where
   calls = (below-below t, below.Post, slide-reads.Asked, slide-reads.Learnt, skip-reads.Asked, skip-reads.Learnt)
 
   abbrev Inv : lts.InvT-loop
-  Inv tables st nodes n i j env stack₀ sp la lb left steps mid len₀ s₀ p₀ stack len s p = Folding (Reads st tables nodes) (variable (word nodes n 4)) (variable (word nodes n 5)) (operandFor nodes n 3) env sp (sp + la) lb stack₀ stack s₀ s p len
+  Inv tables st nodes n i j env stack₀ sp la lb left steps mid len₀ s₀ p₀ stack len s p = Folding (ReadsWorld st tables nodes) (variable (word nodes n 4)) (variable (word nodes n 5)) (operandFor nodes n 3) env sp (sp + la) lb stack₀ stack s₀ s p len
 
   abbrev μ : lts.MeasureT-loop
   μ tables st nodes n i j env stack₀ sp la lb left steps mid len₀ s₀ p₀ stack len s p = sp + la - p

@@ -2,7 +2,7 @@
 use mathlib.Core.Path.{sym, _∙_}
 use Prim.Native.Nat.{_+_, _-_}
 use Rattle.nodes.specs.Nodes.{word, variable, quantifierOf}
-use Rattle.evaluation.specs.Evaluating.{Reads, operandFor}
+use Rattle.evaluation.specs.Evaluating.{ReadsWorld, operandFor}
 use Rattle.evaluation.proofs.LoopLaws.{Searching, search-starts, search-none, search-early, search-stuck, search-ends, search-again, ends-code, none-code}
 use Prim.Native.Nat.{ℕ}
 use borrow.Author.Needs.{needs}
@@ -20,7 +20,7 @@ module _ (t : ℕ) where
   calls = (below-below t, below.Post, truth-reads.Asked, truth-reads.Learnt, put-reads.Asked, put-reads.Learnt, skip-reads.Asked, skip-reads.Learnt)
 
   abbrev Inv : lts.InvT-loop
-  Inv tables st nodes n form i env stack₀ sp la left steps end s₀ p₀ stack s p = Searching (Reads st tables nodes) (quantifierOf form) (variable (word nodes n 3)) (operandFor nodes n 2) env sp (sp + la) stack₀ stack s₀ s p
+  Inv tables st nodes n form i env stack₀ sp la left steps end s₀ p₀ stack s p = Searching (ReadsWorld st tables nodes) (quantifierOf form) (variable (word nodes n 3)) (operandFor nodes n 2) env sp (sp + la) stack₀ stack s₀ s p
 
   abbrev μ : lts.MeasureT-loop
   μ tables st nodes n form i env stack₀ sp la left steps end s₀ p₀ stack s p = sp + la - p

@@ -1,5 +1,5 @@
 -- `with_rule` meets its contract.
-use Rattle.trees.specs.Rules.{withRule}
+use Rattle.trees.specs.Rules.{endedCounts}
 use mathlib.Core.Path.{refl}
 use borrow.Author.Needs.{needs}
 use Rattle.trees.proofs.ending.with_rule.Statement.{statement}
@@ -9,7 +9,7 @@ add-next : tie.Need-add-next
 add-next c = search needs
 
 returns : tie.Need-returns
-unfolding withRule
+unfolding endedCounts
 returns c = refl
 
 pub with-rule-spec : {M : Type 1} → statement M

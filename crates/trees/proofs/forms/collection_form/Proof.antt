@@ -1,6 +1,6 @@
 -- `collection_form` meets its contract.
 use Rattle.text.specs.Words.{onlyByte}
-use Rattle.trees.specs.Forms.{kindCode}
+use Rattle.trees.specs.Forms.{kindByteCode}
 use native.Mathlib.Omega.{arith}
 use mathlib.Core.Path.{ap, _∙_}
 use Rattle.trees.proofs.MoreFormLaws.{collect-none, collect-over, collect-other, collect-read}
@@ -31,7 +31,7 @@ misspelled-requires-3 : tie.Need-misspelled-requires-3
 misspelled-requires-3 c κs = search needs
 
 returns-3 : tie.Need-returns-3
-returns-3 c = rw (rest-cons (c .before .before .before .before .before .before .before .pre .0) (c .before .before .before .before .before .if1 .left), collect-other _ _ (c .before .before .kind-code .ensures ∙ ap (λ x. kindCode (onlyByte x)) (c .before .before .before .field .ensures)) (c .before .if3 .taken)) (c .misspelled3 .ensures _)
+returns-3 c = rw (rest-cons (c .before .before .before .before .before .before .before .pre .0) (c .before .before .before .before .before .if1 .left), collect-other _ _ (c .before .before .kind-code .ensures ∙ ap (λ x. kindByteCode (onlyByte x)) (c .before .before .before .field .ensures)) (c .before .if3 .taken)) (c .misspelled3 .ensures _)
 
 number-fields-requires : tie.Need-number-fields-requires
 number-fields-requires c κs = search needs
@@ -49,7 +49,7 @@ array-read-t22 : tie.Need-array-read-t22
 array-read-t22 c = search needs
 
 returns-4 : tie.Need-returns-4
-returns-4 c = rw (rest-cons (c .before .before .before .before .before .before .before .before .pre .0) (c .before .before .before .before .before .before .if1 .left)) (collect-read _ _ (c .before .before .before .kind-code .ensures ∙ ap (λ x. kindCode (onlyByte x)) (c .before .before .before .before .field .ensures)) (c .before .before .if3 .left) (rest-length (c .before .before .before .before .before .before .before .before .pre .0) (c .before .before .before .before .before .if2 .left)) (omega arith) (rest-part (c .before .before .before .before .before .before .before .before .pre .0) (c .before .before .before .before .before .if2 .left) (c .before .number-fields .ensures)))
+returns-4 c = rw (rest-cons (c .before .before .before .before .before .before .before .before .pre .0) (c .before .before .before .before .before .before .if1 .left)) (collect-read _ _ (c .before .before .before .kind-code .ensures ∙ ap (λ x. kindByteCode (onlyByte x)) (c .before .before .before .before .field .ensures)) (c .before .before .if3 .left) (rest-length (c .before .before .before .before .before .before .before .before .pre .0) (c .before .before .before .before .before .if2 .left)) (omega arith) (rest-part (c .before .before .before .before .before .before .before .before .pre .0) (c .before .before .before .before .before .if2 .left) (c .before .number-fields .ensures)))
 
 pub collection-form-spec : {M : Type 1} → statement M
 collection-form-spec =

@@ -1,5 +1,5 @@
 -- `with_node` meets its contract.
-use Rattle.trees.specs.Rules.{withNode}
+use Rattle.trees.specs.Rules.{nodeCounts}
 use mathlib.Core.Path.{refl}
 use borrow.Author.Needs.{needs}
 use Rattle.trees.proofs.node.with_node.Statement.{statement}
@@ -9,7 +9,7 @@ add-next : tie.Need-add-next
 add-next c = search needs
 
 returns : tie.Need-returns
-unfolding withNode
+unfolding nodeCounts
 returns c = refl
 
 pub with-node-spec : {M : Type 1} → statement M

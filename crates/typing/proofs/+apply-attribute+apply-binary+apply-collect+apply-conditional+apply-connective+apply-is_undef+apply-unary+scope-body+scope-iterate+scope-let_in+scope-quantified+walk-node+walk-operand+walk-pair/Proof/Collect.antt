@@ -8,7 +8,7 @@ use borrow.Author.Needs.{needs}
 use Rattle.ocl.specs.Model.{Model}
 use Rattle.types.specs.Flat.{joinedType}
 use Rattle.judgements.specs.Replies.{envOf}
-use Rattle.judgements.specs.Replies.{Reads}
+use Rattle.judgements.specs.Replies.{ReadsRows}
 use Rattle.typing.proofs.Members.{Left, collect-over, left-all, left-refused, left-next, left-done}
 use Rattle.judgements.proofs.forms.around_common.Reads as around-common-reads
 use Rattle.judgements.proofs.forms.join_more.Reads as join-more-reads
@@ -26,7 +26,7 @@ module _ (t : ℕ) where
 
   abbrev Inv : lts.InvT-loop
   Inv nodes parents tables rows n form env marks₀ count common₀ i₀ marks common i =
-      (length marks ≡ length marks₀) × ((m : Model) → Reads parents tables rows m → Left m nodes n form count i (joinedType common) (envOf env) marks₀ marks)
+      (length marks ≡ length marks₀) × ((m : Model) → ReadsRows parents tables rows m → Left m nodes n form count i (joinedType common) (envOf env) marks₀ marks)
 
   abbrev μ : lts.MeasureT-loop
   μ nodes parents tables rows n form env marks₀ count common₀ i₀ marks common i = count - i
