@@ -49,8 +49,12 @@ module _ (w0 w1 w2 : List ℕ) where
       let b = or-false (ltb (length w0) 8192) (ltb (length w1) 8192) (a .0) in
       (ltb-false (length w0) 8192 (b .0), ltb-false (length w1) 8192 (b .1), ltb-false (length w2) 8192 (a .1))
 
-pub all-lent : {w0 w1 w2 : List ℕ} {out : Bytes} → shortWords w0 w1 w2 ≡ false → 2048 ≤ length out → Lent w0 w1 w2 out
-all-lent {w0} {w1} {w2} e h = let l = long-words w0 w1 w2 e in record { words0 = l .0; words1 = l .1; words2 = l .2; output = h }
+pub all-lent : {w0 w1 w2 : List ℕ} {out : Bytes} → (shortWords w0 w1 w2 || shortOutput out) ≡ false → Lent w0 w1 w2 out
+unfolding shortOutput
+all-lent {w0} {w1} {w2} {out} e =
+    let a = or-false (shortWords w0 w1 w2) (shortOutput out) e in
+    let l = long-words w0 w1 w2 (a .0) in
+    record { words0 = l .0; words1 = l .1; words2 = l .2; output = ltb-false (length out) 2048 (a .1) }
 
 -- the words are as many after as before
 pub still-lent : {w0 w1 w2 v0 v1 : List ℕ} {out : Bytes} → Lent w0 w1 w2 out → Kept w0 v0 → Kept w1 v1 → Lent v0 v1 w2 out
@@ -95,22 +99,15 @@ module _ {v : Verdict} {a : Answer} {w0 w1 w2 v0 v1 v2 x0 x1 x2 : List ℕ} (n :
   finished : {out after : Bytes} → Leaves v a w0 w1 w2 out v0 v1 v2 after → Wipes v0 v1 v2 x0 x1 x2 → AnswersWith v a w0 w1 w2 out x0 x1 x2 after
   finished l z = record { answers = wiped-after (l .gives .is) (l .kept0) (l .kept1) (l .kept2) z; output = l .gives .output }
 
--- ---- a call that lends an output, with the verdict v where nothing is short
+-- ---- a call that is lent an output, with the verdict v where nothing is short
 
 abbrev call : Verdict → List ℕ → List ℕ → List ℕ → Bytes → Verdict
 call v w0 w1 w2 out = if shortWords w0 w1 w2 || shortOutput out then refusal 1 else v
 
 module _ (v : Verdict) (w0 w1 w2 : List ℕ) (out : Bytes) {a : Answer} where
-  pub short-call : a ≡ answerOf (refusalAt 1 0) → shortWords w0 w1 w2 ≡ true → AnswersWith (call v w0 w1 w2 out) a w0 w1 w2 out w0 w1 w2 out
+  pub short-call : a ≡ answerOf (refusalAt 1 0) → (shortWords w0 w1 w2 || shortOutput out) ≡ true → AnswersWith (call v w0 w1 w2 out) a w0 w1 w2 out w0 w1 w2 out
   short-call e q = rw q (untouched-output w0 w1 w2 out e)
 
-  pub short-output-call : a ≡ answerOf (refusalAt 1 0) → length out < 2048 → AnswersWith (call v w0 w1 w2 out) a w0 w1 w2 out w0 w1 w2 out
-  unfolding shortOutput
-  short-output-call e h = rw (lt-ltb (length out) 2048 h, or-true (shortWords w0 w1 w2)) (untouched-output w0 w1 w2 out e)
-
-  pub long-call : {v0 v1 v2 x0 x1 x2 : List ℕ} {after : Bytes} → v .number ≢ 1 → Lent w0 w1 w2 out
+  pub long-call : {v0 v1 v2 x0 x1 x2 : List ℕ} {after : Bytes} → v .number ≢ 1 → (shortWords w0 w1 w2 || shortOutput out) ≡ false
       → Leaves v a w0 w1 w2 out v0 v1 v2 after → Wipes v0 v1 v2 x0 x1 x2 → AnswersWith (call v w0 w1 w2 out) a w0 w1 w2 out x0 x1 x2 after
-  unfolding shortWords shortOutput
-  long-call n l d z =
-      rw (le-ltb (length w0) 8192 (l .words0), le-ltb (length w1) 8192 (l .words1), le-ltb (length w2) 8192 (l .words2), le-ltb (length out) 2048 (l .output))
-      (finished n d z)
+  long-call n q d z = rw q (finished n d z)

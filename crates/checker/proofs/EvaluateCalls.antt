@@ -7,7 +7,7 @@ use mathlib.Core.List.{List}
 use Prim.Native.Nat.{ℕ, _+_, _≤_, _<_}
 use native.Mathlib.Omega.{arith}
 use borrow.Author.Tests.{lt-ltb, le-ltb}
-use lib.ListN.{length, getD, getElem?}
+use lib.ListN.{getD, getElem?}
 use lib.Dec.{T}
 use Rattle.laws.specs.Choice.{if_then_else_}
 use Rattle.laws.proofs.Tests.{by-if}
@@ -19,8 +19,7 @@ use Rattle.ocl.specs.Soundness.{Sound}
 use Rattle.sheet.specs.Text.{Bytes}
 use Rattle.sheet.specs.Sheet.{Rule, Sheet, modelOf}
 use Rattle.sheet.specs.Reading.{accepted, readText}
-use Rattle.sheet.specs.Calls.{Verdict, refusalAt, refusal, shortWords, onSheet, onRule, typingOf, onType, onObject, outcomeOf, ended, evaluateOn, evaluateCall}
-use Rattle.sheet.specs.Soundness.{Lent}
+use Rattle.sheet.specs.Calls.{Verdict, refusalAt, refusal, onSheet, onRule, typingOf, onType, onObject, outcomeOf, ended, evaluateOn}
 use Rattle.sheet.proofs.Soundness.{sound-rule, type-refusals}
 use Rattle.sheet.proofs.Acceptance.{accepted-good}
 use Rattle.nodes.specs.Nodes.{word}
@@ -36,10 +35,10 @@ use Rattle.rules.proofs.Ready.{ready}
 use Rattle.rules.proofs.Lengths.{value-length}
 use Rattle.rules.proofs.Marks.{accepted-same, marks-in}
 use Rattle.checker.specs.declared.Answer.{Answer}
-use Rattle.checker.specs.Answers.{answerOf, AnswersWith}
-use Rattle.checker.specs.Parts.{GivesFor, Leaves, Wipes}
+use Rattle.checker.specs.Answers.{answerOf}
+use Rattle.checker.specs.Parts.{GivesFor}
 use Rattle.checker.specs.Outcomes.{Fitting, GivesEnded}
-use Rattle.checker.proofs.Answers.{gives-refusal, short-call, short-output-call, long-call}
+use Rattle.checker.proofs.Answers.{gives-refusal}
 use Rattle.checker.proofs.Readings.{read-number}
 use Rattle.checker.proofs.RuleLaws.{no-rule, for-rule, type-refused, type-given}
 
@@ -123,7 +122,7 @@ module _ {st : Counts} {w0 w1 : List ℕ} where
           for-rule h (forObject o)
           (λ s g x j. rw (object-verdict r k i s g x j (onType s (typingOf s x .answer) (λ t. ended (outcomeOf s x o))), type-given t s g x j (λ t. ended (outcomeOf s x o))) (z .for (outcomeOf s x o) (ends s g x j)))
 
--- ---- the whole call
+-- ---- no call refuses with 1 after a reading
 
 outcome-number : {m : Model} {t : Ty} {k : ℕ} (o : Outcome) → Sound m t k o → ended o .number ≢ 1
 unfolding ended refusal refusalAt
@@ -151,21 +150,9 @@ module _ (text : Bytes) (s : Sheet) (r o : ℕ) (was : readText text ≡ accepte
   rule-number none q z = omega arith
   rule-number (some x) q z = object-number x q (modelOf s .classOf o) z
 
-  evaluate-number : evaluateOn s r o .number ≢ 1
+  evaluate-on-number : evaluateOn s r o .number ≢ 1
   unfolding evaluateOn
-  evaluate-number = rule-number (getElem? (s .rules) r) refl
+  evaluate-on-number = rule-number (getElem? (s .rules) r) refl
 
-module _ (text : Bytes) (r o : ℕ) (w0 w1 w2 : List ℕ) (out : Bytes) {a : Answer} where
-  pub evaluate-short : a ≡ answerOf (refusalAt 1 0) → shortWords w0 w1 w2 ≡ true → AnswersWith (evaluateCall text r o w0 w1 w2 out) a w0 w1 w2 out w0 w1 w2 out
-  unfolding evaluateCall
-  evaluate-short = short-call (onSheet (readText text) (λ s. evaluateOn s r o)) w0 w1 w2 out
-
-  pub evaluate-short-output : a ≡ answerOf (refusalAt 1 0) → length out < 2048 → AnswersWith (evaluateCall text r o w0 w1 w2 out) a w0 w1 w2 out w0 w1 w2 out
-  unfolding evaluateCall
-  evaluate-short-output = short-output-call (onSheet (readText text) (λ s. evaluateOn s r o)) w0 w1 w2 out
-
-  pub evaluate-done : {v0 v1 v2 x0 x1 x2 : List ℕ} {after : Bytes} → Lent w0 w1 w2 out
-      → Leaves (onSheet (readText text) (λ s. evaluateOn s r o)) a w0 w1 w2 out v0 v1 v2 after → Wipes v0 v1 v2 x0 x1 x2
-      → AnswersWith (evaluateCall text r o w0 w1 w2 out) a w0 w1 w2 out x0 x1 x2 after
-  unfolding evaluateCall
-  evaluate-done = long-call (onSheet (readText text) (λ s. evaluateOn s r o)) w0 w1 w2 out (read-number text (λ s. evaluateOn s r o) (λ s e. evaluate-number text s r o e))
+pub evaluate-number : (text : Bytes) (r o : ℕ) → onSheet (readText text) (λ s. evaluateOn s r o) .number ≢ 1
+evaluate-number text r o = read-number text (λ s. evaluateOn s r o) (λ s e. evaluate-on-number text s r o e)

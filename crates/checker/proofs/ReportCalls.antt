@@ -4,7 +4,7 @@ use mathlib.Core.Logic.{_≢_}
 use mathlib.Core.Bool.{Bool, true, false}
 use mathlib.Core.Option.{some}
 use mathlib.Core.List.{List, [], _∷_}
-use Prim.Native.Nat.{ℕ, suc, _<_}
+use Prim.Native.Nat.{ℕ, suc}
 use native.Mathlib.Omega.{arith}
 use lib.Dec.{ltb}
 use lib.ListN.{length, getElem?}
@@ -13,9 +13,8 @@ use Rattle.ocl.specs.Typing.{Answer as TypeAnswer, typed, refused as untyped}
 use Rattle.sheet.specs.Text.{Bytes}
 use Rattle.sheet.specs.Sheet.{Rule, Sheet}
 use Rattle.sheet.specs.Reading.{readText}
-use Rattle.sheet.specs.Calls.{Verdict, answer, refusalAt, refusal, shortWords, typingOf, onType}
-use Rattle.sheet.specs.Report.{ruleLines, onTypes, fitting, reportOf, reportCall}
-use Rattle.sheet.specs.Soundness.{Lent}
+use Rattle.sheet.specs.Calls.{Verdict, answer, refusalAt, refusal, typingOf, onType}
+use Rattle.sheet.specs.Report.{ruleLines, onTypes, fitting, reportOf}
 use Rattle.sheet.proofs.Soundness.{type-refusals}
 use Rattle.tables.specs.declared.Counts.{Counts}
 use Rattle.reader.specs.declared.SheetRead.the-variants as sheet
@@ -24,9 +23,8 @@ use Rattle.report.specs.declared.Reported.{Reported}
 use Rattle.report.specs.declared.Reported.the-variants as reported
 use Rattle.report.specs.Reports.{reportOn, SaysReport, written, too-long, a-refusal, Reports}
 use Rattle.checker.specs.declared.Answer.{Answer}
-use Rattle.checker.specs.Answers.{answerOf, AnswersWith}
-use Rattle.checker.specs.Parts.{GivesAnswer, GivesFor, Leaves, Wipes, writtenTo}
-use Rattle.checker.proofs.Answers.{short-call, short-output-call, long-call}
+use Rattle.checker.specs.Answers.{answerOf}
+use Rattle.checker.specs.Parts.{GivesAnswer, GivesFor, writtenTo}
 use Rattle.checker.proofs.Readings.{gives-on, gives-stop, read-number}
 
 -- ---- on a sheet that lies in the words
@@ -72,7 +70,7 @@ module _ {v0 v1 : List ℕ} {a : Answer} (text : Bytes) where
   unfolding reportOf
   report-stopped out h e = gives-stop h (λ s. onTypes s (s .rules) (fitting (length out) (ruleLines s 0 (s .rules)))) out e
 
--- ---- the whole call
+-- ---- no call refuses with 1 after a reading
 
 -- a refusal of typing is none with 1
 types-number : (s : Sheet) (v : Verdict) → v .number ≢ 1 → (xs : List Rule)
@@ -93,22 +91,8 @@ fitting-number room b = by (ltb room (length b))
     by true q = omega arith
     by false q = omega arith
 
-report-number : (text : Bytes) (room : ℕ) → reportOf text room .number ≢ 1
+pub report-number : (text : Bytes) (room : ℕ) → reportOf text room .number ≢ 1
 unfolding reportOf
 report-number text room = read-number text (λ s. onTypes s (s .rules) (fitting room (ruleLines s 0 (s .rules))))
     (λ s e. types-number s (fitting room (ruleLines s 0 (s .rules))) (fitting-number room (ruleLines s 0 (s .rules))) (s .rules)
     (λ r x q n p i z. omega (arith, type-refusals text s e r x q n p i .low)))
-
-module _ (text : Bytes) (w0 w1 w2 : List ℕ) (out : Bytes) {a : Answer} where
-  pub report-short-words : a ≡ answerOf (refusalAt 1 0) → shortWords w0 w1 w2 ≡ true → AnswersWith (reportCall text w0 w1 w2 out) a w0 w1 w2 out w0 w1 w2 out
-  unfolding reportCall
-  report-short-words = short-call (reportOf text (length out)) w0 w1 w2 out
-
-  pub report-short-output : a ≡ answerOf (refusalAt 1 0) → length out < 2048 → AnswersWith (reportCall text w0 w1 w2 out) a w0 w1 w2 out w0 w1 w2 out
-  unfolding reportCall
-  report-short-output = short-output-call (reportOf text (length out)) w0 w1 w2 out
-
-  pub report-done : {v0 v1 v2 x0 x1 x2 : List ℕ} {after : Bytes} → Lent w0 w1 w2 out → Leaves (reportOf text (length out)) a w0 w1 w2 out v0 v1 v2 after
-      → Wipes v0 v1 v2 x0 x1 x2 → AnswersWith (reportCall text w0 w1 w2 out) a w0 w1 w2 out x0 x1 x2 after
-  unfolding reportCall
-  report-done = long-call (reportOf text (length out)) w0 w1 w2 out (report-number text (length out))

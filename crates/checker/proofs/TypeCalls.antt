@@ -1,19 +1,17 @@
 -- The call that types a rule. Assumes nothing.
 use mathlib.Core.Path.{_≡_, refl}
 use mathlib.Core.Logic.{_≢_}
-use mathlib.Core.Bool.{true}
 use mathlib.Core.Option.{Option, none, some}
 use mathlib.Core.List.{List}
 use Prim.Native.Nat.{ℕ, _≤_, _<_}
 use native.Mathlib.Omega.{arith}
-use lib.ListN.{length, getElem?}
+use lib.ListN.{getElem?}
 use Rattle.ocl.specs.Typing.{Answer as TypeAnswer, typed, refused as untyped}
 use Rattle.sheet.specs.Text.{Bytes}
 use Rattle.sheet.specs.Spelling.{spellType}
 use Rattle.sheet.specs.Sheet.{Rule, Sheet}
 use Rattle.sheet.specs.Reading.{accepted, readText}
-use Rattle.sheet.specs.Calls.{answer, refusalAt, refusal, shortWords, onSheet, onRule, typingOf, onType, typeOn, typeCall}
-use Rattle.sheet.specs.Soundness.{Lent}
+use Rattle.sheet.specs.Calls.{answer, refusalAt, refusal, onSheet, onRule, typingOf, onType, typeOn}
 use Rattle.sheet.proofs.Soundness.{type-refusals}
 use Rattle.nodes.specs.Nodes.{word}
 use Rattle.types.specs.declared.FlatType.{FlatType}
@@ -23,9 +21,9 @@ use Rattle.text.specs.Written.{Puts}
 use Rattle.judgements.specs.declared.Reply.the-variants as reply
 use Rattle.rules.specs.Numbered.{TypesNumbered}
 use Rattle.checker.specs.declared.Answer.{Answer}
-use Rattle.checker.specs.Answers.{answerOf, AnswersWith}
-use Rattle.checker.specs.Parts.{GivesFor, Leaves, Wipes, writtenTo}
-use Rattle.checker.proofs.Answers.{gives-refusal, gives-written, short-call, short-output-call, long-call}
+use Rattle.checker.specs.Answers.{answerOf}
+use Rattle.checker.specs.Parts.{GivesFor, writtenTo}
+use Rattle.checker.proofs.Answers.{gives-refusal, gives-written}
 use Rattle.checker.proofs.Readings.{read-number}
 use Rattle.checker.proofs.RuleLaws.{no-rule, for-rule, type-refused, type-given}
 
@@ -51,11 +49,11 @@ module _ {st : Counts} {w0 w1 : List ℕ} where
         for-rule h (λ s x. onType s (typingOf s x .answer) (λ t. answer (spellType t)))
         (λ s g x i. rw (type-given t s g x i (λ t. answer (spellType t))) (gives-written p e))
 
--- ---- the whole call
+-- ---- no call refuses with 1 after a reading
 
-type-number : (text : Bytes) (s : Sheet) (r : ℕ) → readText text ≡ accepted s → typeOn s r .number ≢ 1
+type-on-number : (text : Bytes) (s : Sheet) (r : ℕ) → readText text ≡ accepted s → typeOn s r .number ≢ 1
 unfolding typeOn onRule onType answer refusal refusalAt
-type-number text s r e = of-rule (getElem? (s .rules) r) refl
+type-on-number text s r e = of-rule (getElem? (s .rules) r) refl
   where
     of-answer : (x : Rule) → getElem? (s .rules) r ≡ some x → (a : TypeAnswer) → typingOf s x .answer ≡ a → onType s a (λ t. answer (spellType t)) .number ≢ 1
     of-answer x q (typed t) i z = omega arith
@@ -65,17 +63,5 @@ type-number text s r e = of-rule (getElem? (s .rules) r) refl
     of-rule none q z = omega arith
     of-rule (some x) q z = of-answer x q (typingOf s x .answer) refl z
 
-module _ (text : Bytes) (r : ℕ) (w0 w1 w2 : List ℕ) (out : Bytes) {a : Answer} where
-  pub type-short : a ≡ answerOf (refusalAt 1 0) → shortWords w0 w1 w2 ≡ true → AnswersWith (typeCall text r w0 w1 w2 out) a w0 w1 w2 out w0 w1 w2 out
-  unfolding typeCall
-  type-short = short-call (onSheet (readText text) (λ s. typeOn s r)) w0 w1 w2 out
-
-  pub type-short-output : a ≡ answerOf (refusalAt 1 0) → length out < 2048 → AnswersWith (typeCall text r w0 w1 w2 out) a w0 w1 w2 out w0 w1 w2 out
-  unfolding typeCall
-  type-short-output = short-output-call (onSheet (readText text) (λ s. typeOn s r)) w0 w1 w2 out
-
-  pub type-done : {v0 v1 v2 x0 x1 x2 : List ℕ} {after : Bytes} → Lent w0 w1 w2 out
-      → Leaves (onSheet (readText text) (λ s. typeOn s r)) a w0 w1 w2 out v0 v1 v2 after → Wipes v0 v1 v2 x0 x1 x2
-      → AnswersWith (typeCall text r w0 w1 w2 out) a w0 w1 w2 out x0 x1 x2 after
-  unfolding typeCall
-  type-done = long-call (onSheet (readText text) (λ s. typeOn s r)) w0 w1 w2 out (read-number text (λ s. typeOn s r) (λ s e. type-number text s r e))
+pub type-number : (text : Bytes) (r : ℕ) → onSheet (readText text) (λ s. typeOn s r) .number ≢ 1
+type-number text r = read-number text (λ s. typeOn s r) (λ s e. type-on-number text s r e)

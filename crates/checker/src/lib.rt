@@ -1,9 +1,10 @@
 // The public calls. Each reads the text anew, uses the lent words as working memory and leaves their first 8,192 words zero.
 // Document 01, Calls. It depends on `reader` for the sheet, on `rules` for a rule of it and on `report` for the report.
+ghost use mathlib.Core.Bool.{_||_};
 ghost use mathlib.Core.Path.{_≡_};
 ghost use Prim.Native.Nat.{_≤_};
 ghost use lib.ListN.{length};
-ghost use Rattle.sheet.specs.Calls.{refusalAt, shortWords};
+ghost use Rattle.sheet.specs.Calls.{refusalAt, shortWords, shortOutput};
 ghost use Rattle.checker.specs.Answers.{answerOf};
 ghost use Rattle.checker.specs.Parts.{ReadsText, Wipes, writtenTo};
 use reader::SheetRead;
@@ -23,8 +24,8 @@ pub struct Answer {
     pub length: u64,
 }
 
-// An answer that writes nothing and took no steps.
-fn refused(number: u64, place: u64) -> Answer
+// An answer that writes nothing and took no steps: a refusal, or 0 for a sheet that is read.
+fn bare(number: u64, place: u64) -> Answer
     ensures { λ r. ⌜ r ≡ answerOf (refusalAt number place) ⌝ }
 {
     Answer {
@@ -58,6 +59,16 @@ fn short(w0: &[u64], w1: &[u64], w2: &[u64]) -> bool
         return true;
     }
     w2.len() < 8192
+}
+
+// Whether a word slice has fewer than 8,192 words, or the output fewer than 2,048 bytes.
+fn short_lent(w0: &[u64], w1: &[u64], w2: &[u64], out: &[u8]) -> bool
+    ensures { λ r. ⌜ r ≡ (shortWords (now (w0 .entry)) (now (w1 .entry)) (now (w2 .entry)) || shortOutput (now (out .entry))) ⌝ }
+{
+    if short(w0, w1, w2) {
+        return true;
+    }
+    out.len() < 2048
 }
 
 // A text of any length: its sheet in the words, or a refusal.

@@ -8,9 +8,9 @@ ghost use Rattle.report.specs.Reports.{reportOn};
 ghost use Rattle.checker.specs.Answers.{AnswersWith};
 ghost use Rattle.checker.specs.Parts.{Leaves, GivesFor};
 use super::Answer;
+use super::bare;
 use super::read_text;
-use super::refused;
-use super::short;
+use super::short_lent;
 use super::wipe_all;
 use super::written;
 use reader::SheetRead;
@@ -25,8 +25,8 @@ fn report_on(w0: &[u64], st: Counts, w1: &mut [u64], w2: &mut [u64], out: &mut [
 {
     match report_sheet(w0, st, w1, w2, out) {
         Reported::Written(end) => written(end, 0),
-        Reported::Short => refused(18, 0),
-        Reported::Refused(n, k) => refused(n, k),
+        Reported::Short => bare(18, 0),
+        Reported::Refused(n, k) => bare(n, k),
     }
 }
 
@@ -43,11 +43,11 @@ fn report_answer(
 {
     match read_text(text, w0, w1) {
         SheetRead::Sheet(st) => report_on(w0, st, w1, w2, out),
-        SheetRead::Refused(n, k) => refused(n, k),
+        SheetRead::Refused(n, k) => bare(n, k),
     }
 }
 
-// Writes the report of a sheet: 0 with its lines in out, else a refusal, which leaves out as it is. Each word slice lends at
+// Writes the report of a sheet: 0 with its lines in out, else a refusal, which leaves out as it is. Each word slice has at
 // least 8,192 words, out at least 2,048 bytes.
 #[no_mangle]
 pub extern "C" fn ocl_report(
@@ -59,11 +59,8 @@ pub extern "C" fn ocl_report(
 ) -> Answer
     ensures { λ a. ⌜ AnswersWith (reportCall (now (text .entry)) (now (w0 .entry)) (now (w1 .entry)) (now (w2 .entry)) (now (out .entry))) a (now (w0 .entry)) (now (w1 .entry)) (now (w2 .entry)) (now (out .entry)) (now (w0 .exit)) (now (w1 .exit)) (now (w2 .exit)) (now (out .exit)) ⌝ }
 {
-    if short(w0, w1, w2) {
-        return refused(1, 0);
-    }
-    if out.len() < 2048 {
-        return refused(1, 0);
+    if short_lent(w0, w1, w2, out) {
+        return bare(1, 0);
     }
     let a = report_answer(text, w0, w1, w2, out);
     wipe_all(w0, w1, w2);

@@ -7,9 +7,9 @@ ghost use Rattle.rules.specs.Accepted.{Known};
 ghost use Rattle.checker.specs.Answers.{AnswersWith};
 ghost use Rattle.checker.specs.Parts.{Leaves, GivesFor};
 use super::Answer;
+use super::bare;
 use super::read_text;
-use super::refused;
-use super::short;
+use super::short_lent;
 use super::wipe_all;
 use super::written;
 use judgements::Reply;
@@ -26,10 +26,10 @@ fn type_on(w0: &[u64], st: Counts, w1: &[u64], w2: &mut [u64], r: u64, out: &mut
     ensures { λ a. ⌜ GivesFor st (now (w0 .entry)) (now (w1 .entry)) (λ s. typeOn s r) a (now (out .entry)) (now (out .exit)) × Kept (now (w2 .entry)) (now (w2 .exit)) ⌝ }
 {
     if st.rules <= r {
-        return refused(14, 0);
+        return bare(14, 0);
     }
     match type_numbered(w0, st, w1, w2, wide(r)) {
-        Reply::No(n, p) => refused(n, node_line(w1, p)),
+        Reply::No(n, p) => bare(n, node_line(w1, p)),
         Reply::Is(t) => written(put_type(out, 0, t), 0),
     }
 }
@@ -48,11 +48,11 @@ fn type_answer(
 {
     match read_text(text, w0, w1) {
         SheetRead::Sheet(st) => type_on(w0, st, w1, w2, r, out),
-        SheetRead::Refused(n, k) => refused(n, k),
+        SheetRead::Refused(n, k) => bare(n, k),
     }
 }
 
-// Types a rule: 0 with the type's spelling in out, else a refusal. Each word slice lends at least 8,192 words, out at least
+// Types a rule: 0 with the type's spelling in out, else a refusal. Each word slice has at least 8,192 words, out at least
 // 2,048 bytes.
 #[no_mangle]
 pub extern "C" fn ocl_type_rule(
@@ -65,11 +65,8 @@ pub extern "C" fn ocl_type_rule(
 ) -> Answer
     ensures { λ a. ⌜ AnswersWith (typeCall (now (text .entry)) rule (now (w0 .entry)) (now (w1 .entry)) (now (w2 .entry)) (now (out .entry))) a (now (w0 .entry)) (now (w1 .entry)) (now (w2 .entry)) (now (out .entry)) (now (w0 .exit)) (now (w1 .exit)) (now (w2 .exit)) (now (out .exit)) ⌝ }
 {
-    if short(w0, w1, w2) {
-        return refused(1, 0);
-    }
-    if out.len() < 2048 {
-        return refused(1, 0);
+    if short_lent(w0, w1, w2, out) {
+        return bare(1, 0);
     }
     let a = type_answer(text, rule, w0, w1, w2, out);
     wipe_all(w0, w1, w2);

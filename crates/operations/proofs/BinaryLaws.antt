@@ -14,7 +14,7 @@ use Rattle.laws.proofs.Tests.{by-if}
 use Rattle.ocl.specs.Types.{Kind, kindCode, sameKind}
 use Rattle.ocl.specs.Values.{Value, bool, int, coll, Values, same, has, add, addAll, orderInt}
 use Rattle.ocl.specs.Forms.{Arith, plus, minus, times, div, modulo, Binary, equal, less, arith as calculation, includes, including, union}
-use Rattle.ocl.specs.Evaluation.{value, stuck, onInt, onColl, given, inRange, isLess, ranged, unlessZero, arithmetic, form, leftFits, binaryApply, isInt, isColl}
+use Rattle.ocl.specs.Evaluation.{Outcome, value, stuck, onInt, onColl, given, inRange, isLess, ranged, unlessZero, arithmetic, form, leftFits, binaryApply, isInt, isColl}
 use Rattle.values.specs.Cells.{bias, payload, fits-bool, fits-int}
 use Rattle.values.specs.Contracts.{means-bool, means-int, SortOf, PayloadOf, SameAt, HasAt, Adds, Unites}
 use Rattle.values.specs.Integers.{numOf, Calculates, Lesser, arithOf}
@@ -28,11 +28,17 @@ use Rattle.nodes.specs.Nodes.{binaryOf}
 use Rattle.nodes.specs.Nodes.{arithByCode as arithCodeOf}
 use Rattle.operations.specs.declared.Ended.{Ended}
 use Rattle.operations.specs.declared.Ended.the-variants as ended
-use Rattle.operations.specs.Answers.{Ran, SmallAnswer, Gives, formedAs}
+use Rattle.operations.specs.Answers.{Lies, Ran, SmallAnswer, Gives, formedAs}
 use Rattle.operations.specs.Operations.{OfTwo, FitsLeft}
 use Rattle.operations.proofs.Words.{formed-small, formed-ran}
 use Rattle.operations.proofs.Sorts.{no-ints, no-int, no-coll, is-coll, is-int, sorted, int-test, coll-test, same-kind}
 use Rattle.operations.proofs.OperationLaws.{ran-stuck, ran-undefined}
+
+-- the forms of two Integers, by their codes
+int-forms : (P : Binary → Type 0) {k : ℕ} → 14 ≤ k → k < 20 → P less → ((o : Arith) → P (calculation o)) → P (binaryOf k)
+unfolding binaryOf
+int-forms P {k} l u a b =
+    rw (ne-eqb k 13 (λ x. omega arith), lt-ltb k 20 u) (by-if P (eqb k 14) less (calculation (arithCodeOf k)) (λ _. a) (λ _. b _))
 
 -- ---- the left operand's kind
 
@@ -42,12 +48,8 @@ module _ {k cell : ℕ} where
   left-any e = record { is = λ v f h. rw e }
 
   pub left-int : {t : ℕ} → 14 ≤ k → k < 20 → SortOf cell t → FitsLeft k cell (eqb t 1)
-  unfolding binaryOf leftFits
-  left-int {t} l u S = record { is = λ v f h. int-test (shape f (S .is v f h) refl) ∙ by v (eqb k 14) refl }
-    where
-      by : (v : Value) (b : Bool) → eqb k 14 ≡ b → isInt v ≡ leftFits (binaryOf k) v
-      by v true e = rw (ne-eqb k 13 (λ x. omega arith), e)
-      by v false e = rw (ne-eqb k 13 (λ x. omega arith), e, lt-ltb k 20 u)
+  unfolding leftFits
+  left-int l u S = record { is = λ v f h. int-test (shape f (S .is v f h) refl) ∙ int-forms (λ op. isInt v ≡ leftFits op v) l u refl (λ o. refl) }
 
   pub left-coll : {t : ℕ} → 20 ≤ k → SortOf cell t → FitsLeft k cell (leb 3 t)
   unfolding binaryOf leftFits
@@ -91,62 +93,56 @@ module _ {sp la lb s : ℕ} {B : List ℕ} where
     ran = λ v w l k. G .is (bool (same v w)) fits-bool (rw (E .is v w (l .fits) (k .fits) (l .cells) (k .cells)) means-bool);
   }
 
-  module _ {t : ℕ} (S : SortOf (getD B sp 0) t) where
-    pub less-left : (t ≡ 1 → ⊥) → OfTwo (binaryApply less) sp la lb s B B ended.Stuck
+  module _ {k : ℕ} (lo : 14 ≤ k) (hi : k < 20) where
+    -- where one of the two is no Integer, whatever would be made of them
+    ints-stuck : ((v w : Value) → Lies v sp la B → Lies w (sp + la) lb B → (f : ℤ → ℤ → Outcome) → onInt v (λ x. onInt w (f x)) ≡ stuck) → OfTwo (binaryApply (binaryOf k)) sp la lb s B B ended.Stuck
     unfolding binaryApply
-    less-left n = record { small = tt; ran = λ v w l k. rw (no-int l S n (λ x. onInt w (λ y. value (bool (isLess (orderInt x y))) s))) ran-stuck }
+    ints-stuck g = record { small = tt; ran = λ v w l k. rw (int-forms (λ op. binaryApply op v w s ≡ stuck) lo hi (g v w l k _) (λ o. g v w l k _)) ran-stuck }
 
-    pub arith-left : (o : Arith) → (t ≡ 1 → ⊥) → OfTwo (binaryApply (calculation o)) sp la lb s B B ended.Stuck
+    pub ints-left : {t : ℕ} → SortOf (getD B sp 0) t → (t ≡ 1 → ⊥) → OfTwo (binaryApply (binaryOf k)) sp la lb s B B ended.Stuck
+    ints-left S n = ints-stuck (λ v w l k f. no-int l S n (λ x. onInt w (f x)))
+
+    pub ints-right : {u : ℕ} → SortOf (getD B (sp + la) 0) u → (u ≡ 1 → ⊥) → OfTwo (binaryApply (binaryOf k)) sp la lb s B B ended.Stuck
+    ints-right R n = ints-stuck (λ v w l k f. no-ints v w f (no-int k R n))
+
+  module _ {t u p q : ℕ} (S : SortOf (getD B sp 0) t) (R : SortOf (getD B (sp + la) 0) u) (e : t ≡ 1) (X : PayloadOf (getD B sp 0) p) (f : u ≡ 1) (Y : PayloadOf (getD B (sp + la) 0) q) where
+    pub less-done : {b : Bool} {A : List ℕ} {r : Ended} → Lesser p q b → Gives (simple.Bool b) sp s B A r → OfTwo (binaryApply less) sp la lb s B A r
     unfolding binaryApply
-    arith-left o n = record { small = tt; ran = λ v w l k. rw (no-int l S n (λ x. onInt w (λ y. given (arithmetic o x y) s))) ran-stuck }
+    less-done L G = record {
+      small = G .small;
+      ran = λ v w l k.
+          let i = is-int l S X e in let j = is-int k R Y f in
+          rw (i .is, j .is) (G .is (bool (isLess (orderInt (i .z) (j .z)))) fits-bool (rw (L .is (i .z) (j .z) (i .ranged) (j .ranged) (i .biased) (j .biased)) means-bool));
+    }
 
-    module _ {u : ℕ} (R : SortOf (getD B (sp + la) 0) u) where
-      pub less-right : (u ≡ 1 → ⊥) → OfTwo (binaryApply less) sp la lb s B B ended.Stuck
+    module _ {o : Arith} {x : Num} (C : Calculates o p q x) where
+      calc : {A : List ℕ} {r : Ended} → SmallAnswer r → ((z y : ℤ) → x ≡ numOf (arithmetic o z y) → T (inRange z) → T (inRange y) → Ran (given (arithmetic o z y) s) sp B A r) → OfTwo (binaryApply (calculation o)) sp la lb s B A r
       unfolding binaryApply
-      less-right n = record { small = tt; ran = λ v w l k. rw (no-ints v w (λ x y. value (bool (isLess (orderInt x y))) s) (no-int k R n)) ran-stuck }
+      calc m g = record {
+        small = m;
+        ran = λ v w l k.
+            let i = is-int l S X e in let j = is-int k R Y f in
+            rw (i .is, j .is) (g (i .z) (j .z) (C .is (i .z) (j .z) (i .ranged) (j .ranged) (i .biased) (j .biased)) (i .ranged) (j .ranged));
+      }
 
-      pub arith-right : (o : Arith) → (u ≡ 1 → ⊥) → OfTwo (binaryApply (calculation o)) sp la lb s B B ended.Stuck
-      unfolding binaryApply
-      arith-right o n = record { small = tt; ran = λ v w l k. rw (no-ints v w (λ x y. given (arithmetic o x y) s) (no-int k R n)) ran-stuck }
+      pub arith-undef : x ≡ num.Undef → OfTwo (binaryApply (calculation o)) sp la lb s B B (ended.Undef s)
+      unfolding numOf
+      arith-undef d = calc tt (λ z y g a b. by (arithmetic o z y) (sym d ∙ g))
+        where
+          by : (v : Option Value) → num.Undef ≡ numOf v → Ran (given v s) sp B B (ended.Undef s)
+          by none g = ran-undefined
+          by (some v) g = absurd (let z : _≡_ {A = ℕ} 0 1 = cc in omega arith)
 
-      module _ {p q : ℕ} (e : t ≡ 1) (X : PayloadOf (getD B sp 0) p) (f : u ≡ 1) (Y : PayloadOf (getD B (sp + la) 0) q) where
-        pub less-done : {b : Bool} {A : List ℕ} {r : Ended} → Lesser p q b → Gives (simple.Bool b) sp s B A r → OfTwo (binaryApply less) sp la lb s B A r
-        unfolding binaryApply
-        less-done L G = record {
-          small = G .small;
-          ran = λ v w l k.
-              let i = is-int l S X e in let j = is-int k R Y f in
-              rw (i .is, j .is) (G .is (bool (isLess (orderInt (i .z) (j .z)))) fits-bool (rw (L .is (i .z) (j .z) (i .ranged) (j .ranged) (i .biased) (j .biased)) means-bool));
-        }
-
-        module _ {o : Arith} {x : Num} (C : Calculates o p q x) where
-          calc : {A : List ℕ} {r : Ended} → SmallAnswer r → ((z y : ℤ) → x ≡ numOf (arithmetic o z y) → T (inRange z) → T (inRange y) → Ran (given (arithmetic o z y) s) sp B A r) → OfTwo (binaryApply (calculation o)) sp la lb s B A r
-          unfolding binaryApply
-          calc m g = record {
-            small = m;
-            ran = λ v w l k.
-                let i = is-int l S X e in let j = is-int k R Y f in
-                rw (i .is, j .is) (g (i .z) (j .z) (C .is (i .z) (j .z) (i .ranged) (j .ranged) (i .biased) (j .biased)) (i .ranged) (j .ranged));
-          }
-
-          pub arith-undef : x ≡ num.Undef → OfTwo (binaryApply (calculation o)) sp la lb s B B (ended.Undef s)
-          unfolding numOf
-          arith-undef d = calc tt (λ z y g a b. by (arithmetic o z y) (sym d ∙ g))
-            where
-              by : (v : Option Value) → num.Undef ≡ numOf v → Ran (given v s) sp B B (ended.Undef s)
-              by none g = ran-undefined
-              by (some v) g = absurd (let z : _≡_ {A = ℕ} 0 1 = cc in omega arith)
-
-          pub arith-done : {n : ℕ} {A : List ℕ} {r : Ended} → x ≡ num.Is n → Gives (simple.Integer (n % 4294967296)) sp s B A r → OfTwo (binaryApply (calculation o)) sp la lb s B A r
-          unfolding numOf payload
-          arith-done {n} {A} {r} d G = calc (G .small) (λ z y g a b. by (arithmetic o z y) (arith-int o z y) (sym d ∙ g))
-            where
-              by : (v : Option Value) → IntOrNone v → num.Is n ≡ numOf v → Ran (given v s) sp B A r
-              by none i g = absurd (let z : _≡_ {A = ℕ} 0 1 = cc in omega arith)
-              by (some v) (an-int {z} h) g =
-                  let m : n ≡ bias z = cc in
-                  let k = bias-small z h in
-                  G .is (int z) (fits-int h) (means-int (omega arith))
+      pub arith-done : {n : ℕ} {A : List ℕ} {r : Ended} → x ≡ num.Is n → Gives (simple.Integer (n % 4294967296)) sp s B A r → OfTwo (binaryApply (calculation o)) sp la lb s B A r
+      unfolding numOf payload
+      arith-done {n} {A} {r} d G = calc (G .small) (λ z y g a b. by (arithmetic o z y) (arith-int o z y) (sym d ∙ g))
+        where
+          by : (v : Option Value) → IntOrNone v → num.Is n ≡ numOf v → Ran (given v s) sp B A r
+          by none i g = absurd (let z : _≡_ {A = ℕ} 0 1 = cc in omega arith)
+          by (some v) (an-int {z} h) g =
+              let m : n ≡ bias z = cc in
+              let k = bias-small z h in
+              G .is (int z) (fits-int h) (means-int (omega arith))
 
   module _ {t : ℕ} (S : SortOf (getD B sp 0) t) where
     pub includes-stuck : t < 3 → OfTwo (binaryApply includes) sp la lb s B B ended.Stuck

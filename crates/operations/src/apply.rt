@@ -23,11 +23,10 @@ use values::order::equal;
 use values::order::includes;
 ghost use Prim.Native.Nat.{_+_, _≤_, _<_};
 ghost use lib.ListN.{length};
-ghost use Rattle.ocl.specs.Forms.{negation, sizeOf, castTo, less as lessForm, equal as equalForm, arith, includes as includesForm, including as includingForm, union as unionForm};
+ghost use Rattle.ocl.specs.Forms.{negation, sizeOf, castTo, equal as equalForm, includes as includesForm, including as includingForm, union as unionForm};
 ghost use Rattle.ocl.specs.Forms.{convert as convertForm};
 ghost use Rattle.ocl.specs.Evaluation.{unaryApply, binaryApply};
 ghost use Rattle.nodes.specs.Nodes.{binaryOf};
-ghost use Rattle.values.specs.Integers.{arithOf};
 ghost use Rattle.tables.specs.Stored.{HoldsModel};
 ghost use Rattle.operations.specs.Tables.{Bounds};
 ghost use Rattle.operations.specs.Operations.{AnyModel, OfOne, OfTwo, FitsLeft, kindFor, unaryFor};
@@ -153,10 +152,10 @@ fn same_value(stack: &mut [u64], sp: usize, la: usize, lb: usize, steps: u64) ->
     put(stack, sp, Simple::Bool { b }, steps)
 }
 
-// `less`
-fn lesser(stack: &mut [u64], sp: usize, la: usize, lb: usize, steps: u64) -> Ended
-    requires { ⌜ (1 ≤ la) × (1 ≤ lb) × (sp + la + lb ≤ length (now stack)) ⌝ }
-    ensures { λ r. ⌜ OfTwo (binaryApply lessForm) sp la lb steps (now (stack .entry)) (now (stack .exit)) r ⌝ }
+// `less` (14), `plus` (15), `minus` (16), `times` (17), `div` (18), `mod` (19)
+fn integers(form: u64, stack: &mut [u64], sp: usize, la: usize, lb: usize, steps: u64) -> Ended
+    requires { ⌜ (14 ≤ form) × (form < 20) × (1 ≤ la) × (1 ≤ lb) × (sp + la + lb ≤ length (now stack)) ⌝ }
+    ensures { λ r. ⌜ OfTwo (binaryApply (binaryOf form)) sp la lb steps (now (stack .entry)) (now (stack .exit)) r ⌝ }
 {
     let x = stack[sp];
     let y = stack[sp + la];
@@ -166,24 +165,13 @@ fn lesser(stack: &mut [u64], sp: usize, la: usize, lb: usize, steps: u64) -> End
     if sort_of(y) != INTEGER {
         return Ended::Stuck;
     }
-    let b = less(payload_of(x), payload_of(y));
-    put(stack, sp, Simple::Bool { b }, steps)
-}
-
-// `plus` (0), `minus` (1), `times` (2), `div` (3), `mod` (4)
-fn calculated(op: u64, stack: &mut [u64], sp: usize, la: usize, lb: usize, steps: u64) -> Ended
-    requires { ⌜ (1 ≤ la) × (1 ≤ lb) × (sp + la + lb ≤ length (now stack)) ⌝ }
-    ensures { λ r. ⌜ OfTwo (binaryApply (arith (arithOf op))) sp la lb steps (now (stack .entry)) (now (stack .exit)) r ⌝ }
-{
-    let x = stack[sp];
-    let y = stack[sp + la];
-    if sort_of(x) != INTEGER {
-        return Ended::Stuck;
+    let left = payload_of(x);
+    let right = payload_of(y);
+    if form == 14 {
+        let b = less(left, right);
+        return put(stack, sp, Simple::Bool { b }, steps);
     }
-    if sort_of(y) != INTEGER {
-        return Ended::Stuck;
-    }
-    let Num::Is { n } = calculate(op, payload_of(x), payload_of(y)) else {
+    let Num::Is { n } = calculate(form - 15, left, right) else {
         return Ended::Undef { steps };
     };
     put(stack, sp, Simple::Integer { biased: n % END }, steps)
@@ -242,8 +230,7 @@ pub fn binary_apply(
 {
     match form {
         13 => same_value(stack, sp, la, lb, steps),
-        14 => lesser(stack, sp, la, lb, steps),
-        15..=19 => calculated(form - 15, stack, sp, la, lb, steps),
+        14..=19 => integers(form, stack, sp, la, lb, steps),
         20 => contains(stack, sp, la, lb, steps),
         21 => including(stack, sp, la, lb, steps),
         _ => united(stack, sp, la, lb, steps),

@@ -1,5 +1,5 @@
 -- From the report call's promise to what the program prints. Assumes nothing.
-use Prim.Native.Nat.{ℕ, _≤_}
+use Prim.Native.Nat.{ℕ}
 use mathlib.Core.Path.{_≡_, refl, sym, ap, _∙_}
 use mathlib.Core.Logic.{_≢_}
 use mathlib.Core.List.{List}
@@ -12,8 +12,7 @@ use Rattle.sheet.specs.Calls.{Verdict, refusalAt, outputAfter, shortWords, shor
 use Rattle.sheet.specs.Report.{reportOf, reportCall, printed, program}
 use Rattle.checker.specs.Answers.{answerOf, AnswersWith}
 use Rattle.checker.specs.declared.Answer.{Answer}
-use Rattle.printing.specs.Printed.{Front, Reported, reported}
-use Rattle.printing.specs.declared.Filled.the-variants.{With}
+use Rattle.printing.specs.Printed.{Front}
 
 -- an answer's bytes stand at the front of the output
 answer-front : (v : Verdict) (out : Bytes) → v .number ≡ 0 → Front (printed v) (outputAfter v out) (length (v .output))
@@ -46,7 +45,3 @@ module _ (text : Bytes) (w0 w1 w2 : List ℕ) (out : Bytes) (long0 : length w0 �
     pub refusal-is : r .number ≢ 0 → printed (refusalAt (r .number) (r .place)) ≡ program text
     unfolding program
     refusal-is h = rw is (refusal-printed (reportOf text 65536) (rw is at h))
-
--- what is printed lies within the output
-pub reported-room : {text out : Bytes} {m : ℕ} → Reported text out (With m) → m ≤ length out
-reported-room (reported n m h f) = f .room

@@ -1,9 +1,8 @@
--- What is printed stands at the front of the output, and is what the program prints for the bytes that were read.
+-- What is printed stands at the front of the output, and what was read at the front of a buffer.
 use Prim.Native.Nat.{ℕ, _≤_}
 use mathlib.Core.Path.{_≡_}
 use lib.ListN.{length, take}
 use Rattle.sheet.specs.Text.{Bytes}
-use Rattle.sheet.specs.Report.{program}
 use Rattle.printing.specs.declared.Filled.{Filled}
 use Rattle.printing.specs.declared.Filled.the-variants.{With, Failed}
 
@@ -17,8 +16,3 @@ pub record Front (b out : Bytes) (n : ℕ) : Type 0 where
 abbrev pub Within : Bytes → Filled → Type 0
 Within text (With n) = n ≤ length text
 Within text Failed = Unit {0}
-
--- so many bytes at the front of text were read, and the front of out is what the program prints for them
-pub data Reported (text out : Bytes) : Filled → Type 0 where
-  reported : (n m : ℕ) → n ≤ length text → Front (program (take n text)) out m → Reported text out (With m)
-  unread : Reported text out Failed

@@ -1,10 +1,10 @@
-// What the program prints for a text, and for what a descriptor gives. It depends on `checker` for the report, on `text` for
-// writing a refusal, and on the kit's io for reading.
+// What the program reads, and what it prints for a text. It depends on `checker` for the report, on `text` for writing a refusal,
+// and on the kit's io for reading.
 ghost use Prim.Native.Nat.{_≤_, _<_};
 ghost use lib.ListN.{length};
 ghost use Rattle.sheet.specs.Calls.{refusalAt};
 ghost use Rattle.sheet.specs.Report.{printed, program};
-ghost use Rattle.printing.specs.Printed.{Front, Within, Reported};
+ghost use Rattle.printing.specs.Printed.{Front, Within};
 use checker::report_call::ocl_report;
 use text::spelling::put_byte;
 use text::spelling::put_bytes;
@@ -44,7 +44,7 @@ pub fn printed_text(text: &[u8], out: &mut [u8; 65536]) -> usize
 }
 
 // Reads until the input ends or the buffer is full.
-fn read_text(fd: i32, text: &mut [u8]) -> Filled
+pub fn read_input(fd: i32, text: &mut [u8]) -> Filled
     ensures { λ r. ⌜ Within (now (text .exit)) r ⌝ }
 {
     let mut n: usize = 0;
@@ -60,16 +60,4 @@ fn read_text(fd: i32, text: &mut [u8]) -> Filled
         n += more;
     }
     Filled::With(n)
-}
-
-// Reads an input and puts what the program prints for it at the front of the output. What is lent for the text holds more than
-// a sheet may have, so that a long sheet is told from one that was cut.
-pub fn report_input(fd: i32, text: &mut [u8], out: &mut [u8; 65536]) -> Filled
-    requires { ⌜ 49152 < length (now text) ⌝ }
-    ensures { λ r. ⌜ Reported (now (text .exit)) (now (out .exit)) r ⌝ }
-{
-    let Filled::With(n) = read_text(fd, text) else {
-        return Filled::Failed;
-    };
-    Filled::With(printed_text(&text[..n], out))
 }

@@ -70,7 +70,7 @@ module _ {c t p : ℕ} (S : SortOf c t) (Q : PayloadOf c p) where
   shape-of v f e = shape f (S .is v f e) (Q .is v f e)
 
   pub simple-bool : t ≡ 0 → SimpleOf c (simple.Bool (eqb p 1))
-  simple-bool z = record { narrow = tt; is = λ v f l e. by (shape-of v f e) }
+  simple-bool z = record { is = λ v f l e. by (shape-of v f e) }
     where
       by : {v : Value} → Shape t p v → Means (simple.Bool (eqb p 1)) v
       by (shape-bool h i) = rw (bool-back i) means-bool
@@ -79,7 +79,7 @@ module _ {c t p : ℕ} (S : SortOf c t) (Q : PayloadOf c p) where
       by (shape-coll h i j) = absurd (omega arith)
 
   pub simple-int : t ≡ 1 → SimpleOf c (simple.Integer p)
-  simple-int z = record { narrow = Q .small; is = λ v f l e. by (shape-of v f e) }
+  simple-int z = record { is = λ v f l e. by (shape-of v f e) }
     where
       by : {v : Value} → Shape t p v → Means (simple.Integer p) v
       by (shape-bool h i) = absurd (omega arith)
@@ -88,7 +88,7 @@ module _ {c t p : ℕ} (S : SortOf c t) (Q : PayloadOf c p) where
       by (shape-coll h i j) = absurd (omega arith)
 
   pub simple-obj : (t ≡ 0 → ⊥) → (t ≡ 1 → ⊥) → SimpleOf c (simple.Object p)
-  simple-obj y z = record { narrow = Q .small; is = λ v f l e. by (shape-of v f e) (let q = S .is v f e in omega arith) }
+  simple-obj y z = record { is = λ v f l e. by (shape-of v f e) (let q = S .is v f e in omega arith) }
     where
       by : {v : Value} → Shape t p v → t < 3 → Means (simple.Object p) v
       by (shape-bool h i) l = absurd (y h)

@@ -44,7 +44,6 @@ Narrow (simple.Object n) = n < 4294967296
 
 -- the simple value with this cell
 pub record SimpleOf (cell : ℕ) (r : Simple) : Type 0 where
-  pub narrow : Narrow r
   pub is : (v : Value) → Fits v → sort v < 3 → cell ≡ head v → Means r v
 
 -- and its cell

@@ -1,16 +1,15 @@
--- `main`: what is printed lies within the output. Assumes nothing.
+-- `main`: what is read lies within the buffer, and what is printed within the output. Assumes nothing.
 use borrow.Author.Needs.{needs}
 use mathlib.Core.Path.{sym}
 use lib.Seq.{length-take-le}
-use Rattle.printing.proofs.Verdicts.{reported-room}
 use Rattle.ocl_report.proofs.main.Statement.{statement}
 use Rattle.ocl_report.proofs.main.Tie as tie
 
-slice-aggregate-report-input : tie.Need-slice-aggregate-report-input
-slice-aggregate-report-input c = search needs
+slice-aggregate-read-input : tie.Need-slice-aggregate-read-input
+slice-aggregate-read-input c = search needs
 
-report-input-requires : tie.Need-report-input-requires
-report-input-requires c κs = search needs
+read-input-requires : tie.Need-read-input-requires
+read-input-requires c κs = search needs
 
 enum-known-n : tie.Need-enum-known-n
 enum-known-n c = search needs
@@ -27,11 +26,20 @@ fail-requires c κs = search needs
 returns : tie.Need-returns
 returns c = search needs
 
+array-share-prefix-text : tie.Need-array-share-prefix-text
+array-share-prefix-text c = rw (c .before .n .given .1) at (c .before .before .before .before .read-input .ensures)
+
+slice-aggregate-printed-text : tie.Need-slice-aggregate-printed-text
+slice-aggregate-printed-text c = sym (length-take-le _ _ (rw (c .before .before .n .given .1) at (c .before .before .before .before .before .read-input .ensures)))
+
+printed-text-requires : tie.Need-printed-text-requires
+printed-text-requires c κs = search needs
+
 array-share-prefix-out : tie.Need-array-share-prefix-out
-array-share-prefix-out c = reported-room (rw (c .before .n .given .1) at (c .before .before .before .before .report-input .ensures))
+array-share-prefix-out c = search needs
 
 slice-aggregate-write-all : tie.Need-slice-aggregate-write-all
-slice-aggregate-write-all c = sym (length-take-le _ _ (reported-room (rw (c .before .before .n .given .1) at (c .before .before .before .before .before .report-input .ensures))))
+slice-aggregate-write-all c = sym (length-take-le _ _ (c .before .printed-text .ensures .room))
 
 write-all-requires : tie.Need-write-all-requires
 write-all-requires c κs = search needs
@@ -52,13 +60,16 @@ pub main-spec : {M : Type 1} → statement M
 main-spec =
     tie.close
     (tie.spec
-    slice-aggregate-report-input
-    report-input-requires
+    slice-aggregate-read-input
+    read-input-requires
     enum-known-n
     enum-told
     slice-aggregate-fail
     fail-requires
     returns
+    array-share-prefix-text
+    slice-aggregate-printed-text
+    printed-text-requires
     array-share-prefix-out
     slice-aggregate-write-all
     write-all-requires

@@ -1,15 +1,16 @@
 use borrow.Author.Needs.{needs}
 use mathlib.Core.Path.{sym, _∙_}
-use Rattle.checker.proofs.Answers.{all-lent, still-long}
-use Rattle.checker.proofs.TypeCalls.{type-short, type-short-output, type-done}
+use Rattle.sheet.specs.Calls.{typeCall}
+use Rattle.checker.proofs.Answers.{all-lent, still-long, short-call, long-call}
+use Rattle.checker.proofs.TypeCalls.{type-number}
 use Rattle.checker.proofs.type_call.ocl_type_rule.Statement.{statement}
 use Rattle.checker.proofs.type_call.ocl_type_rule.Tie as tie
 
-short-requires : tie.Need-short-requires
-short-requires c κs = search needs
+short-lent-requires : tie.Need-short-lent-requires
+short-lent-requires c κs = search needs
 
-refused-requires : tie.Need-refused-requires
-refused-requires c κs = search needs
+bare-requires : tie.Need-bare-requires
+bare-requires c κs = search needs
 
 same-length : tie.Need-same-length
 same-length c = search needs
@@ -20,14 +21,18 @@ same-length-2 c = search needs
 same-length-3 : tie.Need-same-length-3
 same-length-3 c = search needs
 
-returns : tie.Need-returns
-returns c = type-short _ _ _ _ _ _ (c .refused .ensures) (sym (c .before .before .short .ensures) ∙ c .before .if1 .taken)
-
-refused-requires-2 : tie.Need-refused-requires-2
-refused-requires-2 c κs = search needs
-
 same-length-4 : tie.Need-same-length-4
 same-length-4 c = search needs
+
+returns : tie.Need-returns
+unfolding typeCall
+returns c = short-call _ _ _ _ _ (c .bare .ensures) (sym (c .before .before .short-lent .ensures) ∙ c .before .if1 .taken)
+
+type-answer-requires : tie.Need-type-answer-requires
+type-answer-requires c κs = all-lent (sym (c .before .before .before .before .before .short-lent .ensures) ∙ c .before .before .before .before .if1 .left)
+
+wipe-all-requires : tie.Need-wipe-all-requires
+wipe-all-requires c κs = still-long (all-lent (sym (c .before .before .before .before .before .before .before .before .before .before .before .before .before .before .before .before .before .short-lent .ensures) ∙ c .before .before .before .before .before .before .before .before .before .before .before .before .before .before .before .before .if1 .left)) (c .before .before .before .before .before .before .before .before .before .before .before .type-answer .ensures)
 
 same-length-5 : tie.Need-same-length-5
 same-length-5 c = search needs
@@ -35,49 +40,31 @@ same-length-5 c = search needs
 same-length-6 : tie.Need-same-length-6
 same-length-6 c = search needs
 
-returns-2 : tie.Need-returns-2
-returns-2 c = type-short-output _ _ _ _ _ _ (c .refused2 .ensures) (c .before .if2 .taken)
-
-type-answer-requires : tie.Need-type-answer-requires
-type-answer-requires c κs = all-lent (sym (c .before .before .before .before .before .before .short .ensures) ∙ c .before .before .before .before .before .if1 .left) (c .before .before .before .before .if2 .left)
-
-wipe-all-requires : tie.Need-wipe-all-requires
-wipe-all-requires c κs = still-long (all-lent (sym (c .before .before .before .before .before .before .before .before .before .before .before .before .before .before .before .before .before .before .short .ensures) ∙ c .before .before .before .before .before .before .before .before .before .before .before .before .before .before .before .before .before .if1 .left) (c .before .before .before .before .before .before .before .before .before .before .before .before .before .before .before .before .if2 .left)) (c .before .before .before .before .before .before .before .before .before .before .before .type-answer .ensures)
-
 same-length-7 : tie.Need-same-length-7
 same-length-7 c = search needs
 
 same-length-8 : tie.Need-same-length-8
 same-length-8 c = search needs
 
-same-length-9 : tie.Need-same-length-9
-same-length-9 c = search needs
-
-same-length-10 : tie.Need-same-length-10
-same-length-10 c = search needs
-
-returns-3 : tie.Need-returns-3
-returns-3 c = type-done _ _ _ _ _ _ (all-lent (sym (c .before .before .before .before .before .before .before .before .before .before .before .before .before .before .before .before .before .before .before .before .before .before .before .before .before .short .ensures) ∙ c .before .before .before .before .before .before .before .before .before .before .before .before .before .before .before .before .before .before .before .before .before .before .before .before .if1 .left) (c .before .before .before .before .before .before .before .before .before .before .before .before .before .before .before .before .before .before .before .before .before .before .before .if2 .left)) (c .before .before .before .before .before .before .before .before .before .before .before .before .before .before .before .before .before .before .type-answer .ensures) (c .before .before .before .before .before .before .wipe-all .ensures)
+returns-2 : tie.Need-returns-2
+unfolding typeCall
+returns-2 c = long-call _ _ _ _ _ (type-number _ _) (sym (c .before .before .before .before .before .before .before .before .before .before .before .before .before .before .before .before .before .before .before .before .before .before .before .before .short-lent .ensures) ∙ c .before .before .before .before .before .before .before .before .before .before .before .before .before .before .before .before .before .before .before .before .before .before .before .if1 .left) (c .before .before .before .before .before .before .before .before .before .before .before .before .before .before .before .before .before .before .type-answer .ensures) (c .before .before .before .before .before .before .wipe-all .ensures)
 
 pub ocl-type-rule-spec : {M : Type 1} → statement M
 ocl-type-rule-spec =
     tie.close
     (tie.spec
-    short-requires
-    refused-requires
+    short-lent-requires
+    bare-requires
     same-length
     same-length-2
     same-length-3
-    returns
-    refused-requires-2
     same-length-4
-    same-length-5
-    same-length-6
-    returns-2
+    returns
     type-answer-requires
     wipe-all-requires
+    same-length-5
+    same-length-6
     same-length-7
     same-length-8
-    same-length-9
-    same-length-10
-    returns-3)
+    returns-2)

@@ -2,7 +2,7 @@
 use native.Mathlib.Omega.{arith}
 use mathlib.Core.Logic.{⊎-elim}
 use mathlib.Core.Path.{_≡_}
-use Rattle.operations.proofs.BinaryLaws.{binary-by, binary-13, binary-14, binary-15, binary-20, binary-21, binary-22}
+use Rattle.operations.proofs.BinaryLaws.{binary-by, binary-13, binary-20, binary-21, binary-22}
 use borrow.Author.Needs.{needs}
 use Rattle.operations.proofs.apply.binary_apply.Statement.{statement}
 use Rattle.operations.proofs.apply.binary_apply.Tie as tie
@@ -10,20 +10,14 @@ use Rattle.operations.proofs.apply.binary_apply.Tie as tie
 same-value-requires : tie.Need-same-value-requires
 same-value-requires c κs = search needs
 
-lesser-requires : tie.Need-lesser-requires
-lesser-requires c κs = search needs
-
 contains-requires : tie.Need-contains-requires
 contains-requires c κs = search needs
 
 including-requires : tie.Need-including-requires
 including-requires c κs = search needs
 
-sub-calculated : tie.Need-sub-calculated
-sub-calculated c = search needs
-
-calculated-requires : tie.Need-calculated-requires
-calculated-requires c κs = search needs
+integers-requires : tie.Need-integers-requires
+integers-requires c κs = search needs
 
 united-requires : tie.Need-united-requires
 united-requires c κs = search needs
@@ -38,42 +32,34 @@ same-length-2 : tie.Need-same-length-2
 same-length-2 c = search needs
 
 returns-2 : tie.Need-returns-2
-returns-2 c = binary-by _ (binary-14 (c .before .before .before .before .match .keys2)) (c .before .before .lesser .ensures)
+returns-2 c = binary-by _ (binary-20 (c .before .before .before .before .match .keys2)) (c .before .before .contains .ensures)
 
 same-length-3 : tie.Need-same-length-3
 same-length-3 c = search needs
 
 returns-3 : tie.Need-returns-3
-returns-3 c = binary-by _ (binary-20 (c .before .before .before .before .match .keys3)) (c .before .before .contains .ensures)
+returns-3 c = binary-by _ (binary-21 (c .before .before .before .before .match .keys3)) (c .before .before .including .ensures)
 
 same-length-4 : tie.Need-same-length-4
 same-length-4 c = search needs
 
 returns-4 : tie.Need-returns-4
-returns-4 c = binary-by _ (binary-21 (c .before .before .before .before .match .keys4)) (c .before .before .including .ensures)
+returns-4 c = search needs
 
 same-length-5 : tie.Need-same-length-5
 same-length-5 c = search needs
 
 returns-5 : tie.Need-returns-5
-returns-5 c = binary-by _ (binary-15 {k = c .before .before .before .before .before .before .before .before .args .form} (omega arith) (omega arith)) (c .before .before .calculated .ensures)
-
-same-length-6 : tie.Need-same-length-6
-same-length-6 c = search needs
-
-returns-6 : tie.Need-returns-6
-returns-6 c = binary-by _ (binary-22 (⊎-elim {C = c .before .before .before .before .before .before .before .args .form ≡ 22} (λ w. omega arith) (λ w. omega arith) (c .before .before .before .before .if1 .came))) (c .before .before .united .ensures)
+returns-5 c = binary-by _ (binary-22 (⊎-elim {C = c .before .before .before .before .before .before .before .args .form ≡ 22} (λ w. omega arith) (λ w. omega arith) (c .before .before .before .before .if1 .came))) (c .before .before .united .ensures)
 
 pub binary-apply-spec : {M : Type 1} → statement M
 binary-apply-spec =
     tie.close
     (tie.spec
     same-value-requires
-    lesser-requires
     contains-requires
     including-requires
-    sub-calculated
-    calculated-requires
+    integers-requires
     united-requires
     same-length
     returns
@@ -84,6 +70,4 @@ binary-apply-spec =
     same-length-4
     returns-4
     same-length-5
-    returns-5
-    same-length-6
-    returns-6)
+    returns-5)

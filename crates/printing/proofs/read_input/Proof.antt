@@ -1,10 +1,10 @@
--- `read_text` meets its contract. Each turn reads a byte or more, so that what is left of the buffer falls. Assumes nothing.
+-- `read_input` meets its contract. Each turn reads a byte or more, so that what is left of the buffer falls. Assumes nothing.
 use Prim.Native.Nat.{_-_, _≤_}
 use mathlib.Core.Path.{_≡_}
 use lib.ListN.{length}
 use borrow.Author.Needs.{needs}
-use Rattle.printing.proofs.read_text.Statement.{statement}
-use Rattle.printing.proofs.read_text.Tie as tie
+use Rattle.printing.proofs.read_input.Statement.{statement}
+use Rattle.printing.proofs.read_input.Tie as tie
 
 abbrev Inv-loop : tie.InvT-loop
 Inv-loop fd text₀ n₀ text n = (n ≤ length text) × (length text ≡ length text₀)
@@ -66,8 +66,8 @@ same-length-3 c = search needs
 returns-3 : tie.Need-returns-3 Inv-loop μ-loop
 returns-3 c = search needs
 
-pub read-text-spec : {M : Type 1} → statement M
-read-text-spec =
+pub read-input-spec : {M : Type 1} → statement M
+read-input-spec =
     tie.close
     (tie.spec
     Inv-loop
