@@ -66,7 +66,7 @@ addAll-every k (every-cons {v} p h) a = addAll-every k h (add-every k v p a)
 
 -- ---- sizes
 
-size-pos : (v : Value) → 1 ≤ size v
+pub size-pos : (v : Value) → 1 ≤ size v
 unfolding size
 size-pos (bool b) = omega arith
 size-pos (int z) = omega arith

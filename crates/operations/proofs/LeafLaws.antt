@@ -17,6 +17,7 @@ use Rattle.ocl.specs.Values.{Value, bool, int, obj, coll, Values, nil, cons, si
 use Rattle.ocl.specs.Forms.{truth}
 use Rattle.ocl.specs.Model.{Model, isA}
 use Rattle.ocl.specs.Evaluation.{bound, instances, leafRun}
+use Rattle.ocl.proofs.Values.{size-pos}
 use Rattle.values.specs.Cells.{head, enc, fits-bool, fits-int, fits-obj}
 use Rattle.values.specs.Contracts.{means-bool, means-int, means-obj, EmptyOf, Forms, Appends, Copies}
 use Rattle.values.specs.declared.Simple.the-variants as simple
@@ -32,7 +33,7 @@ use Rattle.operations.specs.declared.Ended.the-variants as ended
 use Rattle.operations.specs.Answers.{Lies, Under, Ran, Gives, formedAs}
 use Rattle.operations.specs.Tables.{IsA, WithObject, Instances}
 use Rattle.operations.specs.Runs.{ModelIn, Held, free, held, Evals, Variable, leafFor}
-use Rattle.operations.proofs.Words.{under-refl, under-then, one-cell, lies-above, formed-small, formed-ran, formed-value}
+use Rattle.operations.proofs.Words.{under-refl, under-then, lies-above, formed-small, formed-ran, formed-value}
 use Rattle.operations.proofs.OperationLaws.{ran-stuck, ran-undefined}
 use Rattle.operations.proofs.Sorts.{bias-unbias, unbias-ranged}
 
@@ -52,7 +53,7 @@ module _ {i sp s : ℕ} {env B : List ℕ} where
       where
         by : (o : Option Value) → Held B sp (getD env i 0) o → Ran (bound o s) sp B B ended.Stuck
         by none (free e) = absurd (n e)
-        by (some v) (held p' a l m k) = absurd (let z = l .long in let y = one-cell v in omega arith)
+        by (some v) (held p' a l m k) = absurd (let z = l .long in let y = size-pos v in omega arith)
 
     pub variable-done : {A : List ℕ} (f : Formed) {r : Ended} → sp ≤ length B → Copies p sp B A f → r ≡ formedAs f s → Variable i env sp s B A r
     variable-done {A} f {r} room C e = rw e (record { small = formed-small f s (C .small); ran = λ ρ rel. by (ρ i) (rel .at i) })

@@ -15,6 +15,7 @@ use Rattle.ocl.specs.Types.{class, simpleSubtype}
 use Rattle.ocl.specs.Values.{Value, obj, size}
 use Rattle.ocl.specs.Model.{Row, Model, isA, classIsA}
 use Rattle.ocl.specs.Evaluation.{Outcome, stuck, onObj, given}
+use Rattle.ocl.proofs.Values.{size-pos}
 use Rattle.types.specs.Flat.{parentsIn}
 use Rattle.values.specs.Cells.{enc}
 use Rattle.values.specs.Contracts.{SortOf, PayloadOf, Brings}
@@ -31,7 +32,7 @@ use Rattle.operations.specs.declared.Place.{Place}
 use Rattle.operations.specs.declared.Place.the-variants as place
 use Rattle.operations.specs.Answers.{Ends, ends-undefined, ends-stuck, Ran, SmallAnswer, formedAs}
 use Rattle.operations.specs.Tables.{Plain, IsA, Owner, FindsSlot, cellsStart, SlotStands, Attribute}
-use Rattle.operations.proofs.Words.{under-refl, head-at, formed-small, formed-value, one-cell}
+use Rattle.operations.proofs.Words.{under-refl, head-at, formed-small, formed-value}
 
 -- ---- classes and rows
 
@@ -140,7 +141,7 @@ module _ (st : Counts) (w0 : List ℕ) (j a e : ℕ) (p : a ≡ cellsStart st w0
 
   module _ (sp s : ℕ) {B : List ℕ} (room : 8192 ≤ length w0) where
     pub stands-empty : e ≤ a → SlotStands st w0 j sp s B B ended.Stuck
-    stands-empty k = record { small = tt; is = λ v f m h l x. absurd (let z = size-is v (omega arith) h l x in let y = one-cell v in omega arith) }
+    stands-empty k = record { small = tt; is = λ v f m h l x. absurd (let z = size-is v (omega arith) h l x in let y = size-pos v in omega arith) }
 
     pub stands-far : 2048 < e → SlotStands st w0 j sp s B B ended.Stuck
     stands-far k = record { small = tt; is = λ v f m h l x. absurd (let z = size-is v (omega arith) h l x in omega arith) }

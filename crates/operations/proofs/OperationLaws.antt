@@ -13,6 +13,7 @@ use Rattle.ocl.specs.Values.{Value, bool, int, coll, nil, count, size, addAll}
 use Rattle.ocl.specs.Model.{Model}
 use Rattle.ocl.specs.Forms.{Unary, negation, sizeOf, convert, castTo}
 use Rattle.ocl.specs.Evaluation.{Outcome, value, undefined, stuck, inRange, form, cast, unaryApply}
+use Rattle.ocl.proofs.Values.{count-sizes}
 use Rattle.values.specs.Cells.{bias, fits-bool, fits-int}
 use Rattle.values.specs.Contracts.{means-bool, means-int, SortOf, PayloadOf, Converts}
 use Rattle.values.specs.declared.Simple.the-variants as simple
@@ -27,7 +28,7 @@ use Rattle.operations.specs.Answers.{Lies, ends-value, ends-undefined, e
 use Rattle.operations.specs.Tables.{IsA}
 use Rattle.operations.specs.Operations.{AnyModel, OfOne, kindFor, unaryFor}
 use Rattle.operations.proofs.Words.{under-refl, head-at, formed-small, formed-ran}
-use Rattle.operations.proofs.Sorts.{no-bool, is-bool, bit-zero, no-coll, IsColl, is-coll, count-is, sorted, known, count-small, truth-T}
+use Rattle.operations.proofs.Sorts.{no-bool, is-bool, bit-zero, no-coll, IsColl, is-coll, count-is, sorted, known, truth-T}
 use Rattle.operations.proofs.Lookups.{is-object}
 
 -- ---- answers with no cells of their own
@@ -45,7 +46,7 @@ unfolding size
 total-is S P small l x =
     let a = count-is l S P (x .kind) (x .members) (x .is) in
     let b = l .long ∙ ap size (x .is) in
-    let c = count-small (x .members) in
+    let c = count-sizes (x .members) in
     (a, omega arith)
 
 module _ {sp s len : ℕ} {B : List ℕ} where
@@ -131,15 +132,12 @@ module _ {sp s len : ℕ} {B : List ℕ} where
 pub any-model : {Ok : Model → Type 0} {op : Model → Value → ℕ → Outcome} {sp len s : ℕ} {B A : List ℕ} {r : Ended} → OfOne AnyModel op sp len s B A r → OfOne Ok op sp len s B A r
 any-model x = record { small = x .small; ran = λ m ok v l. x .ran m (record {}) v l }
 
-kind-codes : (n : ℕ) → n < 3 → n ≡ kindCode (kindFor n)
+pub kind-code : (n : ℕ) → n < 3 → n ≡ kindCode (kindFor n)
 unfolding kindFor kindCode
-kind-codes zero h = refl
-kind-codes (suc zero) h = refl
-kind-codes (suc (suc zero)) h = refl
-kind-codes (suc (suc (suc n))) h = absurd (omega arith)
-
-pub kind-code : {n : ℕ} → n < 3 → n ≡ kindCode (kindFor n)
-kind-code {n} h = kind-codes n h
+kind-code zero h = refl
+kind-code (suc zero) h = refl
+kind-code (suc (suc zero)) h = refl
+kind-code (suc (suc (suc n))) h = absurd (omega arith)
 
 convert-codes : (n c : ℕ) → n < 3 → unaryFor (9 + n) c ≡ convert (kindFor n)
 unfolding unaryFor unaryOf kindFor

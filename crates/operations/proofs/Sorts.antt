@@ -11,13 +11,13 @@ use borrow.Author.Tests.{lt-ltb, ltb-true, ltb-false, eq-eqb, ne-eqb, le-leb, lt
 use Rattle.laws.specs.Choice.{if_then_else_}
 use Rattle.laws.specs.Integers.{unbias}
 use Rattle.ocl.specs.Types.{Kind, set, sequence, bag, kindCode}
-use Rattle.ocl.specs.Values.{Value, bool, int, obj, coll, Values, nil, cons, count, size, sizes}
+use Rattle.ocl.specs.Values.{Value, bool, int, obj, coll, Values, count}
 use Rattle.ocl.specs.Evaluation.{Outcome, stuck, onBool, onInt, onColl, isInt, isColl, inRange}
 use Rattle.values.specs.Cells.{bit, bias, payload, AllFit}
 use Rattle.values.specs.Contracts.{SortOf, PayloadOf}
 use Rattle.values.proofs.Heads.{shape, Shape, shape-bool, shape-int, shape-obj, shape-coll}
 use Rattle.operations.specs.Answers.{Lies, truthOf}
-use Rattle.operations.proofs.Words.{head-at, one-cell}
+use Rattle.operations.proofs.Words.{head-at}
 
 -- ---- truth values
 
@@ -156,12 +156,6 @@ same-kind sequence bag e = absurd (omega arith)
 same-kind bag set e = absurd (omega arith)
 same-kind bag sequence e = absurd (omega arith)
 same-kind bag bag e = refl
-
--- a collection has no more members than cells
-pub count-small : (vs : Values) → count vs ≤ sizes vs
-unfolding count size
-count-small nil = omega arith
-count-small (cons v vs) = let a = count-small vs in let b = one-cell v in omega arith
 
 -- ---- Integers
 

@@ -13,6 +13,7 @@ use Rattle.laws.specs.Choice.{if_then_else_}
 use Rattle.laws.proofs.Slices.{cut-part, trim, under-top}
 use Rattle.ocl.specs.Values.{Value, size}
 use Rattle.ocl.specs.Evaluation.{value, stop, form}
+use Rattle.ocl.proofs.Values.{size-pos}
 use Rattle.values.specs.Cells.{head, enc, Fits}
 use Rattle.values.specs.Contracts.{Means, means-bool, means-int, means-obj, Pushes, Forms, SortOf, PayloadOf}
 use Rattle.values.specs.Contracts.{SmallForm}
@@ -20,7 +21,6 @@ use Rattle.values.specs.declared.Simple.{Simple}
 use Rattle.values.specs.declared.Formed.{Formed}
 use Rattle.values.specs.declared.Formed.the-variants as formed
 use Rattle.values.proofs.Heads.{enc-parts, shape, Shape, shape-bool, shape-int, shape-obj, shape-coll}
-use Rattle.values.proofs.Encoding.{size-law, some-cells}
 use Rattle.operations.specs.declared.Ended.the-variants as ended
 use Rattle.operations.specs.Answers.{Lies, Ends, ends-value, ends-stop, Under, Ran, SmallAnswer, Gives, formedAs, truthOf, Truth}
 
@@ -38,14 +38,10 @@ under-down {sp} {mid} {A} {B} h e = record { same = sym (take-take sp mid A h) �
 pub lies-kept : {v : Value} {p len top : ℕ} {A B : List ℕ} → p + len ≤ top → Under top A B → Lies v p len B → Lies v p len A
 lies-kept {v} {p} {len} {top} {A} {B} h e l = record { fits = l .fits; long = l .long; cells = under-top A B top p (p + len) h (e .same) ∙ l .cells }
 
--- a value has a cell at least
-pub one-cell : (v : Value) → 1 ≤ size v
-one-cell v = let a = some-cells v in let b = size-law v in omega arith
-
--- and its first cell is read at its place
+-- a value's first cell is read at its place
 pub head-at : {v : Value} {p len : ℕ} {S : List ℕ} → Lies v p len S → getD S p 0 ≡ head v
 head-at {v} {p} {len} {S} l =
-    let n = one-cell v in let m = l .long in
+    let n = size-pos v in let m = l .long in
     sym (getD-take (p + len) S p 0 (omega arith)) ∙ ap (λ (k : ℕ). getD (take (p + len) S) k 0) (sym (add-zero p))
     ∙ sym (getD-drop p (take (p + len) S) 0 0) ∙ ap (λ (c : List ℕ). getD c 0 0) (l .cells ∙ enc-parts v)
 
