@@ -108,11 +108,11 @@ unfolding level
 none-by t zero ends more h = absurd (h refl)
 none-by t (suc k) ends more h = refl
 
-both-by : (t k l : ℕ) (ends more x : Bool) → (k ≡ 0 → ⊥) → (l ≡ 0 → ⊥) → x ≡ letterSubtype (letterOf k) (letterOf l) → x && more ≡ level t k l ends more
+pub level-both : (t k l : ℕ) (ends more : Bool) → (k ≡ 0 → ⊥) → (l ≡ 0 → ⊥) → (x : Bool) → x ≡ letterSubtype (letterOf k) (letterOf l) → x && more ≡ level t k l ends more
 unfolding level
-both-by t zero l ends more x h n e = absurd (h refl)
-both-by t (suc k) zero ends more x h n e = absurd (n refl)
-both-by t (suc k) (suc l) ends more x h n e = rw (sym e)
+level-both t zero l ends more h n x e = absurd (h refl)
+level-both t (suc k) zero ends more h n x e = absurd (n refl)
+level-both t (suc k) (suc l) ends more h n x e = rw (sym e)
 
 module _ (t k l : ℕ) (ends more : Bool) where
   pub level-ends : k ≡ 0 → l ≡ 0 → ends ≡ level t k l ends more
@@ -124,9 +124,6 @@ module _ (t k l : ℕ) (ends more : Bool) where
 
   pub level-none : (k ≡ 0 → ⊥) → l ≡ 0 → false ≡ level t k l ends more
   level-none p q = rw q (none-by t k ends more p)
-
-  pub level-both : (k ≡ 0 → ⊥) → (l ≡ 0 → ⊥) → (x : Bool) → x ≡ letterSubtype (letterOf k) (letterOf l) → x && more ≡ level t k l ends more
-  level-both p q x e = both-by t k l ends more x p q e
 
 -- the level's test is that of the types
 void-end : (parent : Parents) (a : Base) (l : Letter) (u : Ty) → eqb (baseTag a) 0 ≡ subtype parent (baseType a) (around l u)
