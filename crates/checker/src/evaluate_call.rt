@@ -12,7 +12,7 @@ ghost use Rattle.checker.specs.Answers.{AnswersWith};
 ghost use Rattle.checker.specs.Parts.{Leaves, GivesFor};
 ghost use Rattle.checker.specs.Outcomes.{Fitting, GivesEnded};
 use super::Answer;
-use super::bare;
+use super::no_output;
 use super::read_text;
 use super::short_lent;
 use super::wipe_all;
@@ -38,7 +38,7 @@ fn put_outcome(e: Ended, w2: &[u64], out: &mut [u8]) -> Answer
     match e {
         Ended::Value { len, steps } => written(put_value(out, 0, w2, 1, 1 + len), steps),
         Ended::Undef { steps } => written(put_byte(out, 0, b'u'), steps),
-        Ended::Stuck => bare(100, 0),
+        Ended::Stuck => no_output(100, 0),
         Ended::Stop { number, steps } => {
             Answer {
                 number: number,
@@ -65,7 +65,7 @@ fn evaluate_typed(
     ensures { λ a. ⌜ GivesFor st (now (w0 .entry)) (now (w1 .entry)) (λ s. evaluateOn s r o) a (now (out .entry)) (now (out .exit)) × Kept (now (w1 .entry)) (now (w1 .exit)) × Kept (now (w2 .entry)) (now (w2 .exit)) ⌝ }
 {
     match type_numbered(w0, st, w1, w2, r) {
-        Reply::No(n, p) => bare(n, node_line(w1, p)),
+        Reply::No(n, p) => no_output(n, node_line(w1, p)),
         Reply::Is(_) => {
             keep_marks(w2, w1);
             let e = evaluate_numbered(w0, st, w1, w2, r, o);
@@ -88,17 +88,17 @@ fn evaluate_on(
     ensures { λ a. ⌜ GivesFor st (now (w0 .entry)) (now (w1 .entry)) (λ s. evaluateOn s r o) a (now (out .entry)) (now (out .exit)) × Kept (now (w1 .entry)) (now (w1 .exit)) × Kept (now (w2 .entry)) (now (w2 .exit)) ⌝ }
 {
     if st.rules <= r {
-        return bare(14, 0);
+        return no_output(14, 0);
     }
     if st.objects <= o {
-        return bare(14, 0);
+        return no_output(14, 0);
     }
     let i = wide(r);
     let context = w0[4448 + i];
     if is_a(w0, st, o, context) {
         return evaluate_typed(w0, st, w1, w2, i, o, out);
     }
-    bare(15, 0)
+    no_output(15, 0)
 }
 
 // The text's own answer, whatever the words held; the words are not wiped yet.
@@ -116,7 +116,7 @@ fn evaluate_answer(
 {
     match read_text(text, w0, w1) {
         SheetRead::Sheet(st) => evaluate_on(w0, st, w1, w2, r, o, out),
-        SheetRead::Refused(n, k) => bare(n, k),
+        SheetRead::Refused(n, k) => no_output(n, k),
     }
 }
 
@@ -135,7 +135,7 @@ pub extern "C" fn ocl_evaluate_rule(
     ensures { λ a. ⌜ AnswersWith (evaluateCall (now (text .entry)) rule object (now (w0 .entry)) (now (w1 .entry)) (now (w2 .entry)) (now (out .entry))) a (now (w0 .entry)) (now (w1 .entry)) (now (w2 .entry)) (now (out .entry)) (now (w0 .exit)) (now (w1 .exit)) (now (w2 .exit)) (now (out .exit)) ⌝ }
 {
     if short_lent(w0, w1, w2, out) {
-        return bare(1, 0);
+        return no_output(1, 0);
     }
     let a = evaluate_answer(text, rule, object, w0, w1, w2, out);
     wipe_all(w0, w1, w2);

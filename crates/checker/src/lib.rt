@@ -25,7 +25,7 @@ pub struct Answer {
 }
 
 // An answer that writes nothing and took no steps: a refusal, or 0 for a sheet that is read.
-fn bare(number: u64, place: u64) -> Answer
+fn no_output(number: u64, place: u64) -> Answer
     ensures { λ r. ⌜ r ≡ answerOf (refusalAt number place) ⌝ }
 {
     Answer {

@@ -8,7 +8,7 @@ ghost use Rattle.sheet.specs.Reading.{readText};
 ghost use Rattle.tables.specs.Layout.{Kept};
 ghost use Rattle.checker.specs.Answers.{Answers, answerOf};
 use super::Answer;
-use super::bare;
+use super::no_output;
 use super::read_text;
 use super::short;
 use super::wipe_all;
@@ -20,8 +20,8 @@ fn read_answer(text: &[u8], w0: &mut [u64], w1: &mut [u64]) -> Answer
     ensures { λ r. ⌜ (r ≡ answerOf (onSheet (readText (now (text .entry))) (λ s. answerWith []))) × Kept (now (w0 .entry)) (now (w0 .exit)) × Kept (now (w1 .entry)) (now (w1 .exit)) ⌝ }
 {
     match read_text(text, w0, w1) {
-        SheetRead::Sheet(_) => bare(0, 0),
-        SheetRead::Refused(n, k) => bare(n, k),
+        SheetRead::Sheet(_) => no_output(0, 0),
+        SheetRead::Refused(n, k) => no_output(n, k),
     }
 }
 
@@ -36,7 +36,7 @@ pub extern "C" fn ocl_read_sheet(
     ensures { λ r. ⌜ Answers (readCall (now (text .entry)) (now (w0 .entry)) (now (w1 .entry)) (now (w2 .entry))) r (now (w0 .entry)) (now (w1 .entry)) (now (w2 .entry)) (now (w0 .exit)) (now (w1 .exit)) (now (w2 .exit)) ⌝ }
 {
     if short(w0, w1, w2) {
-        return bare(1, 0);
+        return no_output(1, 0);
     }
     let a = read_answer(text, w0, w1);
     wipe_all(w0, w1, w2);

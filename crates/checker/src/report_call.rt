@@ -8,7 +8,7 @@ ghost use Rattle.report.specs.Reports.{reportOn};
 ghost use Rattle.checker.specs.Answers.{AnswersWith};
 ghost use Rattle.checker.specs.Parts.{Leaves, GivesFor};
 use super::Answer;
-use super::bare;
+use super::no_output;
 use super::read_text;
 use super::short_lent;
 use super::wipe_all;
@@ -25,8 +25,8 @@ fn report_on(w0: &[u64], st: Counts, w1: &mut [u64], w2: &mut [u64], out: &mut [
 {
     match report_sheet(w0, st, w1, w2, out) {
         Reported::Written(end) => written(end, 0),
-        Reported::Short => bare(18, 0),
-        Reported::Refused(n, k) => bare(n, k),
+        Reported::Short => no_output(18, 0),
+        Reported::Refused(n, k) => no_output(n, k),
     }
 }
 
@@ -43,7 +43,7 @@ fn report_answer(
 {
     match read_text(text, w0, w1) {
         SheetRead::Sheet(st) => report_on(w0, st, w1, w2, out),
-        SheetRead::Refused(n, k) => bare(n, k),
+        SheetRead::Refused(n, k) => no_output(n, k),
     }
 }
 
@@ -60,7 +60,7 @@ pub extern "C" fn ocl_report(
     ensures { λ a. ⌜ AnswersWith (reportCall (now (text .entry)) (now (w0 .entry)) (now (w1 .entry)) (now (w2 .entry)) (now (out .entry))) a (now (w0 .entry)) (now (w1 .entry)) (now (w2 .entry)) (now (out .entry)) (now (w0 .exit)) (now (w1 .exit)) (now (w2 .exit)) (now (out .exit)) ⌝ }
 {
     if short_lent(w0, w1, w2, out) {
-        return bare(1, 0);
+        return no_output(1, 0);
     }
     let a = report_answer(text, w0, w1, w2, out);
     wipe_all(w0, w1, w2);

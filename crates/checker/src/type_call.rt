@@ -7,7 +7,7 @@ ghost use Rattle.rules.specs.Accepted.{Known};
 ghost use Rattle.checker.specs.Answers.{AnswersWith};
 ghost use Rattle.checker.specs.Parts.{Leaves, GivesFor};
 use super::Answer;
-use super::bare;
+use super::no_output;
 use super::read_text;
 use super::short_lent;
 use super::wipe_all;
@@ -26,10 +26,10 @@ fn type_on(w0: &[u64], st: Counts, w1: &[u64], w2: &mut [u64], r: u64, out: &mut
     ensures { λ a. ⌜ GivesFor st (now (w0 .entry)) (now (w1 .entry)) (λ s. typeOn s r) a (now (out .entry)) (now (out .exit)) × Kept (now (w2 .entry)) (now (w2 .exit)) ⌝ }
 {
     if st.rules <= r {
-        return bare(14, 0);
+        return no_output(14, 0);
     }
     match type_numbered(w0, st, w1, w2, wide(r)) {
-        Reply::No(n, p) => bare(n, node_line(w1, p)),
+        Reply::No(n, p) => no_output(n, node_line(w1, p)),
         Reply::Is(t) => written(put_type(out, 0, t), 0),
     }
 }
@@ -48,7 +48,7 @@ fn type_answer(
 {
     match read_text(text, w0, w1) {
         SheetRead::Sheet(st) => type_on(w0, st, w1, w2, r, out),
-        SheetRead::Refused(n, k) => bare(n, k),
+        SheetRead::Refused(n, k) => no_output(n, k),
     }
 }
 
@@ -66,7 +66,7 @@ pub extern "C" fn ocl_type_rule(
     ensures { λ a. ⌜ AnswersWith (typeCall (now (text .entry)) rule (now (w0 .entry)) (now (w1 .entry)) (now (w2 .entry)) (now (out .entry))) a (now (w0 .entry)) (now (w1 .entry)) (now (w2 .entry)) (now (out .entry)) (now (w0 .exit)) (now (w1 .exit)) (now (w2 .exit)) (now (out .exit)) ⌝ }
 {
     if short_lent(w0, w1, w2, out) {
-        return bare(1, 0);
+        return no_output(1, 0);
     }
     let a = type_answer(text, rule, w0, w1, w2, out);
     wipe_all(w0, w1, w2);

@@ -18,8 +18,8 @@ evaluate-on-requires c κs = (still-lent (c .before .before .before .before .bef
 enum-known-n : tie.Need-enum-known-n
 enum-known-n c = search needs
 
-bare-requires : tie.Need-bare-requires
-bare-requires c κs = search needs
+no-output-requires : tie.Need-no-output-requires
+no-output-requires c κs = search needs
 
 same-length : tie.Need-same-length
 same-length c = search needs
@@ -43,7 +43,7 @@ same-length-6 : tie.Need-same-length-6
 same-length-6 c = search needs
 
 returns-2 : tie.Need-returns-2
-returns-2 c = record { gives = gives-stop (rw (c .before .before .n .given .1) at (c .before .before .before .before .before .before .before .before .read-text .ensures .is)) _ _ (c .bare .ensures); kept0 = c .before .before .before .before .before .before .before .before .read-text .ensures .kept0; kept1 = c .before .before .before .before .before .before .before .before .read-text .ensures .kept1; kept2 = kept-refl _ }
+returns-2 c = record { gives = gives-stop (rw (c .before .before .n .given .1) at (c .before .before .before .before .before .before .before .before .read-text .ensures .is)) _ _ (c .no-output .ensures); kept0 = c .before .before .before .before .before .before .before .before .read-text .ensures .kept0; kept1 = c .before .before .before .before .before .before .before .before .read-text .ensures .kept1; kept2 = kept-refl _ }
 
 pub evaluate-answer-spec : {M : Type 1} → statement M
 evaluate-answer-spec =
@@ -53,7 +53,7 @@ evaluate-answer-spec =
     enum-known-st
     evaluate-on-requires
     enum-known-n
-    bare-requires
+    no-output-requires
     same-length
     same-length-2
     same-length-3

@@ -5,17 +5,17 @@ use Rattle.checker.proofs.EvaluateCalls.{evaluate-no-rule, no-object, o
 use Rattle.checker.proofs.evaluate_call.evaluate_on.Statement.{statement}
 use Rattle.checker.proofs.evaluate_call.evaluate_on.Tie as tie
 
-bare-requires : tie.Need-bare-requires
-bare-requires c κs = search needs
+no-output-requires : tie.Need-no-output-requires
+no-output-requires c κs = search needs
 
 returns : tie.Need-returns
-returns c = (evaluate-no-rule _ _ _ (c .before .if1 .taken) (c .bare .ensures), kept-refl _, kept-refl _)
+returns c = (evaluate-no-rule _ _ _ (c .before .if1 .taken) (c .no-output .ensures), kept-refl _, kept-refl _)
 
-bare-requires-2 : tie.Need-bare-requires-2
-bare-requires-2 c κs = search needs
+no-output-requires-2 : tie.Need-no-output-requires-2
+no-output-requires-2 c κs = search needs
 
 returns-2 : tie.Need-returns-2
-returns-2 c = (no-object _ (c .before .before .before .if1 .left) (c .before .if2 .taken) (c .bare2 .ensures), kept-refl _, kept-refl _)
+returns-2 c = (no-object _ (c .before .before .before .if1 .left) (c .before .if2 .taken) (c .no-output2 .ensures), kept-refl _, kept-refl _)
 
 wide-requires : tie.Need-wide-requires
 wide-requires c κs = search needs
@@ -47,19 +47,19 @@ same-length-3 c = search needs
 returns-3 : tie.Need-returns-3
 returns-3 c = rw (c .before .before .before .before .before .before .before .before .before .before .before .before .before .wide .ensures) at (c .before .before .before .before .before .before .evaluate-typed .ensures)
 
-bare-requires-3 : tie.Need-bare-requires-3
-bare-requires-3 c κs = search needs
+no-output-requires-3 : tie.Need-no-output-requires-3
+no-output-requires-3 c κs = search needs
 
 returns-4 : tie.Need-returns-4
-returns-4 c = (other-class _ (c .before .before .before .before .before .before .before .if1 .left) (c .before .before .before .before .before .if2 .left) (rw (c .before .if3 .left, c .before .before .before .before .wide .ensures) at (c .before .before .is-a .ensures)) (c .bare3 .ensures), kept-refl _, kept-refl _)
+returns-4 c = (other-class _ (c .before .before .before .before .before .before .before .if1 .left) (c .before .before .before .before .before .if2 .left) (rw (c .before .if3 .left, c .before .before .before .before .wide .ensures) at (c .before .before .is-a .ensures)) (c .no-output3 .ensures), kept-refl _, kept-refl _)
 
 pub evaluate-on-spec : {M : Type 1} → statement M
 evaluate-on-spec =
     tie.close
     (tie.spec
-    bare-requires
+    no-output-requires
     returns
-    bare-requires-2
+    no-output-requires-2
     returns-2
     wide-requires
     add-context
@@ -71,5 +71,5 @@ evaluate-on-spec =
     same-length-2
     same-length-3
     returns-3
-    bare-requires-3
+    no-output-requires-3
     returns-4)

@@ -16,8 +16,8 @@ enum-known-n c = search needs
 node-line-requires : tie.Need-node-line-requires
 node-line-requires c κs = (refusal-place (c .before .before .before .before .before .before .before .before .before .before .before .before .before .pre .1 .0) (c .before .before .before .before .before .before .before .before .before .before .before .before .before .pre .0 .1) (rw (c .before .before .n .given .1) at (c .before .before .before .before .before .before .type-numbered .ensures)), c .before .before .before .before .before .before .before .before .before .before .before .before .before .pre .0 .0 .words1)
 
-bare-requires : tie.Need-bare-requires
-bare-requires c κs = search needs
+no-output-requires : tie.Need-no-output-requires
+no-output-requires c κs = search needs
 
 enum-told : tie.Need-enum-told
 enum-told c = search needs
@@ -38,7 +38,7 @@ same-length-2 : tie.Need-same-length-2
 same-length-2 c = search needs
 
 returns : tie.Need-returns
-returns c = (evaluate-refused (c .before .before .before .before .before .before .before .before .before .before .before .before .before .before .before .pre .1 .0) (c .before .before .before .before .before .before .before .before .before .before .before .before .before .before .before .pre .1 .1) (c .before .before .before .before .before .before .before .before .before .before .before .before .before .before .before .pre .1 .2) _ (rw (c .before .before .before .before .n .given .1) at (c .before .before .before .before .before .before .before .before .type-numbered .ensures)) (c .before .node-line .ensures) (c .bare .ensures), kept-refl _, c .before .before .before .before .before .before .before .before .type-numbered .ensures .kept)
+returns c = (evaluate-refused (c .before .before .before .before .before .before .before .before .before .before .before .before .before .before .before .pre .1 .0) (c .before .before .before .before .before .before .before .before .before .before .before .before .before .before .before .pre .1 .1) (c .before .before .before .before .before .before .before .before .before .before .before .before .before .before .before .pre .1 .2) _ (rw (c .before .before .before .before .n .given .1) at (c .before .before .before .before .before .before .before .before .type-numbered .ensures)) (c .before .node-line .ensures) (c .no-output .ensures), kept-refl _, c .before .before .before .before .before .before .before .before .type-numbered .ensures .kept)
 
 same-length-3 : tie.Need-same-length-3
 same-length-3 c = search needs
@@ -59,7 +59,7 @@ evaluate-typed-spec =
     type-numbered-requires
     enum-known-n
     node-line-requires
-    bare-requires
+    no-output-requires
     enum-told
     keep-marks-requires
     evaluate-numbered-requires

@@ -30,8 +30,8 @@ written-requires-2 c κs = search needs
 enum-told : tie.Need-enum-told
 enum-told c = search needs
 
-bare-requires : tie.Need-bare-requires
-bare-requires c κs = search needs
+no-output-requires : tie.Need-no-output-requires
+no-output-requires c κs = search needs
 
 enum-known-e-3 : tie.Need-enum-known-e-3
 enum-known-e-3 c = search needs
@@ -49,7 +49,7 @@ returns-2 : tie.Need-returns-2
 returns-2 c = gives-undefined (c .before .before .before .before .before .before .e2 .given .1) (c .before .before .before .put-byte .ensures) (c .written2 .ensures)
 
 returns-3 : tie.Need-returns-3
-returns-3 c = gives-stuck _ (c .before .enum-told .given .1) (c .bare .ensures)
+returns-3 c = gives-stuck _ (c .before .enum-told .given .1) (c .no-output .ensures)
 
 returns-4 : tie.Need-returns-4
 returns-4 c = gives-stopped _ (c .before .e3 .given .1) refl
@@ -66,7 +66,7 @@ put-outcome-spec =
     put-byte-requires
     written-requires-2
     enum-told
-    bare-requires
+    no-output-requires
     enum-known-e-3
     same-length
     returns

@@ -9,8 +9,8 @@ use Rattle.checker.proofs.read_call.ocl_read_sheet.Tie as tie
 short-requires : tie.Need-short-requires
 short-requires c κs = search needs
 
-bare-requires : tie.Need-bare-requires
-bare-requires c κs = search needs
+no-output-requires : tie.Need-no-output-requires
+no-output-requires c κs = search needs
 
 same-length : tie.Need-same-length
 same-length c = search needs
@@ -22,7 +22,7 @@ same-length-3 : tie.Need-same-length-3
 same-length-3 c = search needs
 
 returns : tie.Need-returns
-returns c = read-short _ _ _ _ (c .bare .ensures) (sym (c .before .before .short .ensures) ∙ c .before .if1 .taken)
+returns c = read-short _ _ _ _ (c .no-output .ensures) (sym (c .before .before .short .ensures) ∙ c .before .if1 .taken)
 
 read-answer-requires : tie.Need-read-answer-requires
 read-answer-requires c κs = let l = long-words _ _ _ (sym (c .before .before .before .short .ensures) ∙ c .before .before .if1 .left) in (l .0, l .1)
@@ -47,7 +47,7 @@ ocl-read-sheet-spec =
     tie.close
     (tie.spec
     short-requires
-    bare-requires
+    no-output-requires
     same-length
     same-length-2
     same-length-3

@@ -11,14 +11,14 @@ read-text-requires c κs = search needs
 enum-told : tie.Need-enum-told
 enum-told c = search needs
 
-bare-requires : tie.Need-bare-requires
-bare-requires c κs = search needs
+no-output-requires : tie.Need-no-output-requires
+no-output-requires c κs = search needs
 
 enum-known-n : tie.Need-enum-known-n
 enum-known-n c = search needs
 
-bare-requires-2 : tie.Need-bare-requires-2
-bare-requires-2 c κs = search needs
+no-output-requires-2 : tie.Need-no-output-requires-2
+no-output-requires-2 c κs = search needs
 
 same-length : tie.Need-same-length
 same-length c = search needs
@@ -27,7 +27,7 @@ same-length-2 : tie.Need-same-length-2
 same-length-2 c = search needs
 
 returns : tie.Need-returns
-returns c = (c .bare .ensures ∙ ap answerOf (sym (sheet-on (rw (c .before .enum-told .given .1) at (c .before .before .before .before .before .before .before .read-text .ensures .is)))), c .before .before .before .before .before .before .before .read-text .ensures .kept0, c .before .before .before .before .before .before .before .read-text .ensures .kept1)
+returns c = (c .no-output .ensures ∙ ap answerOf (sym (sheet-on (rw (c .before .enum-told .given .1) at (c .before .before .before .before .before .before .before .read-text .ensures .is)))), c .before .before .before .before .before .before .before .read-text .ensures .kept0, c .before .before .before .before .before .before .before .read-text .ensures .kept1)
 
 same-length-3 : tie.Need-same-length-3
 same-length-3 c = search needs
@@ -36,7 +36,7 @@ same-length-4 : tie.Need-same-length-4
 same-length-4 c = search needs
 
 returns-2 : tie.Need-returns-2
-returns-2 c = (c .bare2 .ensures ∙ ap answerOf (sym (refusal-on (rw (c .before .before .n .given .1) at (c .before .before .before .before .before .before .before .before .read-text .ensures .is)) _)), c .before .before .before .before .before .before .before .before .read-text .ensures .kept0, c .before .before .before .before .before .before .before .before .read-text .ensures .kept1)
+returns-2 c = (c .no-output2 .ensures ∙ ap answerOf (sym (refusal-on (rw (c .before .before .n .given .1) at (c .before .before .before .before .before .before .before .before .read-text .ensures .is)) _)), c .before .before .before .before .before .before .before .before .read-text .ensures .kept0, c .before .before .before .before .before .before .before .before .read-text .ensures .kept1)
 
 pub read-answer-spec : {M : Type 1} → statement M
 read-answer-spec =
@@ -44,9 +44,9 @@ read-answer-spec =
     (tie.spec
     read-text-requires
     enum-told
-    bare-requires
+    no-output-requires
     enum-known-n
-    bare-requires-2
+    no-output-requires-2
     same-length
     same-length-2
     returns

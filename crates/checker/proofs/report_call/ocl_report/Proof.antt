@@ -10,8 +10,8 @@ use Rattle.checker.proofs.report_call.ocl_report.Tie as tie
 short-lent-requires : tie.Need-short-lent-requires
 short-lent-requires c κs = search needs
 
-bare-requires : tie.Need-bare-requires
-bare-requires c κs = search needs
+no-output-requires : tie.Need-no-output-requires
+no-output-requires c κs = search needs
 
 same-length : tie.Need-same-length
 same-length c = search needs
@@ -27,7 +27,7 @@ same-length-4 c = search needs
 
 returns : tie.Need-returns
 unfolding reportCall
-returns c = short-call _ _ _ _ _ (c .bare .ensures) (sym (c .before .before .short-lent .ensures) ∙ c .before .if1 .taken)
+returns c = short-call _ _ _ _ _ (c .no-output .ensures) (sym (c .before .before .short-lent .ensures) ∙ c .before .if1 .taken)
 
 report-answer-requires : tie.Need-report-answer-requires
 report-answer-requires c κs = all-lent (sym (c .before .before .before .before .before .short-lent .ensures) ∙ c .before .before .before .before .if1 .left)
@@ -56,7 +56,7 @@ ocl-report-spec =
     tie.close
     (tie.spec
     short-lent-requires
-    bare-requires
+    no-output-requires
     same-length
     same-length-2
     same-length-3

@@ -20,8 +20,8 @@ report-on-requires c κs = (still-lent (c .before .before .before .before .befor
 enum-known-n : tie.Need-enum-known-n
 enum-known-n c = search needs
 
-bare-requires : tie.Need-bare-requires
-bare-requires c κs = search needs
+no-output-requires : tie.Need-no-output-requires
+no-output-requires c κs = search needs
 
 same-length : tie.Need-same-length
 same-length c = search needs
@@ -45,7 +45,7 @@ same-length-6 : tie.Need-same-length-6
 same-length-6 c = search needs
 
 returns-2 : tie.Need-returns-2
-returns-2 c = record { gives = report-stopped _ _ (rw (c .before .before .n .given .1) at (c .before .before .before .before .before .before .before .before .read-text .ensures .is)) (c .bare .ensures); kept0 = c .before .before .before .before .before .before .before .before .read-text .ensures .kept0; kept1 = c .before .before .before .before .before .before .before .before .read-text .ensures .kept1; kept2 = kept-refl _ }
+returns-2 c = record { gives = report-stopped _ _ (rw (c .before .before .n .given .1) at (c .before .before .before .before .before .before .before .before .read-text .ensures .is)) (c .no-output .ensures); kept0 = c .before .before .before .before .before .before .before .before .read-text .ensures .kept0; kept1 = c .before .before .before .before .before .before .before .before .read-text .ensures .kept1; kept2 = kept-refl _ }
 
 pub report-answer-spec : {M : Type 1} → statement M
 report-answer-spec =
@@ -55,7 +55,7 @@ report-answer-spec =
     enum-known-st
     report-on-requires
     enum-known-n
-    bare-requires
+    no-output-requires
     same-length
     same-length-2
     same-length-3

@@ -16,14 +16,14 @@ written-requires c κs = search needs
 enum-told : tie.Need-enum-told
 enum-told c = search needs
 
-bare-requires : tie.Need-bare-requires
-bare-requires c κs = search needs
+no-output-requires : tie.Need-no-output-requires
+no-output-requires c κs = search needs
 
 enum-known-n : tie.Need-enum-known-n
 enum-known-n c = search needs
 
-bare-requires-2 : tie.Need-bare-requires-2
-bare-requires-2 c κs = search needs
+no-output-requires-2 : tie.Need-no-output-requires-2
+no-output-requires-2 c κs = search needs
 
 same-length : tie.Need-same-length
 same-length c = search needs
@@ -47,7 +47,7 @@ same-length-6 : tie.Need-same-length-6
 same-length-6 c = search needs
 
 returns-2 : tie.Need-returns-2
-returns-2 c = (report-short (c .before .before .before .before .before .before .before .before .before .report-sheet .ensures) (c .before .enum-told .given .1) (c .bare .ensures), c .before .before .before .before .before .before .before .before .before .report-sheet .ensures .kept1, c .before .before .before .before .before .before .before .before .before .report-sheet .ensures .kept2)
+returns-2 c = (report-short (c .before .before .before .before .before .before .before .before .before .report-sheet .ensures) (c .before .enum-told .given .1) (c .no-output .ensures), c .before .before .before .before .before .before .before .before .before .report-sheet .ensures .kept1, c .before .before .before .before .before .before .before .before .before .report-sheet .ensures .kept2)
 
 same-length-7 : tie.Need-same-length-7
 same-length-7 c = search needs
@@ -59,7 +59,7 @@ same-length-9 : tie.Need-same-length-9
 same-length-9 c = search needs
 
 returns-3 : tie.Need-returns-3
-returns-3 c = (report-refused (c .before .before .before .before .before .before .before .before .before .before .report-sheet .ensures) (c .before .before .n .given .1) (c .bare2 .ensures), c .before .before .before .before .before .before .before .before .before .before .report-sheet .ensures .kept1, c .before .before .before .before .before .before .before .before .before .before .report-sheet .ensures .kept2)
+returns-3 c = (report-refused (c .before .before .before .before .before .before .before .before .before .before .report-sheet .ensures) (c .before .before .n .given .1) (c .no-output2 .ensures), c .before .before .before .before .before .before .before .before .before .before .report-sheet .ensures .kept1, c .before .before .before .before .before .before .before .before .before .before .report-sheet .ensures .kept2)
 
 pub report-on-spec : {M : Type 1} → statement M
 report-on-spec =
@@ -69,9 +69,9 @@ report-on-spec =
     enum-known-end
     written-requires
     enum-told
-    bare-requires
+    no-output-requires
     enum-known-n
-    bare-requires-2
+    no-output-requires-2
     same-length
     same-length-2
     same-length-3

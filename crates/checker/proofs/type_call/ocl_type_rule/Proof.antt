@@ -9,8 +9,8 @@ use Rattle.checker.proofs.type_call.ocl_type_rule.Tie as tie
 short-lent-requires : tie.Need-short-lent-requires
 short-lent-requires c κs = search needs
 
-bare-requires : tie.Need-bare-requires
-bare-requires c κs = search needs
+no-output-requires : tie.Need-no-output-requires
+no-output-requires c κs = search needs
 
 same-length : tie.Need-same-length
 same-length c = search needs
@@ -26,7 +26,7 @@ same-length-4 c = search needs
 
 returns : tie.Need-returns
 unfolding typeCall
-returns c = short-call _ _ _ _ _ (c .bare .ensures) (sym (c .before .before .short-lent .ensures) ∙ c .before .if1 .taken)
+returns c = short-call _ _ _ _ _ (c .no-output .ensures) (sym (c .before .before .short-lent .ensures) ∙ c .before .if1 .taken)
 
 type-answer-requires : tie.Need-type-answer-requires
 type-answer-requires c κs = all-lent (sym (c .before .before .before .before .before .short-lent .ensures) ∙ c .before .before .before .before .if1 .left)
@@ -55,7 +55,7 @@ ocl-type-rule-spec =
     tie.close
     (tie.spec
     short-lent-requires
-    bare-requires
+    no-output-requires
     same-length
     same-length-2
     same-length-3
