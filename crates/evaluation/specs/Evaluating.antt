@@ -10,8 +10,7 @@ use lib.Dec.{ltb}
 use Rattle.laws.specs.Choice.{if_then_else_}
 use Rattle.ocl.specs.Values.{Value, bool, Values}
 use Rattle.ocl.specs.Environment.{Env, extend}
-use Rattle.ocl.specs.Forms.{Expr, levels, Connective, Quantifier}
-use Rattle.ocl.specs.Forms.{undef}
+use Rattle.ocl.specs.Forms.{Expr, levels, Connective, Quantifier, undef}
 use Rattle.ocl.specs.Evaluation.{value, undefined, bind, onBool, leafRun, unaryRun, binaryRun, decides, connectiveRun, isUndefRun, conditionalRun, letRun, attributeRun, quantifiedRun, iterateRun, collectRun, evaluation, evaluateRule, operandsRun, search, fold}
 use Rattle.values.specs.Cells.{encs, AllFit}
 use Rattle.nodes.specs.Nodes.{word, variable, unaryOf, binaryOf, connectiveOf, quantifierOf, kindOf, operandsIn, treesBelow, treeAt}

@@ -3,11 +3,9 @@
 ghost use mathlib.Core.Path.{_≡_};
 ghost use Prim.Native.Nat.{_<_, _≤_};
 ghost use lib.ListN.{length};
-ghost use Rattle.ocl.specs.Types.{Boolean, Integer};
-ghost use Rattle.ocl.specs.Types.{join as joinOf};
+ghost use Rattle.ocl.specs.Types.{Boolean, Integer, join as joinOf};
 ghost use Rattle.ocl.specs.Model.{Model};
-ghost use Rattle.ocl.specs.Typing.{typed, refused, below, common, onCollection, castType, bothBelow, leafType, unaryType, binaryType};
-ghost use Rattle.ocl.specs.Typing.{wrap as wrapType};
+ghost use Rattle.ocl.specs.Typing.{typed, refused, below, common, onCollection, castType, bothBelow, leafType, unaryType, binaryType, wrap as wrapType};
 ghost use Rattle.types.specs.Flat.{parentsIn, tyOf, letterOf, joinedType};
 ghost use Rattle.nodes.specs.Nodes.{word, leafOf, unaryOf, binaryOf};
 ghost use Rattle.judgements.specs.Replies.{meaning, envOf, joinMore};

@@ -4,8 +4,7 @@ use mathlib.Core.List.{List}
 use Prim.Native.Nat.{ℕ, _<_, _≤_}
 use Rattle.ocl.specs.Model.{Model}
 use Rattle.ocl.specs.Forms.{Form, undef}
-use Rattle.ocl.specs.Typing.{Typing, leafTyping, unaryTyping, binaryTyping, connectiveTyping, isUndefTyping, conditionalTyping, letTyping, attributeTyping, quantifiedTyping, iterateTyping, collectTyping, typing, formTyping}
-use Rattle.ocl.specs.Typing.{operandsTyping as membersTyping}
+use Rattle.ocl.specs.Typing.{Typing, leafTyping, unaryTyping, binaryTyping, connectiveTyping, isUndefTyping, conditionalTyping, letTyping, attributeTyping, quantifiedTyping, iterateTyping, collectTyping, typing, formTyping, operandsTyping as membersTyping}
 use Rattle.types.specs.Word.{typeIn}
 use Rattle.nodes.specs.Nodes.{word, variable, leafOf, unaryOf, binaryOf, kindOf, operandsIn, formOf, treesBelow, treeAt}
 use Rattle.nodes.proofs.Nodes.{tree-law, below-law, late-law, no-form, leaf-range, unary-range, binary-range, connective-range, quantified-range, collect-range, collect-over, isUndef-code, conditional-code, let-code, attribute-code, iterate-code}

@@ -5,8 +5,7 @@ use Rattle.laws.proofs.Tests.{all-imp, all-self}
 use Rattle.ocl.specs.Types.{Kind}
 use Rattle.ocl.specs.Values.{Value, coll, Values, nil, add}
 use Rattle.ocl.specs.Model.{Model}
-use Rattle.ocl.specs.Laws.{literals}
-use Rattle.ocl.specs.Laws.{Sorted, sorted-nil, Formed, formed-bool, formed-int, formed-obj, formed-coll, FormedAll, formed-nil, formed-cons, Adding, FormedModel, FormedEndsLaw}
+use Rattle.ocl.specs.Laws.{literals, Sorted, sorted-nil, Formed, formed-bool, formed-int, formed-obj, formed-coll, FormedAll, formed-nil, formed-cons, Adding, FormedModel, FormedEndsLaw}
 use Rattle.ocl.proofs.Values.{Every, every-nil, every-cons, every-imp, add-every, addAll-every}
 use Rattle.ocl.proofs.Sorted.{add-sorted, addAll-sorted, Under, under, instances-under, instances-sorted}
 use Rattle.ocl.proofs.Kept.{Keeps, kept-ends, kept-rule}

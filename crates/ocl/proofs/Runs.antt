@@ -13,8 +13,7 @@ use Rattle.ocl.specs.Values.{Value, bool, int, obj, coll, Values, count,
 use Rattle.ocl.specs.Model.{Model, belongs}
 use Rattle.ocl.specs.Forms.{Quantifier}
 use Rattle.ocl.specs.Evaluation.{Outcome, value, undefined, stuck, stop, stepsOf, Run, resume, bind, tick, form, onBool, endsAt, search, fold}
-use Rattle.ocl.specs.Laws.{integersInRange}
-use Rattle.ocl.specs.Laws.{Formed}
+use Rattle.ocl.specs.Laws.{integersInRange, Formed}
 use Rattle.ocl.specs.Soundness.{Sound}
 use Rattle.laws.proofs.Tests.{by-if}
 use Rattle.ocl.proofs.Values.{Every, every-nil, every-cons}

@@ -12,8 +12,7 @@ use Rattle.ocl.specs.Model.{Model, isA, belongs}
 use Rattle.ocl.specs.Forms.{Expr, reach}
 use Rattle.ocl.specs.Typing.{typed, typeRule, markOf}
 use Rattle.ocl.specs.Evaluation.{Outcome, value, stuck, stop, stepsOf, inRange, evaluateRule}
-use Rattle.ocl.specs.Laws.{integersInRange}
-use Rattle.ocl.specs.Laws.{Formed, numbers, literals}
+use Rattle.ocl.specs.Laws.{integersInRange, Formed, numbers, literals}
 
 -- what reading makes sure of
 pub record AcceptedModel (s : Model) : Type 0 where

@@ -24,8 +24,7 @@ use Rattle.values.specs.declared.Num.{Num}
 use Rattle.values.specs.declared.Num.the-variants as num
 use Rattle.values.proofs.Heads.{shape, Shape, shape-bool, shape-int, shape-obj, shape-coll, bias-small}
 use Rattle.values.proofs.Adding.{header}
-use Rattle.nodes.specs.Nodes.{binaryOf}
-use Rattle.nodes.specs.Nodes.{arithByCode as arithCodeOf}
+use Rattle.nodes.specs.Nodes.{binaryOf, arithByCode as arithCodeOf}
 use Rattle.operations.specs.declared.Ended.{Ended}
 use Rattle.operations.specs.declared.Ended.the-variants as ended
 use Rattle.operations.specs.Answers.{Lies, Ran, SmallAnswer, Gives, formedAs}

@@ -11,8 +11,7 @@ use lib.Seq.{slice, slice-cons, slice-empty, getD-set-same, take-set-le}
 use Rattle.laws.specs.Integers.{unbias}
 use Rattle.laws.proofs.Slices.{whole}
 use Rattle.laws.proofs.Tests.{by-if}
-use Rattle.ocl.specs.Types.{class, kindCode}
-use Rattle.ocl.specs.Types.{set as asSet}
+use Rattle.ocl.specs.Types.{class, kindCode, set as asSet}
 use Rattle.ocl.specs.Values.{Value, bool, int, obj, coll, Values, nil, cons, size, sizes, append}
 use Rattle.ocl.specs.Forms.{truth}
 use Rattle.ocl.specs.Model.{Model, isA}

@@ -15,8 +15,7 @@ use Rattle.ocl.specs.Values.{Value, size}
 use Rattle.ocl.specs.Evaluation.{value, stop, form}
 use Rattle.ocl.proofs.Values.{size-pos}
 use Rattle.values.specs.Cells.{head, enc, Fits}
-use Rattle.values.specs.Contracts.{Means, means-bool, means-int, means-obj, Pushes, Forms, SortOf, PayloadOf}
-use Rattle.values.specs.Contracts.{SmallForm}
+use Rattle.values.specs.Contracts.{Means, means-bool, means-int, means-obj, Pushes, Forms, SortOf, PayloadOf, SmallForm}
 use Rattle.values.specs.declared.Simple.{Simple}
 use Rattle.values.specs.declared.Formed.{Formed}
 use Rattle.values.specs.declared.Formed.the-variants as formed

@@ -13,8 +13,7 @@ use Rattle.ocl.specs.Values.{Value, coll, size}
 use Rattle.ocl.specs.Model.{Model, isA}
 use Rattle.ocl.specs.Evaluation.{Outcome, value, stuck, onObj, given, instances}
 use Rattle.values.specs.Cells.{enc, Fits}
-use Rattle.values.specs.Contracts.{Forms}
-use Rattle.values.specs.Contracts.{SmallForm}
+use Rattle.values.specs.Contracts.{Forms, SmallForm}
 use Rattle.values.specs.declared.Formed.{Formed}
 use Rattle.tables.specs.declared.Counts.{Counts}
 use Rattle.tables.specs.Layout.{Fine}

@@ -12,8 +12,7 @@ use lib.Seq.{drop-cons, take-length}
 use Rattle.laws.specs.Choice.{if_then_else_}
 use Rattle.ocl.specs.Types.{class, Ty}
 use Rattle.ocl.specs.Model.{isA}
-use Rattle.ocl.specs.Typing.{typed}
-use Rattle.ocl.specs.Typing.{refused as untyped}
+use Rattle.ocl.specs.Typing.{typed, refused as untyped}
 use Rattle.sheet.specs.Text.{Bytes}
 use Rattle.sheet.specs.Sheet.{Rule, Sheet, modelOf}
 use Rattle.sheet.specs.Calls.{Verdict, refusalAt, typingOf, onType}

@@ -10,8 +10,7 @@ use lib.ListN.{length, getD, getElem?, drop}
 use lib.Seq.{drop-length}
 use Rattle.laws.proofs.Elements.{elem-at}
 use Rattle.ocl.specs.Types.{Ty}
-use Rattle.ocl.specs.Typing.{typed}
-use Rattle.ocl.specs.Typing.{refused as untyped}
+use Rattle.ocl.specs.Typing.{typed, refused as untyped}
 use Rattle.sheet.specs.Sheet.{Rule, Sheet, modelOf}
 use Rattle.sheet.specs.Calls.{Verdict, refusalAt, typingOf}
 use Rattle.sheet.specs.Report.{onTypes}

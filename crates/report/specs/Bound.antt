@@ -7,8 +7,7 @@ use lib.ListN.{length, getElem?}
 use Rattle.laws.specs.Choice.{if_then_else_}
 use Rattle.ocl.specs.Types.{class, Ty}
 use Rattle.ocl.specs.Model.{Model, isA}
-use Rattle.ocl.specs.Typing.{Answer, typed}
-use Rattle.ocl.specs.Typing.{refused as untyped}
+use Rattle.ocl.specs.Typing.{Answer, typed, refused as untyped}
 use Rattle.sheet.specs.Sheet.{Rule, Sheet, modelOf}
 use Rattle.sheet.specs.Calls.{Verdict, refusalAt, typingOf}
 use Rattle.sheet.specs.Report.{onTypes}

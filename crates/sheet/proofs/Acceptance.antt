@@ -16,8 +16,7 @@ use Rattle.laws.proofs.Lists.{each-append}
 use Rattle.ocl.specs.Values.{Value, size}
 use Rattle.ocl.specs.Model.{Model, belongs}
 use Rattle.ocl.specs.Forms.{Expr, levels}
-use Rattle.ocl.specs.Laws.{integersInRange}
-use Rattle.ocl.specs.Laws.{Formed, numbers, literals}
+use Rattle.ocl.specs.Laws.{integersInRange, Formed, numbers, literals}
 use Rattle.ocl.specs.Soundness.{AcceptedModel}
 use Rattle.sheet.specs.Text.{Bytes, fieldsOf, linesOf}
 use Rattle.sheet.specs.Lines.{Line, lineOf, firstIsN}

@@ -19,8 +19,7 @@ use Rattle.ocl.specs.Types.{Simple, Ty, void, simple, around, letterSubtype, ex
 use Rattle.ocl.specs.Values.{Value, bool, int, obj, coll, Values, nil, cons, size, everyPart}
 use Rattle.ocl.specs.Model.{Model, every, isA, belongs}
 use Rattle.ocl.specs.Forms.{node, levels}
-use Rattle.ocl.specs.Laws.{integersInRange}
-use Rattle.ocl.specs.Laws.{Formed, numbers, literals}
+use Rattle.ocl.specs.Laws.{integersInRange, Formed, numbers, literals}
 use Rattle.sheet.specs.Lines.{Line, classLine, rowLine, objectLine, valueLine, ruleLine, nodeLine, Shape}
 use Rattle.sheet.specs.Sheet.{Slot, Rule, Current, Sheet, empty, noRow, modelOf, operandsOf, grow, treeOf, withNode, added}
 use Rattle.sheet.specs.Refusals.{partWithin, valueWithin, isNode, formWithin, withinLimits, blockOf, numbered, inOrder, afterSlots, ordered, parentSmaller, partsKnown, suits, operandsFresh, treeHolds}

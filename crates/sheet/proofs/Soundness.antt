@@ -12,13 +12,12 @@ use lib.Dec.{T, T-not}
 use Rattle.laws.proofs.Tests.{by-if}
 use Rattle.laws.proofs.Lists.{each-at, member-exact}
 use Rattle.laws.proofs.Elements.{each-elem}
-use Rattle.ocl.specs.Types.{class, Ty}
+use Rattle.ocl.specs.Types.{class, Ty, Class}
 use Rattle.ocl.specs.Model.{Model, classIsA, isA}
 use Rattle.ocl.specs.Forms.{reach}
 use Rattle.ocl.specs.Laws.{numbers}
 use Rattle.ocl.specs.Typing.{Answer, typed, refused, typeRule}
 use Rattle.ocl.specs.Environment.{start}
-use Rattle.ocl.specs.Types.{Class}
 use Rattle.ocl.specs.Evaluation.{Outcome, value, undefined, stuck, stop, stepsOf}
 use Rattle.ocl.specs.Soundness.{Sound}
 use Rattle.ocl.proofs.Soundness.{soundness}

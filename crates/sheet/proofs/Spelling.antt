@@ -12,8 +12,7 @@ use lib.ListN.{length, length-append}
 use lib.Dec.{T}
 use Rattle.laws.specs.Choice.{orElse, onSome, mapSome}
 use Rattle.laws.specs.Lists.{Each, each-nil, each-cons}
-use Rattle.ocl.specs.Types.{any, boolean, class, Kind, set, sequence, bag, Letter, collection, exactly, Ty, void, simple, around, Any, Boolean, Integer, Class}
-use Rattle.ocl.specs.Types.{integer as integerType}
+use Rattle.ocl.specs.Types.{any, boolean, class, Kind, set, sequence, bag, Letter, collection, exactly, Ty, void, simple, around, Any, Boolean, Integer, Class, integer as integerType}
 use Rattle.ocl.specs.Values.{Value, bool, int, obj, coll, Values, nil, cons}
 use Rattle.sheet.specs.Text.{Bytes, byte, bytes, Parser, after, literal, behind, _or_, _then_, mapped, isDigit, digits, plain, numberParser, negative, integerParser, spellNumber, spellInteger}
 use Rattle.sheet.specs.Spelling.{collectionType, typeParser, readType, letterByte, spellSimple, spellType, valueParser, membersParser, moreParser, readValue, kindByte, spellBool, spellValue, spellMembers, spellMore}

@@ -11,8 +11,7 @@ use Rattle.laws.specs.Choice.{if_then_else_, onSome, mapSome}
 use Rattle.ocl.specs.Types.{Kind, set, sequence, bag, Ty}
 use Rattle.ocl.specs.Values.{Value}
 use Rattle.ocl.specs.Forms.{plus, minus, times, div, modulo, Connective, and, or, Quantifier, forAll, exists, Leaf, truth, undef, number, self, var, all, Unary, negation, sizeOf, convert, castTo, Binary, equal, less, arith, includes, including, union}
-use Rattle.sheet.specs.Text.{Bytes, bytes, literal, whole, numberParser, integerParser}
-use Rattle.sheet.specs.Text.{_or_ as either}
+use Rattle.sheet.specs.Text.{Bytes, bytes, literal, whole, numberParser, integerParser, _or_ as either}
 use Rattle.sheet.specs.Spelling.{readType, readValue}
 
 -- a node line's form: as ocl's Form, with operands by their node numbers

@@ -12,8 +12,7 @@ use Rattle.ocl.specs.Values.{Value, size}
 use Rattle.ocl.specs.Model.{Model, isA, belongs}
 use Rattle.ocl.specs.Forms.{reach}
 use Rattle.ocl.specs.Evaluation.{stuck}
-use Rattle.ocl.specs.Laws.{integersInRange}
-use Rattle.ocl.specs.Laws.{Formed}
+use Rattle.ocl.specs.Laws.{integersInRange, Formed}
 use Rattle.sheet.specs.Text.{Bytes, bytes}
 use Rattle.sheet.specs.Spelling.{spellType, spellValue}
 use Rattle.sheet.specs.Sheet.{Rule, Sheet, empty, modelOf}

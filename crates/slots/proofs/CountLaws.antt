@@ -7,8 +7,7 @@ use native.Mathlib.Omega.{arith}
 use lib.ListN.{length, getD, take, set, length-append, length-set}
 use lib.Seq.{take-set-lt, set-at, getD-take, getD-append-add}
 use borrow.Author.Tests.{ne-eqb}
-use Rattle.ocl.specs.Types.{Kind, kindCode}
-use Rattle.ocl.specs.Types.{set as setKind, sequence, bag}
+use Rattle.ocl.specs.Types.{Kind, kindCode, set as setKind, sequence, bag}
 use Rattle.ocl.specs.Values.{Value, coll, Values, size, sizes, count, append, everyPart, everyParts}
 use Rattle.ocl.proofs.Values.{count-sizes}
 use Rattle.sheet.specs.Text.{Bytes}

@@ -3,15 +3,13 @@ use mathlib.Core.Path.{_≡_}
 use mathlib.Core.Bool.{true, false, _&&_}
 use Prim.Native.Nat.{ℕ, _<_, _≤_}
 use native.Mathlib.Omega.{arith}
-use lib.Dec.{T, leb, leb→le}
+use lib.Dec.{T, leb, leb→le, ltb→lt}
 use borrow.Author.Tests.{le-leb}
 use Rattle.laws.proofs.Tests.{and-l, and-r, test-fails}
 use Rattle.ocl.specs.Values.{Value, bool, int, obj, coll, Values, nil, cons, size, sizes, count, everyPart, everyParts}
 use Rattle.ocl.proofs.Values.{count-sizes}
-use Rattle.sheet.specs.Refusals.{partWithin, nesting}
-use Rattle.sheet.specs.Refusals.{valueWithin as withinLimits}
+use Rattle.sheet.specs.Refusals.{partWithin, nesting, valueWithin as withinLimits}
 use Rattle.values.specs.Cells.{Fits, fits-bool, fits-int, fits-obj, fits-coll, AllFit, fit-nil, fit-cons}
-use lib.Dec.{ltb→lt}
 use Rattle.slots.specs.Machine.{mayBe}
 
 pub record May (room : ℕ) (v : Value) : Type 0 where

@@ -2,8 +2,7 @@
 use mathlib.Core.Path.{_≡_, refl, sym, ap, _∙_}
 use mathlib.Core.Bool.{Bool, true, false, _&&_, and-true, and-assoc}
 use mathlib.Core.List.{List, [], _∷_, _++_, append-assoc, append-nil}
-use Prim.Native.Nat.{ℕ, _+_, _-_, _<_, _≤_, Ordering·lt, Ordering·eq, Ordering·gt}
-use Prim.Native.Nat.{Ordering as Compared}
+use Prim.Native.Nat.{ℕ, _+_, _-_, _<_, _≤_, Ordering·lt, Ordering·eq, Ordering·gt, Ordering as Compared}
 use native.Mathlib.Omega.{arith}
 use lib.ListN.{length, getD}
 use lib.Seq.{slice, slice-cons, length-slice, take-length}

@@ -13,9 +13,8 @@ use lib.Dec.{eqb}
 use borrow.Author.Tests.{ne-eqb, lt-ltb, le-ltb}
 use Rattle.laws.specs.Choice.{if_then_else_, orElse, onSome, mapSome}
 use Rattle.laws.proofs.Tests.{Any?, any-some}
-use Rattle.laws.proofs.Options.{onSome-some}
+use Rattle.laws.proofs.Options.{onSome-some, orElse-none}
 use Rattle.laws.proofs.Parts.{at-next}
-use Rattle.laws.proofs.Options.{orElse-none}
 use Rattle.ocl.specs.Types.{Kind, set, sequence, bag, kindCode}
 use Rattle.ocl.specs.Values.{bool, int, obj, coll, nil, sort, count}
 use Rattle.ocl.specs.Evaluation.{inRange}

@@ -10,8 +10,7 @@ use lib.Dec.{eqb}
 use Rattle.laws.specs.Choice.{if_then_else_}
 use Rattle.ocl.specs.Types.{Simple, any, boolean, integer, class, Letter, exactly, Parents, simpleSubtype, letterSubtype}
 use Rattle.ocl.specs.Values.{Value, bool, int, obj, coll}
-use Rattle.ocl.specs.Model.{Model, isA}
-use Rattle.ocl.specs.Model.{belongs as belongsTo}
+use Rattle.ocl.specs.Model.{Model, isA, belongs as belongsTo}
 use Rattle.types.specs.declared.Base.{Base}
 use Rattle.types.specs.declared.FlatType.{FlatType}
 use Rattle.types.specs.Flat.{baseType, letterOf, tyOf}

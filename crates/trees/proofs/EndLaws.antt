@@ -13,8 +13,7 @@ use Rattle.laws.specs.Choice.{if_then_else_, onSome}
 use Rattle.laws.specs.Lists.{member, each-nil, each-cons}
 use Rattle.laws.proofs.Lists.{length-more, each-append}
 use Rattle.ocl.specs.Forms.{Expr, levels}
-use Rattle.sheet.specs.Sheet.{Current, Sheet, Rule, treeOf, lastTree, allUsed, endOf, endFor, endRule}
-use Rattle.sheet.specs.Sheet.{withRule as ruleDown}
+use Rattle.sheet.specs.Sheet.{Current, Sheet, Rule, treeOf, lastTree, allUsed, endOf, endFor, endRule, withRule as ruleDown}
 use Rattle.nodes.specs.Nodes.{treeAt}
 use Rattle.tables.specs.Layout.{tab, usedBit, HoldsCurrent, HoldsOpen, closed, opened, Holds, Fine}
 use Rattle.tables.specs.declared.Counts.{Counts}

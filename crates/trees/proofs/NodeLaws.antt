@@ -14,8 +14,7 @@ use Rattle.laws.specs.Lists.{member, Each}
 use Rattle.laws.proofs.Lists.{member-none, each-imp, each-append, map-each}
 use Rattle.ocl.specs.Forms.{Expr, node, levels}
 use Rattle.sheet.specs.Lines.{Shape, nodeLine}
-use Rattle.sheet.specs.Sheet.{Current, Sheet, added, operandsOf, grow, treeOf}
-use Rattle.sheet.specs.Sheet.{withNode as growRule}
+use Rattle.sheet.specs.Sheet.{Current, Sheet, added, operandsOf, grow, treeOf, withNode as growRule}
 use Rattle.sheet.specs.Refusals.{formWithin, fresh, suits, operandsFresh, treeHolds}
 use Rattle.nodes.specs.Nodes.{word, shapeWords, treeAt}
 use Rattle.nodes.proofs.Keep.{tree-keep, tree-depth}

@@ -2,11 +2,8 @@
 ghost use mathlib.Core.Path.{_≡_};
 ghost use mathlib.Core.Option.{some};
 ghost use Prim.Native.Nat.{_<_};
-ghost use Rattle.ocl.specs.Types.{Parents, letterSubtype, letterJoin};
-ghost use Rattle.ocl.specs.Types.{subtype as below};
-ghost use Rattle.ocl.specs.Types.{join as joinOf};
-ghost use Rattle.types.specs.Flat.{parentsIn, baseType, baseTag, baseClass, letterOf, tyOf, under, bare, joinedType, JoinsOneMore};
-ghost use Rattle.types.specs.Flat.{level as levelOf};
+ghost use Rattle.ocl.specs.Types.{Parents, letterSubtype, letterJoin, subtype as below, join as joinOf};
+ghost use Rattle.types.specs.Flat.{parentsIn, baseType, baseTag, baseClass, letterOf, tyOf, under, bare, joinedType, JoinsOneMore, level as levelOf};
 use super::Base;
 use super::FlatType;
 use super::Joined;

@@ -1,11 +1,9 @@
 // The parts of a type, and types made of parts.
 ghost use mathlib.Core.Path.{_≡_};
 ghost use Prim.Native.Nat.{_≤_, _<_};
-ghost use Rattle.ocl.specs.Types.{around, exactly, set, Class};
-ghost use Rattle.ocl.specs.Types.{depth as depthOf};
+ghost use Rattle.ocl.specs.Types.{around, exactly, set, Class, depth as depthOf};
 ghost use Rattle.types.specs.Flat.{baseType, letterOf, tyOf};
-ghost use Rattle.types.specs.Parts.{outerCode, memberType, classOf, classNumber};
-ghost use Rattle.types.specs.Parts.{isAny as isAnyType};
+ghost use Rattle.types.specs.Parts.{outerCode, memberType, classOf, classNumber, isAny as isAnyType};
 use super::Base;
 use super::ClassNumber;
 use super::FlatType;

@@ -6,12 +6,10 @@ use Prim.Native.Nat.{ℕ, suc, _+_, _<_, _≤_, compare, Ordering, Ordering·lt,
 use native.Mathlib.Omega.{arith}
 use lib.ListN.{length, getD}
 use lib.Seq.{slice, slice-cons, slice-empty}
-use Rattle.laws.proofs.Orders.{compare-lt, compare-gt, compare-eq}
+use Rattle.laws.proofs.Orders.{compare-lt, compare-gt, compare-eq, Three, less, same, over, three}
 use lib.Dec.{T, eqb}
 use borrow.Author.Tests.{eq-eqb, ne-eqb}
-use Rattle.laws.proofs.Orders.{Three, less, same, over, three}
-use Rattle.ocl.specs.Values.{Value, thenOrder}
-use Rattle.ocl.specs.Values.{same as sameValue}
+use Rattle.ocl.specs.Values.{Value, thenOrder, same as sameValue}
 use Rattle.ocl.proofs.Order.{same-is}
 use Rattle.values.specs.Cells.{lex, code, enc, Fits}
 use Rattle.values.specs.Contracts.{SameAt}

@@ -6,8 +6,7 @@ use Prim.Native.Nat.{ℕ, _+_, _-_, _<_, _≤_}
 use native.Mathlib.Omega.{arith}
 use lib.ListN.{length}
 use lib.Seq.{slice}
-use Rattle.ocl.specs.Values.{Value, Values, has}
-use Rattle.ocl.specs.Values.{same as sameValue}
+use Rattle.ocl.specs.Values.{Value, Values, has, same as sameValue}
 use Rattle.values.specs.Cells.{enc, encs, Fits, AllFit}
 use Rattle.values.specs.Contracts.{Skips, SameAt, HasAt}
 use Rattle.values.proofs.Members.{Left, Next, next-member, none-left}

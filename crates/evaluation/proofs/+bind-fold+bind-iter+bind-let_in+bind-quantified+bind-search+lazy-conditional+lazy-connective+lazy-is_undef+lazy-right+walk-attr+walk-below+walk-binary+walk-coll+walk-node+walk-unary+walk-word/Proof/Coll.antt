@@ -1,12 +1,11 @@
 -- The needs of `coll`.
 use mathlib.Core.Path.{_∙_}
-use Prim.Native.Nat.{_+_, _-_}
+use Prim.Native.Nat.{_+_, _-_, ℕ}
 use Rattle.nodes.specs.Nodes.{kindOf}
 use Rattle.nodes.proofs.Levels.{some-level}
 use Rattle.evaluation.specs.Evaluating.{ReadsWorld, operandTree}
 use Rattle.evaluation.proofs.Composition.{bounds}
 use Rattle.evaluation.proofs.CollectLaws.{Gathering, gather-starts, collect-done, collect-early, collect-again, collect-over, kind-number}
-use Prim.Native.Nat.{ℕ}
 use borrow.Author.Needs.{needs}
 use native.Mathlib.Omega.{arith}
 use Rattle.evaluation.proofs.walk.below.Reads as below

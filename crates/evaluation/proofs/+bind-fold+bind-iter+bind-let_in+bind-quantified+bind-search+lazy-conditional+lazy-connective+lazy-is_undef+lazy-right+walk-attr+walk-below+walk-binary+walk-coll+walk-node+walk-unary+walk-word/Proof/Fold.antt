@@ -1,12 +1,11 @@
 -- The needs of `fold`.
 use mathlib.Core.Logic.{inl}
 use mathlib.Core.Path.{_∙_}
-use Prim.Native.Nat.{_+_, _-_}
+use Prim.Native.Nat.{_+_, _-_, ℕ}
 use Rattle.nodes.specs.Nodes.{word, variable}
 use Rattle.evaluation.specs.Evaluating.{ReadsWorld, operandFor}
 use Rattle.evaluation.proofs.Composition.{bounds}
 use Rattle.evaluation.proofs.LoopLaws.{Folding, fold-starts, fold-none, fold-early, fold-again}
-use Prim.Native.Nat.{ℕ}
 use borrow.Author.Needs.{needs}
 use native.Mathlib.Omega.{arith}
 use Rattle.evaluation.proofs.walk.below.Reads as below

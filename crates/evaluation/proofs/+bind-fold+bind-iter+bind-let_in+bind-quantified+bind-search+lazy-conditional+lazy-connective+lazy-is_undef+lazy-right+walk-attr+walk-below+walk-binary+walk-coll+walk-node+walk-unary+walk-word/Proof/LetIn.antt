@@ -1,10 +1,9 @@
 -- The needs of `let_in`.
 use mathlib.Core.Logic.{inl}
 use mathlib.Core.Path.{ap, _∙_}
-use Prim.Native.Nat.{_%_}
+use Prim.Native.Nat.{_%_, ℕ}
 use Rattle.evaluation.proofs.Composition.{bounds}
 use Rattle.evaluation.proofs.FormLaws.{let-first, let-second, let-done}
-use Prim.Native.Nat.{ℕ}
 use borrow.Author.Needs.{needs}
 use native.Mathlib.Omega.{arith}
 use Rattle.evaluation.proofs.walk.below.Reads as below

@@ -1,10 +1,8 @@
 -- The needs of `node`.
-use Prim.Native.Nat.{_-_}
-use Rattle.evaluation.proofs.NodeLaws.{over-34}
+use Prim.Native.Nat.{_-_, ℕ}
+use Rattle.evaluation.proofs.NodeLaws.{over-34, node-leaf, node-unary, node-binary, node-connective, node-quantified, node-collect, node-isUndef, node-conditional, node-let, node-attribute, node-iterate, node-none, shallow}
 use Rattle.nodes.specs.Nodes.{treeAt}
 use Rattle.nodes.proofs.Levels.{some-level, unary-levels, binary-levels, connective-levels, quantified-levels, isUndef-levels, conditional-levels, let-levels, attribute-levels, iterate-levels}
-use Rattle.evaluation.proofs.NodeLaws.{node-leaf, node-unary, node-binary, node-connective, node-quantified, node-collect, node-isUndef, node-conditional, node-let, node-attribute, node-iterate, node-none, shallow}
-use Prim.Native.Nat.{ℕ}
 use borrow.Author.Needs.{needs}
 use native.Mathlib.Omega.{arith}
 use Rattle.evaluation.proofs.walk.attr.Reads as attr

@@ -1,10 +1,9 @@
 -- The needs of `search`.
 use mathlib.Core.Path.{sym, _∙_}
-use Prim.Native.Nat.{_+_, _-_}
+use Prim.Native.Nat.{_+_, _-_, ℕ}
 use Rattle.nodes.specs.Nodes.{word, variable, quantifierOf}
 use Rattle.evaluation.specs.Evaluating.{ReadsWorld, operandFor}
 use Rattle.evaluation.proofs.LoopLaws.{Searching, search-starts, search-none, search-early, search-stuck, search-ends, search-again, ends-code, none-code}
-use Prim.Native.Nat.{ℕ}
 use borrow.Author.Needs.{needs}
 use native.Mathlib.Omega.{arith}
 use Rattle.evaluation.proofs.walk.below.Reads as below

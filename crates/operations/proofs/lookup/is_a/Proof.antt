@@ -1,10 +1,8 @@
 -- `operations::lookup::is_a` meets its contract. Assumes nothing.
-use mathlib.Core.Path.{_≡_}
-use Prim.Native.Nat.{_-_}
+use mathlib.Core.Path.{_≡_, refl, ap}
+use Prim.Native.Nat.{_-_, ℕ, _+_}
 use native.Mathlib.Omega.{arith}
-use Prim.Native.Nat.{ℕ, _+_}
 use lib.ListN.{take}
-use mathlib.Core.Path.{refl, ap}
 use Rattle.operations.proofs.Lookups.{no-object, object-is}
 use borrow.Author.Needs.{needs}
 use Rattle.operations.proofs.lookup.is_a.Statement.{statement}

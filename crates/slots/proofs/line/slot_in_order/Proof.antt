@@ -1,6 +1,5 @@
 -- `slots::line::slot_in_order` meets its contract. Assumes nothing.
-use Rattle.slots.proofs.SlotLaws.{part-is}
-use Rattle.slots.proofs.SlotLaws.{order-block, order-slot, order-value}
+use Rattle.slots.proofs.SlotLaws.{part-is, order-block, order-slot, order-value}
 use Rattle.slots.specs.Slots.{lastBefore}
 use Prim.Native.Nat.{ℕ, _+_, _*_}
 use borrow.Author.Tests.{not-true, not-false}

@@ -1,6 +1,5 @@
 -- `slots::line::slot_known` meets its contract. Assumes nothing.
-use Rattle.slots.proofs.SlotLaws.{part-is}
-use Rattle.slots.proofs.SlotLaws.{known-no-object, known-no-row, known-value}
+use Rattle.slots.proofs.SlotLaws.{part-is, known-no-object, known-no-row, known-value}
 use native.Mathlib.Omega.{arith}
 use borrow.Author.Needs.{needs}
 use Rattle.slots.proofs.line.slot_known.Statement.{statement}

@@ -1,7 +1,6 @@
 -- `slots::line::slot_suits` meets its contract. Assumes nothing.
-use Rattle.slots.proofs.SlotLaws.{parents-part, objects-part}
+use Rattle.slots.proofs.SlotLaws.{parents-part, objects-part, suits-object, suits-value, part-is}
 use lib.Seq.{length-take-le}
-use Rattle.slots.proofs.SlotLaws.{suits-object, suits-value, part-is}
 use borrow.Author.Tests.{not-true, not-false}
 use mathlib.Core.Path.{sym}
 use native.Mathlib.Omega.{arith}

@@ -1,10 +1,9 @@
 -- `slots::suits::belongs` meets its contract. Assumes nothing.
 use Rattle.slots.proofs.SuitLaws.{Belonging, belongs-base, belongs-other, belongs-start, belongs-around, belongs-not, belongs-again, belongs-end}
-use Prim.Native.Nat.{_-_}
+use Prim.Native.Nat.{_-_, ℕ, _<_}
 use borrow.Author.Tests.{not-true, not-false}
 use borrow.Author.Needs.{needs}
 use native.Mathlib.Omega.{arith}
-use Prim.Native.Nat.{ℕ, _<_}
 use borrow.Fn.Kinds.{In}
 use borrow.Fn.PlainCycle.{Measures, is, falls, and}
 use Rattle.slots.proofs.suits.belongs.Reads as belongs

@@ -1,11 +1,10 @@
 -- `place_node` meets its contract.
 use Rattle.trees.specs.Operands.{marked}
-use mathlib.Core.Path.{ap}
+use mathlib.Core.Path.{ap, sym, _∙_}
 use lib.ListN.{length-set}
 use Rattle.trees.proofs.NodeLaws.{place-room, place-8, place-on, deepest-small}
 use Rattle.trees.proofs.PlaceLaws.{nodes-low, operands-fine, place-4, place-5, place-6}
 use borrow.Author.Tests.{not-false}
-use mathlib.Core.Path.{sym, _∙_}
 use native.Mathlib.Omega.{arith}
 use borrow.Author.Needs.{needs}
 use Rattle.trees.proofs.node.place_node.Statement.{statement}

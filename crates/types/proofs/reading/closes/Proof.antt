@@ -1,10 +1,8 @@
 -- `closes` meets its contract. The loop's invariant: what is left is as many brackets as are left to count, exactly where s is d.
-use Prim.Native.Nat.{ℕ}
-use mathlib.Core.Path.{ap}
+use Prim.Native.Nat.{ℕ, _≤_, _-_}
+use mathlib.Core.Path.{ap, _≡_, sym}
 use borrow.Author.Needs.{needs}
 use native.Mathlib.Omega.{arith}
-use Prim.Native.Nat.{_≤_, _-_}
-use mathlib.Core.Path.{_≡_, sym}
 use lib.ListN.{length, drop}
 use Rattle.types.specs.Reading.{closes}
 use Rattle.types.proofs.Closing.{closes-off, closes-stop, closes-more, closes-end}

@@ -7,8 +7,7 @@ use lib.ListN.{length}
 use borrow.Author.Needs.{needs}
 use Rattle.ocl.specs.Model.{Model}
 use Rattle.types.specs.Flat.{joinedType}
-use Rattle.judgements.specs.Replies.{envOf}
-use Rattle.judgements.specs.Replies.{ReadsRows}
+use Rattle.judgements.specs.Replies.{envOf, ReadsRows}
 use Rattle.typing.proofs.Members.{Left, collect-over, left-all, left-refused, left-next, left-done}
 use Rattle.judgements.proofs.forms.around_common.Reads as around-common-reads
 use Rattle.judgements.proofs.forms.join_more.Reads as join-more-reads
