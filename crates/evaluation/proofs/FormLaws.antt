@@ -12,7 +12,7 @@ use Rattle.laws.specs.Choice.{if_then_else_}
 use Rattle.laws.proofs.Slices.{under-top}
 use Rattle.ocl.specs.Values.{Value, bool, Values}
 use Rattle.ocl.specs.Environment.{Env, extend}
-use Rattle.ocl.specs.Evaluation.{Outcome, value, stuck, bind, onBool, onColl, unaryApply, unaryRun, leftFits, binaryApply, binaryRun, isUndefRun, conditionalRun, letRun, attributeRun, search, quantifiedRun, fold, iterateRun}
+use Rattle.ocl.specs.Evaluation.{Outcome, value, stuck, bind, onBool, onColl, unaryApply, unaryRun, leftFits, binaryApply, binaryRun, isUndefRun, conditionalRun, letRun, attributeRun, seek, quantifiedRun, fold, iterateRun}
 use Rattle.values.specs.Cells.{encs, fits-bool}
 use Rattle.values.specs.Contracts.{means-bool, SortOf}
 use Rattle.values.specs.declared.Simple.the-variants as simple
@@ -26,7 +26,7 @@ use Rattle.operations.specs.Answers.{Lies, ends-stop, Under, Gives, Truth}
 use Rattle.operations.specs.Tables.{Attribute, attributeIn}
 use Rattle.operations.specs.Operations.{OfOne, OfTwo, FitsLeft, unaryFor}
 use Rattle.operations.specs.Runs.{World, held, Rel, Evals}
-use Rattle.evaluation.specs.Evaluating.{ReadsWorld, operandFor, unaryNode, binaryNode, isUndefNode, conditionalNode, letNode, attributeNode, quantifiedNode, iterateNode, Searches, Folds}
+use Rattle.evaluation.specs.Evaluating.{ReadsWorld, operandFor, unaryNode, binaryNode, isUndefNode, conditionalNode, letNode, attributeNode, quantifiedNode, iterateNode, Seeks, Folds}
 use Rattle.operations.proofs.Words.{under-then, under-down, lies-kept, head-at, slid}
 use Rattle.operations.proofs.Sorts.{bit-one, no-coll, IsColl, is-coll}
 use Rattle.evaluation.proofs.Composition.{rel-kept, rel-bind, Other, valued, is-undefined, is-stuck, is-stop, falls, bind-value, bounds, early, after, ran-from, ran-value, ran-stuck-at}
@@ -157,7 +157,7 @@ module _ {Ok : World → Type 0} (t : List ℕ) (n : ℕ) {env B A : List ℕ} {
   -- ---- a source whose members are gone through
 
   abbrev members : ℕ → World → Env Value → Value → ℕ → Outcome
-  members k w ρ v n' = onColl v (λ c vs. search (quantifierOf k) (λ y. operandFor t n 2 w (extend ρ (variable (word t n 3)) y)) vs n')
+  members k w ρ v n' = onColl v (λ c vs. seek (quantifierOf k) (λ y. operandFor t n 2 w (extend ρ (variable (word t n 3)) y)) vs n')
 
   abbrev foldAll : World → Env Value → Values → Value → ℕ → Outcome
   foldAll w ρ vs a n' = fold (λ y z. operandFor t n 3 w (extend (extend ρ (variable (word t n 4)) y) (variable (word t n 5)) z)) vs a n'
@@ -177,7 +177,7 @@ module _ {Ok : World → Type 0} (t : List ℕ) (n : ℕ) {env B A : List ℕ} {
     pub quantified-stuck : (k : ℕ) → d < 3 → Evals Ok (quantifiedNode t n k) env sp s B A ended.Stuck
     unfolding quantifiedNode quantifiedRun
     quantified-stuck k h = after (members k) (λ w ρ. refl) x q tt (λ w ok ρ rel v l u.
-        rw (no-coll l S h (λ c vs. search (quantifierOf k) (λ y. operandFor t n 2 w (extend ρ (variable (word t n 3)) y)) vs sa)) (ran-stuck-at u))
+        rw (no-coll l S h (λ c vs. seek (quantifierOf k) (λ y. operandFor t n 2 w (extend ρ (variable (word t n 3)) y)) vs sa)) (ran-stuck-at u))
 
     pub iterate-stuck : d < 3 → Evals Ok (iterateNode t n) env sp s B A ended.Stuck
     unfolding iterateNode iterateRun
@@ -188,7 +188,7 @@ module _ {Ok : World → Type 0} (t : List ℕ) (n : ℕ) {env B A : List ℕ} {
       cells : {v : Value} (l : Lies v sp la A) → (y : IsColl l S) → slice (sp + 1) (sp + la) A ≡ encs (y .members)
       cells l y = header A sp (sp + la) (y .kind) (y .members) (let m = bounds (x .small) q in omega arith) room (rw (y .is) at (l .cells)) .cells
 
-      pub quantified-done : (k : ℕ) {C : List ℕ} {r' : Ended} → Searches Ok (quantifierOf k) (variable (word t n 3)) (operandFor t n 2) env sp la sa A C r' → Evals Ok (quantifiedNode t n k) env sp s B C r'
+      pub quantified-done : (k : ℕ) {C : List ℕ} {r' : Ended} → Seeks Ok (quantifierOf k) (variable (word t n 3)) (operandFor t n 2) env sp la sa A C r' → Evals Ok (quantifiedNode t n k) env sp s B C r'
       unfolding quantifiedNode quantifiedRun
       quantified-done k g = after (members k) (λ w ρ. refl) x q (g .small) (λ w ok ρ rel v l u.
           let y = is-coll l S h in

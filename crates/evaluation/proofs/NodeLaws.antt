@@ -19,14 +19,14 @@ use Rattle.values.specs.Contracts.{means-obj, Pushes}
 use Rattle.values.specs.declared.Simple.the-variants as simple
 use Rattle.nodes.specs.Nodes.{word, leafOf, treeAt}
 use Rattle.nodes.proofs.Nodes.{below-law}
-use Rattle.nodes.proofs.Levels.{collect-levels}
-use Rattle.nodes.proofs.Evaluation.{operandRun, leaf-run, unary-run, binary-run, connective-run, quantified-run, collect-run, over-run, isUndef-run, conditional-run, let-run, attribute-run, iterate-run, none-run, operand-run, late-run}
+use Rattle.nodes.proofs.Levels.{assemble-levels}
+use Rattle.nodes.proofs.Evaluation.{operandRun, leaf-run, unary-run, binary-run, connective-run, quantified-run, assemble-run, over-run, isUndef-run, conditional-run, let-run, attribute-run, iterate-run, none-run, operand-run, late-run}
 use Rattle.tables.specs.declared.Counts.{Counts}
 use Rattle.operations.specs.declared.Ended.{Ended}
 use Rattle.operations.specs.declared.Ended.the-variants as ended
 use Rattle.operations.specs.Answers.{answerIn, Packs}
 use Rattle.operations.specs.Runs.{World, ModelIn, free, held, Rel, Meaning, Evals, leafFor}
-use Rattle.evaluation.specs.Evaluating.{ReadsWorld, Rules, nodeFor, operandFor, unaryNode, binaryNode, connectiveNode, isUndefNode, conditionalNode, letNode, attributeNode, quantifiedNode, iterateNode, membersRun, collectNode, operandTree, Shallow}
+use Rattle.evaluation.specs.Evaluating.{ReadsWorld, Rules, nodeFor, operandFor, unaryNode, binaryNode, connectiveNode, isUndefNode, conditionalNode, letNode, attributeNode, quantifiedNode, iterateNode, membersRun, assembleNode, operandTree, Shallow}
 use Rattle.operations.proofs.Words.{under-refl, gives}
 use Rattle.operations.proofs.Packing.{ends-packed}
 use Rattle.evaluation.proofs.Composition.{rel-bind, valued, tick-on, tick-stop, ran-undefined-at}
@@ -40,10 +40,10 @@ undef-done : {Ok : World → Type 0} {env B : List ℕ} {sp s : ℕ} → Evals O
 unfolding undefNode leafRun
 undef-done = record { small = tt; ran = λ w ok ρ rel. ran-undefined-at under-refl }
 
-collect-by : (t : List ℕ) (n k : ℕ) → k ≡ word t n 0 → 27 ≤ k → k < 30 → (w : World) (b : Bool) → ltb 4 (word t n 5) ≡ b → evaluation (w .model) (w .mark) (treeAt t n) ≡ tick (if b then leafRun (w .model) undef else membersRun t n k w)
+assemble-by : (t : List ℕ) (n k : ℕ) → k ≡ word t n 0 → 27 ≤ k → k < 30 → (w : World) (b : Bool) → ltb 4 (word t n 5) ≡ b → evaluation (w .model) (w .mark) (treeAt t n) ≡ tick (if b then leafRun (w .model) undef else membersRun t n k w)
 unfolding membersRun
-collect-by t n k e a b w true f = over-run (w .model) (w .mark) t n k e a b (ltb-true 4 (word t n 5) f)
-collect-by t n k e a b w false f = collect-run (w .model) (w .mark) t n k e a b (ltb-false 4 (word t n 5) f)
+assemble-by t n k e a b w true f = over-run (w .model) (w .mark) t n k e a b (ltb-true 4 (word t n 5) f)
+assemble-by t n k e a b w false f = assemble-run (w .model) (w .mark) t n k e a b (ltb-false 4 (word t n 5) f)
 
 -- the code k is node n's, and a step may begin
 module _ {Ok : World → Type 0} (t : List ℕ) (n k : ℕ) {env B A : List ℕ} {sp s : ℕ} {r : Ended} (e : k ≡ word t n 0) (h : s < 1000000) where
@@ -63,9 +63,9 @@ module _ {Ok : World → Type 0} (t : List ℕ) (n k : ℕ) {env B A : List ℕ}
   unfolding nodeFor quantifiedNode operandFor operandRun
   node-quantified a b x = tick-on (quantifiedNode t n k) (λ w. quantified-run (w .model) (w .mark) t n k e a b) h x
 
-  pub node-collect : 27 ≤ k → k < 30 → Evals Ok (collectNode t n k) env sp (s + 1) B A r → Evals Ok (nodeFor t n) env sp s B A r
-  unfolding nodeFor collectNode
-  node-collect a b x = tick-on (collectNode t n k) (λ w. collect-by t n k e a b w (ltb 4 (word t n 5)) refl) h x
+  pub node-assemble : 27 ≤ k → k < 30 → Evals Ok (assembleNode t n k) env sp (s + 1) B A r → Evals Ok (nodeFor t n) env sp s B A r
+  unfolding nodeFor assembleNode
+  node-assemble a b x = tick-on (assembleNode t n k) (λ w. assemble-by t n k e a b w (ltb 4 (word t n 5)) refl) h x
 
   pub node-isUndef : k ≡ 30 → Evals Ok (isUndefNode t n) env sp (s + 1) B A r → Evals Ok (nodeFor t n) env sp s B A r
   unfolding nodeFor isUndefNode operandFor operandRun
@@ -162,7 +162,7 @@ pub below-levels : (t : List ℕ) (n k a : ℕ) → a ≡ word t n k → a < n �
 below-levels t n k a e h = rw (← e) (ap levels (below-law t n a h))
 
 pub shallow : (t : List ℕ) (n k left : ℕ) → k ≡ word t n 0 → 27 ≤ k → k < 30 → levels (treeAt t n) ≤ left + 1 → Shallow t n left
-shallow t n k left e a b h = record { members = λ c i m. let l = collect-levels t n k e a b c i m in omega arith }
+shallow t n k left e a b h = record { members = λ c i m. let l = assemble-levels t n k e a b c i m in omega arith }
 
 -- ---- codes of no form
 

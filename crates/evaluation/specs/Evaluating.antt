@@ -11,7 +11,7 @@ use Rattle.laws.specs.Choice.{if_then_else_}
 use Rattle.ocl.specs.Values.{Value, bool, Values}
 use Rattle.ocl.specs.Environment.{Env, extend}
 use Rattle.ocl.specs.Forms.{Expr, levels, Connective, Quantifier, undef}
-use Rattle.ocl.specs.Evaluation.{value, undefined, bind, onBool, leafRun, unaryRun, binaryRun, decides, connectiveRun, isUndefRun, conditionalRun, letRun, attributeRun, quantifiedRun, iterateRun, collectRun, evaluation, evaluateRule, operandsRun, search, fold}
+use Rattle.ocl.specs.Evaluation.{value, undefined, bind, onBool, leafRun, unaryRun, binaryRun, decides, connectiveRun, isUndefRun, conditionalRun, letRun, attributeRun, quantifiedRun, iterateRun, assembleRun, evaluation, evaluateRule, operandsRun, seek, fold}
 use Rattle.values.specs.Cells.{encs, AllFit}
 use Rattle.nodes.specs.Nodes.{word, variable, unaryOf, binaryOf, connectiveOf, quantifierOf, kindOf, operandsIn, treesBelow, treeAt}
 use Rattle.tables.specs.declared.Counts.{Counts}
@@ -93,10 +93,10 @@ iterateNode t n w = iterateRun (variable (word t n 4)) (variable (word t n 5)) (
 
 -- the members of `coll`, by their nodes; more than four count as `undef`
 unfoldable pub membersRun : List ℕ → ℕ → ℕ → Meaning
-membersRun t n k w = collectRun (kindOf k) (operandsRun (w .model) (w .mark) (operandsIn (treesBelow t n) (word t n) (word t n 5) 1))
+membersRun t n k w = assembleRun (kindOf k) (operandsRun (w .model) (w .mark) (operandsIn (treesBelow t n) (word t n) (word t n 5) 1))
 
-unfoldable pub collectNode : List ℕ → ℕ → ℕ → Meaning
-collectNode t n k w = if ltb 4 (word t n 5) then leafRun (w .model) undef else membersRun t n k w
+unfoldable pub assembleNode : List ℕ → ℕ → ℕ → Meaning
+assembleNode t n k w = if ltb 4 (word t n 5) then leafRun (w .model) undef else membersRun t n k w
 
 -- each operand of `coll` has few enough levels
 pub record Shallow (t : List ℕ) (n left : ℕ) : Type 0 where
@@ -104,10 +104,10 @@ pub record Shallow (t : List ℕ) (n left : ℕ) : Type 0 where
 
 -- ---- loops over the members of the collection of la cells at sp
 
-pub record Searches (Ok : World → Type 0) (q : Quantifier) (i : ℕ) (g : Meaning) (env : List ℕ) (sp la s : ℕ) (B A : List ℕ) (r : Ended) : Type 0 where
+pub record Seeks (Ok : World → Type 0) (q : Quantifier) (i : ℕ) (g : Meaning) (env : List ℕ) (sp la s : ℕ) (B A : List ℕ) (r : Ended) : Type 0 where
   pub small : SmallAnswer r
   pub ran : (w : World) → Ok w → (ρ : Env Value) → Rel env B sp ρ → (vs : Values) → AllFit vs → slice (sp + 1) (sp + la) B ≡ encs vs
-      → Ran (search q (λ x. g w (extend ρ i x)) vs s) sp B A r
+      → Ran (seek q (λ x. g w (extend ρ i x)) vs s) sp B A r
 
 -- the accumulator is the lb cells after the collection
 pub record Folds (Ok : World → Type 0) (i j : ℕ) (h : Meaning) (env : List ℕ) (sp la lb s : ℕ) (B A : List ℕ) (r : Ended) : Type 0 where

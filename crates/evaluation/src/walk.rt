@@ -19,14 +19,14 @@ use operations::leaves::leaf;
 use operations::lookup::attribute_of;
 use tables::Counts;
 use types::classes::wide;
-use values::collect::collect;
+use values::collections::assemble;
 ghost use Prim.Native.Nat.{_+_, _≤_, _<_};
 ghost use lib.ListN.{length};
 ghost use Rattle.ocl.specs.Forms.{levels};
 ghost use Rattle.nodes.specs.Nodes.{treeAt};
 ghost use Rattle.operations.specs.Answers.{answerIn};
 ghost use Rattle.operations.specs.Runs.{Evals};
-ghost use Rattle.evaluation.specs.Evaluating.{ReadsWorld, StackRoom, operandTree, nodeFor, operandFor, unaryNode, binaryNode, attributeNode, collectNode, Shallow};
+ghost use Rattle.evaluation.specs.Evaluating.{ReadsWorld, StackRoom, operandTree, nodeFor, operandFor, unaryNode, binaryNode, attributeNode, assembleNode, Shallow};
 
 // The step stop comes where this many steps have begun.
 const LIMIT: u64 = 1_000_000;
@@ -212,7 +212,7 @@ fn coll(
 ) -> Ended
     requires { ⌜ StackRoom st (length (now tables)) (length (now nodes)) (length (now stack)) n sp (left + 1) ⌝ }
     requires { ⌜ (27 ≤ form) × (form < 30) × Shallow (now nodes) n left ⌝ }
-    ensures { λ r. ⌜ Evals (ReadsWorld st (now (tables .entry)) (now (nodes .entry))) (collectNode (now (nodes .entry)) n form) env sp steps (now (stack .entry)) (now (stack .exit)) r ⌝ }
+    ensures { λ r. ⌜ Evals (ReadsWorld st (now (tables .entry)) (now (nodes .entry))) (assembleNode (now (nodes .entry)) n form) env sp steps (now (stack .entry)) (now (stack .exit)) r ⌝ }
 {
     let count = wide(node_word(nodes, n, 5));
     if 4 < count {
@@ -230,5 +230,5 @@ fn coll(
         s = sb;
         k += 1;
     }
-    formed(collect(stack, sp, sp, end, form - 27), s)
+    formed(assemble(stack, sp, sp, end, form - 27), s)
 }

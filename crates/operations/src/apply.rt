@@ -5,7 +5,7 @@ use crate::answers::put;
 use crate::answers::truth;
 use crate::lookup::is_a;
 use tables::Counts;
-use values::Num;
+use values::Computed;
 use values::Simple;
 use values::arith::END;
 use values::arith::ZERO;
@@ -16,9 +16,9 @@ use values::cells::OBJECT;
 use values::cells::SET;
 use values::cells::payload_of;
 use values::cells::sort_of;
-use values::collect::add;
-use values::collect::convert;
-use values::collect::union;
+use values::collections::add;
+use values::collections::convert;
+use values::collections::union;
 use values::order::equal;
 use values::order::includes;
 ghost use Prim.Native.Nat.{_+_, _≤_, _<_};
@@ -170,7 +170,7 @@ fn integers(form: u64, stack: &mut [u64], sp: usize, la: usize, lb: usize, steps
         let b = less(left, right);
         return put(stack, sp, Simple::Bool { b }, steps);
     }
-    let Num::Is { n } = calculate(form - 15, left, right) else {
+    let Computed::Is { n } = calculate(form - 15, left, right) else {
         return Ended::Undef { steps };
     };
     put(stack, sp, Simple::Integer { biased: n % END }, steps)

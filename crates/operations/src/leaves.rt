@@ -10,7 +10,7 @@ use values::Simple;
 use values::arith::END;
 use values::cells::empty_of;
 use values::cells::push_copy;
-use values::collect::append_simple;
+use values::collections::append_simple;
 ghost use Prim.Native.Nat.{_+_, _≤_, _<_};
 ghost use lib.ListN.{length};
 ghost use Rattle.operations.specs.Tables.{Bounds, WithObject, Instances};

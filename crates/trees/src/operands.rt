@@ -10,7 +10,7 @@ ghost use Rattle.trees.specs.Operands.{shifted, marking, marked, WroteWo
 
 // A broken tree, or the depth of the deepest operand.
 pub enum Marked {
-    Broken,
+    Malformed,
     Deepest(u64),
 }
 
@@ -57,12 +57,12 @@ pub fn mark(w1: &mut [u64], words: [u64; 8], count: usize, first: u64, n: u64) -
     while i < count {
         let a = words[1 + i];
         if a >= n {
-            return Marked::Broken;
+            return Marked::Malformed;
         }
         let at = (6912 + (first + a)) as usize;
         let d = w1[at];
         if d % 2 == 1 {
-            return Marked::Broken;
+            return Marked::Malformed;
         }
         w1[at] = d + 1;
         deepest = deeper(deepest, d);

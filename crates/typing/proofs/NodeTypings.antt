@@ -19,11 +19,11 @@ use Rattle.types.specs.Parts.{outerCode, memberType}
 use Rattle.types.specs.Word.{typeIn}
 use Rattle.types.proofs.Members.{no-collection, is-collection}
 use Rattle.nodes.specs.Nodes.{word, variable, leafOf}
-use Rattle.nodes.proofs.Typing.{operandTyping, leaf-typing, unary-typing, binary-typing, connective-typing, quantified-typing, collect-typing, isUndef-typing, conditional-typing, let-typing, attribute-typing, iterate-typing, over-typing, none-typing, operand-typing, late-typing}
+use Rattle.nodes.proofs.Typing.{operandTyping, leaf-typing, unary-typing, binary-typing, connective-typing, quantified-typing, assemble-typing, isUndef-typing, conditional-typing, let-typing, attribute-typing, iterate-typing, over-typing, none-typing, operand-typing, late-typing}
 use Rattle.judgements.specs.declared.Reply.{Reply}
 use Rattle.judgements.specs.declared.Reply.the-variants as reply
 use Rattle.judgements.specs.Replies.{Tells}
-use Rattle.typing.specs.Tables.{nodeAt, operandAt, membersAt, unaryAt, binaryAt, connectiveAt, isUndefAt, conditionalAt, letAt, attributeAt, quantifiedAt, iterateAt, bodyAt, collectAt}
+use Rattle.typing.specs.Tables.{nodeAt, operandAt, membersAt, unaryAt, binaryAt, connectiveAt, isUndefAt, conditionalAt, letAt, attributeAt, quantifiedAt, iterateAt, bodyAt, assembleAt}
 use Rattle.judgements.proofs.Composition.{done}
 
 -- ---- a node by its code
@@ -48,13 +48,13 @@ module _ (m : Model) (t : List ℕ) (n k : ℕ) (e : k ≡ word t n 0) where
   unfolding operandAt operandTyping
   quantified-node l h = quantified-typing m t n k e l h
 
-  by-count : (b : Bool) → ltb 4 (word t n 5) ≡ b → 27 ≤ k → k < 30 → nodeAt t n m ≡ collectAt t n k m
-  unfolding collectAt membersAt
+  by-count : (b : Bool) → ltb 4 (word t n 5) ≡ b → 27 ≤ k → k < 30 → nodeAt t n m ≡ assembleAt t n k m
+  unfolding assembleAt membersAt
   by-count true c l h = rw c (over-typing m t n k e l h (ltb-true 4 (word t n 5) c))
-  by-count false c l h = rw c (collect-typing m t n k e l h (ltb-false 4 (word t n 5) c))
+  by-count false c l h = rw c (assemble-typing m t n k e l h (ltb-false 4 (word t n 5) c))
 
-  pub collect-node : 27 ≤ k → k < 30 → nodeAt t n m ≡ collectAt t n k m
-  collect-node l h = by-count (ltb 4 (word t n 5)) refl l h
+  pub assemble-node : 27 ≤ k → k < 30 → nodeAt t n m ≡ assembleAt t n k m
+  assemble-node l h = by-count (ltb 4 (word t n 5)) refl l h
 
   pub isUndef-node : k ≡ 30 → nodeAt t n m ≡ isUndefAt t n m
   unfolding operandAt operandTyping

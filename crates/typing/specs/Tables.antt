@@ -9,7 +9,7 @@ use Rattle.ocl.specs.Types.{Ty}
 use Rattle.ocl.specs.Environment.{extend}
 use Rattle.ocl.specs.Forms.{undef}
 use Rattle.ocl.specs.Model.{Model}
-use Rattle.ocl.specs.Typing.{typed, Typed, Typing, pure, andThen, below, typing, leafTyping, unaryTyping, binaryTyping, connectiveTyping, isUndefTyping, conditionalTyping, letTyping, attributeTyping, quantifiedTyping, iterateTyping, collectTyping, operandsTyping}
+use Rattle.ocl.specs.Typing.{typed, Typed, Typing, pure, andThen, below, typing, leafTyping, unaryTyping, binaryTyping, connectiveTyping, isUndefTyping, conditionalTyping, letTyping, attributeTyping, quantifiedTyping, iterateTyping, assembleTyping, operandsTyping}
 use Rattle.types.specs.Flat.{tyOf}
 use Rattle.types.specs.Word.{typeIn}
 use Rattle.nodes.specs.Nodes.{word, variable, unaryOf, binaryOf, kindOf, operandsIn, treesBelow, treeAt}
@@ -86,6 +86,6 @@ unfoldable pub bodyAt : List ℕ → ℕ → Ty → Model → Typing
 bodyAt t n w m Γ = andThen (operandAt t n 3 m (extend Γ (variable (word t n 5)) w)) (λ b. pure (below m n b w (typed w)))
 
 -- over four operands, which no accepted sheet has, count as `undef`
-unfoldable pub collectAt : List ℕ → ℕ → ℕ → Model → Typing
-collectAt t n form m =
-    if ltb 4 (word t n 5) then leafTyping n undef else collectTyping n (kindOf form) (membersAt t n (word t n 5) 1 m)
+unfoldable pub assembleAt : List ℕ → ℕ → ℕ → Model → Typing
+assembleAt t n form m =
+    if ltb 4 (word t n 5) then leafTyping n undef else assembleTyping n (kindOf form) (membersAt t n (word t n 5) 1 m)

@@ -2,7 +2,7 @@
 // Parameters as in walk.rt.
 ghost use Prim.Native.Nat.{_<_, _≤_};
 ghost use lib.ListN.{length};
-ghost use Rattle.typing.specs.Tables.{NodeRoom, Types, unaryAt, binaryAt, connectiveAt, isUndefAt, conditionalAt, attributeAt, collectAt};
+ghost use Rattle.typing.specs.Tables.{NodeRoom, Types, unaryAt, binaryAt, connectiveAt, isUndefAt, conditionalAt, attributeAt, assembleAt};
 use super::PairReply;
 use super::walk::operand;
 use super::walk::pair;
@@ -150,7 +150,7 @@ pub fn attribute(
 
 // `coll`: the letter around the common type of the members, all of which are typed before a missing one is refused; over four
 // members, which no accepted sheet has, count as `undef`.
-pub fn collect(
+pub fn coll(
     nodes: &[u64],
     parents: &[u64],
     tables: &[u64],
@@ -162,7 +162,7 @@ pub fn collect(
 ) -> Reply
     requires { ⌜ (27 ≤ form) × (form < 30) ⌝ }
     requires { ⌜ NodeRoom n rows (length (now tables)) (length (now nodes)) (length (now marks)) ⌝ }
-    ensures { λ r. ⌜ Types (now (parents .entry)) (now (tables .entry)) rows (collectAt (now (nodes .entry)) n form) env (now (marks .entry)) (now (marks .exit)) r ⌝ }
+    ensures { λ r. ⌜ Types (now (parents .entry)) (now (tables .entry)) rows (assembleAt (now (nodes .entry)) n form) env (now (marks .entry)) (now (marks .exit)) r ⌝ }
 {
     let count = wide(node_word(nodes, n, 5));
     if 4 < count {

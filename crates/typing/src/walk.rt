@@ -7,7 +7,7 @@ ghost use Rattle.typing.specs.Tables.{NodeRoom, Types, TypesTwo, nodeAt,
 use super::PairReply;
 use super::apply::attribute;
 use super::apply::binary;
-use super::apply::collect;
+use super::apply::coll;
 use super::apply::conditional;
 use super::apply::connective;
 use super::apply::is_undef;
@@ -43,7 +43,7 @@ pub fn node(
         13..=22 => binary(nodes, parents, tables, rows, n, form, env, marks),
         23..=24 => connective(nodes, parents, tables, rows, n, env, marks),
         25..=26 => quantified(nodes, parents, tables, rows, n, env, marks),
-        27..=29 => collect(nodes, parents, tables, rows, n, form, env, marks),
+        27..=29 => coll(nodes, parents, tables, rows, n, form, env, marks),
         30 => is_undef(nodes, parents, tables, rows, n, env, marks),
         31 => conditional(nodes, parents, tables, rows, n, env, marks),
         32 => let_in(nodes, parents, tables, rows, n, env, marks),

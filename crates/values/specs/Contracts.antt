@@ -181,7 +181,7 @@ pub record MergesBy (apart h from mid start top : ℕ) (before after : List ℕ)
       → Forms (coll k (addAll k vs us)) top (take top before) after (formed.Done r)
 
 -- the members from `from` to end, as a collection of the kind
-pub record Collects (kind sp from end : ℕ) (before after : List ℕ) (r : Formed) : Type 0 where
+pub record Assembles (kind sp from end : ℕ) (before after : List ℕ) (r : Formed) : Type 0 where
   pub small : SmallForm r
   pub low : take sp after ≡ take sp before
   pub is : (k : Kind) (vs : Values) → kind ≡ kindCode k → AllFit vs → slice from end before ≡ encs vs

@@ -5,7 +5,7 @@
 // It depends on no other code, and on crates/ocl for what a value is.
 pub mod arith;
 pub mod cells;
-pub mod collect;
+pub mod collections;
 pub mod merge;
 pub mod order;
 
@@ -29,7 +29,7 @@ pub enum Formed {
 }
 
 // The result of an operation on Integers, counted from -2147483648.
-pub enum Num {
+pub enum Computed {
     Is { n: u64 },
     Undef,
 }
