@@ -17,7 +17,7 @@ fn evaluate_for_all(text: &[u8], rule: u64, memory: &mut Memory, output: &mut [u
             Ok(Evaluated { value, steps }) => println!("  object {object}: {value}, {steps} steps"),
             Err(refused) => match refused.refusal() {
                 // The object before was the last.
-                Some(Refusal::NotListed) => return,
+                Some(Refusal::NotFound) => return,
                 Some(Refusal::OtherClass) => {}
                 _ => println!("  object {object}: {refused}"),
             },
@@ -34,7 +34,7 @@ fn check(text: &[u8]) -> Result<(), Refused> {
         match type_rule(text, rule, &mut memory, &mut output) {
             Ok(ty) => println!("rule {rule}: {ty}"),
             // The rule before was the last.
-            Err(refused) if refused.refusal() == Some(Refusal::NotListed) => break,
+            Err(refused) if refused.refusal() == Some(Refusal::NotFound) => break,
             Err(refused) => return Err(refused),
         }
         evaluate_for_all(text, rule, &mut memory, &mut output);
