@@ -5,7 +5,7 @@
  *     cc -std=c11 -Wall -Wextra -Werror -Iinclude examples/c/check.c target/staticlib/libchecker.a -o target/check
  *     target/check examples/cap.sheet
  *
- * Its exit status is 0 after a report, 1 after a refusal and 2 where the file could not be read.
+ * Its exit status is 0 after a report, 1 after a refusal and 2 if the file could not be read.
  */
 #include <inttypes.h>
 #include <stdio.h>
@@ -57,13 +57,13 @@ static void print_refusal(ocl_answer answer)
     printf(": %s\n", meanings[answer.number][1]);
 }
 
-/* Prints what the rule comes to for each object that it is for. */
+/* Prints what the rule comes to for each object it applies to. */
 static void evaluate_for_all(uint64_t rule)
 {
     for (uint64_t object = 0;; object++) {
         ocl_answer answer = ocl_evaluate_rule(TEXT, rule, object, WORDS, OUTPUT);
         if (answer.number == OCL_NOT_FOUND) {
-            return; /* the object before was the last */
+            return; /* the object before this one was the last */
         }
         if (answer.number == OCL_OTHER_CLASS) {
             continue;
@@ -83,7 +83,7 @@ static int print_rules(void)
     for (uint64_t rule = 0;; rule++) {
         ocl_answer answer = ocl_type_rule(TEXT, rule, WORDS, OUTPUT);
         if (answer.number == OCL_NOT_FOUND) {
-            return 1; /* the rule before was the last */
+            return 1; /* the rule before this one was the last */
         }
         if (answer.number != OCL_ANSWERED) {
             print_refusal(answer);

@@ -74,7 +74,7 @@ pub struct Evaluated<'o> {
     pub steps: u64,
 }
 
-/// Reads a sheet: is it one?
+/// Reads a sheet and says whether it is valid.
 ///
 /// # Errors
 ///
@@ -115,8 +115,8 @@ pub fn type_rule<'o>(
 /// # Errors
 ///
 /// What [`type_rule`] refuses; [`Refusal::NotFound`] where there is no such
-/// object, [`Refusal::OtherClass`] where the rule is not for it, before the rule
-/// is typed; [`Refusal::StepStop`] and [`Refusal::SizeStop`], with the steps.
+/// object, [`Refusal::OtherClass`] where the rule does not apply to it, before the
+/// rule is typed; [`Refusal::StepStop`] and [`Refusal::SizeStop`], with the steps.
 ///
 /// ```
 /// use ocl_checker::{evaluate_rule, Memory, Refusal, LEAST_OUTPUT};
@@ -143,14 +143,14 @@ pub fn evaluate_rule<'o>(
     })
 }
 
-/// The report: a line for each rule and each object that it is for, with value
-/// and steps. A stop stands in its line as `!16` or `!17`, and the report goes on.
+/// The report: a line for each rule and each object it applies to, with value and
+/// steps. A stop is written in its line as `!16` or `!17`, and the report goes on.
 ///
 /// # Errors
 ///
 /// What [`read`] refuses; [`Refusal::UnboundVariable`] to [`Refusal::TypeTooDeep`]
 /// where a rule has no type; [`Refusal::ReportTooLong`] where the report is longer
-/// than the output; [`Refusal::ShortSlice`] where that has not even
+/// than the output; [`Refusal::ShortSlice`] where the output has fewer than
 /// [`LEAST_OUTPUT`] bytes.
 pub fn report<'o>(
     text: &[u8],

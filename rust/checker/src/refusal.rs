@@ -36,7 +36,7 @@ pub enum Refusal {
     TypeTooDeep,
     /// The sheet has no such rule, or no such object.
     NotFound,
-    /// The rule is not for objects of this class.
+    /// The rule does not apply to objects of this class.
     OtherClass,
     /// More than [`MOST_STEPS`](crate::MOST_STEPS) steps are due.
     StepStop,

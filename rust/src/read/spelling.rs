@@ -72,7 +72,7 @@ pub fn ty(field: &[u8]) -> Spelt<Type> {
         }))
 }
 
-/// A value without members. `u` is none on a sheet.
+/// A value without members. On a sheet, `u` is not a value.
 fn simple(field: &[u8]) -> Spelt<Value> {
     match field {
         b"t" => Ok(Value::Bool(true)),
