@@ -1,18 +1,13 @@
 // A program for the gate: it prints the name of each file that its arguments name, and then what the program prints for it. It
 // depends on `printing`.
 use libc::STDOUT_FILENO;
-use printing::Filled;
 use printing::printed_text;
-use printing::read_input;
 
 fn print_input(fd: i32, name: &[u8]) {
     // one byte more than a sheet may have: a sheet that is too long is told from one that was cut to fit
     let mut text: [u8; 49153] = [0; 49153];
     let mut out: [u8; 65536] = [0; 65536];
-    let Filled::With(n) = read_input(fd, &mut text) else {
-        os::fail(name);
-        return;
-    };
+    let n = io::read_full(fd, &mut text);
     let end = printed_text(&text[..n], &mut out);
     io::write_all(STDOUT_FILENO, name);
     io::write_all(STDOUT_FILENO, b"\n");

@@ -4,7 +4,7 @@ use mathlib.Core.Path.{_≡_}
 use mathlib.Core.Bool.{Bool, true, false}
 use mathlib.Core.List.{List, _∷_, _++_}
 use Prim.Native.Nat.{ℕ, suc, _+_, _-_, _<_, _≤_}
-use lib.ListN.{length, getD, take}
+use lib.ListN.{length, getD, take, drop}
 use lib.Seq.{slice}
 use lib.Dec.{leb}
 use lib.IntN.{ℤ}
@@ -201,6 +201,11 @@ pub record Unites (sp mid end : ℕ) (before after : List ℕ) (r : Formed) : Ty
   pub is : (k : Kind) (us vs : Values) → Fits (coll k us) → Fits (coll k vs)
       → slice sp mid before ≡ enc (coll k us) → slice mid end before ≡ enc (coll k vs)
       → Forms (coll k (addAll k vs us)) sp (take sp before) after r
+
+-- the len cells at `from`, copied to `to`; every other cell is as it was
+pub record Slides (from to len : ℕ) (before after : List ℕ) : Type 0 where
+  pub front : take (to + len) after ≡ take to before ++ take len (drop from before)
+  pub behind : drop (to + len) after ≡ drop (to + len) before
 
 -- the value at p, below sp, once more at sp
 pub record Copies (p sp : ℕ) (before after : List ℕ) (r : Formed) : Type 0 where

@@ -7,7 +7,7 @@ ghost use mathlib.Core.Logic.{_⊎_};
 ghost use Prim.Native.Nat.{_+_, _*_, _≤_, _<_};
 ghost use lib.ListN.{length, take, drop};
 ghost use Rattle.values.specs.Cells.{kids};
-ghost use Rattle.values.specs.Contracts.{SortOf, PayloadOf, SimpleOf, CellOf, Narrow, Pushes, EmptyOf, Skips, Copies, Brings};
+ghost use Rattle.values.specs.Contracts.{SortOf, PayloadOf, SimpleOf, CellOf, Narrow, Pushes, EmptyOf, Skips, Slides, Copies, Brings};
 
 // A cell is this many times its sort, and a payload below it.
 pub const SORT: u64 = 4_294_967_296;
@@ -123,7 +123,7 @@ pub fn skip(stack: &[u64], p: usize, limit: usize) -> usize
 pub fn slide(stack: &mut [u64], from: usize, to: usize, len: usize)
     requires { ⌜ (from + len ≤ length (now stack)) × (to + len ≤ length (now stack)) ⌝ }
     requires { ⌜ (to ≤ from) ⊎ (from + len ≤ to) ⌝ }
-    ensures { λ _. ⌜ take (to + len) (now (stack .exit)) ≡ take to (now (stack .entry)) ++ take len (drop from (now (stack .entry))) ⌝ }
+    ensures { λ _. ⌜ Slides from to len (now (stack .entry)) (now (stack .exit)) ⌝ }
 {
     let mut i = 0;
     while i < len {

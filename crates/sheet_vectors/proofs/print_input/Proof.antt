@@ -5,29 +5,17 @@ use lib.Seq.{length-take-le}
 use Rattle.sheet_vectors.proofs.print_input.Statement.{statement}
 use Rattle.sheet_vectors.proofs.print_input.Tie as tie
 
-slice-aggregate-read-input : tie.Need-slice-aggregate-read-input
-slice-aggregate-read-input c = search needs
+slice-aggregate-read-full : tie.Need-slice-aggregate-read-full
+slice-aggregate-read-full c = search needs
 
-read-input-requires : tie.Need-read-input-requires
-read-input-requires c κs = search needs
-
-enum-known-n : tie.Need-enum-known-n
-enum-known-n c = search needs
-
-enum-told : tie.Need-enum-told
-enum-told c = search needs
-
-fail-requires : tie.Need-fail-requires
-fail-requires c κs = search needs
-
-returns : tie.Need-returns
-returns c = search needs
+read-full-requires : tie.Need-read-full-requires
+read-full-requires c κs = search needs
 
 array-share-prefix-text : tie.Need-array-share-prefix-text
-array-share-prefix-text c = rw (c .before .n .given .1) at (c .before .before .before .before .read-input .ensures)
+array-share-prefix-text c = search needs
 
 slice-aggregate-printed-text : tie.Need-slice-aggregate-printed-text
-slice-aggregate-printed-text c = sym (length-take-le _ _ (rw (c .before .before .n .given .1) at (c .before .before .before .before .before .read-input .ensures)))
+slice-aggregate-printed-text c = sym (length-take-le _ _ (c .before .read-full .ensures .0))
 
 printed-text-requires : tie.Need-printed-text-requires
 printed-text-requires c κs = search needs
@@ -50,19 +38,15 @@ slice-aggregate-write-all-2 c = sym (length-take-le _ _ (c .before .before .befo
 write-all-requires-3 : tie.Need-write-all-requires-3
 write-all-requires-3 c κs = search needs
 
-returns-2 : tie.Need-returns-2
-returns-2 c = search needs
+returns : tie.Need-returns
+returns c = search needs
 
 pub print-input-spec : {M : Type 1} → statement M
 print-input-spec =
     tie.close
     (tie.spec
-    slice-aggregate-read-input
-    read-input-requires
-    enum-known-n
-    enum-told
-    fail-requires
-    returns
+    slice-aggregate-read-full
+    read-full-requires
     array-share-prefix-text
     slice-aggregate-printed-text
     printed-text-requires
@@ -72,4 +56,4 @@ print-input-spec =
     array-share-prefix-out
     slice-aggregate-write-all-2
     write-all-requires-3
-    returns-2)
+    returns)

@@ -80,7 +80,7 @@ module _ (t : ℕ) where
   loop-less c = omega (arith, c .skip .ensures .up (c .before .before .before .before .before .before .before .before .before .before .before .before .before .loop-test .taken), c .skip .ensures .within, c .before .before .before .before .before .before .before .before .before .before .before .before .before .loop-test .taken)
 
   loop-again : lts.Need-loop-again calls (fold-at t) fold.Post Inv μ
-  loop-again c = fold-again (c .before .before .before .before .before .before .before .before .before .before .before .before .before .before .loop .inv) (omega (arith, c .before .before .before .before .before .before .before .before .before .before .before .before .before .before .before .before .before .before .pre)) (c .before .before .before .before .before .before .before .before .before .before .before .before .before .before .before .before .before .before .pre .1 .1 .1 .0) (c .before .before .before .before .before .before .before .before .before .before .before .before .before .before .before .before .before .before .pre .1 .1 .1 .1) (omega (arith, c .before .before .before .before .before .before .before .before .before .before .before .before .before .before .before .before .before .before .pre .1 .1 .1 .0)) (omega (arith, c .before .before .before .before .before .before .before .before .before .before .before .before .before .before .before .before .before .before .pre .1 .1 .1 .1)) (omega (arith, c .before .before .before .before .before .before .before .before .before .before .before .before .before .before .before .before .before .before .pre)) (c .before .before .before .before .before .before .before .before .before .before .before .before .before .loop-test .taken) (c .before .before .before .before .before .before .before .before .before .before .before .below .ensures) (c .before .before .before .before .before .before .before .turn .given .1) (c .before .before .before .before .before .before .before .before .before .before .before .below .kept .1 .1 .1 .1 .1 .1 .0) (c .before .before .before .before .slide .kept .0) (omega (arith, c .before .before .before .before .before .before .before .before .before .before .before .before .before .before .before .before .before .before .pre, c .before .before .before .before .before .before .before .before .before .before .before .before .before .before .loop .inv .long, c .before .before .before .before .before .before .before .before .before .before .before .before .before .before .loop .inv .small, (c .before .before .before .before .before .before .before .before .before .before .before .below .kept .1 .1 .1 .1 .1 .1 .0))) (c .before .before .before .before .slide .ensures) (c .skip .ensures)
+  loop-again c = fold-again (c .before .before .before .before .before .before .before .before .before .before .before .before .before .before .loop .inv) (omega (arith, c .before .before .before .before .before .before .before .before .before .before .before .before .before .before .before .before .before .before .pre)) (c .before .before .before .before .before .before .before .before .before .before .before .before .before .before .before .before .before .before .pre .1 .1 .1 .0) (c .before .before .before .before .before .before .before .before .before .before .before .before .before .before .before .before .before .before .pre .1 .1 .1 .1) (omega (arith, c .before .before .before .before .before .before .before .before .before .before .before .before .before .before .before .before .before .before .pre .1 .1 .1 .0)) (omega (arith, c .before .before .before .before .before .before .before .before .before .before .before .before .before .before .before .before .before .before .pre .1 .1 .1 .1)) (omega (arith, c .before .before .before .before .before .before .before .before .before .before .before .before .before .before .before .before .before .before .pre)) (c .before .before .before .before .before .before .before .before .before .before .before .before .before .loop-test .taken) (c .before .before .before .before .before .before .before .before .before .before .before .below .ensures) (c .before .before .before .before .before .before .before .turn .given .1) (c .before .before .before .before .before .before .before .before .before .before .before .below .kept .1 .1 .1 .1 .1 .1 .0) (c .before .before .before .before .slide .kept .0) (omega (arith, c .before .before .before .before .before .before .before .before .before .before .before .before .before .before .before .before .before .before .pre, c .before .before .before .before .before .before .before .before .before .before .before .before .before .before .loop .inv .long, c .before .before .before .before .before .before .before .before .before .before .before .before .before .before .loop .inv .small, (c .before .before .before .before .before .before .before .before .before .before .before .below .kept .1 .1 .1 .1 .1 .1 .0))) (c .before .before .before .before .slide .ensures .front) (c .skip .ensures)
 
   slide-requires-2 : lts.Need-slide-requires-2 calls (fold-at t) fold.Post Inv μ
   slide-requires-2 c κs = (omega (arith, c .before .before .before .before .before .before .pre, c .before .before .loop .inv .long, c .before .before .loop .inv .small), inl (omega arith))
@@ -89,7 +89,7 @@ module _ (t : ℕ) where
   same-length-2 c = c .before .before .slide2 .kept .0 ∙ c .before .before .before .before .before .loop .inv .long
 
   returns-2 : lts.Need-returns-2 calls (fold-at t) fold.Post Inv μ
-  returns-2 c = fold-none (c .before .before .before .before .before .loop .inv) (omega (arith, c .before .before .before .before .before .before .before .before .before .pre)) (c .before .before .before .before .loop-test .left) (c .before .before .slide2 .ensures)
+  returns-2 c = fold-none (c .before .before .before .before .before .loop .inv) (omega (arith, c .before .before .before .before .before .before .before .before .before .pre)) (c .before .before .before .before .loop-test .left) (c .before .before .slide2 .ensures .front)
 
   pub closed : {M : Type 1} → lts.Closed calls (fold-at t) fold.Post M
   closed = lts.spec calls (fold-at t) fold.Post Inv μ add-mid add-p loop-holds add-inner mul-inner array-write-inner add-inner-2 mul-inner-2 array-write-inner-2 add-below below-requires enum-known-turn same-length returns add-slide slide-requires skip-requires loop-less loop-again slide-requires-2 same-length-2 returns-2
