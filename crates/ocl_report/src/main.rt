@@ -28,7 +28,7 @@ fn read_input(fd: i32, text: &mut [u8]) -> Filled
 }
 
 fn main() {
-    // one byte more than a sheet may have: a sheet that is too long is told from one that was cut to fit
+    // one byte more than a sheet may have, so that a sheet which is too long still is after reading
     let mut text: [u8; 49153] = [0; 49153];
     let mut out: [u8; 65536] = [0; 65536];
     let Filled::With(n) = read_input(libc::STDIN_FILENO, &mut text) else {

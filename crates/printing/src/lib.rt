@@ -21,7 +21,7 @@ fn put_refusal(number: u64, place: u64, out: &mut [u8]) -> usize
     put_byte(out, end, b'\n')
 }
 
-// What the program prints for a text, at the front of the output; its length is answered.
+// Puts what the program prints for a text at the front of the output, and answers its length.
 pub fn printed_text(text: &[u8], out: &mut [u8; 65536]) -> usize
     ensures { λ r. ⌜ Front (program (now (text .entry))) (now (out .exit)) r ⌝ }
 {

@@ -4,7 +4,7 @@ use libc::STDOUT_FILENO;
 use printing::printed_text;
 
 fn print_input(fd: i32, name: &[u8]) {
-    // one byte more than a sheet may have: a sheet that is too long is told from one that was cut to fit
+    // one byte more than a sheet may have, so that a sheet which is too long still is after reading
     let mut text: [u8; 49153] = [0; 49153];
     let mut out: [u8; 65536] = [0; 65536];
     let n = io::read_full(fd, &mut text);

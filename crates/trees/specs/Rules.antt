@@ -67,7 +67,7 @@ unfoldable pub usedIn : List ℕ → ℕ → ℕ → Bool
 usedIn w first zero = true
 usedIn w first (suc n) = eqb (getD w (depthAt first n) 0 % 2) 1 && usedIn w first n
 
--- the counts with the rule put down
+-- the counts with the rule stored
 unfoldable pub endedCounts : Counts → Counts
 endedCounts st = record {
   block = st .block;

@@ -1,4 +1,4 @@
-// A rule's end: a tree of at most twelve levels that all of its nodes belong to is put down by its context and its root.
+// A rule's end: a tree of at most twelve levels that all of its nodes belong to is stored as its context and its root.
 ghost use mathlib.Core.Path.{_≡_};
 ghost use Prim.Native.Nat.{_+_, _≤_};
 ghost use lib.ListN.{length};

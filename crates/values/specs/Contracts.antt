@@ -1,5 +1,5 @@
--- What the contracts say. A value lies from a to b where the cells of that part are its own; each promise holds of every
--- value that lies there, and what is formed lies at sp, above cells that are as before.
+-- What the contracts say. A value lies from a to b if the cells there are its own. Each promise holds for every value that lies
+-- there; what is formed lies at sp, and the cells below sp stay as they were.
 use mathlib.Core.Path.{_≡_}
 use mathlib.Core.Bool.{Bool, true, false}
 use mathlib.Core.List.{List, _∷_, _++_}

@@ -7,9 +7,9 @@ ghost use Rattle.ocl.specs.Forms.{Arith};
 ghost use Rattle.ocl.specs.Evaluation.{ranged};
 ghost use Rattle.values.specs.Integers.{Calculates, Lesser, arithOf, numOf, side, distance as distanceOf, alike as alikeOf};
 
-// What 0 is held as.
+// How 0 is stored.
 pub const ZERO: u64 = 2_147_483_648;
-// All Integers are held below this.
+// Every stored Integer is below this.
 pub const END: u64 = 4_294_967_296;
 
 pub fn less(a: u64, b: u64) -> bool
