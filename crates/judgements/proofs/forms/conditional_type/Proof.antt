@@ -2,8 +2,8 @@
 use mathlib.Core.Path.{sym, _∙_}
 use Rattle.judgements.proofs.FormTypes.{choice-yes, choice-no}
 use borrow.Author.Needs.{needs}
-use Rattle.judgements.proofs.others.conditional_type.Statement.{statement}
-use Rattle.judgements.proofs.others.conditional_type.Tie as tie
+use Rattle.judgements.proofs.forms.conditional_type.Statement.{statement}
+use Rattle.judgements.proofs.forms.conditional_type.Tie as tie
 
 plain-requires : tie.Need-plain-requires
 plain-requires c κs = search needs

@@ -1,10 +1,10 @@
 -- `attribute_type` meets its contract. Assumes nothing.
 use Prim.Native.Nat.{_<_}
 use native.Mathlib.Omega.{arith}
-use Rattle.judgements.proofs.Attributes.{row-small, no-class, no-row, row-at}
+use Rattle.judgements.proofs.AttributeRows.{row-small, no-class, no-row, row-at}
 use borrow.Author.Needs.{needs}
-use Rattle.judgements.proofs.others.attribute_type.Statement.{statement}
-use Rattle.judgements.proofs.others.attribute_type.Tie as tie
+use Rattle.judgements.proofs.attributes.attribute_type.Statement.{statement}
+use Rattle.judgements.proofs.attributes.attribute_type.Tie as tie
 
 is-class-requires : tie.Need-is-class-requires
 is-class-requires c κs = search needs

@@ -3,12 +3,12 @@ use Prim.Native.Nat.{ℕ}
 use borrow.Author.Needs.{needs}
 use Rattle.judgements.proofs.Composition.{early, after, done}
 use Rattle.ocl.specs.Typing.{conditionalTyping}
-use Rattle.judgements.proofs.others.conditional_type.Reads as conditional-type-reads
+use Rattle.judgements.proofs.forms.conditional_type.Reads as conditional-type-reads
 use Rattle.typing.proofs.apply.conditional.Reads as conditional
 use Rattle.typing.proofs.walk.operand.Reads as operand
 use Rattle.typing.proofs.walk.pair.Reads as pair
-use Rattle.typing.proofs.+apply-attribute+apply-binary+apply-coll+apply-conditional+apply-connective+apply-is_undef+apply-unary+scope-body+scope-iterate+scope-let_in+scope-quantified+walk-node+walk-operand+walk-pair.Lts-apply-conditional as lts
-use Rattle.typing.proofs.+apply-attribute+apply-binary+apply-coll+apply-conditional+apply-connective+apply-is_undef+apply-unary+scope-body+scope-iterate+scope-let_in+scope-quantified+walk-node+walk-operand+walk-pair.Proof.Base.{conditional-at, operand-below, pair-below}
+use Rattle.typing.proofs.+apply-binary+apply-coll+apply-conditional+apply-connective+apply-single+scope-body+scope-iterate+scope-let_in+scope-quantified+walk-node+walk-operand+walk-pair.Lts-apply-conditional as lts
+use Rattle.typing.proofs.+apply-binary+apply-coll+apply-conditional+apply-connective+apply-single+scope-body+scope-iterate+scope-let_in+scope-quantified+walk-node+walk-operand+walk-pair.Proof.Base.{conditional-at, operand-below, pair-below}
 
 module _ (t : ℕ) where
   abbrev calls : lts.Claims

@@ -15,8 +15,8 @@ use Rattle.typing.proofs.scope.variable.Reads as variable-reads
 use Rattle.typing.proofs.scope.body.Reads as body
 use Rattle.typing.proofs.scope.iterate.Reads as iterate
 use Rattle.typing.proofs.walk.pair.Reads as pair
-use Rattle.typing.proofs.+apply-attribute+apply-binary+apply-coll+apply-conditional+apply-connective+apply-is_undef+apply-unary+scope-body+scope-iterate+scope-let_in+scope-quantified+walk-node+walk-operand+walk-pair.Lts-scope-iterate as lts
-use Rattle.typing.proofs.+apply-attribute+apply-binary+apply-coll+apply-conditional+apply-connective+apply-is_undef+apply-unary+scope-body+scope-iterate+scope-let_in+scope-quantified+walk-node+walk-operand+walk-pair.Proof.Base.{iterate-at, body-below, pair-below}
+use Rattle.typing.proofs.+apply-binary+apply-coll+apply-conditional+apply-connective+apply-single+scope-body+scope-iterate+scope-let_in+scope-quantified+walk-node+walk-operand+walk-pair.Lts-scope-iterate as lts
+use Rattle.typing.proofs.+apply-binary+apply-coll+apply-conditional+apply-connective+apply-single+scope-body+scope-iterate+scope-let_in+scope-quantified+walk-node+walk-operand+walk-pair.Proof.Base.{iterate-at, body-below, pair-below}
 
 module _ (t : ℕ) where
   abbrev calls : lts.Claims

@@ -10,8 +10,8 @@ use Rattle.judgements.proofs.forms.both_below.Reads as both-below-reads
 use Rattle.types.proofs.parts.plain.Reads as plain-reads
 use Rattle.typing.proofs.apply.connective.Reads as connective
 use Rattle.typing.proofs.walk.pair.Reads as pair
-use Rattle.typing.proofs.+apply-attribute+apply-binary+apply-coll+apply-conditional+apply-connective+apply-is_undef+apply-unary+scope-body+scope-iterate+scope-let_in+scope-quantified+walk-node+walk-operand+walk-pair.Lts-apply-connective as lts
-use Rattle.typing.proofs.+apply-attribute+apply-binary+apply-coll+apply-conditional+apply-connective+apply-is_undef+apply-unary+scope-body+scope-iterate+scope-let_in+scope-quantified+walk-node+walk-operand+walk-pair.Proof.Base.{connective-at, pair-below}
+use Rattle.typing.proofs.+apply-binary+apply-coll+apply-conditional+apply-connective+apply-single+scope-body+scope-iterate+scope-let_in+scope-quantified+walk-node+walk-operand+walk-pair.Lts-apply-connective as lts
+use Rattle.typing.proofs.+apply-binary+apply-coll+apply-conditional+apply-connective+apply-single+scope-body+scope-iterate+scope-let_in+scope-quantified+walk-node+walk-operand+walk-pair.Proof.Base.{connective-at, pair-below}
 
 module _ (t : ℕ) where
   abbrev calls : lts.Claims

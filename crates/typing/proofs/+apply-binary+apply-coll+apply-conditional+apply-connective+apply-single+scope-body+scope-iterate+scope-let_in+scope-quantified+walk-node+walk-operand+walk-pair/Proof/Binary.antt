@@ -6,8 +6,8 @@ use Rattle.ocl.specs.Typing.{binaryTyping}
 use Rattle.judgements.proofs.forms.binary_type.Reads as binary-type-reads
 use Rattle.typing.proofs.apply.binary.Reads as binary
 use Rattle.typing.proofs.walk.pair.Reads as pair
-use Rattle.typing.proofs.+apply-attribute+apply-binary+apply-coll+apply-conditional+apply-connective+apply-is_undef+apply-unary+scope-body+scope-iterate+scope-let_in+scope-quantified+walk-node+walk-operand+walk-pair.Lts-apply-binary as lts
-use Rattle.typing.proofs.+apply-attribute+apply-binary+apply-coll+apply-conditional+apply-connective+apply-is_undef+apply-unary+scope-body+scope-iterate+scope-let_in+scope-quantified+walk-node+walk-operand+walk-pair.Proof.Base.{binary-at, pair-below}
+use Rattle.typing.proofs.+apply-binary+apply-coll+apply-conditional+apply-connective+apply-single+scope-body+scope-iterate+scope-let_in+scope-quantified+walk-node+walk-operand+walk-pair.Lts-apply-binary as lts
+use Rattle.typing.proofs.+apply-binary+apply-coll+apply-conditional+apply-connective+apply-single+scope-body+scope-iterate+scope-let_in+scope-quantified+walk-node+walk-operand+walk-pair.Proof.Base.{binary-at, pair-below}
 
 module _ (t : ℕ) where
   abbrev calls : lts.Claims

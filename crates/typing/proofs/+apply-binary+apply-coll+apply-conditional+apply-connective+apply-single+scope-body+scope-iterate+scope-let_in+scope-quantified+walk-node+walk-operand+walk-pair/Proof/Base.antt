@@ -4,8 +4,6 @@ use borrow.Fn.Kinds.{In}
 use borrow.Fn.PlainCycle.{Measures, is, falls, and}
 use Rattle.typing.proofs.scope.body.Reads as body
 use Rattle.typing.proofs.scope.body.Kinds as body-kinds
-use Rattle.typing.proofs.apply.attribute.Reads as attribute
-use Rattle.typing.proofs.apply.attribute.Kinds as attribute-kinds
 use Rattle.typing.proofs.apply.binary.Reads as binary
 use Rattle.typing.proofs.apply.binary.Kinds as binary-kinds
 use Rattle.typing.proofs.apply.coll.Reads as coll
@@ -14,8 +12,6 @@ use Rattle.typing.proofs.apply.conditional.Reads as conditional
 use Rattle.typing.proofs.apply.conditional.Kinds as conditional-kinds
 use Rattle.typing.proofs.apply.connective.Reads as connective
 use Rattle.typing.proofs.apply.connective.Kinds as connective-kinds
-use Rattle.typing.proofs.apply.is_undef.Reads as is-undef
-use Rattle.typing.proofs.apply.is_undef.Kinds as is-undef-kinds
 use Rattle.typing.proofs.scope.iterate.Reads as iterate
 use Rattle.typing.proofs.scope.iterate.Kinds as iterate-kinds
 use Rattle.typing.proofs.scope.let_in.Reads as let-in
@@ -28,8 +24,8 @@ use Rattle.typing.proofs.walk.pair.Reads as pair
 use Rattle.typing.proofs.walk.pair.Kinds as pair-kinds
 use Rattle.typing.proofs.scope.quantified.Reads as quantified
 use Rattle.typing.proofs.scope.quantified.Kinds as quantified-kinds
-use Rattle.typing.proofs.apply.unary.Reads as unary
-use Rattle.typing.proofs.apply.unary.Kinds as unary-kinds
+use Rattle.typing.proofs.apply.single.Reads as single
+use Rattle.typing.proofs.apply.single.Kinds as single-kinds
 
 abbrev pub μ-body : Measures 4 body-kinds.ps ℕ
 μ-body κs a = 16 * a .1 .1 .1 .1 .0 + 1
@@ -39,15 +35,6 @@ body-at t = and 4 body-kinds.ps (is 4 body-kinds.ps μ-body t) body.Pre
 
 abbrev pub body-below : ℕ → In 4 body-kinds.ps
 body-below t = and 4 body-kinds.ps (falls 4 body-kinds.ps _<_ μ-body t) body.Pre
-
-abbrev pub μ-attribute : Measures 4 attribute-kinds.ps ℕ
-μ-attribute κs a = 16 * a .1 .1 .1 .1 .0 + 10
-
-abbrev pub attribute-at : ℕ → In 4 attribute-kinds.ps
-attribute-at t = and 4 attribute-kinds.ps (is 4 attribute-kinds.ps μ-attribute t) attribute.Pre
-
-abbrev pub attribute-below : ℕ → In 4 attribute-kinds.ps
-attribute-below t = and 4 attribute-kinds.ps (falls 4 attribute-kinds.ps _<_ μ-attribute t) attribute.Pre
 
 abbrev pub μ-binary : Measures 4 binary-kinds.ps ℕ
 μ-binary κs a = 16 * a .1 .1 .1 .1 .0 + 10
@@ -84,15 +71,6 @@ connective-at t = and 4 connective-kinds.ps (is 4 connective-kinds.ps μ-connect
 
 abbrev pub connective-below : ℕ → In 4 connective-kinds.ps
 connective-below t = and 4 connective-kinds.ps (falls 4 connective-kinds.ps _<_ μ-connective t) connective.Pre
-
-abbrev pub μ-is-undef : Measures 4 is-undef-kinds.ps ℕ
-μ-is-undef κs a = 16 * a .1 .1 .1 .1 .0 + 10
-
-abbrev pub is-undef-at : ℕ → In 4 is-undef-kinds.ps
-is-undef-at t = and 4 is-undef-kinds.ps (is 4 is-undef-kinds.ps μ-is-undef t) is-undef.Pre
-
-abbrev pub is-undef-below : ℕ → In 4 is-undef-kinds.ps
-is-undef-below t = and 4 is-undef-kinds.ps (falls 4 is-undef-kinds.ps _<_ μ-is-undef t) is-undef.Pre
 
 abbrev pub μ-iterate : Measures 4 iterate-kinds.ps ℕ
 μ-iterate κs a = 16 * a .1 .1 .1 .1 .0 + 10
@@ -148,11 +126,11 @@ quantified-at t = and 4 quantified-kinds.ps (is 4 quantified-kinds.ps μ-quantif
 abbrev pub quantified-below : ℕ → In 4 quantified-kinds.ps
 quantified-below t = and 4 quantified-kinds.ps (falls 4 quantified-kinds.ps _<_ μ-quantified t) quantified.Pre
 
-abbrev pub μ-unary : Measures 4 unary-kinds.ps ℕ
-μ-unary κs a = 16 * a .1 .1 .1 .1 .0 + 10
+abbrev pub μ-single : Measures 4 single-kinds.ps ℕ
+μ-single κs a = 16 * a .1 .1 .1 .1 .0 + 10
 
-abbrev pub unary-at : ℕ → In 4 unary-kinds.ps
-unary-at t = and 4 unary-kinds.ps (is 4 unary-kinds.ps μ-unary t) unary.Pre
+abbrev pub single-at : ℕ → In 4 single-kinds.ps
+single-at t = and 4 single-kinds.ps (is 4 single-kinds.ps μ-single t) single.Pre
 
-abbrev pub unary-below : ℕ → In 4 unary-kinds.ps
-unary-below t = and 4 unary-kinds.ps (falls 4 unary-kinds.ps _<_ μ-unary t) unary.Pre
+abbrev pub single-below : ℕ → In 4 single-kinds.ps
+single-below t = and 4 single-kinds.ps (falls 4 single-kinds.ps _<_ μ-single t) single.Pre

@@ -11,8 +11,8 @@ use Rattle.types.proofs.order.subtype.Reads as subtype-reads
 use Rattle.typing.proofs.scope.variable.Reads as variable-reads
 use Rattle.typing.proofs.scope.body.Reads as body
 use Rattle.typing.proofs.walk.operand.Reads as operand
-use Rattle.typing.proofs.+apply-attribute+apply-binary+apply-coll+apply-conditional+apply-connective+apply-is_undef+apply-unary+scope-body+scope-iterate+scope-let_in+scope-quantified+walk-node+walk-operand+walk-pair.Lts-scope-body as lts
-use Rattle.typing.proofs.+apply-attribute+apply-binary+apply-coll+apply-conditional+apply-connective+apply-is_undef+apply-unary+scope-body+scope-iterate+scope-let_in+scope-quantified+walk-node+walk-operand+walk-pair.Proof.Base.{body-at, operand-below}
+use Rattle.typing.proofs.+apply-binary+apply-coll+apply-conditional+apply-connective+apply-single+scope-body+scope-iterate+scope-let_in+scope-quantified+walk-node+walk-operand+walk-pair.Lts-scope-body as lts
+use Rattle.typing.proofs.+apply-binary+apply-coll+apply-conditional+apply-connective+apply-single+scope-body+scope-iterate+scope-let_in+scope-quantified+walk-node+walk-operand+walk-pair.Proof.Base.{body-at, operand-below}
 
 module _ (t : ℕ) where
   abbrev calls : lts.Claims
