@@ -5,12 +5,10 @@ use Rattle.nodes.specs.Nodes.{treeAt}
 use Rattle.nodes.proofs.Levels.{some-level, unary-levels, binary-levels, connective-levels, quantified-levels, isUndef-levels, conditional-levels, let-levels, attribute-levels, iterate-levels}
 use borrow.Author.Needs.{needs}
 use native.Mathlib.Omega.{arith}
-use Rattle.evaluation.proofs.walk.attr.Reads as attr
 use Rattle.evaluation.proofs.walk.binary.Reads as binary
 use Rattle.evaluation.proofs.walk.coll.Reads as coll
 use Rattle.evaluation.proofs.lazy.conditional.Reads as conditional
 use Rattle.evaluation.proofs.lazy.connective.Reads as connective
-use Rattle.evaluation.proofs.lazy.is_undef.Reads as is-undef
 use Rattle.evaluation.proofs.bind.iter.Reads as iter
 use Rattle.operations.proofs.leaves.leaf.Reads as leaf-reads
 use Rattle.evaluation.proofs.bind.let_in.Reads as let-in
@@ -19,12 +17,12 @@ use Rattle.nodes.proofs.node_word.Reads as node-word-reads
 use Rattle.evaluation.proofs.bind.quantified.Reads as quantified
 use Rattle.evaluation.proofs.walk.unary.Reads as unary
 use Rattle.types.proofs.classes.wide.Reads as wide-reads
-use Rattle.evaluation.proofs.+bind-fold+bind-iter+bind-let_in+bind-quantified+bind-seek+lazy-conditional+lazy-connective+lazy-is_undef+lazy-right+walk-attr+walk-below+walk-binary+walk-coll+walk-node+walk-unary+walk-word.Lts-walk-node as lts
-use Rattle.evaluation.proofs.+bind-fold+bind-iter+bind-let_in+bind-quantified+bind-seek+lazy-conditional+lazy-connective+lazy-is_undef+lazy-right+walk-attr+walk-below+walk-binary+walk-coll+walk-node+walk-unary+walk-word.Proof.Base.{attr-below, binary-below, coll-below, conditional-below, connective-below, is-undef-below, iter-below, let-in-below, node-at, quantified-below, unary-below}
+use Rattle.evaluation.proofs.+bind-fold+bind-iter+bind-let_in+bind-quantified+bind-seek+lazy-conditional+lazy-connective+lazy-right+walk-below+walk-binary+walk-coll+walk-node+walk-unary+walk-word.Lts-walk-node as lts
+use Rattle.evaluation.proofs.+bind-fold+bind-iter+bind-let_in+bind-quantified+bind-seek+lazy-conditional+lazy-connective+lazy-right+walk-below+walk-binary+walk-coll+walk-node+walk-unary+walk-word.Proof.Base.{binary-below, coll-below, conditional-below, connective-below, iter-below, let-in-below, node-at, quantified-below, unary-below}
 
 module _ (t : ℕ) where
   abbrev calls : lts.Claims
-  calls = (node-word-reads.Asked, node-word-reads.Learnt, is-undef-below t, is-undef.Post, conditional-below t, conditional.Post, let-in-below t, let-in.Post, attr-below t, attr.Post, iter-below t, iter.Post, leaf-reads.Asked, leaf-reads.Learnt, unary-below t, unary.Post, binary-below t, binary.Post, connective-below t, connective.Post, wide-reads.Asked, wide-reads.Learnt, quantified-below t, quantified.Post, coll-below t, coll.Post)
+  calls = (node-word-reads.Asked, node-word-reads.Learnt, unary-below t, unary.Post, conditional-below t, conditional.Post, let-in-below t, let-in.Post, iter-below t, iter.Post, leaf-reads.Asked, leaf-reads.Learnt, binary-below t, binary.Post, connective-below t, connective.Post, wide-reads.Asked, wide-reads.Learnt, quantified-below t, quantified.Post, coll-below t, coll.Post)
 
   add-s : lts.Need-add-s calls (node-at t) node.Post
   add-s c = search needs
@@ -35,8 +33,8 @@ module _ (t : ℕ) where
   node-word-requires : lts.Need-node-word-requires calls (node-at t) node.Post
   node-word-requires c κs = search needs
 
-  is-undef-requires : lts.Need-is-undef-requires calls (node-at t) node.Post
-  is-undef-requires c κs = omega (arith, c .before .before .before .before .before .before .pre, some-level (treeAt (c .before .before .before .before .before .before .args .nodes .now) (c .before .before .before .before .before .before .args .n)), isUndef-levels (c .before .before .before .before .before .before .args .nodes .now) (c .before .before .before .before .before .before .args .n) (c .before .before .node-word .result) (c .before .before .node-word .ensures) (c .before .match .keys1))
+  unary-requires : lts.Need-unary-requires calls (node-at t) node.Post
+  unary-requires c κs = omega (arith, c .before .match .keys1, c .before .before .before .before .before .before .pre, some-level (treeAt (c .before .before .before .before .before .before .args .nodes .now) (c .before .before .before .before .before .before .args .n)), isUndef-levels (c .before .before .before .before .before .before .args .nodes .now) (c .before .before .before .before .before .before .args .n) (c .before .before .node-word .result) (c .before .before .node-word .ensures) (c .before .match .keys1))
 
   conditional-requires : lts.Need-conditional-requires calls (node-at t) node.Post
   conditional-requires c κs = omega (arith, c .before .before .before .before .before .before .pre, some-level (treeAt (c .before .before .before .before .before .before .args .nodes .now) (c .before .before .before .before .before .before .args .n)), conditional-levels (c .before .before .before .before .before .before .args .nodes .now) (c .before .before .before .before .before .before .args .n) (c .before .before .node-word .result) (c .before .before .node-word .ensures) (c .before .match .keys2))
@@ -44,8 +42,8 @@ module _ (t : ℕ) where
   let-in-requires : lts.Need-let-in-requires calls (node-at t) node.Post
   let-in-requires c κs = omega (arith, c .before .before .before .before .before .before .pre, some-level (treeAt (c .before .before .before .before .before .before .args .nodes .now) (c .before .before .before .before .before .before .args .n)), let-levels (c .before .before .before .before .before .before .args .nodes .now) (c .before .before .before .before .before .before .args .n) (c .before .before .node-word .result) (c .before .before .node-word .ensures) (c .before .match .keys3))
 
-  attr-requires : lts.Need-attr-requires calls (node-at t) node.Post
-  attr-requires c κs = omega (arith, c .before .before .before .before .before .before .pre, some-level (treeAt (c .before .before .before .before .before .before .args .nodes .now) (c .before .before .before .before .before .before .args .n)), attribute-levels (c .before .before .before .before .before .before .args .nodes .now) (c .before .before .before .before .before .before .args .n) (c .before .before .node-word .result) (c .before .before .node-word .ensures) (c .before .match .keys4))
+  unary-requires-2 : lts.Need-unary-requires-2 calls (node-at t) node.Post
+  unary-requires-2 c κs = omega (arith, c .before .match .keys4, c .before .before .before .before .before .before .pre, some-level (treeAt (c .before .before .before .before .before .before .args .nodes .now) (c .before .before .before .before .before .before .args .n)), attribute-levels (c .before .before .before .before .before .before .args .nodes .now) (c .before .before .before .before .before .before .args .n) (c .before .before .node-word .result) (c .before .before .node-word .ensures) (c .before .match .keys4))
 
   iter-requires : lts.Need-iter-requires calls (node-at t) node.Post
   iter-requires c κs = omega (arith, c .before .before .before .before .before .before .pre, some-level (treeAt (c .before .before .before .before .before .before .args .nodes .now) (c .before .before .before .before .before .before .args .n)), iterate-levels (c .before .before .before .before .before .before .args .nodes .now) (c .before .before .before .before .before .before .args .n) (c .before .before .node-word .result) (c .before .before .node-word .ensures) (c .before .match .keys5))
@@ -56,8 +54,8 @@ module _ (t : ℕ) where
   leaf-requires : lts.Need-leaf-requires calls (node-at t) node.Post
   leaf-requires c κs = search needs
 
-  unary-requires : lts.Need-unary-requires calls (node-at t) node.Post
-  unary-requires c κs = omega (arith, c .before .before .before .before .before .before .before .before .pre, some-level (treeAt (c .before .before .before .before .before .before .before .before .args .nodes .now) (c .before .before .before .before .before .before .before .before .args .n)), c .before .before .if1 .left, c .before .if2 .taken, unary-levels (c .before .before .before .before .before .before .before .before .args .nodes .now) (c .before .before .before .before .before .before .before .before .args .n) (c .before .before .before .before .node-word .result) (c .before .before .before .before .node-word .ensures) (c .before .before .if1 .left) (omega (arith, c .before .if2 .taken)))
+  unary-requires-3 : lts.Need-unary-requires-3 calls (node-at t) node.Post
+  unary-requires-3 c κs = omega (arith, c .before .before .before .before .before .before .before .before .pre, some-level (treeAt (c .before .before .before .before .before .before .before .before .args .nodes .now) (c .before .before .before .before .before .before .before .before .args .n)), c .before .before .if1 .left, c .before .if2 .taken, unary-levels (c .before .before .before .before .before .before .before .before .args .nodes .now) (c .before .before .before .before .before .before .before .before .args .n) (c .before .before .before .before .node-word .result) (c .before .before .before .before .node-word .ensures) (c .before .before .if1 .left) (omega (arith, c .before .if2 .taken)))
 
   binary-requires : lts.Need-binary-requires calls (node-at t) node.Post
   binary-requires c κs = omega (arith, c .before .before .before .before .before .before .before .before .before .pre, some-level (treeAt (c .before .before .before .before .before .before .before .before .before .args .nodes .now) (c .before .before .before .before .before .before .before .before .before .args .n)), c .before .before .if2 .left, c .before .if3 .taken, binary-levels (c .before .before .before .before .before .before .before .before .before .args .nodes .now) (c .before .before .before .before .before .before .before .before .before .args .n) (c .before .before .before .before .before .node-word .result) (c .before .before .before .before .before .node-word .ensures) (c .before .before .if2 .left) (omega (arith, c .before .if3 .taken)))
@@ -81,7 +79,7 @@ module _ (t : ℕ) where
   same-length c = search needs
 
   returns : lts.Need-returns calls (node-at t) node.Post
-  returns c = node-isUndef _ _ _ (c .before .before .before .before .before .node-word .ensures) (c .before .before .before .before .before .before .before .before .before .pre .1 .1 .1) (c .before .before .before .before .match .keys1) (c .before .before .is-undef .ensures)
+  returns c = node-isUndef _ _ _ (c .before .before .before .before .before .node-word .ensures) (c .before .before .before .before .before .before .before .before .before .pre .1 .1 .1) (c .before .before .before .before .match .keys1) (c .before .before .unary .ensures)
 
   same-length-2 : lts.Need-same-length-2 calls (node-at t) node.Post
   same-length-2 c = search needs
@@ -99,7 +97,7 @@ module _ (t : ℕ) where
   same-length-4 c = search needs
 
   returns-4 : lts.Need-returns-4 calls (node-at t) node.Post
-  returns-4 c = node-attribute _ _ _ (c .before .before .before .before .before .node-word .ensures) (c .before .before .before .before .before .before .before .before .before .pre .1 .1 .1) (c .before .before .before .before .match .keys4) (c .before .before .attr .ensures)
+  returns-4 c = node-attribute _ _ _ (c .before .before .before .before .before .node-word .ensures) (c .before .before .before .before .before .before .before .before .before .pre .1 .1 .1) (c .before .before .before .before .match .keys4) (c .before .before .unary2 .ensures)
 
   same-length-5 : lts.Need-same-length-5 calls (node-at t) node.Post
   same-length-5 c = search needs
@@ -117,7 +115,7 @@ module _ (t : ℕ) where
   same-length-7 c = search needs
 
   returns-7 : lts.Need-returns-7 calls (node-at t) node.Post
-  returns-7 c = node-unary _ _ _ (c .before .before .before .before .before .before .before .node-word .ensures) (c .before .before .before .before .before .before .before .before .before .before .before .pre .1 .1 .1) (c .before .before .before .before .before .if1 .left) (omega (arith, c .before .before .before .before .if2 .taken)) (c .before .before .unary .ensures)
+  returns-7 c = node-unary _ _ _ (c .before .before .before .before .before .before .before .node-word .ensures) (c .before .before .before .before .before .before .before .before .before .before .before .pre .1 .1 .1) (c .before .before .before .before .before .if1 .left) (omega (arith, c .before .before .before .before .if2 .taken)) (c .before .before .unary3 .ensures)
 
   same-length-8 : lts.Need-same-length-8 calls (node-at t) node.Post
   same-length-8 c = search needs
@@ -147,4 +145,4 @@ module _ (t : ℕ) where
   returns-12 c = node-none _ _ _ (c .before .before .before .before .before .before .before .node-word .ensures) (c .before .before .before .before .before .before .before .before .before .before .before .pre .1 .1 .1) (over-34 _ (c .if6 .left) (c .before .before .before .before .before .before .match .rest .0 .0 .0 .0 .1) (c .before .before .before .before .before .before .match .rest .0 .0 .0 .1) (c .before .before .before .before .before .before .match .rest .0 .0 .1) (c .before .before .before .before .before .before .match .rest .0 .1) (c .before .before .before .before .before .before .match .rest .1))
 
   pub closed : {M : Type 1} → lts.Closed calls (node-at t) node.Post M
-  closed = lts.spec calls (node-at t) node.Post add-s sub-deeper node-word-requires is-undef-requires conditional-requires let-in-requires attr-requires iter-requires node-word-requires-2 leaf-requires unary-requires binary-requires connective-requires node-word-requires-3 wide-requires quantified-requires coll-requires same-length returns same-length-2 returns-2 same-length-3 returns-3 same-length-4 returns-4 same-length-5 returns-5 same-length-6 returns-6 same-length-7 returns-7 same-length-8 returns-8 same-length-9 returns-9 same-length-10 returns-10 same-length-11 returns-11 returns-12
+  closed = lts.spec calls (node-at t) node.Post add-s sub-deeper node-word-requires unary-requires conditional-requires let-in-requires unary-requires-2 iter-requires node-word-requires-2 leaf-requires unary-requires-3 binary-requires connective-requires node-word-requires-3 wide-requires quantified-requires coll-requires same-length returns same-length-2 returns-2 same-length-3 returns-3 same-length-4 returns-4 same-length-5 returns-5 same-length-6 returns-6 same-length-7 returns-7 same-length-8 returns-8 same-length-9 returns-9 same-length-10 returns-10 same-length-11 returns-11 returns-12

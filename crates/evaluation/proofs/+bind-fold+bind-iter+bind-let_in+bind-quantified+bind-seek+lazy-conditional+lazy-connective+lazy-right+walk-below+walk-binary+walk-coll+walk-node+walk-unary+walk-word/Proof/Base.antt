@@ -2,8 +2,6 @@
 use Prim.Native.Nat.{ℕ, _+_, _*_, _<_}
 use borrow.Fn.Kinds.{In}
 use borrow.Fn.PlainCycle.{Measures, is, falls, and}
-use Rattle.evaluation.proofs.walk.attr.Reads as attr
-use Rattle.evaluation.proofs.walk.attr.Kinds as attr-kinds
 use Rattle.evaluation.proofs.walk.below.Reads as below
 use Rattle.evaluation.proofs.walk.below.Kinds as below-kinds
 use Rattle.evaluation.proofs.walk.binary.Reads as binary
@@ -16,8 +14,6 @@ use Rattle.evaluation.proofs.lazy.connective.Reads as connective
 use Rattle.evaluation.proofs.lazy.connective.Kinds as connective-kinds
 use Rattle.evaluation.proofs.bind.fold.Reads as fold
 use Rattle.evaluation.proofs.bind.fold.Kinds as fold-kinds
-use Rattle.evaluation.proofs.lazy.is_undef.Reads as is-undef
-use Rattle.evaluation.proofs.lazy.is_undef.Kinds as is-undef-kinds
 use Rattle.evaluation.proofs.bind.iter.Reads as iter
 use Rattle.evaluation.proofs.bind.iter.Kinds as iter-kinds
 use Rattle.evaluation.proofs.bind.let_in.Reads as let-in
@@ -34,15 +30,6 @@ use Rattle.evaluation.proofs.bind.seek.Reads as seeking
 use Rattle.evaluation.proofs.bind.seek.Kinds as seek-kinds
 use Rattle.evaluation.proofs.walk.unary.Reads as unary
 use Rattle.evaluation.proofs.walk.unary.Kinds as unary-kinds
-
-abbrev pub μ-attr : Measures 3 attr-kinds.ps ℕ
-μ-attr κs a = 5 * a .1 .1 .1 .0 + 2
-
-abbrev pub attr-at : ℕ → In 3 attr-kinds.ps
-attr-at t = and 3 attr-kinds.ps (is 3 attr-kinds.ps μ-attr t) attr.Pre
-
-abbrev pub attr-below : ℕ → In 3 attr-kinds.ps
-attr-below t = and 3 attr-kinds.ps (falls 3 attr-kinds.ps _<_ μ-attr t) attr.Pre
 
 abbrev pub μ-below : Measures 3 below-kinds.ps ℕ
 μ-below κs a = 5 * a .1 .1 .1 .0
@@ -97,15 +84,6 @@ fold-at t = and 3 fold-kinds.ps (is 3 fold-kinds.ps μ-fold t) fold.Pre
 
 abbrev pub fold-below : ℕ → In 3 fold-kinds.ps
 fold-below t = and 3 fold-kinds.ps (falls 3 fold-kinds.ps _<_ μ-fold t) fold.Pre
-
-abbrev pub μ-is-undef : Measures 3 is-undef-kinds.ps ℕ
-μ-is-undef κs a = 5 * a .1 .1 .1 .0 + 2
-
-abbrev pub is-undef-at : ℕ → In 3 is-undef-kinds.ps
-is-undef-at t = and 3 is-undef-kinds.ps (is 3 is-undef-kinds.ps μ-is-undef t) is-undef.Pre
-
-abbrev pub is-undef-below : ℕ → In 3 is-undef-kinds.ps
-is-undef-below t = and 3 is-undef-kinds.ps (falls 3 is-undef-kinds.ps _<_ μ-is-undef t) is-undef.Pre
 
 abbrev pub μ-iter : Measures 3 iter-kinds.ps ℕ
 μ-iter κs a = 5 * a .1 .1 .1 .0 + 2
