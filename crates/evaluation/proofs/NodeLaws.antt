@@ -72,6 +72,8 @@ module _ (t : List ℕ) (n k : ℕ) (w : World) (ρ : Env Value) (s : ℕ) where
 runs-as : {Ok : World → Type 0} {f g : Meaning} {env B A : List ℕ} {sp s : ℕ} {r : Ended} → ((w : World) (ρ : Env Value) → f w ρ s ≡ g w ρ s) → Evals Ok f env sp s B A r → Evals Ok g env sp s B A r
 runs-as e x = record { small = x .small; ran = λ w ok ρ rel. rw (e w ρ) at (x .ran w ok ρ rel) }
 
+-- ---- a node by its code
+
 -- the code k is node n's, and a step may begin
 module _ {Ok : World → Type 0} (t : List ℕ) (n k : ℕ) {env B A : List ℕ} {sp s : ℕ} {r : Ended} (e : k ≡ word t n 0) (h : s < 1000000) where
   pub node-unary : 7 ≤ k → k < 13 → Evals Ok (unaryNode t n k) env sp (s + 1) B A r → Evals Ok (nodeFor t n) env sp s B A r

@@ -79,67 +79,67 @@ module _ (t : ℕ) where
   same-length c = search needs
 
   returns : lts.Need-returns calls (node-at t) node.Post
-  returns c = node-isUndef _ _ _ (c .before .before .before .before .before .node-word .ensures) (c .before .before .before .before .before .before .before .before .before .pre .1 .1 .1) (c .before .before .before .before .match .keys1) (c .before .before .unary .ensures)
+  returns c = search node-isUndef
 
   same-length-2 : lts.Need-same-length-2 calls (node-at t) node.Post
   same-length-2 c = search needs
 
   returns-2 : lts.Need-returns-2 calls (node-at t) node.Post
-  returns-2 c = node-conditional _ _ _ (c .before .before .before .before .before .node-word .ensures) (c .before .before .before .before .before .before .before .before .before .pre .1 .1 .1) (c .before .before .before .before .match .keys2) (c .before .before .conditional .ensures)
+  returns-2 c = search node-conditional
 
   same-length-3 : lts.Need-same-length-3 calls (node-at t) node.Post
   same-length-3 c = search needs
 
   returns-3 : lts.Need-returns-3 calls (node-at t) node.Post
-  returns-3 c = node-let _ _ _ (c .before .before .before .before .before .node-word .ensures) (c .before .before .before .before .before .before .before .before .before .pre .1 .1 .1) (c .before .before .before .before .match .keys3) (c .before .before .let-in .ensures)
+  returns-3 c = search node-let
 
   same-length-4 : lts.Need-same-length-4 calls (node-at t) node.Post
   same-length-4 c = search needs
 
   returns-4 : lts.Need-returns-4 calls (node-at t) node.Post
-  returns-4 c = node-attribute _ _ _ (c .before .before .before .before .before .node-word .ensures) (c .before .before .before .before .before .before .before .before .before .pre .1 .1 .1) (c .before .before .before .before .match .keys4) (c .before .before .unary2 .ensures)
+  returns-4 c = search node-attribute
 
   same-length-5 : lts.Need-same-length-5 calls (node-at t) node.Post
   same-length-5 c = search needs
 
   returns-5 : lts.Need-returns-5 calls (node-at t) node.Post
-  returns-5 c = node-iterate _ _ _ (c .before .before .before .before .before .node-word .ensures) (c .before .before .before .before .before .before .before .before .before .pre .1 .1 .1) (c .before .before .before .before .match .keys5) (c .before .before .iter .ensures)
+  returns-5 c = search node-iterate
 
   same-length-6 : lts.Need-same-length-6 calls (node-at t) node.Post
   same-length-6 c = search needs
 
   returns-6 : lts.Need-returns-6 calls (node-at t) node.Post
-  returns-6 c = node-leaf _ _ _ _ (c .before .before .before .before .before .before .before .node-word .ensures) (c .before .before .before .before .before .before .before .before .before .before .before .pre .1 .1 .1) (omega (arith, c .before .before .before .before .before .if1 .taken)) (c .before .before .before .before .node-word2 .ensures) (c .before .before .leaf .ensures)
+  returns-6 c = search node-leaf
 
   same-length-7 : lts.Need-same-length-7 calls (node-at t) node.Post
   same-length-7 c = search needs
 
   returns-7 : lts.Need-returns-7 calls (node-at t) node.Post
-  returns-7 c = node-unary _ _ _ (c .before .before .before .before .before .before .before .node-word .ensures) (c .before .before .before .before .before .before .before .before .before .before .before .pre .1 .1 .1) (c .before .before .before .before .before .if1 .left) (omega (arith, c .before .before .before .before .if2 .taken)) (c .before .before .unary3 .ensures)
+  returns-7 c = search node-unary
 
   same-length-8 : lts.Need-same-length-8 calls (node-at t) node.Post
   same-length-8 c = search needs
 
   returns-8 : lts.Need-returns-8 calls (node-at t) node.Post
-  returns-8 c = node-binary _ _ _ (c .before .before .before .before .before .before .before .before .node-word .ensures) (c .before .before .before .before .before .before .before .before .before .before .before .before .pre .1 .1 .1) (c .before .before .before .before .before .if2 .left) (omega (arith, c .before .before .before .before .if3 .taken)) (c .before .before .binary .ensures)
+  returns-8 c = search node-binary
 
   same-length-9 : lts.Need-same-length-9 calls (node-at t) node.Post
   same-length-9 c = search needs
 
   returns-9 : lts.Need-returns-9 calls (node-at t) node.Post
-  returns-9 c = node-connective _ _ _ (c .before .before .before .before .before .before .before .before .before .node-word .ensures) (c .before .before .before .before .before .before .before .before .before .before .before .before .before .pre .1 .1 .1) (c .before .before .before .before .before .if3 .left) (omega (arith, c .before .before .before .before .if4 .taken)) (c .before .before .connective .ensures)
+  returns-9 c = search node-connective
 
   same-length-10 : lts.Need-same-length-10 calls (node-at t) node.Post
   same-length-10 c = search needs
 
   returns-10 : lts.Need-returns-10 calls (node-at t) node.Post
-  returns-10 c = node-quantified _ _ _ (c .before .before .before .before .before .before .before .before .before .before .before .before .node-word .ensures) (c .before .before .before .before .before .before .before .before .before .before .before .before .before .before .before .before .pre .1 .1 .1) (c .before .before .before .before .before .before .before .if4 .left) (omega (arith, c .before .before .before .before .before .before .if5 .taken)) (c .before .before .quantified .ensures)
+  returns-10 c = search node-quantified
 
   same-length-11 : lts.Need-same-length-11 calls (node-at t) node.Post
   same-length-11 c = search needs
 
   returns-11 : lts.Need-returns-11 calls (node-at t) node.Post
-  returns-11 c = node-assemble _ _ _ (c .before .before .before .before .before .before .before .before .before .before .before .node-word .ensures) (c .before .before .before .before .before .before .before .before .before .before .before .before .before .before .before .pre .1 .1 .1) (c .before .before .before .before .before .if5 .left) (omega (arith, c .before .before .before .before .if6 .taken)) (c .before .before .coll .ensures)
+  returns-11 c = search node-assemble
 
   returns-12 : lts.Need-returns-12 calls (node-at t) node.Post
   returns-12 c = node-none _ _ _ (c .before .before .before .before .before .before .before .node-word .ensures) (c .before .before .before .before .before .before .before .before .before .before .before .pre .1 .1 .1) (over-34 _ (c .if6 .left) (c .before .before .before .before .before .before .match .rest .0 .0 .0 .0 .1) (c .before .before .before .before .before .before .match .rest .0 .0 .0 .1) (c .before .before .before .before .before .before .match .rest .0 .0 .1) (c .before .before .before .before .before .before .match .rest .0 .1) (c .before .before .before .before .before .before .match .rest .1))

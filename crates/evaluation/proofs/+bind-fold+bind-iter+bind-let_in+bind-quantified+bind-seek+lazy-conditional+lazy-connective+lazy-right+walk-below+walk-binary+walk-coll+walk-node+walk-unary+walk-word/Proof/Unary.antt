@@ -40,25 +40,25 @@ module _ (t : ℕ) where
   same-length c = search needs
 
   returns : lts.Need-returns calls (unary-at t) unary.Post
-  returns c = unary-value _ _ _ (c .before .before .before .before .before .before .before .before .before .below .ensures) (c .before .before .before .before .before .first .given .1) (omega (arith, c .before .before .before .before .before .before .before .before .before .before .before .before .before .before .pre)) (c .before .before .of-value .ensures)
+  returns c = search unary-value
 
   same-length-2 : lts.Need-same-length-2 calls (unary-at t) unary.Post
   same-length-2 c = search needs
 
   returns-2 : lts.Need-returns-2 calls (unary-at t) unary.Post
-  returns-2 c = unary-undefined _ _ _ (c .before .before .before .before .before .before .before .before .before .below .ensures) (c .before .before .before .before .before .first2 .given .1) (c .before .before .of-undefined .ensures)
+  returns-2 c = search unary-undefined
 
   same-length-3 : lts.Need-same-length-3 calls (unary-at t) unary.Post
   same-length-3 c = search needs
 
   returns-3 : lts.Need-returns-3 calls (unary-at t) unary.Post
-  returns-3 c = unary-stuck _ _ _ (c .before .before .before .before .below .ensures) (c .enum-told .given .1)
+  returns-3 c = search unary-stuck
 
   same-length-4 : lts.Need-same-length-4 calls (unary-at t) unary.Post
   same-length-4 c = search needs
 
   returns-4 : lts.Need-returns-4 calls (unary-at t) unary.Post
-  returns-4 c = unary-stop _ _ _ (c .before .before .before .before .before .below .ensures) (c .before .first3 .given .1)
+  returns-4 c = search unary-stop
 
   pub closed : {M : Type 1} → lts.Closed calls (unary-at t) unary.Post M
   closed = lts.spec calls (unary-at t) unary.Post below-requires enum-known-first of-value-requires enum-known-first-2 of-undefined-requires enum-told enum-known-first-3 same-length returns same-length-2 returns-2 same-length-3 returns-3 same-length-4 returns-4
