@@ -15,7 +15,7 @@ array-share-prefix-text : tie.Need-array-share-prefix-text
 array-share-prefix-text c = search needs
 
 slice-aggregate-printed-text : tie.Need-slice-aggregate-printed-text
-slice-aggregate-printed-text c = sym (length-take-le _ _ (c .before .read-full .ensures .0))
+slice-aggregate-printed-text c = sym (length-take-le _ _ (c .before .before .read-full .ensures .0))
 
 printed-text-requires : tie.Need-printed-text-requires
 printed-text-requires c κs = search needs
