@@ -1,10 +1,10 @@
 /*
  * The rule checker's four calls, for C and C++. Link with libchecker.a; docs/USING.md says how, and what a call needs.
  *
- * A call is a function of the text, the numbers and the lengths that it is lent, and of nothing else. It keeps nothing
- * between calls, calls nothing but the C library's memset, memcpy and memmove, and never fails in another way than by the
- * number that it returns. So calls may run in several threads at a time, each with memory of its own; several may share
- * a text. A call takes up to 64 KiB of stack (docs/USING.md, section 5).
+ * What a call does depends on the text, the numbers and the lengths that it is given, and on nothing else. It keeps nothing
+ * between calls, calls nothing but the C library's memset, memcpy and memmove, and can fail only by the number that it
+ * returns. So calls may run in several threads at a time, each with memory of its own; several may share a text. A call
+ * takes up to 64 KiB of stack (docs/USING.md, section 5).
  *
  * What is lent to each call:
  *
@@ -53,28 +53,28 @@ typedef struct ocl_answer {
 
 /* The numbers. In brackets: who gives it, R read, T type, E evaluate, P report; and whether with a place. */
 enum ocl_number {
-    OCL_ANSWERED = 0,         /* an answer (RTEP) */
-    OCL_SHORT_BENCH = 1,      /* a word slice or the output is too short; nothing was touched (RTEP) */
-    OCL_LONG_SHEET = 2,       /* the text is longer than a sheet may be (RTEP) */
-    OCL_BAD_LINE = 3,         /* a line is misspelled: fields, letter, form, number, line feed (RTEP, place) */
-    OCL_OVER_MEASURE = 4,     /* a number, count, size or nesting is outside its limits (RTEP, place) */
-    OCL_OUT_OF_ROW = 5,       /* lines, numbers or members out of order; a name or variable twice (RTEP, place) */
-    OCL_UNKNOWN_PART = 6,     /* a class, row or object that the sheet does not have by then (RTEP, place) */
-    OCL_WRONG_THREAD = 7,     /* a value that its row, or a row that its object, does not take (RTEP, place) */
-    OCL_BROKEN_TREE = 8,      /* the nodes of a rule make no tree, or one that is too deep (RTEP, place) */
-    OCL_LOOSE_END = 9,        /* a variable that nothing binds (TEP, place) */
-    OCL_NO_MATCH = 10,        /* two types without a common one; a cast between unrelated classes (TEP, place) */
-    OCL_WRONG_PIECE = 11,     /* a form does not take an operand of this type (TEP, place) */
-    OCL_NO_SUCH_MARK = 12,    /* the class has no attribute of this name (TEP, place) */
-    OCL_TOO_MANY_LAYERS = 13, /* a type would be over three deep (TEP, place) */
-    OCL_NOT_LISTED = 14,      /* the sheet has no such rule (TE), or no such object (E) */
-    OCL_OTHER_CLASS = 15,     /* the rule is not for objects of this class (E) */
-    OCL_STEP_STOP = 16,       /* stopped: over OCL_MOST_STEPS steps are due (E, with the steps) */
-    OCL_SIZE_STOP = 17,       /* stopped: a value of a size over 128 would be formed (E, with the steps) */
-    OCL_SLIP_TOO_LONG = 18    /* the output is too short for the report (P) */
+    OCL_ANSWERED = 0,            /* an answer (RTEP) */
+    OCL_SHORT_SLICE = 1,         /* a word slice or the output is too short; nothing was touched (RTEP) */
+    OCL_SHEET_TOO_LONG = 2,      /* the text is longer than a sheet may be (RTEP) */
+    OCL_BAD_LINE = 3,            /* a line is misspelled: fields, letter, form, number, line feed (RTEP, place) */
+    OCL_OUT_OF_LIMITS = 4,       /* a number, count, size or nesting is outside its limits (RTEP, place) */
+    OCL_OUT_OF_ORDER = 5,        /* lines, numbers or members out of order; a name or variable twice (RTEP, place) */
+    OCL_UNKNOWN_REFERENCE = 6,   /* a class, row or object that the sheet does not have by then (RTEP, place) */
+    OCL_VALUE_MISMATCH = 7,      /* a value that its row, or a row that its object, does not take (RTEP, place) */
+    OCL_MALFORMED_TREE = 8,      /* the nodes of a rule make no tree, or one that is too deep (RTEP, place) */
+    OCL_UNBOUND_VARIABLE = 9,    /* a variable that nothing binds (TEP, place) */
+    OCL_NO_COMMON_TYPE = 10,     /* two types without a common one; a cast between unrelated classes (TEP, place) */
+    OCL_WRONG_OPERAND_TYPE = 11, /* a form does not take an operand of this type (TEP, place) */
+    OCL_NO_ATTRIBUTE = 12,       /* the class has no attribute of this name (TEP, place) */
+    OCL_TYPE_TOO_DEEP = 13,      /* a type would be over three deep (TEP, place) */
+    OCL_NOT_FOUND = 14,          /* the sheet has no such rule (TE), or no such object (E) */
+    OCL_OTHER_CLASS = 15,        /* the rule does not apply to objects of this class (E) */
+    OCL_STEP_STOP = 16,          /* stopped: over OCL_MOST_STEPS steps are due (E, with the steps) */
+    OCL_SIZE_STOP = 17,          /* stopped: a value of a size over 128 would be formed (E, with the steps) */
+    OCL_REPORT_TOO_LONG = 18     /* the output is too short for the report (P) */
 };
 
-/* Reads a sheet: is it one? Writes nothing. The other three read the text themselves and refuse it with the same number. */
+/* Reads a sheet and says whether it is valid. Writes nothing. The other three read it too, and refuse it with the same number. */
 ocl_answer ocl_read_sheet(
     const uint8_t *text, size_t text_length,
     uint64_t *words0, size_t words0_length,
@@ -101,7 +101,7 @@ ocl_answer ocl_evaluate_rule(
 
 /*
  * Types all rules, evaluates each for every object of its class or below, and writes a line for each: rule, object, value and
- * steps, with a space between two and a line feed at the end. A stop stands in its line as `!16` or `!17`.
+ * steps, with single spaces between them and a line feed at the end. A stop is written in its line as `!16` or `!17`.
  */
 ocl_answer ocl_report(
     const uint8_t *text, size_t text_length,

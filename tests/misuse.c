@@ -68,7 +68,7 @@ static void expect(enum call which, const void *text, size_t text_length, uint64
     ocl_answer answer = call(which, text, text_length);
     size_t length = strlen(written);
     int good = answer.number == number && answer.length == length && memcmp(output, written, length) == 0 &&
-               left(number == OCL_SHORT_BENCH ? 0 : OCL_LEAST_WORDS, length);
+               left(number == OCL_SHORT_SLICE ? 0 : OCL_LEAST_WORDS, length);
     cases++;
     if (!good) {
         failures++;
@@ -96,32 +96,32 @@ int main(void)
     for (enum call which = READ; which <= REPORT; which++) {
         for (size_t i = 0; i < 3; i++) {
             lend(little[i], most, most, OCL_LEAST_OUTPUT);
-            expect(which, sheet, sheet_length, OCL_SHORT_BENCH, "");
+            expect(which, sheet, sheet_length, OCL_SHORT_SLICE, "");
             lend(most, little[i], most, OCL_LEAST_OUTPUT);
-            expect(which, sheet, sheet_length, OCL_SHORT_BENCH, "");
+            expect(which, sheet, sheet_length, OCL_SHORT_SLICE, "");
             lend(most, most, little[i], OCL_LEAST_OUTPUT);
-            expect(which, sheet, sheet_length, OCL_SHORT_BENCH, "");
+            expect(which, sheet, sheet_length, OCL_SHORT_SLICE, "");
         }
         lend(0, 0, 0, 0);
-        expect(which, NULL, 0, OCL_SHORT_BENCH, "");
-        /* a short bench comes before a long sheet */
+        expect(which, NULL, 0, OCL_SHORT_SLICE, "");
+        /* a short slice comes before a sheet that is too long */
         lend(most, most, most - 1, OCL_LEAST_OUTPUT);
-        expect(which, longer, sizeof longer, OCL_SHORT_BENCH, "");
+        expect(which, longer, sizeof longer, OCL_SHORT_SLICE, "");
     }
     for (enum call which = TYPE; which <= REPORT; which++) {
         lend(most, most, most, 0);
-        expect(which, sheet, sheet_length, OCL_SHORT_BENCH, "");
+        expect(which, sheet, sheet_length, OCL_SHORT_SLICE, "");
         lend(most, most, most, OCL_LEAST_OUTPUT - 1);
-        expect(which, sheet, sheet_length, OCL_SHORT_BENCH, "");
+        expect(which, sheet, sheet_length, OCL_SHORT_SLICE, "");
     }
     for (enum call which = READ; which <= REPORT; which++) {
         static const char *const written[] = {"", "Bool", "t", "0 0 t 1\n"};
         lend(most, most, most, OCL_LEAST_OUTPUT);
         expect(which, sheet, sheet_length, OCL_ANSWERED, written[which]);
-        expect(which, bad, sizeof bad - 1, OCL_UNKNOWN_PART, "");
-        expect(which, longer, sizeof longer, OCL_LONG_SHEET, "");
+        expect(which, bad, sizeof bad - 1, OCL_UNKNOWN_REFERENCE, "");
+        expect(which, longer, sizeof longer, OCL_SHEET_TOO_LONG, "");
         /* the text of no bytes is a sheet without rules */
-        expect(which, NULL, 0, which == TYPE || which == EVALUATE ? OCL_NOT_LISTED : OCL_ANSWERED, "");
+        expect(which, NULL, 0, which == TYPE || which == EVALUATE ? OCL_NOT_FOUND : OCL_ANSWERED, "");
     }
     if (failures == 0) {
         printf("misuse: %d cases\n", cases);

@@ -1,10 +1,16 @@
-"""How the sources import one another: for tests/trust and tests/unused."""
+"""How the sources are laid out and import one another: for the tests beside this file."""
 import pathlib
 import re
 
 ROOT = pathlib.Path(__file__).resolve().parent.parent
 CRATES = ROOT / "crates"
 IMPORT = r"^((?:(?:unfoldable|pub|ghost) )*)use ([^\s{]+)\.\{([^}]*)\};?$"
+
+
+def listed():
+    """What crates.txt lists: each crate with its dependencies."""
+    lines = (line.partition("#")[0] for line in (ROOT / "crates.txt").read_text().splitlines())
+    return {name.strip(): names.split() for name, colon, names in (line.partition(":") for line in lines) if colon}
 
 
 def names_in(braces):

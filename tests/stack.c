@@ -90,13 +90,13 @@ static void measure_sheet(const char *sheet)
     }
     for (rule = 0;; rule++) {
         uint64_t typed = measure(TYPE, sheet);
-        if (typed != OCL_ANSWERED && typed < OCL_LOOSE_END) {
+        if (typed != OCL_ANSWERED && typed < OCL_UNBOUND_VARIABLE) {
             return; /* the sheet is refused */
         }
-        if (typed == OCL_NOT_LISTED) {
+        if (typed == OCL_NOT_FOUND) {
             return;
         }
-        for (object = 0; measure(EVALUATE, sheet) != OCL_NOT_LISTED; object++) {
+        for (object = 0; measure(EVALUATE, sheet) != OCL_NOT_FOUND; object++) {
         }
     }
 }

@@ -5,7 +5,7 @@
  *     cc -std=c11 -Wall -Wextra -Werror -Iinclude examples/c/check.c target/staticlib/libchecker.a -o target/check
  *     target/check examples/cap.sheet
  *
- * Its exit status is 0 after a report, 1 after a refusal and 2 where the file could not be read.
+ * Its exit status is 0 after a report, 1 after a refusal and 2 if the file could not be read.
  */
 #include <inttypes.h>
 #include <stdio.h>
@@ -25,24 +25,24 @@ static uint8_t output[OCL_REPORT_OUTPUT];
 
 /* Every refusal's trade word and what it says. A call gives no other number. */
 static const char *const meanings[][2] = {
-    [OCL_SHORT_BENCH] = {"short bench", "a lent slice is too short"},
-    [OCL_LONG_SHEET] = {"long sheet", "the text is longer than a sheet may be"},
+    [OCL_SHORT_SLICE] = {"short bench", "a lent slice is too short"},
+    [OCL_SHEET_TOO_LONG] = {"long sheet", "the text is longer than a sheet may be"},
     [OCL_BAD_LINE] = {"bad line", "the line is misspelled"},
-    [OCL_OVER_MEASURE] = {"over measure", "a number, count, size or nesting is outside its limits"},
-    [OCL_OUT_OF_ROW] = {"out of row", "something is out of order, or there twice"},
-    [OCL_UNKNOWN_PART] = {"unknown part", "the sheet has no such class, row or object"},
-    [OCL_WRONG_THREAD] = {"wrong thread", "the value does not suit its row, or the row its object"},
-    [OCL_BROKEN_TREE] = {"broken tree", "the rule's nodes make no tree, or one that is too deep"},
-    [OCL_LOOSE_END] = {"loose end", "nothing binds the variable"},
-    [OCL_NO_MATCH] = {"no match", "there is no common type, or the cast is between unrelated classes"},
-    [OCL_WRONG_PIECE] = {"wrong piece", "the form does not take an operand of this type"},
-    [OCL_NO_SUCH_MARK] = {"no such mark", "the class has no attribute of this name"},
-    [OCL_TOO_MANY_LAYERS] = {"too many layers", "the type would be over three deep"},
-    [OCL_NOT_LISTED] = {"not listed", "the sheet has no such rule or object"},
+    [OCL_OUT_OF_LIMITS] = {"over measure", "a number, count, size or nesting is outside its limits"},
+    [OCL_OUT_OF_ORDER] = {"out of row", "something is out of order, or there twice"},
+    [OCL_UNKNOWN_REFERENCE] = {"unknown part", "the sheet has no such class, row or object"},
+    [OCL_VALUE_MISMATCH] = {"wrong thread", "the value does not suit its row, or the row its object"},
+    [OCL_MALFORMED_TREE] = {"broken tree", "the rule's nodes make no tree, or one that is too deep"},
+    [OCL_UNBOUND_VARIABLE] = {"loose end", "nothing binds the variable"},
+    [OCL_NO_COMMON_TYPE] = {"no match", "there is no common type, or the cast is between unrelated classes"},
+    [OCL_WRONG_OPERAND_TYPE] = {"wrong piece", "the form does not take an operand of this type"},
+    [OCL_NO_ATTRIBUTE] = {"no such mark", "the class has no attribute of this name"},
+    [OCL_TYPE_TOO_DEEP] = {"too many layers", "the type would be over three deep"},
+    [OCL_NOT_FOUND] = {"not listed", "the sheet has no such rule or object"},
     [OCL_OTHER_CLASS] = {"other class", "the object is not of the rule's class or below"},
     [OCL_STEP_STOP] = {"step stop", "more steps are due than an evaluation may take"},
     [OCL_SIZE_STOP] = {"size stop", "a value of a size over 128 would be formed"},
-    [OCL_SLIP_TOO_LONG] = {"slip too long", "the report is longer than the output"},
+    [OCL_REPORT_TOO_LONG] = {"slip too long", "the report is longer than the output"},
 };
 
 static void print_refusal(ocl_answer answer)
@@ -57,13 +57,13 @@ static void print_refusal(ocl_answer answer)
     printf(": %s\n", meanings[answer.number][1]);
 }
 
-/* Prints what the rule comes to for each object that it is for. */
+/* Prints what the rule comes to for each object it applies to. */
 static void evaluate_for_all(uint64_t rule)
 {
     for (uint64_t object = 0;; object++) {
         ocl_answer answer = ocl_evaluate_rule(TEXT, rule, object, WORDS, OUTPUT);
-        if (answer.number == OCL_NOT_LISTED) {
-            return; /* the object before was the last */
+        if (answer.number == OCL_NOT_FOUND) {
+            return; /* the object before this one was the last */
         }
         if (answer.number == OCL_OTHER_CLASS) {
             continue;
@@ -82,8 +82,8 @@ static int print_rules(void)
 {
     for (uint64_t rule = 0;; rule++) {
         ocl_answer answer = ocl_type_rule(TEXT, rule, WORDS, OUTPUT);
-        if (answer.number == OCL_NOT_LISTED) {
-            return 1; /* the rule before was the last */
+        if (answer.number == OCL_NOT_FOUND) {
+            return 1; /* the rule before this one was the last */
         }
         if (answer.number != OCL_ANSWERED) {
             print_refusal(answer);

@@ -54,7 +54,7 @@ pub fn evaluate_rule(text: &[u8], rule: u64, object: u64, words: Words, out: &mu
         let rule = listed_rule(&mut rules, rule)?;
         let object = u8::try_from(object).ok();
         let listed = object.filter(|object| usize::from(*object) < model.objects.len());
-        let object = listed.ok_or((Refusal::NotListed.at(0), 0))?;
+        let object = listed.ok_or((Refusal::NotFound.at(0), 0))?;
         if !model.is_of(object, rule.context) {
             return Err((Refusal::OtherClass.at(0), 0));
         }
@@ -90,7 +90,7 @@ pub fn program(text: &[u8]) -> Vec<u8> {
 
 fn sheet(text: &[u8]) -> Result<Sheet, (Refused, u64)> {
     if text.len() > LONGEST_SHEET {
-        return Err((Refusal::LongSheet.at(0), 0));
+        return Err((Refusal::SheetTooLong.at(0), 0));
     }
     read(text).map_err(without_steps)
 }
@@ -98,7 +98,7 @@ fn sheet(text: &[u8]) -> Result<Sheet, (Refused, u64)> {
 fn listed_rule(rules: &mut [Rule], rule: u64) -> Result<&mut Rule, (Refused, u64)> {
     let rule = usize::try_from(rule).ok();
     rule.and_then(|rule| rules.get_mut(rule))
-        .ok_or((Refusal::NotListed.at(0), 0))
+        .ok_or((Refusal::NotFound.at(0), 0))
 }
 
 fn without_steps(refused: Refused) -> (Refused, u64) {
@@ -109,7 +109,7 @@ fn without_steps(refused: Refused) -> (Refused, u64) {
 fn lent(words: Words, out: &mut [u8], work: impl FnOnce(usize) -> Work) -> Answer {
     if words.iter().any(|slice| slice.len() < LEAST_WORDS) || out.len() < LEAST_OUTPUT {
         return Answer {
-            number: Refusal::ShortBench as u64,
+            number: Refusal::ShortSlice as u64,
             ..Answer::default()
         };
     }

@@ -21,7 +21,7 @@ enum End {
 pub enum Stop {
     Steps,
     Size,
-    /// An operand of a wrong kind or an unbound variable: no typed rule ends so.
+    /// An operand of a wrong kind or an unbound variable: no typed rule ends here.
     Stuck,
 }
 
@@ -37,7 +37,7 @@ struct Evaluation<'m> {
     environment: [Option<Value>; 16],
 }
 
-/// What a rule ends with for an object, none being undefined, and the steps begun.
+/// What a rule ends with for an object (`None` is undefined), and the steps begun.
 pub fn evaluate(model: &Model, rule: &Rule, object: u8) -> (Result<Option<Value>, Stop>, u64) {
     let mut evaluation = Evaluation {
         model,
@@ -165,7 +165,7 @@ impl Evaluation<'_> {
         }
     }
 
-    /// A body's outcome with the variable bound, the outer binding put back after.
+    /// A body's outcome with the variable bound; the outer binding is put back.
     fn with(&mut self, variable: u8, value: Value, body: &Node) -> Outcome {
         let slot = usize::from(variable);
         let outer = self.environment[slot].replace(value);
@@ -174,8 +174,8 @@ impl Evaluation<'_> {
         outcome
     }
 
-    /// `and` and `or`: the deciding truth decides wherever it stands. If it stands
-    /// on the left, the right side is not run; if nowhere, undefined goes on.
+    /// `and` and `or`: the deciding truth decides on either side. On the left, it
+    /// keeps the right side from running; on neither side, undefined is passed on.
     fn connective(&mut self, operands: &[Node], deciding: bool) -> Outcome {
         let left = self.truth(&operands[0]);
         match left {

@@ -2,24 +2,24 @@
 
 #[derive(Clone, Copy, PartialEq, Eq, PartialOrd, Ord, Debug)]
 pub enum Refusal {
-    ShortBench = 1,
-    LongSheet,
+    ShortSlice = 1,
+    SheetTooLong,
     BadLine,
-    OverMeasure,
-    OutOfRow,
-    UnknownPart,
-    WrongThread,
-    BrokenTree,
-    LooseEnd,
-    NoMatch,
-    WrongPiece,
-    NoSuchMark,
-    TooManyLayers,
-    NotListed,
+    OutOfLimits,
+    OutOfOrder,
+    UnknownReference,
+    ValueMismatch,
+    MalformedTree,
+    UnboundVariable,
+    NoCommonType,
+    WrongOperandType,
+    NoAttribute,
+    TypeTooDeep,
+    NotFound,
     OtherClass,
     StepStop,
     SizeStop,
-    SlipTooLong,
+    ReportTooLong,
 }
 
 /// A refusal with its line from 1, or 0 where no line is to blame.

@@ -22,7 +22,7 @@ pub fn report(sheet: &mut Sheet, room: usize) -> Result<Vec<u8>, Refused> {
             }
             out.extend(format!(" {steps}\n").as_bytes());
             if out.len() > room {
-                return Err(Refusal::SlipTooLong.at(0));
+                return Err(Refusal::ReportTooLong.at(0));
             }
         }
     }

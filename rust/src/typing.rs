@@ -84,7 +84,7 @@ impl Typing<'_> {
             Form::SelfObject => Ok(Type::Class(self.context)),
             Form::Var(variable) => {
                 let bound = &self.environment[usize::from(*variable)];
-                bound.clone().ok_or(Refusal::LooseEnd)
+                bound.clone().ok_or(Refusal::UnboundVariable)
             }
             Form::Coll(kind) => {
                 let member = types
@@ -115,9 +115,9 @@ impl Typing<'_> {
             }
             Form::Attr { name, row } => {
                 let Type::Class(class) = types[0] else {
-                    return Err(Refusal::WrongPiece);
+                    return Err(Refusal::WrongOperandType);
                 };
-                let found = self.model.row(class, *name).ok_or(Refusal::NoSuchMark)?;
+                let found = self.model.row(class, *name).ok_or(Refusal::NoAttribute)?;
                 *row = Some(found);
                 Ok(self.model.rows[usize::from(found)].ty.clone())
             }
@@ -129,10 +129,10 @@ impl Typing<'_> {
                     Type::Class(from) => {
                         classes.is_below(from, *class) || classes.is_below(*class, from)
                     }
-                    _ => return Err(Refusal::WrongPiece),
+                    _ => return Err(Refusal::WrongOperandType),
                 };
                 let cast = Type::Class(*class);
-                related.then_some(cast).ok_or(Refusal::NoMatch)
+                related.then_some(cast).ok_or(Refusal::NoCommonType)
             }
             Form::Size => member_type(&types[0]).map(|_| Type::Int),
             Form::Includes => {
@@ -143,7 +143,7 @@ impl Typing<'_> {
             Form::Convert(kind) => Ok(Type::of(*kind, member_type(&types[0])?)),
             Form::Including => {
                 let Type::Of(kind, member) = &types[0] else {
-                    return Err(Refusal::WrongPiece);
+                    return Err(Refusal::WrongOperandType);
                 };
                 layered(*kind, self.common(member, &types[1])?)
             }
@@ -151,7 +151,7 @@ impl Typing<'_> {
                 (Type::Of(kind, left), Type::Of(other, right)) if kind == other => {
                     Ok(Type::of(*kind, self.common(left, right)?))
                 }
-                _ => Err(Refusal::WrongPiece),
+                _ => Err(Refusal::WrongOperandType),
             },
             Form::Let(_) | Form::Iter { .. } | Form::ForAll(_) | Form::Exists(_) => {
                 unreachable!("a form that binds a variable")
@@ -161,7 +161,7 @@ impl Typing<'_> {
 
     fn below(&self, low: &Type, high: &Type) -> Result<(), Refusal> {
         let below = low.is_below(high, &self.model.classes);
-        below.then_some(()).ok_or(Refusal::WrongPiece)
+        below.then_some(()).ok_or(Refusal::WrongOperandType)
     }
 
     fn all_below(&self, types: &[Type], high: &Type) -> Result<(), Refusal> {
@@ -170,12 +170,12 @@ impl Typing<'_> {
 
     fn common(&self, left: &Type, right: &Type) -> Result<Type, Refusal> {
         let common = left.common(right, &self.model.classes);
-        common.ok_or(Refusal::NoMatch)
+        common.ok_or(Refusal::NoCommonType)
     }
 }
 
 fn member_type(source: &Type) -> Result<Type, Refusal> {
-    source.member().cloned().ok_or(Refusal::WrongPiece)
+    source.member().cloned().ok_or(Refusal::WrongOperandType)
 }
 
 /// The kind around a member type that may be deep already.
@@ -183,5 +183,5 @@ fn layered(kind: Kind, member: Type) -> Result<Type, Refusal> {
     let within = member.depth() < DEEPEST;
     within
         .then(|| Type::of(kind, member))
-        .ok_or(Refusal::TooManyLayers)
+        .ok_or(Refusal::TypeTooDeep)
 }

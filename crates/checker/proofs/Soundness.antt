@@ -1,7 +1,8 @@
--- Demand 3 of the calls that type and evaluate: from demand 3 of their definitions and the calls' contracts. Assumes nothing.
-use mathlib.Core.Path.{_≡_, refl, sym, ap, _∙_}
+-- Demand 3 of the calls that type and evaluate, and that what stands for stuck is never seen: from what is proved of their definitions and
+-- from the calls' contracts. Assumes nothing.
+use mathlib.Core.Path.{_≡_, refl, sym, ap, _∙_, subst⁻¹}
 use mathlib.Core.List.{List, [], _++_}
-use Prim.Native.Nat.{ℕ}
+use Prim.Native.Nat.{ℕ, _≤_}
 use lib.ListN.{length, take, drop}
 use lib.Seq.{take-append-seam}
 use Rattle.ocl.specs.Types.{Ty}
@@ -10,11 +11,13 @@ use Rattle.sheet.specs.Text.{Bytes, bytes}
 use Rattle.sheet.specs.Spelling.{spellType, spellValue}
 use Rattle.sheet.specs.Reading.{Reading, accepted, rejected, readText}
 use Rattle.sheet.specs.Calls.{Verdict, answer, refusalAt, outputAfter, onSheet, readCall, typeOn, typeCall}
+use Rattle.sheet.specs.Report.{reportCall}
 use Rattle.sheet.specs.Soundness.{Lent, Ending, undefined-end, value-end, step-stop, size-stop}
 use Rattle.sheet.proofs.Soundness.{read-lent, type-lent, demand3, type-plain}
+use Rattle.sheet.proofs.NeverStuck.{never-stuck}
 use Rattle.checker.specs.declared.Answer.{Answer}
 use Rattle.checker.specs.Answers.{answerOf, AnswersWith}
-use Rattle.checker.specs.Soundness.{Says, AnswerEnding, undefined-said, value-said, step-stopped, size-stopped, Demand3OfCall}
+use Rattle.checker.specs.Soundness.{Says, AnswerEnding, undefined-said, value-said, step-stopped, size-stopped, Demand3OfCall, NeverStuckOfCall}
 
 -- an answer that says t is typing's answer t
 types-as : (text : Bytes) (r : ℕ) (t : Ty) {x0 x1 x2 y0 y1 y2 : List ℕ} {put after : Bytes} {b : Answer} → Lent x0 x1 x2 put
@@ -61,4 +64,19 @@ demand3-of-call text r o t x0 x1 x2 put k b y0 y1 y2 said y s h w0 w1 w2 out l a
       ending = answer-ending out (d .ending) i (z .output);
       in-reach = rw i (d .in-reach);
       no-step-stop = λ k n. d .no-step-stop k (ap (λ (b : Answer). b .number) (sym i) ∙ n);
+    }
+
+-- what is written is what the definition says
+written : (v : Verdict) {a : Answer} {w0 w1 w2 v0 v1 v2 : List ℕ} {out after : Bytes} → AnswersWith v a w0 w1 w2 out v0 v1 v2 after → take (a .length) after ≡ v .output
+unfolding outputAfter
+written v {out = out} {after = after} z =
+    ap (λ (b : Answer). take (b .length) after) (z .answers .is) ∙ ap (take (length (v .output))) (z .output) ∙ take-append-seam (v .output) (drop (length (v .output)) out)
+
+pub never-stuck-of-call : NeverStuckOfCall
+never-stuck-of-call text w0 w1 w2 out a v0 v1 v2 after =
+    let n = never-stuck text w0 w1 w2 out in
+    record {
+      evaluated = λ r o z. subst⁻¹ (λ (b : Answer). b .number ≤ 18) (z .answers .is) (n .evaluate-number r o);
+      reported = λ z. subst⁻¹ (λ (b : Answer). b .number ≤ 18) (z .answers .is) (n .report-number);
+      report-bytes = λ z b c e. n .report-bytes b c (sym (written (reportCall text w0 w1 w2 out) z) ∙ e);
     }

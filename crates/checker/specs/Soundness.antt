@@ -1,7 +1,8 @@
--- Document 01, Evaluation, demand 3 of the calls that type and evaluate: of whatever answers and outputs their contracts allow.
+-- Document 01, Evaluation, demand 3 of the calls that type and evaluate, and that what stands for stuck is never seen: of whatever answers
+-- and outputs the calls' contracts allow.
 use mathlib.Core.Path.{_≡_}
 use mathlib.Core.Logic.{_≢_}
-use mathlib.Core.List.{List}
+use mathlib.Core.List.{List, _++_}
 use Prim.Native.Nat.{ℕ, _≤_}
 use lib.ListN.{length, take}
 use lib.Dec.{T}
@@ -13,6 +14,7 @@ use Rattle.sheet.specs.Text.{Bytes, bytes}
 use Rattle.sheet.specs.Spelling.{spellType, spellValue}
 use Rattle.sheet.specs.Sheet.{modelOf}
 use Rattle.sheet.specs.Calls.{typeCall, evaluateCall}
+use Rattle.sheet.specs.Report.{reportCall}
 use Rattle.sheet.specs.Soundness.{Lent, sheetIn, reachOf, ofContext}
 use Rattle.checker.specs.declared.Answer.{Answer}
 use Rattle.checker.specs.Answers.{AnswersWith}
@@ -50,3 +52,16 @@ Demand3OfCall =
     → (w0 w1 w2 : List ℕ) (out : Bytes) → Lent w0 w1 w2 out
     → (a : Answer) (v0 v1 v2 : List ℕ) (after : Bytes) → AnswersWith (evaluateCall text r o w0 w1 w2 out) a w0 w1 w2 out v0 v1 v2 after
     → SoundAnswer text r t a after
+
+-- whatever the text and whatever is lent: evaluate and report answer 0 or a number of document 01's table, and the report that is written
+-- has no `!100`
+pub record NeverStuckAnswer (text : Bytes) (w0 w1 w2 : List ℕ) (out : Bytes) (a : Answer) (v0 v1 v2 : List ℕ) (after : Bytes) : Type 0 where
+  pub evaluated : (r o : ℕ) → AnswersWith (evaluateCall text r o w0 w1 w2 out) a w0 w1 w2 out v0 v1 v2 after → a .number ≤ 18
+  pub reported : AnswersWith (reportCall text w0 w1 w2 out) a w0 w1 w2 out v0 v1 v2 after → a .number ≤ 18
+  pub report-bytes : AnswersWith (reportCall text w0 w1 w2 out) a w0 w1 w2 out v0 v1 v2 after
+      → (b c : Bytes) → take (a .length) after ≢ b ++ (bytes "!100" ++ c)
+
+abbrev pub NeverStuckOfCall : Type 0
+NeverStuckOfCall =
+    (text : Bytes) (w0 w1 w2 : List ℕ) (out : Bytes) (a : Answer) (v0 v1 v2 : List ℕ) (after : Bytes)
+    → NeverStuckAnswer text w0 w1 w2 out a v0 v1 v2 after

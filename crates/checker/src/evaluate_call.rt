@@ -101,7 +101,7 @@ fn evaluate_on(
     no_output(15, 0)
 }
 
-// The text's own answer, whatever the words held; the words are not wiped yet.
+// The answer for the text, whatever the words held before; they are not wiped yet.
 fn evaluate_answer(
     text: &[u8],
     r: u64,

@@ -14,7 +14,7 @@ use super::short;
 use super::wipe_all;
 use reader::SheetRead;
 
-// The text's own answer, whatever the words held; the words are not wiped yet.
+// The answer for the text, whatever the words held before; they are not wiped yet.
 fn read_answer(text: &[u8], w0: &mut [u64], w1: &mut [u64]) -> Answer
     requires { ⌜ (8192 ≤ length (now w0)) × (8192 ≤ length (now w1)) ⌝ }
     ensures { λ r. ⌜ (r ≡ answerOf (onSheet (readText (now (text .entry))) (λ s. answerWith []))) × Kept (now (w0 .entry)) (now (w0 .exit)) × Kept (now (w1 .entry)) (now (w1 .exit)) ⌝ }

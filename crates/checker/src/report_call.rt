@@ -30,7 +30,7 @@ fn report_on(w0: &[u64], st: Counts, w1: &mut [u64], w2: &mut [u64], out: &mut [
     }
 }
 
-// The text's own answer, whatever the words held; the words are not wiped yet.
+// The answer for the text, whatever the words held before; they are not wiped yet.
 fn report_answer(
     text: &[u8],
     w0: &mut [u64],

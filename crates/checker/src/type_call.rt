@@ -34,7 +34,7 @@ fn type_on(w0: &[u64], st: Counts, w1: &[u64], w2: &mut [u64], r: u64, out: &mut
     }
 }
 
-// The text's own answer, whatever the words held; the words are not wiped yet.
+// The answer for the text, whatever the words held before; they are not wiped yet.
 fn type_answer(
     text: &[u8],
     r: u64,

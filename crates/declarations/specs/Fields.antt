@@ -25,7 +25,7 @@ pairOf limit (some p) = if ltb (p .0) limit && isClass (p .1) then Are (p .0) (p
 
 -- ---- a parent
 
--- 0 for no parent, else one more than the parent, which is cut at a million as every number read is
+-- 0 for no parent, else one more than the parent, which is a million at most, like every number that is read
 unfoldable pub parentNum : Option (Option ℕ) → Num
 parentNum none = num.Bad
 parentNum (some none) = num.Is 0

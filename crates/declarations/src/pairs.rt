@@ -16,7 +16,7 @@ pub enum Pair {
     Are(u64, u64),
 }
 
-// The number is to be below `limit`.
+// The number must be below `limit`.
 pub fn read_pair(line: &[u8], f: Fields, limit: u64) -> Pair
     requires { ⌜ Cut (now line) f × (limit ≤ 1000000) ⌝ }
     ensures { λ r. ⌜ r ≡ pairOf limit (twoNumbers (drop 1 (fieldsOf (now (line .entry))))) ⌝ }

@@ -10,44 +10,50 @@ use lib.Dec.{eqb}
 use borrow.Author.Tests.{eq-eqb, ne-eqb}
 use Rattle.laws.specs.Choice.{if_then_else_}
 use Rattle.laws.proofs.Slices.{under-top}
-use Rattle.ocl.specs.Values.{Value, bool, Values}
+use Rattle.ocl.specs.Values.{Value, Values}
 use Rattle.ocl.specs.Environment.{Env, extend}
-use Rattle.ocl.specs.Evaluation.{Outcome, value, stuck, bind, onBool, onColl, unaryApply, unaryRun, leftFits, binaryApply, binaryRun, isUndefRun, conditionalRun, letRun, attributeRun, search, quantifiedRun, fold, iterateRun}
-use Rattle.values.specs.Cells.{encs, fits-bool}
-use Rattle.values.specs.Contracts.{means-bool, SortOf}
-use Rattle.values.specs.declared.Simple.the-variants as simple
+use Rattle.ocl.specs.Evaluation.{Outcome, value, stuck, bind, onBool, onColl, leftFits, binaryApply, binaryRun, conditionalRun, letRun, seek, quantifiedRun, fold, iterateRun}
+use Rattle.values.specs.Cells.{encs}
+use Rattle.values.specs.Contracts.{SortOf}
 use Rattle.values.proofs.Adding.{header}
-use Rattle.nodes.specs.Nodes.{word, variable, unaryOf, binaryOf, quantifierOf}
+use Rattle.nodes.specs.Nodes.{word, variable, binaryOf, quantifierOf}
 use Rattle.tables.specs.declared.Counts.{Counts}
-use Rattle.tables.specs.Stored.{HoldsModel}
 use Rattle.operations.specs.declared.Ended.{Ended}
 use Rattle.operations.specs.declared.Ended.the-variants as ended
-use Rattle.operations.specs.Answers.{Lies, ends-stop, Under, Gives, Truth}
-use Rattle.operations.specs.Tables.{Attribute, attributeIn}
-use Rattle.operations.specs.Operations.{OfOne, OfTwo, FitsLeft, unaryFor}
+use Rattle.operations.specs.Answers.{Lies, ends-stop, Under, Truth}
+use Rattle.operations.specs.Tables.{ReadsRow}
+use Rattle.operations.specs.Operations.{OfOne, OfTwo, FitsLeft}
+use Rattle.operations.specs.Operand.{markIn, ofValue, FromUndefined}
 use Rattle.operations.specs.Runs.{World, held, Rel, Evals}
-use Rattle.evaluation.specs.Evaluating.{ReadsWorld, operandFor, unaryNode, binaryNode, isUndefNode, conditionalNode, letNode, attributeNode, quantifiedNode, iterateNode, Searches, Folds}
+use Rattle.evaluation.specs.Evaluating.{ReadsWorld, operandFor, unaryNode, binaryNode, conditionalNode, letNode, quantifiedNode, iterateNode, Seeks, Folds}
 use Rattle.operations.proofs.Words.{under-then, under-down, lies-kept, head-at, slid}
 use Rattle.operations.proofs.Sorts.{bit-one, no-coll, IsColl, is-coll}
 use Rattle.evaluation.proofs.Composition.{rel-kept, rel-bind, Other, valued, is-undefined, is-stuck, is-stop, falls, bind-value, bounds, early, after, ran-from, ran-value, ran-stuck-at}
 use Rattle.evaluation.proofs.ConnectiveLaws.{bool-at, not-bool-at}
 
--- ---- one strict operand
+-- ---- one operand
 
-unary-same : (t : List ℕ) (n k c : ℕ) → c ≡ word t n 2 → unaryFor k c ≡ unaryOf k (word t n)
-unfolding unaryFor unaryOf
-unary-same t n k c e = rw e
+module _ {st : Counts} {w0 : List ℕ} (t : List ℕ) (n k : ℕ) {env B A : List ℕ} {sp s : ℕ} {r : Ended} (x : Evals (ReadsWorld st w0 t) (operandFor t n 1) env sp s B A r) where
+  pub unary-value : {la sa : ℕ} {C : List ℕ} {r' : Ended} → r ≡ ended.Value la sa → n < 768 → OfOne (ReadsRow st w0 (markIn t n)) (λ m. ofValue m k (word t n) (markIn t n)) sp la sa A C r' → Evals (ReadsWorld st w0 t) (unaryNode t n k) env sp s B C r'
+  unfolding unaryNode
+  unary-value q h z = record {
+    small = z .small;
+    ran = λ w ok ρ rel.
+        let d = valued (x .ran w ok ρ rel) q in
+        rw (d .is, ok .mark n h) (ran-from (d .kept) (z .ran (w .model) (record { holds = ok .holds; plain = ok .plain; row = rw (ok .mark n h) at (ok .row n h) }) (d .v) (d .lies)));
+  }
 
-module _ {Ok : World → Type 0} (t : List ℕ) (n k : ℕ) {env B A : List ℕ} {sp s : ℕ} {r : Ended} (x : Evals Ok (operandFor t n 1) env sp s B A r) where
-  pub unary-first : Other r → Evals Ok (unaryNode t n k) env sp s B A r
-  unfolding unaryNode unaryRun
-  unary-first o = early (λ w ρ v n'. unaryApply (w .model) (unaryOf k (word t n)) v n') (λ w ρ. refl) x o
+  pub unary-undefined : {sa : ℕ} {C : List ℕ} {r' : Ended} → r ≡ ended.Undef sa → FromUndefined k sp sa A C r' → Evals (ReadsWorld st w0 t) (unaryNode t n k) env sp s B C r'
+  unfolding unaryNode
+  unary-undefined q z = record { small = z .small; ran = λ w ok ρ rel. let y = x .ran w ok ρ rel in rw (is-undefined y q) (ran-from (y .kept) (z .ran)) }
 
-pub unary-done : {st : Counts} {w0 w1 : List ℕ} (t : List ℕ) (n k c : ℕ) {env B A C : List ℕ} {sp s la sa : ℕ} {r r' : Ended} → Evals (ReadsWorld st w0 w1) (operandFor t n 1) env sp s B A r → r ≡ ended.Value la sa → c ≡ word t n 2
-    → OfOne (HoldsModel st w0) (λ m. unaryApply m (unaryFor k c)) sp la sa A C r' → Evals (ReadsWorld st w0 w1) (unaryNode t n k) env sp s B C r'
-unfolding unaryNode unaryRun
-unary-done t n k c {sa = sa} x q e z = after (λ w ρ v n'. unaryApply (w .model) (unaryOf k (word t n)) v n') (λ w ρ. refl) x q (z .small)
-    (λ w ok ρ rel v l u. rw (← unary-same t n k c e) (ran-from u (z .ran (w .model) (ok .holds) v l)))
+  pub unary-stuck : r ≡ ended.Stuck → Evals (ReadsWorld st w0 t) (unaryNode t n k) env sp s B A ended.Stuck
+  unfolding unaryNode
+  unary-stuck q = record { small = tt; ran = λ w ok ρ rel. let y = x .ran w ok ρ rel in rw (is-stuck y q) (ran-stuck-at (y .kept)) }
+
+  pub unary-stop : {c m : ℕ} → r ≡ ended.Stop c m → Evals (ReadsWorld st w0 t) (unaryNode t n k) env sp s B A (ended.Stop c m)
+  unfolding unaryNode
+  unary-stop q = record { small = tt; ran = λ w ok ρ rel. let y = x .ran w ok ρ rel in rw (is-stop y q) (record { kept = y .kept; ends = ends-stop }) }
 
 -- ---- two strict operands
 
@@ -81,27 +87,9 @@ module _ {Ok : World → Type 0} (t : List ℕ) (n k : ℕ) {env B A : List ℕ}
           rw (sym (fitting l) ∙ e, d .is)
           (ran-from (under-then (under-down (omega arith) (d .kept)) u) (g .ran v (d .v) (lies-kept (omega arith) (d .kept) l) (d .lies))))
 
--- ---- `isUndef`
+-- ---- `if`
 
 module _ {Ok : World → Type 0} (t : List ℕ) (n : ℕ) {env B A : List ℕ} {sp s : ℕ} {r : Ended} (x : Evals Ok (operandFor t n 1) env sp s B A r) where
-  pub isUndef-ends : r ≡ ended.Stuck → Evals Ok (isUndefNode t n) env sp s B A ended.Stuck
-  unfolding isUndefNode isUndefRun
-  isUndef-ends q = record { small = tt; ran = λ w ok ρ rel. let y = x .ran w ok ρ rel in rw (is-stuck y q) (ran-stuck-at (y .kept)) }
-
-  pub isUndef-stops : {c m : ℕ} → r ≡ ended.Stop c m → Evals Ok (isUndefNode t n) env sp s B A (ended.Stop c m)
-  unfolding isUndefNode isUndefRun
-  isUndef-stops q = record { small = tt; ran = λ w ok ρ rel. let y = x .ran w ok ρ rel in rw (is-stop y q) (record { kept = y .kept; ends = ends-stop }) }
-
-  pub isUndef-no : {la sa : ℕ} {C : List ℕ} {r' : Ended} → r ≡ ended.Value la sa → Gives (simple.Bool false) sp sa A C r' → Evals Ok (isUndefNode t n) env sp s B C r'
-  unfolding isUndefNode isUndefRun
-  isUndef-no q G = record { small = G .small; ran = λ w ok ρ rel. let d = valued (x .ran w ok ρ rel) q in rw (d .is) (ran-from (d .kept) (G .is (bool false) fits-bool means-bool)) }
-
-  pub isUndef-yes : {sa : ℕ} {C : List ℕ} {r' : Ended} → r ≡ ended.Undef sa → Gives (simple.Bool true) sp sa A C r' → Evals Ok (isUndefNode t n) env sp s B C r'
-  unfolding isUndefNode isUndefRun
-  isUndef-yes q G = record { small = G .small; ran = λ w ok ρ rel. let y = x .ran w ok ρ rel in rw (is-undefined y q) (ran-from (y .kept) (G .is (bool true) fits-bool means-bool)) }
-
-  -- ---- `if`
-
   abbrev branches : World → Env Value → Value → ℕ → Outcome
   branches w ρ v n' = onBool v (λ b. if b then operandFor t n 2 w ρ n' else operandFor t n 3 w ρ n')
 
@@ -157,7 +145,7 @@ module _ {Ok : World → Type 0} (t : List ℕ) (n : ℕ) {env B A : List ℕ} {
   -- ---- a source whose members are gone through
 
   abbrev members : ℕ → World → Env Value → Value → ℕ → Outcome
-  members k w ρ v n' = onColl v (λ c vs. search (quantifierOf k) (λ y. operandFor t n 2 w (extend ρ (variable (word t n 3)) y)) vs n')
+  members k w ρ v n' = onColl v (λ c vs. seek (quantifierOf k) (λ y. operandFor t n 2 w (extend ρ (variable (word t n 3)) y)) vs n')
 
   abbrev foldAll : World → Env Value → Values → Value → ℕ → Outcome
   foldAll w ρ vs a n' = fold (λ y z. operandFor t n 3 w (extend (extend ρ (variable (word t n 4)) y) (variable (word t n 5)) z)) vs a n'
@@ -177,7 +165,7 @@ module _ {Ok : World → Type 0} (t : List ℕ) (n : ℕ) {env B A : List ℕ} {
     pub quantified-stuck : (k : ℕ) → d < 3 → Evals Ok (quantifiedNode t n k) env sp s B A ended.Stuck
     unfolding quantifiedNode quantifiedRun
     quantified-stuck k h = after (members k) (λ w ρ. refl) x q tt (λ w ok ρ rel v l u.
-        rw (no-coll l S h (λ c vs. search (quantifierOf k) (λ y. operandFor t n 2 w (extend ρ (variable (word t n 3)) y)) vs sa)) (ran-stuck-at u))
+        rw (no-coll l S h (λ c vs. seek (quantifierOf k) (λ y. operandFor t n 2 w (extend ρ (variable (word t n 3)) y)) vs sa)) (ran-stuck-at u))
 
     pub iterate-stuck : d < 3 → Evals Ok (iterateNode t n) env sp s B A ended.Stuck
     unfolding iterateNode iterateRun
@@ -188,7 +176,7 @@ module _ {Ok : World → Type 0} (t : List ℕ) (n : ℕ) {env B A : List ℕ} {
       cells : {v : Value} (l : Lies v sp la A) → (y : IsColl l S) → slice (sp + 1) (sp + la) A ≡ encs (y .members)
       cells l y = header A sp (sp + la) (y .kind) (y .members) (let m = bounds (x .small) q in omega arith) room (rw (y .is) at (l .cells)) .cells
 
-      pub quantified-done : (k : ℕ) {C : List ℕ} {r' : Ended} → Searches Ok (quantifierOf k) (variable (word t n 3)) (operandFor t n 2) env sp la sa A C r' → Evals Ok (quantifiedNode t n k) env sp s B C r'
+      pub quantified-done : (k : ℕ) {C : List ℕ} {r' : Ended} → Seeks Ok (quantifierOf k) (variable (word t n 3)) (operandFor t n 2) env sp la sa A C r' → Evals Ok (quantifiedNode t n k) env sp s B C r'
       unfolding quantifiedNode quantifiedRun
       quantified-done k g = after (members k) (λ w ρ. refl) x q (g .small) (λ w ok ρ rel v l u.
           let y = is-coll l S h in
@@ -209,16 +197,3 @@ module _ {Ok : World → Type 0} (t : List ℕ) (n : ℕ) {env B A : List ℕ} {
             let o = under-then (under-down (omega arith) (d .kept)) u in
             rw (z .is, d .is)
             (ran-from o (g .ran w ok ρ (rel-kept (omega arith) o rel) (z .members) (z .fits) (under-top C A (sp + la) (sp + 1) (sp + la) (omega arith) (d .kept .same) ∙ cells l z) (d .v) (d .lies))))
-
--- ---- `attr`
-
-pub attribute-first : {Ok : World → Type 0} (t : List ℕ) (n : ℕ) {env B A : List ℕ} {sp s : ℕ} {r : Ended} → Evals Ok (operandFor t n 1) env sp s B A r → Other r → Evals Ok (attributeNode t n) env sp s B A r
-unfolding attributeNode attributeRun
-attribute-first t n x o = early (λ w ρ v n'. attributeIn (w .model) (w .mark n) v n') (λ w ρ. refl) x o
-
-pub attribute-done : {st : Counts} {w0 : List ℕ} (t : List ℕ) (n : ℕ) {env B A C : List ℕ} {sp s la sa i : ℕ} {r r' : Ended} → Evals (ReadsWorld st w0 t) (operandFor t n 1) env sp s B A r → r ≡ ended.Value la sa → n < 768 → i ≡ getD t (6144 + n) 0
-    → Attribute st w0 i sp sa A C r' → Evals (ReadsWorld st w0 t) (attributeNode t n) env sp s B C r'
-unfolding attributeNode attributeRun
-attribute-done t n {sa = sa} {i = i} x q h e g = after (λ w ρ v n'. attributeIn (w .model) (w .mark n) v n') (λ w ρ. refl) x q (g .small) (λ w ok ρ rel v l u.
-    let k : w .mark n ≡ i = ok .mark n h ∙ sym e in
-    rw k (ran-from u (g .is (w .model) (ok .holds) (ok .plain) (rw k at (ok .row n h)) v _ l)))

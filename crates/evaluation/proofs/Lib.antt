@@ -2,5 +2,5 @@ pub mod Composition
 pub mod ConnectiveLaws
 pub mod FormLaws
 pub mod LoopLaws
-pub mod CollectLaws
+pub mod AssembleLaws
 pub mod NodeLaws

@@ -13,7 +13,7 @@ use Rattle.laws.proofs.Slices.{under-top, split-left, split-size}
 use Rattle.ocl.specs.Values.{Value, bool, Values, nil, cons, size}
 use Rattle.ocl.specs.Environment.{Env, extend}
 use Rattle.ocl.specs.Forms.{Quantifier, forAll, exists}
-use Rattle.ocl.specs.Evaluation.{Outcome, value, bind, onBool, endsAt, search, fold}
+use Rattle.ocl.specs.Evaluation.{Outcome, value, bind, onBool, endsAt, seek, fold}
 use Rattle.values.specs.Cells.{bit, enc, encs, fits-bool, AllFit, fit-cons}
 use Rattle.values.specs.Contracts.{means-bool, Skips}
 use Rattle.values.specs.declared.Simple.the-variants as simple
@@ -24,7 +24,7 @@ use Rattle.operations.specs.declared.Ended.{Ended}
 use Rattle.operations.specs.declared.Ended.the-variants as ended
 use Rattle.operations.specs.Answers.{Lies, Under, Ran, Gives, Truth}
 use Rattle.operations.specs.Runs.{World, held, Rel, Meaning, Evals}
-use Rattle.evaluation.specs.Evaluating.{Searches, Folds}
+use Rattle.evaluation.specs.Evaluating.{Seeks, Folds}
 use Rattle.operations.proofs.Words.{under-refl, under-then, under-down, slid}
 use Rattle.operations.proofs.Sorts.{bit-one}
 use Rattle.evaluation.proofs.Composition.{rel-kept, rel-bind, Other, valued, falls, bounds, ran-from, ran-value, ran-stuck-at}
@@ -89,31 +89,31 @@ abbrev each : Meaning → ℕ → World → Env Value → Value → ℕ → Outc
 each g i w ρ v = g w (extend ρ i v)
 
 -- where the loop stands: what is left of the members lies from p to end; S₀ is the stack where the loop begins
-pub record SearchAt (q : Quantifier) (i : ℕ) (g : Meaning) (w : World) (ρ : Env Value) (end : ℕ) (S₀ S : List ℕ) (s p : ℕ) (whole : Outcome) : Type 0 where
+pub record SeekAt (q : Quantifier) (i : ℕ) (g : Meaning) (w : World) (ρ : Env Value) (end : ℕ) (S₀ S : List ℕ) (s p : ℕ) (whole : Outcome) : Type 0 where
   pub rest : Values
   pub left : Left S p end rest
-  pub same : whole ≡ search q (each g i w ρ) rest s
+  pub same : whole ≡ seek q (each g i w ρ) rest s
   pub kept : Under end S S₀
 
-pub record Searching (Ok : World → Type 0) (q : Quantifier) (i : ℕ) (g : Meaning) (env : List ℕ) (sp end : ℕ) (S₀ S : List ℕ) (s₀ s p : ℕ) : Type 0 where
+pub record Seeking (Ok : World → Type 0) (q : Quantifier) (i : ℕ) (g : Meaning) (env : List ℕ) (sp end : ℕ) (S₀ S : List ℕ) (s₀ s p : ℕ) : Type 0 where
   pub long : length S ≡ length S₀
   pub up : sp < p
   pub within : p ≤ end
   pub at : (w : World) → Ok w → (ρ : Env Value) → Rel env S₀ sp ρ → (vs : Values) → AllFit vs → slice (sp + 1) end S₀ ≡ encs vs
-      → SearchAt q i g w ρ end S₀ S s p (search q (each g i w ρ) vs s₀)
+      → SeekAt q i g w ρ end S₀ S s p (seek q (each g i w ρ) vs s₀)
 
-pub search-starts : {Ok : World → Type 0} {q : Quantifier} {i : ℕ} {g : Meaning} {env S : List ℕ} {sp end s : ℕ} → sp + 1 ≤ end → Searching Ok q i g env sp end S S s s (sp + 1)
-search-starts h = record {
+pub seek-starts : {Ok : World → Type 0} {q : Quantifier} {i : ℕ} {g : Meaning} {env S : List ℕ} {sp end s : ℕ} → sp + 1 ≤ end → Seeking Ok q i g env sp end S S s s (sp + 1)
+seek-starts h = record {
   long = refl;
   up = omega arith;
   within = h;
   at = λ w ok ρ rel vs f e. record { rest = vs; left = record { fits = f; lies = e }; same = refl; kept = under-refl };
 }
 
-module _ {Ok : World → Type 0} {q : Quantifier} {i : ℕ} {g : Meaning} {env : List ℕ} {sp la : ℕ} {S₀ S : List ℕ} {s₀ s p : ℕ} (G : Searching Ok q i g env sp (sp + la) S₀ S s₀ s p) (room : sp + la ≤ length S₀) where
-  pub search-none : {D : List ℕ} {b : Bool} {r : Ended} → sp + la ≤ p → b ≡ not (endsAt q) → Gives (simple.Bool b) sp s S D r → Searches Ok q i g env sp la s₀ S₀ D r
-  unfolding search
-  search-none {b = b} m c z = record {
+module _ {Ok : World → Type 0} {q : Quantifier} {i : ℕ} {g : Meaning} {env : List ℕ} {sp la : ℕ} {S₀ S : List ℕ} {s₀ s p : ℕ} (G : Seeking Ok q i g env sp (sp + la) S₀ S s₀ s p) (room : sp + la ≤ length S₀) where
+  pub seek-none : {D : List ℕ} {b : Bool} {r : Ended} → sp + la ≤ p → b ≡ not (endsAt q) → Gives (simple.Bool b) sp s S D r → Seeks Ok q i g env sp la s₀ S₀ D r
+  unfolding seek
+  seek-none {b = b} m c z = record {
     small = z .small;
     ran = λ w ok ρ rel vs f e.
         let a = G .at w ok ρ rel vs f e in
@@ -123,43 +123,43 @@ module _ {Ok : World → Type 0} {q : Quantifier} {i : ℕ} {g : Meaning} {env :
 
   module _ {S' : List ℕ} {i' : ℕ} {r : Ended} (eq : i' ≡ i) (low : i' < 16) (small : la ≤ 128) (more : p < sp + la) (z : Evals Ok g (set env i' (p + 1)) (sp + la) s S S' r) where
     -- the body over the next member, at the loop's place
-    turn : {w : World} {ρ : Env Value} {whole : Outcome} → Ok w → Rel env S₀ sp ρ → (a : SearchAt q i g w ρ (sp + la) S₀ S s p whole) → (f : First S p (sp + la) (a .rest)) → Ran (each g i w ρ (f .v) s) (sp + la) S S' r
+    turn : {w : World} {ρ : Env Value} {whole : Outcome} → Ok w → Rel env S₀ sp ρ → (a : SeekAt q i g w ρ (sp + la) S₀ S s p whole) → (f : First S p (sp + la) (a .rest)) → Ran (each g i w ρ (f .v) s) (sp + la) S S' r
     turn {w} {ρ} ok rel a f =
         let u = G .up in
         rw (← eq) (z .ran w ok (extend ρ i' (f .v))
         (rel-bind (f .v) low (held p refl (f .lies) (let k = f .within in omega arith) (f .within)) (rel-kept (omega arith) (under-down (omega arith) (a .kept)) rel)))
 
-    next : {w : World} {ρ : Env Value} {whole : Outcome} → (a : SearchAt q i g w ρ (sp + la) S₀ S s p whole) → First S p (sp + la) (a .rest)
+    next : {w : World} {ρ : Env Value} {whole : Outcome} → (a : SeekAt q i g w ρ (sp + la) S₀ S s p whole) → First S p (sp + la) (a .rest)
     next a = first-member (a .left) more (let k = G .long in omega arith)
 
-    pub search-early : Other r → Searches Ok q i g env sp la s₀ S₀ S' r
-    unfolding search
-    search-early o = record {
+    pub seek-early : Other r → Seeks Ok q i g env sp la s₀ S₀ S' r
+    unfolding seek
+    seek-early o = record {
       small = z .small;
       ran = λ w ok ρ rel vs f e.
           let a = G .at w ok ρ rel vs f e in
           let b = next a in
-          rw (a .same, b .are) (falls (each g i w ρ (b .v) s) (λ x n. onBool x (λ c. if Bool·beq c (endsAt q) then value (bool c) n else search q (each g i w ρ) (b .vs) n))
+          rw (a .same, b .are) (falls (each g i w ρ (b .v) s) (λ x n. onBool x (λ c. if Bool·beq c (endsAt q) then value (bool c) n else seek q (each g i w ρ) (b .vs) n))
           (omega arith) (under-down (omega arith) (a .kept)) (turn ok rel a b) o);
     }
 
     module _ {lb sb d : ℕ} (y : r ≡ ended.Value lb sb) (t : Truth (getD S' (sp + la) 0) d) where
-      pub search-stuck : 1 < d → Searches Ok q i g env sp la s₀ S₀ S' ended.Stuck
-      unfolding search
-      search-stuck h = record {
+      pub seek-stuck : 1 < d → Seeks Ok q i g env sp la s₀ S₀ S' ended.Stuck
+      unfolding seek
+      seek-stuck h = record {
         small = tt;
         ran = λ w ok ρ rel vs f e.
             let a = G .at w ok ρ rel vs f e in
             let b = next a in
             let v = valued (turn ok rel a b) y in
-            rw (a .same, b .are, v .is, not-bool-at (v .lies) t h (λ c. if Bool·beq c (endsAt q) then value (bool c) sb else search q (each g i w ρ) (b .vs) sb))
+            rw (a .same, b .are, v .is, not-bool-at (v .lies) t h (λ c. if Bool·beq c (endsAt q) then value (bool c) sb else seek q (each g i w ρ) (b .vs) sb))
             (ran-stuck-at (under-down (omega arith) (under-then (v .kept) (a .kept))));
       }
 
       module _ (h : d ≤ 1) where
-        pub search-ends : {D : List ℕ} {r' : Ended} → d ≡ bit (endsAt q) → Gives (simple.Bool (eqb d 1)) sp sb S' D r' → Searches Ok q i g env sp la s₀ S₀ D r'
-        unfolding search
-        search-ends c x = record {
+        pub seek-ends : {D : List ℕ} {r' : Ended} → d ≡ bit (endsAt q) → Gives (simple.Bool (eqb d 1)) sp sb S' D r' → Seeks Ok q i g env sp la s₀ S₀ D r'
+        unfolding seek
+        seek-ends c x = record {
           small = x .small;
           ran = λ w ok ρ rel vs f e.
               let a = G .at w ok ρ rel vs f e in
@@ -171,9 +171,9 @@ module _ {Ok : World → Type 0} {q : Quantifier} {i : ℕ} {g : Meaning} {env :
               (ran-from (under-down (omega arith) (under-then (v .kept) (a .kept))) (x .is (bool (k .b)) fits-bool (rw m means-bool)));
         }
 
-        pub search-again : {p' : ℕ} → (d ≡ bit (endsAt q) → ⊥) → length S' ≡ length S → Skips p (sp + la) S' p' → Searching Ok q i g env sp (sp + la) S₀ S' s₀ sb p'
-        unfolding search
-        search-again c n k = record {
+        pub seek-again : {p' : ℕ} → (d ≡ bit (endsAt q) → ⊥) → length S' ≡ length S → Skips p (sp + la) S' p' → Seeking Ok q i g env sp (sp + la) S₀ S' s₀ sb p'
+        unfolding seek
+        seek-again c n k = record {
           long = n ∙ G .long;
           up = (let a = k .up more in let b = G .up in omega arith);
           within = k .within;
@@ -182,11 +182,11 @@ module _ {Ok : World → Type 0} {q : Quantifier} {i : ℕ} {g : Meaning} {env :
               let b = next a in
               let v = valued (turn ok rel a b) y in
               let j = bool-at (v .lies) t h in
-              let m : search q (each g i w ρ) (cons (b .v) (b .vs)) s ≡ search q (each g i w ρ) (b .vs) sb = rw (v .is, j .is, beq-no (j .b) (endsAt q) (λ x. c (j .code ∙ x))) in
+              let m : seek q (each g i w ρ) (cons (b .v) (b .vs)) s ≡ seek q (each g i w ρ) (b .vs) sb = rw (v .is, j .is, beq-no (j .b) (endsAt q) (λ x. c (j .code ∙ x))) in
               record {
                 rest = b .vs;
                 left = after-first (b .v) (b .vs) (let x = G .long in omega arith) more k (rw (b .are) at (left-kept (v .kept) (a .left)));
-                same = a .same ∙ ap (λ (x : Values). search q (each g i w ρ) x s) (b .are) ∙ m;
+                same = a .same ∙ ap (λ (x : Values). seek q (each g i w ρ) x s) (b .are) ∙ m;
                 kept = under-then (v .kept) (a .kept);
               };
         }

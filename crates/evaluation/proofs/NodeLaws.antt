@@ -7,26 +7,28 @@ use Prim.Native.Nat.{ℕ, zero, suc, _+_, _<_, _≤_}
 use native.Mathlib.Omega.{arith}
 use lib.ListN.{length, getD, set, replicate}
 use lib.Dec.{ltb}
-use borrow.Author.Tests.{ltb-true, ltb-false}
+use borrow.Author.Tests.{ltb-true, ltb-false, lt-ltb, ne-eqb}
 use Rattle.laws.specs.Choice.{if_then_else_}
-use Rattle.ocl.specs.Values.{obj, size}
-use Rattle.ocl.specs.Environment.{extend, start}
+use Rattle.ocl.specs.Values.{Value, obj, size}
+use Rattle.ocl.specs.Environment.{Env, extend, start}
 use Rattle.ocl.specs.Forms.{Expr, node, undef, levels}
-use Rattle.ocl.specs.Evaluation.{tick, leafRun, evaluation, formRun, evaluateRule}
+use Rattle.ocl.specs.Evaluation.{Outcome, value, undefined, stuck, stop, resume, bind, tick, leafRun, unaryApply, unaryRun, isUndefRun, attributeRun, evaluation, formRun, evaluateRule}
 use Rattle.ocl.proofs.Steps.{run-limited}
 use Rattle.values.specs.Cells.{fits-obj}
 use Rattle.values.specs.Contracts.{means-obj, Pushes}
 use Rattle.values.specs.declared.Simple.the-variants as simple
-use Rattle.nodes.specs.Nodes.{word, leafOf, treeAt}
+use Rattle.nodes.specs.Nodes.{word, leafOf, unaryOf, treeAt}
 use Rattle.nodes.proofs.Nodes.{below-law}
-use Rattle.nodes.proofs.Levels.{collect-levels}
-use Rattle.nodes.proofs.Evaluation.{operandRun, leaf-run, unary-run, binary-run, connective-run, quantified-run, collect-run, over-run, isUndef-run, conditional-run, let-run, attribute-run, iterate-run, none-run, operand-run, late-run}
+use Rattle.nodes.proofs.Levels.{assemble-levels}
+use Rattle.nodes.proofs.Evaluation.{operandRun, leaf-run, unary-run, binary-run, connective-run, quantified-run, assemble-run, over-run, isUndef-run, conditional-run, let-run, attribute-run, iterate-run, none-run, operand-run, late-run}
 use Rattle.tables.specs.declared.Counts.{Counts}
 use Rattle.operations.specs.declared.Ended.{Ended}
 use Rattle.operations.specs.declared.Ended.the-variants as ended
 use Rattle.operations.specs.Answers.{answerIn, Packs}
+use Rattle.operations.specs.Tables.{attributeIn}
+use Rattle.operations.specs.Operand.{ofValue, ofUndefined}
 use Rattle.operations.specs.Runs.{World, ModelIn, free, held, Rel, Meaning, Evals, leafFor}
-use Rattle.evaluation.specs.Evaluating.{ReadsWorld, Rules, nodeFor, operandFor, unaryNode, binaryNode, connectiveNode, isUndefNode, conditionalNode, letNode, attributeNode, quantifiedNode, iterateNode, membersRun, collectNode, operandTree, Shallow}
+use Rattle.evaluation.specs.Evaluating.{ReadsWorld, Rules, nodeFor, operandFor, unaryNode, binaryNode, connectiveNode, conditionalNode, letNode, quantifiedNode, iterateNode, membersRun, assembleNode, operandTree, Shallow}
 use Rattle.operations.proofs.Words.{under-refl, gives}
 use Rattle.operations.proofs.Packing.{ends-packed}
 use Rattle.evaluation.proofs.Composition.{rel-bind, valued, tick-on, tick-stop, ran-undefined-at}
@@ -40,16 +42,43 @@ undef-done : {Ok : World → Type 0} {env B : List ℕ} {sp s : ℕ} → Evals O
 unfolding undefNode leafRun
 undef-done = record { small = tt; ran = λ w ok ρ rel. ran-undefined-at under-refl }
 
-collect-by : (t : List ℕ) (n k : ℕ) → k ≡ word t n 0 → 27 ≤ k → k < 30 → (w : World) (b : Bool) → ltb 4 (word t n 5) ≡ b → evaluation (w .model) (w .mark) (treeAt t n) ≡ tick (if b then leafRun (w .model) undef else membersRun t n k w)
+assemble-by : (t : List ℕ) (n k : ℕ) → k ≡ word t n 0 → 27 ≤ k → k < 30 → (w : World) (b : Bool) → ltb 4 (word t n 5) ≡ b → evaluation (w .model) (w .mark) (treeAt t n) ≡ tick (if b then leafRun (w .model) undef else membersRun t n k w)
 unfolding membersRun
-collect-by t n k e a b w true f = over-run (w .model) (w .mark) t n k e a b (ltb-true 4 (word t n 5) f)
-collect-by t n k e a b w false f = collect-run (w .model) (w .mark) t n k e a b (ltb-false 4 (word t n 5) f)
+assemble-by t n k e a b w true f = over-run (w .model) (w .mark) t n k e a b (ltb-true 4 (word t n 5) f)
+assemble-by t n k e a b w false f = assemble-run (w .model) (w .mark) t n k e a b (ltb-false 4 (word t n 5) f)
+
+-- ---- one operand
+
+-- a strict form is undefined where its operand is
+strict : (o : Outcome) (f g : Value → ℕ → Outcome) (u : ℕ → Outcome) → ((v : Value) (s : ℕ) → f v s ≡ g v s) → ((s : ℕ) → u s ≡ undefined s) → resume o f u ≡ bind o g
+strict (value v s) f g u a b = a v s
+strict (undefined s) f g u a b = b s
+strict stuck f g u a b = refl
+strict (stop c s) f g u a b = refl
+
+module _ (t : List ℕ) (n k : ℕ) (w : World) (ρ : Env Value) (s : ℕ) where
+  unary-as : k < 13 → unaryNode t n k w ρ s ≡ unaryRun (w .model) (unaryOf k (word t n)) (operandFor t n 1 w) ρ s
+  unfolding unaryNode unaryRun ofValue ofUndefined
+  unary-as h = strict (operandFor t n 1 w ρ s) (ofValue (w .model) k (word t n) (w .mark n)) (λ v m. unaryApply (w .model) (unaryOf k (word t n)) v m) (ofUndefined k) (λ v m. rw (lt-ltb k 13 h)) (λ m. rw (ne-eqb k 30 (λ e. omega arith)))
+
+  isUndef-as : k ≡ 30 → unaryNode t n k w ρ s ≡ isUndefRun (operandFor t n 1 w) ρ s
+  unfolding unaryNode isUndefRun ofValue ofUndefined
+  isUndef-as e = rw e refl
+
+  attribute-as : k ≡ 33 → unaryNode t n k w ρ s ≡ attributeRun (w .model) (w .mark n) (operandFor t n 1 w) ρ s
+  unfolding unaryNode attributeRun ofValue ofUndefined
+  attribute-as e = rw e (strict (operandFor t n 1 w ρ s) (ofValue (w .model) 33 (word t n) (w .mark n)) (λ v m. attributeIn (w .model) (w .mark n) v m) (ofUndefined 33) (λ v m. refl) (λ m. refl))
+
+runs-as : {Ok : World → Type 0} {f g : Meaning} {env B A : List ℕ} {sp s : ℕ} {r : Ended} → ((w : World) (ρ : Env Value) → f w ρ s ≡ g w ρ s) → Evals Ok f env sp s B A r → Evals Ok g env sp s B A r
+runs-as e x = record { small = x .small; ran = λ w ok ρ rel. rw (e w ρ) at (x .ran w ok ρ rel) }
+
+-- ---- a node by its code
 
 -- the code k is node n's, and a step may begin
 module _ {Ok : World → Type 0} (t : List ℕ) (n k : ℕ) {env B A : List ℕ} {sp s : ℕ} {r : Ended} (e : k ≡ word t n 0) (h : s < 1000000) where
   pub node-unary : 7 ≤ k → k < 13 → Evals Ok (unaryNode t n k) env sp (s + 1) B A r → Evals Ok (nodeFor t n) env sp s B A r
-  unfolding nodeFor unaryNode operandFor operandRun
-  node-unary a b x = tick-on (unaryNode t n k) (λ w. unary-run (w .model) (w .mark) t n k e a b) h x
+  unfolding nodeFor operandFor operandRun
+  node-unary a b x = tick-on _ (λ w. unary-run (w .model) (w .mark) t n k e a b) h (runs-as (λ w ρ. unary-as t n k w ρ (s + 1) b) x)
 
   pub node-binary : 13 ≤ k → k < 23 → Evals Ok (binaryNode t n k) env sp (s + 1) B A r → Evals Ok (nodeFor t n) env sp s B A r
   unfolding nodeFor binaryNode operandFor operandRun
@@ -63,13 +92,13 @@ module _ {Ok : World → Type 0} (t : List ℕ) (n k : ℕ) {env B A : List ℕ}
   unfolding nodeFor quantifiedNode operandFor operandRun
   node-quantified a b x = tick-on (quantifiedNode t n k) (λ w. quantified-run (w .model) (w .mark) t n k e a b) h x
 
-  pub node-collect : 27 ≤ k → k < 30 → Evals Ok (collectNode t n k) env sp (s + 1) B A r → Evals Ok (nodeFor t n) env sp s B A r
-  unfolding nodeFor collectNode
-  node-collect a b x = tick-on (collectNode t n k) (λ w. collect-by t n k e a b w (ltb 4 (word t n 5)) refl) h x
+  pub node-assemble : 27 ≤ k → k < 30 → Evals Ok (assembleNode t n k) env sp (s + 1) B A r → Evals Ok (nodeFor t n) env sp s B A r
+  unfolding nodeFor assembleNode
+  node-assemble a b x = tick-on (assembleNode t n k) (λ w. assemble-by t n k e a b w (ltb 4 (word t n 5)) refl) h x
 
-  pub node-isUndef : k ≡ 30 → Evals Ok (isUndefNode t n) env sp (s + 1) B A r → Evals Ok (nodeFor t n) env sp s B A r
-  unfolding nodeFor isUndefNode operandFor operandRun
-  node-isUndef a x = tick-on (isUndefNode t n) (λ w. isUndef-run (w .model) (w .mark) t n k e a) h x
+  pub node-isUndef : k ≡ 30 → Evals Ok (unaryNode t n k) env sp (s + 1) B A r → Evals Ok (nodeFor t n) env sp s B A r
+  unfolding nodeFor operandFor operandRun
+  node-isUndef a x = tick-on _ (λ w. isUndef-run (w .model) (w .mark) t n k e a) h (runs-as (λ w ρ. isUndef-as t n k w ρ (s + 1) a) x)
 
   pub node-conditional : k ≡ 31 → Evals Ok (conditionalNode t n) env sp (s + 1) B A r → Evals Ok (nodeFor t n) env sp s B A r
   unfolding nodeFor conditionalNode operandFor operandRun
@@ -79,9 +108,9 @@ module _ {Ok : World → Type 0} (t : List ℕ) (n k : ℕ) {env B A : List ℕ}
   unfolding nodeFor letNode operandFor operandRun
   node-let a x = tick-on (letNode t n) (λ w. let-run (w .model) (w .mark) t n k e a) h x
 
-  pub node-attribute : k ≡ 33 → Evals Ok (attributeNode t n) env sp (s + 1) B A r → Evals Ok (nodeFor t n) env sp s B A r
-  unfolding nodeFor attributeNode operandFor operandRun
-  node-attribute a x = tick-on (attributeNode t n) (λ w. attribute-run (w .model) (w .mark) t n k e a) h x
+  pub node-attribute : k ≡ 33 → Evals Ok (unaryNode t n k) env sp (s + 1) B A r → Evals Ok (nodeFor t n) env sp s B A r
+  unfolding nodeFor operandFor operandRun
+  node-attribute a x = tick-on _ (λ w. attribute-run (w .model) (w .mark) t n k e a) h (runs-as (λ w ρ. attribute-as t n k w ρ (s + 1) a) x)
 
   pub node-iterate : k ≡ 34 → Evals Ok (iterateNode t n) env sp (s + 1) B A r → Evals Ok (nodeFor t n) env sp s B A r
   unfolding nodeFor iterateNode operandFor operandRun
@@ -162,7 +191,7 @@ pub below-levels : (t : List ℕ) (n k a : ℕ) → a ≡ word t n k → a < n �
 below-levels t n k a e h = rw (← e) (ap levels (below-law t n a h))
 
 pub shallow : (t : List ℕ) (n k left : ℕ) → k ≡ word t n 0 → 27 ≤ k → k < 30 → levels (treeAt t n) ≤ left + 1 → Shallow t n left
-shallow t n k left e a b h = record { members = λ c i m. let l = collect-levels t n k e a b c i m in omega arith }
+shallow t n k left e a b h = record { members = λ c i m. let l = assemble-levels t n k e a b c i m in omega arith }
 
 -- ---- codes of no form
 

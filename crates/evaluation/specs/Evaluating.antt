@@ -4,16 +4,15 @@ use mathlib.Core.Path.{_≡_}
 use mathlib.Core.Bool.{Bool, _||_, Bool·beq}
 use mathlib.Core.List.{List}
 use Prim.Native.Nat.{ℕ, _+_, _*_, _≤_, _<_}
-use lib.ListN.{getD}
 use lib.Seq.{slice}
 use lib.Dec.{ltb}
 use Rattle.laws.specs.Choice.{if_then_else_}
 use Rattle.ocl.specs.Values.{Value, bool, Values}
 use Rattle.ocl.specs.Environment.{Env, extend}
 use Rattle.ocl.specs.Forms.{Expr, levels, Connective, Quantifier, undef}
-use Rattle.ocl.specs.Evaluation.{value, undefined, bind, onBool, leafRun, unaryRun, binaryRun, decides, connectiveRun, isUndefRun, conditionalRun, letRun, attributeRun, quantifiedRun, iterateRun, collectRun, evaluation, evaluateRule, operandsRun, search, fold}
+use Rattle.ocl.specs.Evaluation.{value, undefined, resume, bind, onBool, leafRun, binaryRun, decides, connectiveRun, conditionalRun, letRun, quantifiedRun, iterateRun, assembleRun, evaluation, evaluateRule, operandsRun, seek, fold}
 use Rattle.values.specs.Cells.{encs, AllFit}
-use Rattle.nodes.specs.Nodes.{word, variable, unaryOf, binaryOf, connectiveOf, quantifierOf, kindOf, operandsIn, treesBelow, treeAt}
+use Rattle.nodes.specs.Nodes.{word, variable, binaryOf, connectiveOf, quantifierOf, kindOf, operandsIn, treesBelow, treeAt}
 use Rattle.tables.specs.declared.Counts.{Counts}
 use Rattle.tables.specs.Layout.{Fine}
 use Rattle.tables.specs.Stored.{HoldsModel}
@@ -21,14 +20,15 @@ use Rattle.operations.specs.declared.Ended.{Ended}
 use Rattle.operations.specs.Answers.{Lies, Ends, Ran, SmallAnswer}
 use Rattle.operations.specs.Tables.{Plain}
 use Rattle.operations.specs.Runs.{World, Rel, Meaning}
+use Rattle.operations.specs.Operand.{markIn, ofValue, ofUndefined}
 
 -- ---- what is evaluated over
 
--- the tables hold the model, and w1 the marks, from 6144 on
+-- the tables hold the model, and w1 the marks
 pub record ReadsWorld (st : Counts) (w0 w1 : List ℕ) (w : World) : Type 0 where
   pub holds : HoldsModel st w0 (w .model)
   pub plain : Plain st (w .model)
-  pub mark : (p : ℕ) → p < 768 → w .mark p ≡ getD w1 (6144 + p) 0
+  pub mark : (p : ℕ) → p < 768 → w .mark p ≡ markIn w1 p
   pub row : (p : ℕ) → p < 768 → w .mark p < 64
 
 -- a rule's outcome, its value at 1
@@ -60,8 +60,9 @@ pub record StackRoom (st : Counts) (w0 w1 w2 n sp left : ℕ) : Type 0 where
 
 -- ---- the forms of node n over its operands
 
+-- one operand: codes 7 to 12, `isUndef`, `attr`
 unfoldable pub unaryNode : List ℕ → ℕ → ℕ → Meaning
-unaryNode t n k w = unaryRun (w .model) (unaryOf k (word t n)) (operandFor t n 1 w)
+unaryNode t n k w ρ s = resume (operandFor t n 1 w ρ s) (ofValue (w .model) k (word t n) (w .mark n)) (ofUndefined k)
 
 unfoldable pub binaryNode : List ℕ → ℕ → ℕ → Meaning
 binaryNode t n k w = binaryRun (binaryOf k) (operandFor t n 1 w) (operandFor t n 2 w)
@@ -73,17 +74,11 @@ connectiveNode t n k w = connectiveRun (connectiveOf k) (operandFor t n 1 w) (op
 unfoldable pub rightSide : Bool → Connective → Meaning → Meaning
 rightSide known c g w ρ n = bind (g w ρ n) (λ v n. onBool v (λ b. if known || Bool·beq b (decides c) then value (bool b) n else undefined n))
 
-unfoldable pub isUndefNode : List ℕ → ℕ → Meaning
-isUndefNode t n w = isUndefRun (operandFor t n 1 w)
-
 unfoldable pub conditionalNode : List ℕ → ℕ → Meaning
 conditionalNode t n w = conditionalRun (operandFor t n 1 w) (operandFor t n 2 w) (operandFor t n 3 w)
 
 unfoldable pub letNode : List ℕ → ℕ → Meaning
 letNode t n w = letRun (variable (word t n 3)) (operandFor t n 1 w) (operandFor t n 2 w)
-
-unfoldable pub attributeNode : List ℕ → ℕ → Meaning
-attributeNode t n w = attributeRun (w .model) (w .mark n) (operandFor t n 1 w)
 
 unfoldable pub quantifiedNode : List ℕ → ℕ → ℕ → Meaning
 quantifiedNode t n k w = quantifiedRun (quantifierOf k) (variable (word t n 3)) (operandFor t n 1 w) (operandFor t n 2 w)
@@ -93,10 +88,10 @@ iterateNode t n w = iterateRun (variable (word t n 4)) (variable (word t n 5)) (
 
 -- the members of `coll`, by their nodes; more than four count as `undef`
 unfoldable pub membersRun : List ℕ → ℕ → ℕ → Meaning
-membersRun t n k w = collectRun (kindOf k) (operandsRun (w .model) (w .mark) (operandsIn (treesBelow t n) (word t n) (word t n 5) 1))
+membersRun t n k w = assembleRun (kindOf k) (operandsRun (w .model) (w .mark) (operandsIn (treesBelow t n) (word t n) (word t n 5) 1))
 
-unfoldable pub collectNode : List ℕ → ℕ → ℕ → Meaning
-collectNode t n k w = if ltb 4 (word t n 5) then leafRun (w .model) undef else membersRun t n k w
+unfoldable pub assembleNode : List ℕ → ℕ → ℕ → Meaning
+assembleNode t n k w = if ltb 4 (word t n 5) then leafRun (w .model) undef else membersRun t n k w
 
 -- each operand of `coll` has few enough levels
 pub record Shallow (t : List ℕ) (n left : ℕ) : Type 0 where
@@ -104,10 +99,10 @@ pub record Shallow (t : List ℕ) (n left : ℕ) : Type 0 where
 
 -- ---- loops over the members of the collection of la cells at sp
 
-pub record Searches (Ok : World → Type 0) (q : Quantifier) (i : ℕ) (g : Meaning) (env : List ℕ) (sp la s : ℕ) (B A : List ℕ) (r : Ended) : Type 0 where
+pub record Seeks (Ok : World → Type 0) (q : Quantifier) (i : ℕ) (g : Meaning) (env : List ℕ) (sp la s : ℕ) (B A : List ℕ) (r : Ended) : Type 0 where
   pub small : SmallAnswer r
   pub ran : (w : World) → Ok w → (ρ : Env Value) → Rel env B sp ρ → (vs : Values) → AllFit vs → slice (sp + 1) (sp + la) B ≡ encs vs
-      → Ran (search q (λ x. g w (extend ρ i x)) vs s) sp B A r
+      → Ran (seek q (λ x. g w (extend ρ i x)) vs s) sp B A r
 
 -- the accumulator is the lb cells after the collection
 pub record Folds (Ok : World → Type 0) (i j : ℕ) (h : Meaning) (env : List ℕ) (sp la lb s : ℕ) (B A : List ℕ) (r : Ended) : Type 0 where

@@ -17,7 +17,7 @@ ghost use lib.ListN.{length};
 ghost use Rattle.ocl.specs.Forms.{levels};
 ghost use Rattle.nodes.specs.Nodes.{word, variable, quantifierOf};
 ghost use Rattle.operations.specs.Runs.{Evals};
-ghost use Rattle.evaluation.specs.Evaluating.{ReadsWorld, StackRoom, operandTree, operandFor, letNode, quantifiedNode, iterateNode, Searches, Folds};
+ghost use Rattle.evaluation.specs.Evaluating.{ReadsWorld, StackRoom, operandTree, operandFor, letNode, quantifiedNode, iterateNode, Seeks, Folds};
 
 // `let`: the body's value is moved down over the bound one.
 pub fn let_in(
@@ -77,11 +77,11 @@ pub fn quantified(
     if sort_of(stack[sp]) < SET {
         return Ended::Stuck;
     }
-    search(tables, st, nodes, n, form, i, env, stack, sp, la, left, sa)
+    seek(tables, st, nodes, n, form, i, env, stack, sp, la, left, sa)
 }
 
 // Members in their order, up to the first whose body ends it: `forAll` (25) at 0, `exists` (26) at 1.
-fn search(
+fn seek(
     tables: &[u64],
     st: Counts,
     nodes: &[u64],
@@ -98,7 +98,7 @@ fn search(
     requires { ⌜ StackRoom st (length (now tables)) (length (now nodes)) (length (now stack)) n sp (left + 1) ⌝ }
     requires { ⌜ (25 ≤ form) × (form < 27) × (levels (operandTree (now nodes) n 2) ≤ left) × (1 ≤ la) × (la ≤ 128) ⌝ }
     requires { ⌜ i ≡ variable (word (now nodes) n 3) ⌝ }
-    ensures { λ r. ⌜ Searches (ReadsWorld st (now (tables .entry)) (now (nodes .entry))) (quantifierOf form) (variable (word (now (nodes .entry)) n 3)) (operandFor (now (nodes .entry)) n 2) env sp la steps (now (stack .entry)) (now (stack .exit)) r ⌝ }
+    ensures { λ r. ⌜ Seeks (ReadsWorld st (now (tables .entry)) (now (nodes .entry))) (quantifierOf form) (variable (word (now (nodes .entry)) n 3)) (operandFor (now (nodes .entry)) n 2) env sp la steps (now (stack .entry)) (now (stack .exit)) r ⌝ }
 {
     let end = sp + la;
     let mut s = steps;

@@ -1,18 +1,16 @@
-// Forms that are not strict: `and`, `or`, `isUndef`, `if`.
+// Forms that may leave an operand unrun: `and`, `or`, `if`.
 use crate::walk::below;
 use operations::Ended;
-use operations::answers::put;
 use operations::answers::truth;
 use tables::Counts;
-use values::Simple;
 ghost use Prim.Native.Nat.{_+_, _≤_, _<_};
 ghost use lib.ListN.{length};
 ghost use Rattle.ocl.specs.Forms.{levels};
 ghost use Rattle.nodes.specs.Nodes.{connectiveOf};
 ghost use Rattle.operations.specs.Runs.{Evals};
-ghost use Rattle.evaluation.specs.Evaluating.{ReadsWorld, StackRoom, operandTree, operandFor, connectiveNode, rightSide, isUndefNode, conditionalNode};
+ghost use Rattle.evaluation.specs.Evaluating.{ReadsWorld, StackRoom, operandTree, operandFor, connectiveNode, rightSide, conditionalNode};
 
-// `and` (23) and `or` (24): a left side that decides leaves the right one unrun. `and` is decided by 0, `or` by 1.
+// `and` (23) and `or` (24): if the left side decides, the right one does not run. False decides `and`, true decides `or`.
 pub fn connective(
     tables: &[u64],
     st: Counts,
@@ -59,7 +57,7 @@ pub fn connective(
     }
 }
 
-// The right side of `and` or `or`; after an undefined left side only a deciding one is the answer.
+// The right side of `and` or `or`; if the left side was undefined, the right one counts only if it decides.
 fn right(
     tables: &[u64],
     st: Counts,
@@ -94,32 +92,7 @@ fn right(
     Ended::Undef { steps: s }
 }
 
-// `isUndef`
-pub fn is_undef(
-    tables: &[u64],
-    st: Counts,
-    nodes: &[u64],
-    n: usize,
-    env: [usize; 16],
-    stack: &mut [u64],
-    sp: usize,
-    left: usize,
-    steps: u64,
-) -> Ended
-    requires { ⌜ StackRoom st (length (now tables)) (length (now nodes)) (length (now stack)) n sp (left + 1) ⌝ }
-    requires { ⌜ levels (operandTree (now nodes) n 1) ≤ left ⌝ }
-    ensures { λ r. ⌜ Evals (ReadsWorld st (now (tables .entry)) (now (nodes .entry))) (isUndefNode (now (nodes .entry)) n) env sp steps (now (stack .entry)) (now (stack .exit)) r ⌝ }
-{
-    let first = below(tables, st, nodes, n, 1, env, stack, sp, left, steps);
-    match first {
-        Ended::Value { len: _, steps: s } => put(stack, sp, Simple::Bool { b: false }, s),
-        Ended::Undef { steps: s } => put(stack, sp, Simple::Bool { b: true }, s),
-        Ended::Stuck => Ended::Stuck,
-        Ended::Stop { number, steps: s } => Ended::Stop { number, steps: s },
-    }
-}
-
-// `if`: one branch runs.
+// `if`: only one branch runs.
 pub fn conditional(
     tables: &[u64],
     st: Counts,

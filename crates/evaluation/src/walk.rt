@@ -1,12 +1,12 @@
 // The recursion over operand nodes: an operand, a node by its form, and the forms that run each operand once. Every function of the
-// recursion takes the tables and their counts; the nodes, with the marks of `attr` nodes from word 6144 on; a node; where the values
-// of the variables start, each one more than its place, or 0; the stack and its top sp; the levels that are left; and the steps begun.
+// recursion takes the tables and their counts; the nodes, with the marks of `attr` nodes behind them; a node; for each variable,
+// 1 + the index of its first cell, or 0 if it is unbound; the stack and its top sp; how many levels may still follow; and the steps
+// begun so far.
 use crate::bind::iter;
 use crate::bind::let_in;
 use crate::bind::quantified;
 use crate::lazy::conditional;
 use crate::lazy::connective;
-use crate::lazy::is_undef;
 use nodes::node_word;
 use operations::Ended;
 use operations::answers::formed;
@@ -14,26 +14,24 @@ use operations::answers::pack;
 use operations::answers::unpack;
 use operations::apply::binary_apply;
 use operations::apply::left_fits;
-use operations::apply::unary_apply;
 use operations::leaves::leaf;
-use operations::lookup::attribute_of;
+use operations::operand::of_undefined;
+use operations::operand::of_value;
 use tables::Counts;
 use types::classes::wide;
-use values::collect::collect;
+use values::collections::assemble;
 ghost use Prim.Native.Nat.{_+_, _≤_, _<_};
 ghost use lib.ListN.{length};
 ghost use Rattle.ocl.specs.Forms.{levels};
 ghost use Rattle.nodes.specs.Nodes.{treeAt};
 ghost use Rattle.operations.specs.Answers.{answerIn};
 ghost use Rattle.operations.specs.Runs.{Evals};
-ghost use Rattle.evaluation.specs.Evaluating.{ReadsWorld, StackRoom, operandTree, nodeFor, operandFor, unaryNode, binaryNode, attributeNode, collectNode, Shallow};
+ghost use Rattle.evaluation.specs.Evaluating.{ReadsWorld, StackRoom, operandTree, nodeFor, operandFor, unaryNode, binaryNode, assembleNode, Shallow};
 
-// The step stop comes where this many steps have begun.
+// Once this many steps have begun, the next one is the step stop.
 const LIMIT: u64 = 1_000_000;
-// Where the marks start.
-const MARKS: usize = 6144;
 
-// Operand k of node n. One that is not a smaller node is never on an accepted sheet; it counts as `undef`.
+// Operand k of node n. On an accepted sheet it is a smaller node; any other would count as `undef`.
 pub fn below(
     tables: &[u64],
     st: Counts,
@@ -60,8 +58,8 @@ pub fn below(
     Ended::Undef { steps: steps + 1 }
 }
 
-// Node n's answer as one word, which comes back in a register: an answer that is copied where it has just been written keeps the
-// processor waiting.
+// Node n's answer as one word, which comes back in a register: reading an enum from memory right after it was written there makes
+// the processor wait.
 pub fn word(
     tables: &[u64],
     st: Counts,
@@ -80,7 +78,7 @@ pub fn word(
     pack(node(tables, st, nodes, n, env, stack, sp, left, steps))
 }
 
-// Node n: begins a step, and goes by its form.
+// Node n: begins a step, then does what its form asks.
 fn node(
     tables: &[u64],
     st: Counts,
@@ -109,16 +107,16 @@ fn node(
             quantified(tables, st, nodes, n, form, i, env, stack, sp, deeper, s)
         }
         27..=29 => coll(tables, st, nodes, n, form, env, stack, sp, deeper, s),
-        30 => is_undef(tables, st, nodes, n, env, stack, sp, deeper, s),
+        30 => unary(tables, st, nodes, n, form, env, stack, sp, deeper, s),
         31 => conditional(tables, st, nodes, n, env, stack, sp, deeper, s),
         32 => let_in(tables, st, nodes, n, env, stack, sp, deeper, s),
-        33 => attr(tables, st, nodes, n, env, stack, sp, deeper, s),
+        33 => unary(tables, st, nodes, n, form, env, stack, sp, deeper, s),
         34 => iter(tables, st, nodes, n, env, stack, sp, deeper, s),
         _ => Ended::Undef { steps: s },
     }
 }
 
-// A form with one strict operand.
+// A form with one operand: runs it, then acts by the form's code.
 fn unary(
     tables: &[u64],
     st: Counts,
@@ -132,17 +130,21 @@ fn unary(
     steps: u64,
 ) -> Ended
     requires { ⌜ StackRoom st (length (now tables)) (length (now nodes)) (length (now stack)) n sp (left + 1) ⌝ }
-    requires { ⌜ (7 ≤ form) × (form < 13) × (levels (operandTree (now nodes) n 1) ≤ left) ⌝ }
+    requires { ⌜ (7 ≤ form) × (levels (operandTree (now nodes) n 1) ≤ left) ⌝ }
     ensures { λ r. ⌜ Evals (ReadsWorld st (now (tables .entry)) (now (nodes .entry))) (unaryNode (now (nodes .entry)) n form) env sp steps (now (stack .entry)) (now (stack .exit)) r ⌝ }
 {
     let first = below(tables, st, nodes, n, 1, env, stack, sp, left, steps);
-    let Ended::Value { len, steps: s } = first else {
-        return first;
-    };
-    unary_apply(tables, st, form, node_word(nodes, n, 2), stack, sp, len, s)
+    match first {
+        Ended::Value { len, steps: s } => {
+            of_value(tables, st, nodes, n, form, stack, sp, len, s)
+        }
+        Ended::Undef { steps: s } => of_undefined(form, stack, sp, s),
+        Ended::Stuck => Ended::Stuck,
+        Ended::Stop { number, steps: s } => Ended::Stop { number, steps: s },
+    }
 }
 
-// A form with two strict operands; the left one's kind is looked at before the right one runs.
+// A form with two strict operands; the left one's kind is checked before the right one runs.
 fn binary(
     tables: &[u64],
     st: Counts,
@@ -174,30 +176,7 @@ fn binary(
     }
 }
 
-// `attr`: the row that the node is marked with.
-fn attr(
-    tables: &[u64],
-    st: Counts,
-    nodes: &[u64],
-    n: usize,
-    env: [usize; 16],
-    stack: &mut [u64],
-    sp: usize,
-    left: usize,
-    steps: u64,
-) -> Ended
-    requires { ⌜ StackRoom st (length (now tables)) (length (now nodes)) (length (now stack)) n sp (left + 1) ⌝ }
-    requires { ⌜ levels (operandTree (now nodes) n 1) ≤ left ⌝ }
-    ensures { λ r. ⌜ Evals (ReadsWorld st (now (tables .entry)) (now (nodes .entry))) (attributeNode (now (nodes .entry)) n) env sp steps (now (stack .entry)) (now (stack .exit)) r ⌝ }
-{
-    let first = below(tables, st, nodes, n, 1, env, stack, sp, left, steps);
-    let Ended::Value { len: _, steps: s } = first else {
-        return first;
-    };
-    attribute_of(tables, st, nodes[MARKS + n], stack, sp, s)
-}
-
-// `coll`: the members one after another on the stack, then the collection of them.
+// `coll`: the members run one after another onto the stack, then they become a collection.
 fn coll(
     tables: &[u64],
     st: Counts,
@@ -212,7 +191,7 @@ fn coll(
 ) -> Ended
     requires { ⌜ StackRoom st (length (now tables)) (length (now nodes)) (length (now stack)) n sp (left + 1) ⌝ }
     requires { ⌜ (27 ≤ form) × (form < 30) × Shallow (now nodes) n left ⌝ }
-    ensures { λ r. ⌜ Evals (ReadsWorld st (now (tables .entry)) (now (nodes .entry))) (collectNode (now (nodes .entry)) n form) env sp steps (now (stack .entry)) (now (stack .exit)) r ⌝ }
+    ensures { λ r. ⌜ Evals (ReadsWorld st (now (tables .entry)) (now (nodes .entry))) (assembleNode (now (nodes .entry)) n form) env sp steps (now (stack .entry)) (now (stack .exit)) r ⌝ }
 {
     let count = wide(node_word(nodes, n, 5));
     if 4 < count {
@@ -230,5 +209,5 @@ fn coll(
         s = sb;
         k += 1;
     }
-    formed(collect(stack, sp, sp, end, form - 27), s)
+    formed(assemble(stack, sp, sp, end, form - 27), s)
 }

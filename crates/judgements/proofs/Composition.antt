@@ -51,5 +51,3 @@ done h = record { is = h; wrote = refl }
 
 pub as-form : {f g : Typing} {Γ : Env Ty} {B A : List ℕ} {r : Reply} → f ≡ g → Tells (g Γ) B A r → Tells (f Γ) B A r
 as-form p d = rw p d
-
--- ---- two operands

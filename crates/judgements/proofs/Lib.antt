@@ -1,5 +1,6 @@
-pub mod Attributes
+pub mod AttributeRows
 pub mod Environments
 pub mod FormTypes
 pub mod Joins
 pub mod Composition
+pub mod Singles

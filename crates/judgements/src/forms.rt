@@ -1,11 +1,11 @@
-// The type of each form with no operand or with strict operands, given their types. `n` is the node's number, which a refusal
+// The type of each form with no operand or with strict operands, and of `if`, given the types of the operands. `n` is the node's number, which a refusal
 // names; `parents` is the table of parents that subtyping reads.
 ghost use mathlib.Core.Path.{_≡_};
 ghost use Prim.Native.Nat.{_<_, _≤_};
 ghost use lib.ListN.{length};
 ghost use Rattle.ocl.specs.Types.{Boolean, Integer, join as joinOf};
 ghost use Rattle.ocl.specs.Model.{Model};
-ghost use Rattle.ocl.specs.Typing.{typed, refused, below, common, onCollection, castType, bothBelow, leafType, unaryType, binaryType, wrap as wrapType};
+ghost use Rattle.ocl.specs.Typing.{typed, refused, below, common, onCollection, castType, bothBelow, leafType, unaryType, binaryType, conditionalType, wrap as wrapType};
 ghost use Rattle.types.specs.Flat.{parentsIn, tyOf, letterOf, joinedType};
 ghost use Rattle.nodes.specs.Nodes.{word, leafOf, unaryOf, binaryOf};
 ghost use Rattle.judgements.specs.Replies.{meaning, envOf, joinMore};
@@ -233,4 +233,16 @@ pub fn binary_type(parents: &[u64], form: u64, n: u64, t: FlatType, u: FlatType)
         21 => including_type(parents, n, t, u),
         _ => union_type(parents, n, t, u),
     }
+}
+
+// ---- `if`
+
+// `if`: a condition below Bool, else 11; then the common type of the branches, else 10.
+pub fn conditional_type(parents: &[u64], n: u64, c: FlatType, t: FlatType, u: FlatType) -> Reply
+    ensures { λ r. ⌜ ((m : Model) → m .parent ≡ parentsIn (now (parents .entry)) → meaning r ≡ conditionalType m n (tyOf c) (tyOf t) (tyOf u)) ⌝ }
+{
+    if subtype(parents, c, plain(Base::Bool)) {
+        return common_type(parents, n, t, u);
+    }
+    Reply::No(11, n) // whatever the branches are
 }

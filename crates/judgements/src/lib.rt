@@ -2,8 +2,9 @@
 // depends on `types`, and on `nodes` for what a node's words say; the recursion over operand nodes is in `typing`.
 
 pub mod environment; // the types of the variables, sixteen slots by value
-pub mod forms; // forms with no operand or strict operands
-pub mod others; // `if` and `attr`
+pub mod forms; // forms with no operand or strict operands, and `if`
+pub mod attributes; // `attr`
+pub mod single; // all forms with a single operand, by code
 
 use types::FlatType;
 

@@ -4,9 +4,9 @@ use mathlib.Core.List.{List}
 use Prim.Native.Nat.{ℕ, _<_, _≤_}
 use Rattle.ocl.specs.Model.{Model}
 use Rattle.ocl.specs.Forms.{Form, undef}
-use Rattle.ocl.specs.Evaluation.{Run, tick, leafRun, unaryRun, binaryRun, connectiveRun, isUndefRun, conditionalRun, letRun, attributeRun, quantifiedRun, iterateRun, collectRun, evaluation, formRun, operandsRun}
+use Rattle.ocl.specs.Evaluation.{Run, tick, leafRun, unaryRun, binaryRun, connectiveRun, isUndefRun, conditionalRun, letRun, attributeRun, quantifiedRun, iterateRun, assembleRun, evaluation, formRun, operandsRun}
 use Rattle.nodes.specs.Nodes.{word, variable, leafOf, unaryOf, binaryOf, connectiveOf, quantifierOf, kindOf, operandsIn, formOf, treesBelow, treeAt}
-use Rattle.nodes.proofs.Nodes.{tree-law, below-law, late-law, no-form, leaf-range, unary-range, binary-range, connective-range, quantified-range, collect-range, collect-over, isUndef-code, conditional-code, let-code, attribute-code, iterate-code}
+use Rattle.nodes.proofs.Nodes.{tree-law, below-law, late-law, no-form, leaf-range, unary-range, binary-range, connective-range, quantified-range, assemble-range, assemble-over, isUndef-code, conditional-code, let-code, attribute-code, iterate-code}
 
 -- the evaluation of operand k of node n
 unfoldable pub operandRun : Model → (ℕ → ℕ) → List ℕ → ℕ → ℕ → Run
@@ -38,9 +38,9 @@ module _ (s : Model) (mark : ℕ → ℕ) (t : List ℕ) (n : ℕ) where
     unfolding evaluation operandRun
     quantified-run l h = by-form k e (quantified-range (treesBelow t n) (word t n) k l h)
 
-    pub collect-run : (l : 27 ≤ k) → (h : k < 30) → (c : word t n 5 ≤ 4) → evaluation s mark (treeAt t n) ≡ tick (collectRun (kindOf k) (operandsRun s mark (operandsIn (treesBelow t n) (word t n) (word t n 5) 1)))
+    pub assemble-run : (l : 27 ≤ k) → (h : k < 30) → (c : word t n 5 ≤ 4) → evaluation s mark (treeAt t n) ≡ tick (assembleRun (kindOf k) (operandsRun s mark (operandsIn (treesBelow t n) (word t n) (word t n 5) 1)))
     unfolding evaluation operandRun
-    collect-run l h c = by-form k e (collect-range (treesBelow t n) (word t n) k l h c)
+    assemble-run l h c = by-form k e (assemble-range (treesBelow t n) (word t n) k l h c)
 
     pub isUndef-run : (h : k ≡ 30) → evaluation s mark (treeAt t n) ≡ tick (isUndefRun (operandRun s mark t n 1))
     unfolding evaluation operandRun
@@ -64,7 +64,7 @@ module _ (s : Model) (mark : ℕ → ℕ) (t : List ℕ) (n : ℕ) where
 
     pub over-run : (l : 27 ≤ k) → (h : k < 30) → (c : 4 < word t n 5) → evaluation s mark (treeAt t n) ≡ tick (leafRun s undef)
     unfolding evaluation operandRun
-    over-run l h c = by-form k e (collect-over (treesBelow t n) (word t n) k l h c)
+    over-run l h c = by-form k e (assemble-over (treesBelow t n) (word t n) k l h c)
 
     pub none-run : (h : 34 < k) → evaluation s mark (treeAt t n) ≡ tick (leafRun s undef)
     unfolding evaluation operandRun

@@ -10,7 +10,7 @@ use borrow.Author.Tests.{ltb-false}
 use Rattle.laws.specs.Choice.{if_then_else_}
 use Rattle.laws.proofs.Tests.{by-if}
 use Rattle.ocl.specs.Types.{Kind}
-use Rattle.ocl.specs.Forms.{Expr, node, Form, leaf, collect, undef, levels, levelsIn, levelsOf}
+use Rattle.ocl.specs.Forms.{Expr, node, Form, leaf, assemble, undef, levels, levelsIn, levelsOf}
 use Rattle.nodes.specs.Nodes.{word, leafOf, unaryOf, kindOf, operandsIn, formOf, treesBelow, treeAt}
 
 -- ---- what a form takes of its words
@@ -21,17 +21,17 @@ module _ (f : ℕ → Expr) (w v : ℕ → ℕ) (same : (j : ℕ) → j < 8 → 
   operands-keep zero k h = refl
   operands-keep (suc c) k h = rw (same k (omega arith), operands-keep c (k + 1) (omega arith))
 
-  collect-keep : (kind : Kind) (c : ℕ) → (if ltb 4 c then leaf undef else collect kind (operandsIn f w c 1)) ≡ (if ltb 4 c then leaf undef else collect kind (operandsIn f v c 1))
-  collect-keep kind c = go (ltb 4 c) refl
+  assemble-keep : (kind : Kind) (c : ℕ) → (if ltb 4 c then leaf undef else assemble kind (operandsIn f w c 1)) ≡ (if ltb 4 c then leaf undef else assemble kind (operandsIn f v c 1))
+  assemble-keep kind c = go (ltb 4 c) refl
     where
-      go : (b : Bool) → ltb 4 c ≡ b → (if b then leaf undef else collect kind (operandsIn f w c 1)) ≡ (if b then leaf undef else collect kind (operandsIn f v c 1))
+      go : (b : Bool) → ltb 4 c ≡ b → (if b then leaf undef else assemble kind (operandsIn f w c 1)) ≡ (if b then leaf undef else assemble kind (operandsIn f v c 1))
       go true e = refl
-      go false e = ap (collect kind) (operands-keep c 1 (let l = ltb-false 4 c e in omega arith))
+      go false e = ap (assemble kind) (operands-keep c 1 (let l = ltb-false 4 c e in omega arith))
 
   pub form-keep : (k : ℕ) → formOf f w k ≡ formOf f v k
   unfolding formOf leafOf unaryOf
   form-keep k =
-      rw (same 1 (omega arith), same 2 (omega arith), same 3 (omega arith), same 4 (omega arith), same 5 (omega arith), same 6 (omega arith), collect-keep (kindOf k) (v 5))
+      rw (same 1 (omega arith), same 2 (omega arith), same 3 (omega arith), same 4 (omega arith), same 5 (omega arith), same 6 (omega arith), assemble-keep (kindOf k) (v 5))
 
 -- ---- two tables with the same words below node m
 

@@ -5,7 +5,7 @@ use Prim.Native.Nat.{ℕ, zero, suc, _+_, _<_, _≤_, max}
 use native.Mathlib.Omega.{arith}
 use Rattle.ocl.specs.Forms.{Expr, Form, levels, levelsIn, levelsOf}
 use Rattle.nodes.specs.Nodes.{word, operandsIn, formOf, treesBelow, treeAt}
-use Rattle.nodes.proofs.Nodes.{tree-law, unary-range, binary-range, connective-range, quantified-range, collect-range, isUndef-code, conditional-code, let-code, attribute-code, iterate-code}
+use Rattle.nodes.proofs.Nodes.{tree-law, unary-range, binary-range, connective-range, quantified-range, assemble-range, isUndef-code, conditional-code, let-code, attribute-code, iterate-code}
 
 -- a tree has a level at least
 pub some-level : (e : Expr) → 1 ≤ levels e
@@ -53,10 +53,10 @@ module _ (t : List ℕ) (n : ℕ) where
     unfolding levels
     quantified-levels l h = let a = by-form k e (quantified-range (treesBelow t n) (word t n) k l h) in (omega arith, omega arith)
 
-    pub collect-levels : 27 ≤ k → k < 30 → word t n 5 ≤ 4 → (i : ℕ) → i < word t n 5 → levels (treesBelow t n (word t n (i + 1))) < levels (treeAt t n)
+    pub assemble-levels : 27 ≤ k → k < 30 → word t n 5 ≤ 4 → (i : ℕ) → i < word t n 5 → levels (treesBelow t n (word t n (i + 1))) < levels (treeAt t n)
     unfolding levels
-    collect-levels l h c i m =
-        let a = by-form k e (collect-range (treesBelow t n) (word t n) k l h c) in
+    assemble-levels l h c i m =
+        let a = by-form k e (assemble-range (treesBelow t n) (word t n) k l h c) in
         let d : 1 + i ≡ i + 1 = omega arith in
         let b : levels (treesBelow t n (word t n (i + 1))) ≤ levelsOf (operandsIn (treesBelow t n) (word t n) (word t n 5) 1) = rw d at (operand-in (word t n 5) 1 i m) in
         omega arith

@@ -6,7 +6,7 @@ use Prim.Native.Nat.{ℕ, zero, suc, _<_, _≤_}
 use native.Mathlib.Omega.{arith}
 use lib.Dec.{eqb}
 use borrow.Author.Tests.{eq-eqb, ne-eqb, eqb-true, eqb-false, lt-ltb, le-ltb}
-use Rattle.ocl.specs.Forms.{Expr, node, leaf, unary, binary, connective, isUndef, conditional, letIn, attribute, quantified, iterate, collect, undef}
+use Rattle.ocl.specs.Forms.{Expr, node, leaf, unary, binary, connective, isUndef, conditional, letIn, attribute, quantified, iterate, assemble, undef}
 use Rattle.nodes.specs.Nodes.{word, variable, leafOf, unaryOf, binaryOf, connectiveOf, quantifierOf, kindOf, operandsIn, formOf, treesBelow, treeAt}
 use Rattle.types.specs.Word.{typeIn}
 
@@ -59,17 +59,17 @@ module _ (f : ℕ → Expr) (w : ℕ → ℕ) (k : ℕ) where
   unfolding formOf
   quantified-range l h = rw (le-ltb 34 k (omega arith), le-ltb k 7 (omega arith), le-ltb k 13 (omega arith), le-ltb k 23 (omega arith), le-ltb k 25 l, lt-ltb k 27 h)
 
-  pub collect-range : 27 ≤ k → k < 30 → w 5 ≤ 4 → formOf f w k ≡ collect (kindOf k) (operandsIn f w (w 5) 1)
+  pub assemble-range : 27 ≤ k → k < 30 → w 5 ≤ 4 → formOf f w k ≡ assemble (kindOf k) (operandsIn f w (w 5) 1)
   unfolding formOf
-  collect-range l h c = rw (le-ltb 34 k (omega arith), le-ltb k 7 (omega arith), le-ltb k 13 (omega arith), le-ltb k 23 (omega arith), le-ltb k 25 (omega arith), le-ltb k 27 l, lt-ltb k 30 h, le-ltb 4 (w 5) c)
+  assemble-range l h c = rw (le-ltb 34 k (omega arith), le-ltb k 7 (omega arith), le-ltb k 13 (omega arith), le-ltb k 23 (omega arith), le-ltb k 25 (omega arith), le-ltb k 27 l, lt-ltb k 30 h, le-ltb 4 (w 5) c)
 
 -- ---- single codes
 
 module _ (f : ℕ → Expr) (w : ℕ → ℕ) where
   -- more than four operands, which no accepted sheet has
-  pub collect-over : (k : ℕ) → 27 ≤ k → k < 30 → 4 < w 5 → formOf f w k ≡ leaf undef
+  pub assemble-over : (k : ℕ) → 27 ≤ k → k < 30 → 4 < w 5 → formOf f w k ≡ leaf undef
   unfolding formOf
-  collect-over k l h c = rw (le-ltb 34 k (omega arith), le-ltb k 7 (omega arith), le-ltb k 13 (omega arith), le-ltb k 23 (omega arith), le-ltb k 25 (omega arith), le-ltb k 27 l, lt-ltb k 30 h, lt-ltb 4 (w 5) c)
+  assemble-over k l h c = rw (le-ltb 34 k (omega arith), le-ltb k 7 (omega arith), le-ltb k 13 (omega arith), le-ltb k 23 (omega arith), le-ltb k 25 (omega arith), le-ltb k 27 l, lt-ltb k 30 h, lt-ltb 4 (w 5) c)
 
   pub isUndef-code : formOf f w 30 ≡ isUndef (f (w 1))
   unfolding formOf

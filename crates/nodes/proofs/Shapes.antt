@@ -14,13 +14,13 @@ use Rattle.laws.proofs.Tests.{and-true}
 use Rattle.ocl.specs.Types.{Kind, set, sequence, bag, Ty}
 use Rattle.ocl.specs.Evaluation.{inRange}
 use Rattle.ocl.specs.Forms.{plus, minus, times, div, modulo, Connective, and, or, Quantifier, forAll, exists, Leaf, truth, undef, number, self, var, all, Unary, negation, sizeOf, convert, castTo, Binary, equal, less, arith as calculation, includes, including, union, Expr, node, Form}
-use Rattle.sheet.specs.Lines.{Shape, leaf, unary, binary, connective, isUndef, conditional, letIn, attribute, quantified, iterate, collect}
+use Rattle.sheet.specs.Lines.{Shape, leaf, unary, binary, connective, isUndef, conditional, letIn, attribute, quantified, iterate, assemble}
 use Rattle.sheet.specs.Sheet.{operandsOf, growAll, grow}
 use Rattle.sheet.specs.Refusals.{isVariable, typeWithin, leafWithin, formWithin}
 use Rattle.types.specs.Word.{typeIn}
 use Rattle.ocl.proofs.Ranges.{unbias-bias, bias-small}
-use Rattle.nodes.specs.Nodes.{TypeSaid, word, variable, leafOf, unaryOf, arithByCode, binaryOf, connectiveOf, quantifierOf, kindOf, operandsIn, formOf, treesBelow, treeAt, leafWords, unaryWords, arithCode, binaryCode, connectiveCode, quantifierCode, collectCode, operandWord, shapeWords}
-use Rattle.nodes.proofs.Nodes.{tree-law, below-law, collect-range}
+use Rattle.nodes.specs.Nodes.{TypeSaid, word, variable, leafOf, unaryOf, arithByCode, binaryOf, connectiveOf, quantifierOf, kindOf, operandsIn, formOf, treesBelow, treeAt, leafWords, unaryWords, arithCode, binaryCode, connectiveCode, quantifierCode, assembleCode, operandWord, shapeWords}
+use Rattle.nodes.proofs.Nodes.{tree-law, below-law, assemble-range}
 
 -- ---- numbers that the words hold
 
@@ -33,23 +33,23 @@ variable-back i h = omega (arith, leb-true i 15 (and-true (leb 1 i) (leb i 15) h
 
 -- ---- codes of collections
 
-collect-low : (k : Kind) → 27 ≤ collectCode k
-unfolding collectCode
-collect-low set = omega arith
-collect-low sequence = omega arith
-collect-low bag = omega arith
+assemble-low : (k : Kind) → 27 ≤ assembleCode k
+unfolding assembleCode
+assemble-low set = omega arith
+assemble-low sequence = omega arith
+assemble-low bag = omega arith
 
-collect-high : (k : Kind) → collectCode k < 30
-unfolding collectCode
-collect-high set = omega arith
-collect-high sequence = omega arith
-collect-high bag = omega arith
+assemble-high : (k : Kind) → assembleCode k < 30
+unfolding assembleCode
+assemble-high set = omega arith
+assemble-high sequence = omega arith
+assemble-high bag = omega arith
 
-collect-back : (k : Kind) → kindOf (collectCode k) ≡ k
-unfolding collectCode kindOf
-collect-back set = refl
-collect-back sequence = refl
-collect-back bag = refl
+assemble-back : (k : Kind) → kindOf (assembleCode k) ≡ k
+unfolding assembleCode kindOf
+assemble-back set = refl
+assemble-back sequence = refl
+assemble-back bag = refl
 
 -- ---- a form
 
@@ -89,7 +89,7 @@ module _ (f g : ℕ → Expr) (w : ℕ → ℕ) (first n type line : ℕ) (near 
   binary-grow including a b l m ws = rw (ws 0 (omega arith), ws 1 (omega arith), ws 2 (omega arith), near a l, near b m)
   binary-grow union a b l m ws = rw (ws 0 (omega arith), ws 1 (omega arith), ws 2 (omega arith), near a l, near b m)
 
-  members-grow : (k : Kind) (es : List ℕ) → Each (λ a. a < n) es → length es ≤ 4 → Words (collect k es) → operandsIn f w (length es) 1 ≡ growAll g es
+  members-grow : (k : Kind) (es : List ℕ) → Each (λ a. a < n) es → length es ≤ 4 → Words (assemble k es) → operandsIn f w (length es) 1 ≡ growAll g es
   unfolding Words shapeWords operandWord operandsIn growAll
   members-grow k [] each-nil h ws = refl
   members-grow k (a ∷ []) (each-cons l each-nil) h ws = rw (ws 1 (omega arith), near a l)
@@ -100,12 +100,12 @@ module _ (f g : ℕ → Expr) (w : ℕ → ℕ) (first n type line : ℕ) (near 
       rw (ws 1 (omega arith), ws 2 (omega arith), ws 3 (omega arith), ws 4 (omega arith), near a l, near b m, near c o, near d p)
   members-grow k (a ∷ b ∷ c ∷ d ∷ e ∷ es) l h ws = absurd (omega arith)
 
-  collect-grow : (k : Kind) (es : List ℕ) → Each (λ a. a < n) es → length es ≤ 4 → Words (collect k es) → formOf f w (w 0) ≡ Form.collect k (growAll g es)
+  assemble-grow : (k : Kind) (es : List ℕ) → Each (λ a. a < n) es → length es ≤ 4 → Words (assemble k es) → formOf f w (w 0) ≡ Form.assemble k (growAll g es)
   unfolding Words shapeWords
-  collect-grow k es l h ws =
+  assemble-grow k es l h ws =
       ap (formOf f w) (ws 0 (omega arith))
-      ∙ collect-range f w (collectCode k) (collect-low k) (collect-high k) (let e = ws 5 (omega arith) in omega arith)
-      ∙ rw (collect-back k, ws 5 (omega arith), members-grow k es l h ws)
+      ∙ assemble-range f w (assembleCode k) (assemble-low k) (assemble-high k) (let e = ws 5 (omega arith) in omega arith)
+      ∙ rw (assemble-back k, ws 5 (omega arith), members-grow k es l h ws)
 
   connective-grow : (c : Connective) (a b : ℕ) → a < n → b < n → Words (connective c a b) → formOf f w (w 0) ≡ Form.connective c (g a) (g b)
   unfolding Words shapeWords connectiveCode formOf connectiveOf
@@ -142,7 +142,7 @@ module _ (f g : ℕ → Expr) (w : ℕ → ℕ) (first n type line : ℕ) (near 
   form-grow (quantified q i a b) h s (each-cons l (each-cons m each-nil)) c ws = quantified-grow q i a b h l m ws
   form-grow (iterate i j t a e b) h s (each-cons l (each-cons m (each-cons o each-nil))) c ws =
       iterate-grow i j t a e b h (s .said i j t a e b refl) l m o ws
-  form-grow (collect k es) h s o c ws = collect-grow k es o c ws
+  form-grow (assemble k es) h s o c ws = assemble-grow k es o c ws
 
 -- ---- a node
 

@@ -4,10 +4,10 @@ use mathlib.Core.List.{List}
 use Prim.Native.Nat.{ℕ, _<_, _≤_}
 use Rattle.ocl.specs.Model.{Model}
 use Rattle.ocl.specs.Forms.{Form, undef}
-use Rattle.ocl.specs.Typing.{Typing, leafTyping, unaryTyping, binaryTyping, connectiveTyping, isUndefTyping, conditionalTyping, letTyping, attributeTyping, quantifiedTyping, iterateTyping, collectTyping, typing, formTyping, operandsTyping as membersTyping}
+use Rattle.ocl.specs.Typing.{Typing, leafTyping, unaryTyping, binaryTyping, connectiveTyping, isUndefTyping, conditionalTyping, letTyping, attributeTyping, quantifiedTyping, iterateTyping, assembleTyping, typing, formTyping, operandsTyping as membersTyping}
 use Rattle.types.specs.Word.{typeIn}
 use Rattle.nodes.specs.Nodes.{word, variable, leafOf, unaryOf, binaryOf, kindOf, operandsIn, formOf, treesBelow, treeAt}
-use Rattle.nodes.proofs.Nodes.{tree-law, below-law, late-law, no-form, leaf-range, unary-range, binary-range, connective-range, quantified-range, collect-range, collect-over, isUndef-code, conditional-code, let-code, attribute-code, iterate-code}
+use Rattle.nodes.proofs.Nodes.{tree-law, below-law, late-law, no-form, leaf-range, unary-range, binary-range, connective-range, quantified-range, assemble-range, assemble-over, isUndef-code, conditional-code, let-code, attribute-code, iterate-code}
 
 -- the typing of operand k of node n
 unfoldable pub operandTyping : Model → List ℕ → ℕ → ℕ → Typing
@@ -39,9 +39,9 @@ module _ (s : Model) (t : List ℕ) (n : ℕ) where
     unfolding typing operandTyping
     quantified-typing l h = by-form k e (quantified-range (treesBelow t n) (word t n) k l h)
 
-    pub collect-typing : (l : 27 ≤ k) → (h : k < 30) → (c : word t n 5 ≤ 4) → typing s (treeAt t n) ≡ collectTyping n (kindOf k) (membersTyping s n (operandsIn (treesBelow t n) (word t n) (word t n 5) 1))
+    pub assemble-typing : (l : 27 ≤ k) → (h : k < 30) → (c : word t n 5 ≤ 4) → typing s (treeAt t n) ≡ assembleTyping n (kindOf k) (membersTyping s n (operandsIn (treesBelow t n) (word t n) (word t n 5) 1))
     unfolding typing operandTyping
-    collect-typing l h c = by-form k e (collect-range (treesBelow t n) (word t n) k l h c)
+    assemble-typing l h c = by-form k e (assemble-range (treesBelow t n) (word t n) k l h c)
 
     pub isUndef-typing : (h : k ≡ 30) → typing s (treeAt t n) ≡ isUndefTyping (operandTyping s t n 1)
     unfolding typing operandTyping
@@ -65,7 +65,7 @@ module _ (s : Model) (t : List ℕ) (n : ℕ) where
 
     pub over-typing : (l : 27 ≤ k) → (h : k < 30) → (c : 4 < word t n 5) → typing s (treeAt t n) ≡ leafTyping n undef
     unfolding typing operandTyping
-    over-typing l h c = by-form k e (collect-over (treesBelow t n) (word t n) k l h c)
+    over-typing l h c = by-form k e (assemble-over (treesBelow t n) (word t n) k l h c)
 
     pub none-typing : (h : 34 < k) → typing s (treeAt t n) ≡ leafTyping n undef
     unfolding typing operandTyping

@@ -9,7 +9,7 @@ use lib.Dec.{eqb, ltb}
 use Rattle.laws.specs.Choice.{if_then_else_}
 use Rattle.laws.specs.Integers.{bias, unbias}
 use Rattle.ocl.specs.Types.{Kind, set, sequence, bag, Ty}
-use Rattle.ocl.specs.Forms.{Arith, plus, minus, times, div, modulo, Connective, and, or, Quantifier, forAll, exists, Leaf, truth, undef, number, self, var, all, Unary, negation, sizeOf, convert, castTo, Binary, equal, less, arith, includes, including, union, Expr, node, Form, leaf, unary, binary, connective, isUndef, conditional, letIn, attribute, quantified, iterate, collect, Operands, noOperand, operand}
+use Rattle.ocl.specs.Forms.{Arith, plus, minus, times, div, modulo, Connective, and, or, Quantifier, forAll, exists, Leaf, truth, undef, number, self, var, all, Unary, negation, sizeOf, convert, castTo, Binary, equal, less, arith, includes, including, union, Expr, node, Form, leaf, unary, binary, connective, isUndef, conditional, letIn, attribute, quantified, iterate, assemble, Operands, noOperand, operand}
 use Rattle.sheet.specs.Lines.{Shape}
 use Rattle.types.specs.Word.{typeIn}
 
@@ -85,7 +85,7 @@ formOf f w k =
     else if ltb k 23 then binary (binaryOf k) (f (w 1)) (f (w 2))
     else if ltb k 25 then connective (connectiveOf k) (f (w 1)) (f (w 2))
     else if ltb k 27 then quantified (quantifierOf k) (variable (w 3)) (f (w 1)) (f (w 2))
-    else if ltb k 30 then (if ltb 4 (w 5) then leaf undef else collect (kindOf k) (operandsIn f w (w 5) 1))
+    else if ltb k 30 then (if ltb 4 (w 5) then leaf undef else assemble (kindOf k) (operandsIn f w (w 5) 1))
     else if eqb k 30 then isUndef (f (w 1))
     else if eqb k 31 then conditional (f (w 1)) (f (w 2)) (f (w 3))
     else if eqb k 32 then letIn (variable (w 3)) (f (w 1)) (f (w 2))
@@ -144,10 +144,10 @@ unfoldable pub quantifierCode : Quantifier → ℕ
 quantifierCode forAll = 25
 quantifierCode exists = 26
 
-unfoldable pub collectCode : Kind → ℕ
-collectCode set = 27
-collectCode sequence = 28
-collectCode bag = 29
+unfoldable pub assembleCode : Kind → ℕ
+assembleCode set = 27
+assembleCode sequence = 28
+assembleCode bag = 29
 
 -- operand k, of those that there are
 unfoldable pub operandWord : ℕ → List ℕ → ℕ → ℕ
@@ -164,8 +164,8 @@ shapeWords first type line (Shape.letIn i a b) = 32 ∷ (first + a) ∷ (first +
 shapeWords first type line (Shape.attribute name a) = 33 ∷ (first + a) ∷ name ∷ 0 ∷ 0 ∷ 0 ∷ 0 ∷ line ∷ []
 shapeWords first type line (Shape.quantified q i a b) = quantifierCode q ∷ (first + a) ∷ (first + b) ∷ i ∷ 0 ∷ 0 ∷ 0 ∷ line ∷ []
 shapeWords first type line (Shape.iterate i j t a e b) = 34 ∷ (first + a) ∷ (first + e) ∷ (first + b) ∷ i ∷ j ∷ type ∷ line ∷ []
-shapeWords first type line (Shape.collect k es) =
-    collectCode k ∷ operandWord first es 0 ∷ operandWord first es 1 ∷ operandWord first es 2 ∷ operandWord first es 3 ∷ length es ∷ 0 ∷ line ∷ []
+shapeWords first type line (Shape.assemble k es) =
+    assembleCode k ∷ operandWord first es 0 ∷ operandWord first es 1 ∷ operandWord first es 2 ∷ operandWord first es 3 ∷ length es ∷ 0 ∷ line ∷ []
 
 -- a word for the type that `iter` has
 pub record TypeSaid (type : ℕ) (x : Shape) : Type 0 where

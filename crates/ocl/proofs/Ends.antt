@@ -12,7 +12,7 @@ use Rattle.ocl.specs.Types.{Kind}
 use Rattle.ocl.specs.Values.{Value, bool, int, obj, coll, Values, size}
 use Rattle.ocl.specs.Environment.{Env}
 use Rattle.ocl.specs.Forms.{Arith, plus, minus, times, div, modulo, Quantifier}
-use Rattle.ocl.specs.Evaluation.{Outcome, value, undefined, stuck, stop, Run, resume, bind, tick, form, given, bound, onBool, onInt, onObj, onColl, inRange, ranged, unlessZero, arithmetic, endsAt, search, fold}
+use Rattle.ocl.specs.Evaluation.{Outcome, value, undefined, stuck, stop, Run, resume, bind, tick, form, given, bound, onBool, onInt, onObj, onColl, inRange, ranged, unlessZero, arithmetic, endsAt, seek, fold}
 use Rattle.laws.proofs.Tests.{by-if, All?, all-none, all-some}
 use Rattle.ocl.proofs.Values.{Every, every-nil, every-cons}
 
@@ -86,12 +86,12 @@ ends-coll P (int z) p h = ends-stuck
 ends-coll P (obj o) p h = ends-stuck
 ends-coll P (coll c vs) p h = h c vs p
 
-pub ends-search : {P Q R : Value → Type 0} {body : Value → ℕ → Outcome} (q : Quantifier) {vs : Values} (n : ℕ) → Every P vs → ((b : Bool) → Q (bool b))
-    → ((v : Value) (m : ℕ) → P v → Ends R (body v m)) → Ends Q (search q body vs n)
-unfolding search
-ends-search q n every-nil r g = ends-value (r (not (endsAt q)))
-ends-search q n (every-cons {v} p h) r g =
-    ends-bind (g v n p) (λ w m x. ends-bool w (λ b. ends-if (Bool·beq b (endsAt q)) (ends-value (r b)) (ends-search q m h r g)))
+pub ends-seek : {P Q R : Value → Type 0} {body : Value → ℕ → Outcome} (q : Quantifier) {vs : Values} (n : ℕ) → Every P vs → ((b : Bool) → Q (bool b))
+    → ((v : Value) (m : ℕ) → P v → Ends R (body v m)) → Ends Q (seek q body vs n)
+unfolding seek
+ends-seek q n every-nil r g = ends-value (r (not (endsAt q)))
+ends-seek q n (every-cons {v} p h) r g =
+    ends-bind (g v n p) (λ w m x. ends-bool w (λ b. ends-if (Bool·beq b (endsAt q)) (ends-value (r b)) (ends-seek q m h r g)))
 
 pub ends-fold : {P Q : Value → Type 0} {body : Value → Value → ℕ → Outcome} {vs : Values} (a : Value) (n : ℕ) → Every P vs → Q a
     → ((v a : Value) (m : ℕ) → P v → Q a → Ends Q (body v a m)) → Ends Q (fold body vs a n)

@@ -13,13 +13,13 @@ use Rattle.ocl.specs.Types.{class, Kind, set, sameKind}
 use Rattle.ocl.specs.Values.{Value, bool, int, obj, coll, Values, nil, count, size, orderInt, same, has, add, addAll}
 use Rattle.ocl.specs.Model.{Model, isA}
 use Rattle.ocl.specs.Environment.{Env, extend, start}
-use Rattle.ocl.specs.Forms.{Connective, Quantifier, Leaf, truth, undef, number, self, var, all, Unary, negation, sizeOf, convert, castTo, Binary, equal, less, arith, includes, including, union, Expr, node, Form, leaf, unary, binary, connective, isUndef, conditional, letIn, attribute, quantified, iterate, collect, Operands, noOperand, operand}
+use Rattle.ocl.specs.Forms.{Connective, Quantifier, Leaf, truth, undef, number, self, var, all, Unary, negation, sizeOf, convert, castTo, Binary, equal, less, arith, includes, including, union, Expr, node, Form, leaf, unary, binary, connective, isUndef, conditional, letIn, attribute, quantified, iterate, assemble, Operands, noOperand, operand}
 use Rattle.ocl.specs.Laws.{leafLiterals, literals, literalsIn, literalsOf}
-use Rattle.ocl.specs.Evaluation.{value, Run, isLess, inRange, instances, leafRun, cast, unaryApply, unaryRun, leftFits, binaryApply, binaryRun, decides, connectiveRun, isUndefRun, conditionalRun, letRun, attributeRun, quantifiedRun, iterateRun, Gather, noOperandRun, operandRun, collectRun, evaluation, formRun, operandsRun, evaluateRule}
+use Rattle.ocl.specs.Evaluation.{value, Run, isLess, inRange, instances, leafRun, cast, unaryApply, unaryRun, leftFits, binaryApply, binaryRun, decides, connectiveRun, isUndefRun, conditionalRun, letRun, attributeRun, quantifiedRun, iterateRun, Gather, noOperandRun, operandRun, assembleRun, evaluation, formRun, operandsRun, evaluateRule}
 use Rattle.laws.proofs.Tests.{All?, all-none, all-some, all-imp, all-self}
 use Rattle.laws.proofs.Lists.{each-head, each-left, each-right}
 use Rattle.ocl.proofs.Values.{Every, every-nil, every-cons}
-use Rattle.ocl.proofs.Ends.{Ends, ends-value, ends-undefined, ends-stuck, ends-at, ends-resume, ends-bind, ends-if, ends-tick, ends-form, ends-given, ends-bound, ends-bool, ends-int, ends-obj, ends-coll, ends-search, ends-fold, arithmetic-all}
+use Rattle.ocl.proofs.Ends.{Ends, ends-value, ends-undefined, ends-stuck, ends-at, ends-resume, ends-bind, ends-if, ends-tick, ends-form, ends-given, ends-bound, ends-bool, ends-int, ends-obj, ends-coll, ends-seek, ends-fold, arithmetic-all}
 
 -- P of a value, and Held of the members of a collection that is being gathered
 pub record Keeps (s : Model) (P : Value → Type 0) (Held : Kind → Values → Type 0) : Type 0 where
@@ -148,7 +148,7 @@ module _ {s : Model} {P : Value → Type 0} {Held : Kind → Values → Type 0} 
   unfolding quantifiedRun
   quantified-kept q i hf hg = record {
     run = λ ρ r n. ends-bind (hf .run ρ r n) (λ v m p. ends-coll P v p (λ k vs h.
-        ends-search q m (ok .of-members h) (ok .of-bool) (λ x l y. hg .run (extend ρ i x) (extend-bound i r y) l)));
+        ends-seek q m (ok .of-members h) (ok .of-bool) (λ x l y. hg .run (extend ρ i x) (extend-bound i r y) l)));
   }
 
   iterate-kept : (i j : ℕ) {f g h : Run} → Kept f → Kept g → Kept h → Kept (iterateRun i j f g h)
@@ -168,9 +168,9 @@ module _ {s : Model} {P : Value → Type 0} {Held : Kind → Values → Type 0} 
     runs = λ k vs h. record { run = λ ρ r n. ends-bind (hf .run ρ r n) (λ v m p. hg .runs k (add k v vs) (ok .of-added k v p h) .run ρ r m) };
   }
 
-  collect-kept : (k : Kind) {g : Gather} → Gathers g → Kept (collectRun k g)
-  unfolding collectRun
-  collect-kept k h = record { run = λ ρ r n. h .runs k nil (ok .of-none) .run ρ r n }
+  assemble-kept : (k : Kind) {g : Gather} → Gathers g → Kept (assembleRun k g)
+  unfolding assembleRun
+  assemble-kept k h = record { run = λ ρ r n. h .runs k nil (ok .of-none) .run ρ r n }
 
   -- ---- the induction
 
@@ -194,7 +194,7 @@ module _ {s : Model} {P : Value → Type 0} {Held : Kind → Values → Type 0} 
       form-kept p (quantified q i a b) h = quantified-kept q i (all-kept a (each-left (literals a) (literals b) h)) (all-kept b (each-right (literals a) h))
       form-kept p (iterate i j t a e b) h = let l = each-right (literals a) h in
           iterate-kept i j (all-kept a (each-left (literals a) (literals e ++ literals b) h)) (all-kept e (each-left (literals e) (literals b) l)) (all-kept b (each-right (literals e) l))
-      form-kept p (collect k es) h = collect-kept k (operands-gather es h)
+      form-kept p (assemble k es) h = assemble-kept k (operands-gather es h)
 
       operands-gather : (es : Operands) → Each (λ z. P (int z)) (literalsOf es) → Gathers (operandsRun s mark es)
       operands-gather noOperand h = no-operand-gathers

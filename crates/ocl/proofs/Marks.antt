@@ -11,9 +11,9 @@ use Rattle.laws.specs.Choice.{if_then_else_}
 use Rattle.ocl.specs.Environment.{Env, extend}
 use Rattle.ocl.specs.Types.{any, boolean, integer, class, Letter, Ty, void, simple, around, subtype}
 use Rattle.ocl.specs.Model.{Model, rowRead}
-use Rattle.ocl.specs.Forms.{Expr, node, Form, leaf, unary, binary, connective, isUndef, conditional, letIn, attribute, quantified, iterate, collect, Operands, noOperand, operand}
+use Rattle.ocl.specs.Forms.{Expr, node, Form, leaf, unary, binary, connective, isUndef, conditional, letIn, attribute, quantified, iterate, assemble, Operands, noOperand, operand}
 use Rattle.ocl.specs.Laws.{numbers, numbersIn, numbersOf}
-use Rattle.ocl.specs.Typing.{Answer, typed, refused, Marks, Typed, pure, thenFor, andThen, onCollection, rowType, attributeType, leafTyping, unaryTyping, binaryTyping, connectiveTyping, isUndefTyping, conditionalTyping, letTyping, attributeTyping, quantifiedTyping, iterateTyping, noOperandTyping, operandTyping, collectTyping, typing, formTyping, operandsTyping, markOr}
+use Rattle.ocl.specs.Typing.{Answer, typed, refused, Marks, Typed, pure, thenFor, andThen, onCollection, rowType, attributeType, leafTyping, unaryTyping, binaryTyping, connectiveTyping, isUndefTyping, conditionalTyping, letTyping, attributeTyping, quantifiedTyping, iterateTyping, noOperandTyping, operandTyping, assembleTyping, typing, formTyping, operandsTyping, markOr}
 use Rattle.laws.specs.Lists.{Each, each-nil, each-cons, Distinct, distinct-nil, distinct-cons}
 
 -- the marks are those that typing made
@@ -101,7 +101,7 @@ module _ (s : Model) where
   own p h = record { part = part-left (p ∷ []) (h .part) }
 
   mutual
-    unfolding numbers typing leafTyping unaryTyping binaryTyping connectiveTyping isUndefTyping conditionalTyping letTyping attributeTyping quantifiedTyping iterateTyping noOperandTyping operandTyping collectTyping
+    unfolding numbers typing leafTyping unaryTyping binaryTyping connectiveTyping isUndefTyping conditionalTyping letTyping attributeTyping quantifiedTyping iterateTyping noOperandTyping operandTyping assembleTyping
 
     pub marked : (e : Expr) (Γ : Env Ty) → Marked (numbers e) (typing s e Γ)
     marked (node p f) Γ = marked-form p f Γ
@@ -119,7 +119,7 @@ module _ (s : Model) where
     marked-form p (iterate i j t a e b) Γ =
         own p (marked-then (marked a Γ) (λ c. marked-then (marked e Γ) (λ u. marked-collection c marked-pure (λ l m.
         marked-if (subtype (s .parent) u t) (marked-last (marked b (extend (extend Γ i m) j t)) (λ z. marked-pure)) marked-pure))))
-    marked-form p (collect k es) Γ = own p (marked-last (marked-operands p es Γ) (λ z. marked-pure))
+    marked-form p (assemble k es) Γ = own p (marked-last (marked-operands p es Γ) (λ z. marked-pure))
 
     marked-operands : (p : ℕ) (es : Operands) (Γ : Env Ty) → Marked (numbersOf es) (operandsTyping s p es Γ)
     marked-operands p noOperand Γ = marked-pure

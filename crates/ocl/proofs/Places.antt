@@ -11,8 +11,8 @@ use Rattle.laws.specs.Lists.{member, Each}
 use Rattle.ocl.specs.Environment.{Env, extend}
 use Rattle.ocl.specs.Types.{any, boolean, integer, class, Kind, Letter, collection, exactly, Ty, void, simple, around, Class, Boolean, Integer, depth, sameKind, subtype, join}
 use Rattle.ocl.specs.Model.{Model}
-use Rattle.ocl.specs.Forms.{Leaf, truth, undef, number, self, var, all, Unary, negation, sizeOf, convert, castTo, Binary, equal, less, arith, includes, including, union, Expr, node, Form, leaf, unary, binary, connective, isUndef, conditional, letIn, attribute, quantified, iterate, collect, Operands, noOperand, operand}
-use Rattle.ocl.specs.Typing.{Answer, typed, refused, Marks, Typed, pure, thenFor, andThen, below, common, wrap, onCollection, onKind, boundType, leafType, castType, unaryType, bothBelow, binaryType, conditionalType, rowType, attributeType, leafTyping, unaryTyping, binaryTyping, connectiveTyping, isUndefTyping, conditionalTyping, letTyping, attributeTyping, quantifiedTyping, iterateTyping, noOperandTyping, operandTyping, collectTyping, typing, formTyping, operandsTyping, markOr, markOf}
+use Rattle.ocl.specs.Forms.{Leaf, truth, undef, number, self, var, all, Unary, negation, sizeOf, convert, castTo, Binary, equal, less, arith, includes, including, union, Expr, node, Form, leaf, unary, binary, connective, isUndef, conditional, letIn, attribute, quantified, iterate, assemble, Operands, noOperand, operand}
+use Rattle.ocl.specs.Typing.{Answer, typed, refused, Marks, Typed, pure, thenFor, andThen, below, common, wrap, onCollection, onKind, boundType, leafType, castType, unaryType, bothBelow, binaryType, conditionalType, rowType, attributeType, leafTyping, unaryTyping, binaryTyping, connectiveTyping, isUndefTyping, conditionalTyping, letTyping, attributeTyping, quantifiedTyping, iterateTyping, noOperandTyping, operandTyping, assembleTyping, typing, formTyping, operandsTyping, markOr, markOf}
 use Rattle.ocl.specs.Laws.{Refusal, EachMark, no-mark, mark-then, TypingPlacesLaw, numbers, numbersIn, numbersOf}
 use Rattle.laws.proofs.Tests.{and-l, and-r, by-if, All?, all-none, all-some}
 use Rattle.laws.proofs.Lists.{each-left, each-right, each-head, each-member}
@@ -158,7 +158,7 @@ module _ (s : Model) (P : ℕ → Type 0) where
   -- ---- the induction
 
   mutual
-    unfolding numbers typing leafTyping unaryTyping binaryTyping connectiveTyping isUndefTyping conditionalTyping letTyping attributeTyping quantifiedTyping iterateTyping noOperandTyping operandTyping collectTyping
+    unfolding numbers typing leafTyping unaryTyping binaryTyping connectiveTyping isUndefTyping conditionalTyping letTyping attributeTyping quantifiedTyping iterateTyping noOperandTyping operandTyping assembleTyping
 
     known : (e : Expr) → Each P (numbers e) → (Γ : Env Ty) → Known (typing s e Γ)
     known (node p f) h Γ = known-form f p (each-left (numbersIn f) _ h) (each-head (each-right (numbersIn f) h)) Γ
@@ -179,7 +179,7 @@ module _ (s : Model) (P : ℕ → Type 0) where
     known-form (iterate i j t a e b) p h q Γ = let r = each-right (numbers a) h in
         known-then (known a (each-left (numbers a) _ h) Γ) (λ c. known-then (known e (each-left (numbers e) _ r) Γ) (λ u. known-collection c (known-pure (no-type tt q))
         (λ l m. known-if (subtype (s .parent) u t) (known-last (known b (each-right (numbers e) r) (extend (extend Γ i m) j t)) (λ w. says-below w t q yes-type)) (known-pure (no-type tt q)))))
-    known-form (collect k es) p h q Γ = known-last (known-operands es p h q Γ) (λ t. says-wrap (exactly k) t q)
+    known-form (assemble k es) p h q Γ = known-last (known-operands es p h q Γ) (λ t. says-wrap (exactly k) t q)
 
     known-operands : (es : Operands) (p : ℕ) → Each P (numbersOf es) → P p → (Γ : Env Ty) → Known (operandsTyping s p es Γ)
     known-operands noOperand p h q Γ = known-pure yes-type

@@ -12,7 +12,7 @@ use Rattle.ocl.specs.Types.{Ty}
 use Rattle.ocl.specs.Values.{Value, bool, int, obj, coll, Values, count, size}
 use Rattle.ocl.specs.Model.{Model, belongs}
 use Rattle.ocl.specs.Forms.{Quantifier}
-use Rattle.ocl.specs.Evaluation.{Outcome, value, undefined, stuck, stop, stepsOf, Run, resume, bind, tick, form, onBool, endsAt, search, fold}
+use Rattle.ocl.specs.Evaluation.{Outcome, value, undefined, stuck, stop, stepsOf, Run, resume, bind, tick, form, onBool, endsAt, seek, fold}
 use Rattle.ocl.specs.Laws.{integersInRange, Formed}
 use Rattle.ocl.specs.Soundness.{Sound}
 use Rattle.laws.proofs.Tests.{by-if}
@@ -119,13 +119,13 @@ safe-bool (int z) h g = absurd h
 safe-bool (obj o) h g = absurd h
 safe-bool (coll c vs) h g = absurd h
 
-pub safe-search : {P Q : Value → Type 0} {j : ℕ} {body : Value → ℕ → Outcome} {vs : Values} (q : Quantifier) → Every P vs → ((b : Bool) → Q (bool b))
-    → ((v : Value) → P v → Safe IsBool j (body v)) → Safe Q (count vs * j) (search q body vs)
-unfolding search count
-safe-search q every-nil p g = safe-value (bool (not (endsAt q))) (p (not (endsAt q)))
-safe-search {body} q (every-cons {v} {vs} r h) p g =
-    safe-le (omega arith) (safe-bind (g v r) (λ w i. safe-bool {f = λ b n. (if Bool·beq b (endsAt q) then value (bool b) n else search q body vs n)} w i
-    (λ b. safe-if (Bool·beq b (endsAt q)) (λ t. safe-value (bool b) (p b)) (λ t. safe-search q h p g))))
+pub safe-seek : {P Q : Value → Type 0} {j : ℕ} {body : Value → ℕ → Outcome} {vs : Values} (q : Quantifier) → Every P vs → ((b : Bool) → Q (bool b))
+    → ((v : Value) → P v → Safe IsBool j (body v)) → Safe Q (count vs * j) (seek q body vs)
+unfolding seek count
+safe-seek q every-nil p g = safe-value (bool (not (endsAt q))) (p (not (endsAt q)))
+safe-seek {body} q (every-cons {v} {vs} r h) p g =
+    safe-le (omega arith) (safe-bind (g v r) (λ w i. safe-bool {f = λ b n. (if Bool·beq b (endsAt q) then value (bool b) n else seek q body vs n)} w i
+    (λ b. safe-if (Bool·beq b (endsAt q)) (λ t. safe-value (bool b) (p b)) (λ t. safe-seek q h p g))))
 
 -- ---- what Fine says, in the statement's words
 

@@ -12,16 +12,16 @@ use Rattle.ocl.specs.Environment.{Env, extend, start}
 use Rattle.ocl.specs.Types.{Simple, any, boolean, integer, class, Kind, set, Letter, exactly, Ty, void, simple, around, Boolean, Integer, Class, letterSubtype, sameKind, subtype}
 use Rattle.ocl.specs.Values.{Value, bool, int, obj, coll, nil, count, size, orderInt, same, has, add}
 use Rattle.ocl.specs.Model.{Model, isA}
-use Rattle.ocl.specs.Forms.{Connective, Quantifier, Leaf, truth, undef, number, self, var, all, Unary, negation, sizeOf, convert, castTo, Binary, equal, less, arith, includes, including, union, Expr, node, Form, leaf, unary, binary, connective, isUndef, conditional, letIn, attribute, quantified, iterate, collect, Operands, noOperand, operand, reach, inside, reaches}
+use Rattle.ocl.specs.Forms.{Connective, Quantifier, Leaf, truth, undef, number, self, var, all, Unary, negation, sizeOf, convert, castTo, Binary, equal, less, arith, includes, including, union, Expr, node, Form, leaf, unary, binary, connective, isUndef, conditional, letIn, attribute, quantified, iterate, assemble, Operands, noOperand, operand, reach, inside, reaches}
 use Rattle.ocl.specs.Laws.{literals}
-use Rattle.ocl.specs.Typing.{typed, boundType, leafType, castType, unaryType, bothBelow, binaryType, conditionalType, rowType, attributeType, leafTyping, unaryTyping, binaryTyping, connectiveTyping, isUndefTyping, conditionalTyping, letTyping, attributeTyping, quantifiedTyping, iterateTyping, noOperandTyping, operandTyping, collectTyping, typing, formTyping, operandsTyping, typeRule, markOf}
-use Rattle.ocl.specs.Evaluation.{Run, isLess, inRange, instances, leafRun, cast, unaryApply, unaryRun, leftFits, binaryApply, binaryRun, decides, connectiveRun, isUndefRun, conditionalRun, letRun, attributeRun, quantifiedRun, iterateRun, Gather, noOperandRun, operandRun, collectRun, evaluation, formRun, operandsRun, evaluateRule, bound as boundRun}
+use Rattle.ocl.specs.Typing.{typed, boundType, leafType, castType, unaryType, bothBelow, binaryType, conditionalType, rowType, attributeType, leafTyping, unaryTyping, binaryTyping, connectiveTyping, isUndefTyping, conditionalTyping, letTyping, attributeTyping, quantifiedTyping, iterateTyping, noOperandTyping, operandTyping, assembleTyping, typing, formTyping, operandsTyping, typeRule, markOf}
+use Rattle.ocl.specs.Evaluation.{Run, isLess, inRange, instances, leafRun, cast, unaryApply, unaryRun, leftFits, binaryApply, binaryRun, decides, connectiveRun, isUndefRun, conditionalRun, letRun, attributeRun, quantifiedRun, iterateRun, Gather, noOperandRun, operandRun, assembleRun, evaluation, formRun, operandsRun, evaluateRule, bound as boundRun}
 use Rattle.ocl.specs.Soundness.{AcceptedModel, Sound, Soundness}
 use Rattle.laws.proofs.Tests.{by-if, All?, all-none, all-some, Any?, any-some, all-imp, all-self, at-some}
 use Rattle.ocl.proofs.SimpleTypes.{climb→simpleSubtype}
 use Rattle.ocl.proofs.Types.{sameKind→eq, sameKind-refl}
 use Rattle.ocl.proofs.Values.{Every, every-nil, append-every, add-every, addAll-every, Belongs, belongs-by, belongs-test, isA-up, Above, rowRead-above}
-use Rattle.ocl.proofs.Runs.{Safe, safe-weak, safe-le, safe-value, safe-undefined, safe-resume, safe-bind, safe-tick, safe-if, safe-fold, safe-search, Fits, fine-sound, safe-zero}
+use Rattle.ocl.proofs.Runs.{Safe, safe-weak, safe-le, safe-value, safe-undefined, safe-resume, safe-bind, safe-tick, safe-if, safe-fold, safe-seek, Fits, fine-sound, safe-zero}
 use Rattle.ocl.proofs.Means.{Gives, no-type, gives, Means, means-pure, means-then, means-imp, means-collection, means-if, gives-if, gives-common, gives-wrap, gives-collection, gives-kind}
 use Rattle.ocl.proofs.ByType.{Ok, Below, EnvOk, Sem, SemAll, below-by, gives-below, joined, below-same, below-then, extend-ok, ok-up, is-bool, bool-sem, int-of, int-sem, int-fits, obj-sem, coll-of, coll-sem, coll-fits, bool-ok, int-ok, give-bool, give-int, given-sem, form-sem, bels}
 use Rattle.ocl.proofs.Ends.{arithmetic-all}
@@ -185,7 +185,7 @@ module _ (s : Model) (ok : AcceptedModel s) (mark : ℕ → ℕ) where
   unfolding quantifiedRun
   quantified-sem {n = n} q i p hf hg = record {
     run = λ ρ r. safe-bind (hf .run ρ r) (λ v j. coll-sem (coll-of v j) (λ k vs x h z.
-        safe-le (mul-le-mul-right n z) (safe-search q h bool-ok (λ w y. safe-weak (λ v o. is-bool v p o) (omega linear) (hg .run (extend ρ i w) (extend-ok i r y))))));
+        safe-le (mul-le-mul-right n z) (safe-seek q h bool-ok (λ w y. safe-weak (λ v o. is-bool v p o) (omega linear) (hg .run (extend ρ i w) (extend-ok i r y))))));
   }
 
   iterate-sem : {Γ : Env Ty} {k m n : ℕ} {l : Letter} {a t e b : Ty} {f g h : Run} (i j : ℕ) → Below s e t → Below s b t → Sem s Γ k (around l a) f → Sem s Γ m e g → Sem s (extend (extend Γ i a) j t) n b h
@@ -208,14 +208,14 @@ module _ (s : Model) (ok : AcceptedModel s) (mark : ℕ → ℕ) where
         safe-bind (hf .run ρ r) (λ v i. hg .runs ρ r w (below-then q b) c (add c v acc) (add-every c v (ok-up b (ok-up p i) .bel) a));
   }
 
-  collect-sem : {Γ : Env Ty} {n : ℕ} {t : Ty} {g : Gather} (c : Kind) → SemAll s Γ n t g → Sem s Γ n (around (exactly c) t) (collectRun c g)
-  unfolding collectRun
-  collect-sem {t = t} c h = record { run = λ ρ r. h .runs ρ r t below-same c nil every-nil }
+  assemble-sem : {Γ : Env Ty} {n : ℕ} {t : Ty} {g : Gather} (c : Kind) → SemAll s Γ n t g → Sem s Γ n (around (exactly c) t) (assembleRun c g)
+  unfolding assembleRun
+  assemble-sem {t = t} c h = record { run = λ ρ r. h .runs ρ r t below-same c nil every-nil }
 
   -- ---- the induction
 
   mutual
-    unfolding reach evaluation typing bothBelow conditionalType leafTyping unaryTyping binaryTyping connectiveTyping isUndefTyping conditionalTyping letTyping attributeTyping quantifiedTyping iterateTyping noOperandTyping operandTyping collectTyping
+    unfolding reach evaluation typing bothBelow conditionalType leafTyping unaryTyping binaryTyping connectiveTyping isUndefTyping conditionalTyping letTyping attributeTyping quantifiedTyping iterateTyping noOperandTyping operandTyping assembleTyping
 
     sound : (e : Expr) (Γ : Env Ty) → Means mark (λ t. Sem s Γ (reach e) t (evaluation s mark e)) (typing s e Γ)
     sound (node p f) Γ = means-imp (λ t h. record { run = λ ρ r. safe-tick (formRun s mark p f) ρ (h .run ρ r) }) (sound-form p f Γ)
@@ -236,7 +236,7 @@ module _ (s : Model) (ok : AcceptedModel s) (mark : ℕ → ℕ) where
     sound-form p (iterate i j t a e b) Γ = means-then (sound a Γ) (λ c ha. means-then (sound e Γ) (λ u he.
         means-collection (λ t. Sem s Γ (reach a) t (evaluation s mark a)) p c ha (λ l m ha. means-if (subtype (s .parent) u t) (λ x.
         means-then (sound b (extend (extend Γ i m) j t)) (λ w hb. means-pure (gives-below ok p w t (λ y. gives (iterate-sem i j (below-by ok u t x) y ha he hb))))) (means-pure no-type))))
-    sound-form p (collect k es) Γ = means-then (sound-all p es Γ) (λ t h. means-pure (gives-wrap p (exactly k) t (collect-sem k h)))
+    sound-form p (assemble k es) Γ = means-then (sound-all p es Γ) (λ t h. means-pure (gives-wrap p (exactly k) t (assemble-sem k h)))
 
     sound-all : (p : ℕ) (es : Operands) (Γ : Env Ty) → Means mark (λ t. SemAll s Γ (reaches es) t (operandsRun s mark es)) (operandsTyping s p es Γ)
     sound-all p noOperand Γ = means-pure (gives no-operand-sem)

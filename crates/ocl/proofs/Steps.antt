@@ -12,8 +12,8 @@ use Rattle.ocl.specs.Types.{class, Kind, sameKind}
 use Rattle.ocl.specs.Values.{Value, bool, int, obj, coll, Values, nil, cons, size, add}
 use Rattle.ocl.specs.Model.{Model, isA}
 use Rattle.ocl.specs.Environment.{Env, extend, start}
-use Rattle.ocl.specs.Forms.{Connective, Quantifier, Leaf, truth, undef, number, self, var, all, Unary, negation, sizeOf, convert, castTo, Binary, equal, less, arith, includes, including, union, Expr, node, Form, leaf, unary, binary, connective, isUndef, conditional, letIn, attribute, quantified, iterate, collect, Operands, noOperand, operand}
-use Rattle.ocl.specs.Evaluation.{Outcome, value, undefined, stuck, stop, stepsOf, Run, resume, bind, tick, form, given, bound, onBool, onInt, onObj, onColl, arithmetic, leafRun, cast, unaryApply, unaryRun, leftFits, binaryApply, binaryRun, decides, connectiveRun, isUndefRun, conditionalRun, letRun, attributeRun, endsAt, search, quantifiedRun, fold, iterateRun, Gather, noOperandRun, operandRun, collectRun, evaluation, formRun, operandsRun, evaluateRule}
+use Rattle.ocl.specs.Forms.{Connective, Quantifier, Leaf, truth, undef, number, self, var, all, Unary, negation, sizeOf, convert, castTo, Binary, equal, less, arith, includes, including, union, Expr, node, Form, leaf, unary, binary, connective, isUndef, conditional, letIn, attribute, quantified, iterate, assemble, Operands, noOperand, operand}
+use Rattle.ocl.specs.Evaluation.{Outcome, value, undefined, stuck, stop, stepsOf, Run, resume, bind, tick, form, given, bound, onBool, onInt, onObj, onColl, arithmetic, leafRun, cast, unaryApply, unaryRun, leftFits, binaryApply, binaryRun, decides, connectiveRun, isUndefRun, conditionalRun, letRun, attributeRun, endsAt, seek, quantifiedRun, fold, iterateRun, Gather, noOperandRun, operandRun, assembleRun, evaluation, formRun, operandsRun, evaluateRule}
 
 pub data Limited : Outcome → Type 0 where
   limited-value : {v : Value} {n : ℕ} → n ≤ 1000000 → Limited (value v n)
@@ -79,11 +79,11 @@ limited-coll (int z) h = limited-stuck
 limited-coll (obj o) h = limited-stuck
 limited-coll (coll c vs) h = h c vs
 
-limited-search : (q : Quantifier) {body : Value → ℕ → Outcome} (vs : Values) {n : ℕ} → n ≤ 1000000 → After body → Limited (search q body vs n)
-unfolding search
-limited-search q nil l h = limited-value l
-limited-search q (cons v vs) {n} l h =
-    limited-bind (h v n l) (λ w m k. limited-bool w (λ b. limited-if (Bool·beq b (endsAt q)) (limited-value k) (limited-search q vs k h)))
+limited-seek : (q : Quantifier) {body : Value → ℕ → Outcome} (vs : Values) {n : ℕ} → n ≤ 1000000 → After body → Limited (seek q body vs n)
+unfolding seek
+limited-seek q nil l h = limited-value l
+limited-seek q (cons v vs) {n} l h =
+    limited-bind (h v n l) (λ w m k. limited-bool w (λ b. limited-if (Bool·beq b (endsAt q)) (limited-value k) (limited-seek q vs k h)))
 
 limited-fold : {body : Value → Value → ℕ → Outcome} (vs : Values) (a : Value) {n : ℕ} → n ≤ 1000000 → ((v : Value) → After (body v)) → Limited (fold body vs a n)
 unfolding fold
@@ -179,7 +179,7 @@ module _ (s : Model) where
   quantified-stays : (q : Quantifier) (i : ℕ) {f g : Run} → Stays f → Stays g → Stays (quantifiedRun q i f g)
   unfolding quantifiedRun
   quantified-stays q i hf hg = record {
-    run = λ ρ n l. limited-bind (hf .run ρ n l) (λ v m k. limited-coll v (λ c vs. limited-search q vs k (λ x. hg .run (extend ρ i x))));
+    run = λ ρ n l. limited-bind (hf .run ρ n l) (λ v m k. limited-coll v (λ c vs. limited-seek q vs k (λ x. hg .run (extend ρ i x))));
   }
 
   iterate-stays : (i j : ℕ) {f g h : Run} → Stays f → Stays g → Stays h → Stays (iterateRun i j f g h)
@@ -197,9 +197,9 @@ module _ (s : Model) where
   unfolding operandRun
   operand-gathers hf hg = record { runs = λ k vs. record { run = λ ρ n l. limited-bind (hf .run ρ n l) (λ v m i. hg .runs k (add k v vs) .run ρ m i) } }
 
-  collect-stays : (k : Kind) {g : Gather} → Gathers g → Stays (collectRun k g)
-  unfolding collectRun
-  collect-stays k h = record { run = λ ρ n l. h .runs k nil .run ρ n l }
+  assemble-stays : (k : Kind) {g : Gather} → Gathers g → Stays (assembleRun k g)
+  unfolding assembleRun
+  assemble-stays k h = record { run = λ ρ n l. h .runs k nil .run ρ n l }
 
   -- ---- the induction
 
@@ -221,7 +221,7 @@ module _ (s : Model) where
       form-stays p (attribute name a) = attribute-stays (mark p) (all-stay a)
       form-stays p (quantified q i a b) = quantified-stays q i (all-stay a) (all-stay b)
       form-stays p (iterate i j t a e b) = iterate-stays i j (all-stay a) (all-stay e) (all-stay b)
-      form-stays p (collect k es) = collect-stays k (operands-gather es)
+      form-stays p (assemble k es) = assemble-stays k (operands-gather es)
 
       operands-gather : (es : Operands) → Gathers (operandsRun s mark es)
       operands-gather noOperand = no-operand-gathers

@@ -3,9 +3,9 @@ use mathlib.Core.Path.{refl}
 use Rattle.ocl.specs.Types.{join, simpleJoin, firstAbove, simpleSubtype, climbs, sameSimple, simpleCode, up, parentOr, height, letterJoin, sameKind, kindCode, aroundSome}
 use Rattle.ocl.specs.Values.{size, add, insert, put, order, headOrder, thenOrder, sort, rank, orderInt, members, count}
 use Rattle.ocl.specs.Environment.{extend}
-use Rattle.ocl.specs.Evaluation.{tick, form, inRange, ranged, unlessZero, quotient, remainder, arithmetic, leafRun, leftFits, binaryApply, binaryRun, decides, connectiveRun, isUndefRun, letRun, endsAt, search, quantifiedRun, noOperandRun, operandRun, collectRun, evaluation}
+use Rattle.ocl.specs.Evaluation.{tick, form, inRange, ranged, unlessZero, quotient, remainder, arithmetic, leafRun, leftFits, binaryApply, binaryRun, decides, connectiveRun, isUndefRun, letRun, endsAt, seek, quantifiedRun, noOperandRun, operandRun, assembleRun, evaluation}
 use Rattle.ocl.specs.Worked.{parents, bareModel, outcome, false₀, undef₀, int₀, arith₂, Worked}
 
 pub worked : Worked
-unfolding join simpleJoin firstAbove simpleSubtype climbs sameSimple simpleCode up parentOr height letterJoin sameKind kindCode aroundSome size add insert put order headOrder thenOrder sort rank orderInt members count extend tick form inRange ranged unlessZero quotient remainder arithmetic leafRun leftFits binaryApply binaryRun decides connectiveRun isUndefRun letRun endsAt search quantifiedRun noOperandRun operandRun collectRun evaluation parents bareModel outcome false₀ undef₀ int₀ arith₂
+unfolding join simpleJoin firstAbove simpleSubtype climbs sameSimple simpleCode up parentOr height letterJoin sameKind kindCode aroundSome size add insert put order headOrder thenOrder sort rank orderInt members count extend tick form inRange ranged unlessZero quotient remainder arithmetic leafRun leftFits binaryApply binaryRun decides connectiveRun isUndefRun letRun endsAt seek quantifiedRun noOperandRun operandRun assembleRun evaluation parents bareModel outcome false₀ undef₀ int₀ arith₂
 worked = record { p1 = refl; p2 = refl; p3 = refl; p4 = refl; p5 = refl; p6 = refl; p7 = refl; p8 = refl; p9 = refl; p10 = refl; p11 = refl; p12 = refl }

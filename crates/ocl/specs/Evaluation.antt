@@ -9,7 +9,7 @@ use Rattle.ocl.specs.Types.{class, Kind, set, sameKind}
 use Rattle.ocl.specs.Values.{Value, bool, int, obj, coll, Values, nil, cons, count, size, orderInt, same, has, append, add, addAll}
 use Rattle.ocl.specs.Model.{Model, isA}
 use Rattle.ocl.specs.Environment.{Env, extend, start}
-use Rattle.ocl.specs.Forms.{Arith, plus, minus, times, div, modulo, Connective, and, or, Quantifier, forAll, exists, Leaf, truth, undef, number, self, var, all, Unary, negation, sizeOf, convert, castTo, Binary, equal, less, arith, includes, including, union, Expr, node, Form, leaf, unary, binary, connective, isUndef, conditional, letIn, attribute, quantified, iterate, collect, Operands, noOperand, operand}
+use Rattle.ocl.specs.Forms.{Arith, plus, minus, times, div, modulo, Connective, and, or, Quantifier, forAll, exists, Leaf, truth, undef, number, self, var, all, Unary, negation, sizeOf, convert, castTo, Binary, equal, less, arith, includes, including, union, Expr, node, Form, leaf, unary, binary, connective, isUndef, conditional, letIn, attribute, quantified, iterate, assemble, Operands, noOperand, operand}
 
 -- a value, or undefined, with the steps begun; stuck (document 01's word): an operand of a kind that the form does not take, or an
 -- unbound variable; or a stop with its number, 16 or 17, and the steps begun
@@ -234,13 +234,13 @@ endsAt forAll = false
 endsAt exists = true
 
 -- members in their stored order, up to the first whose body is undefined or ends it
-unfoldable pub search : Quantifier → (Value → ℕ → Outcome) → Values → ℕ → Outcome
-search q body nil n = value (bool (not (endsAt q))) n
-search q body (cons v vs) n =
-    bind (body v n) (λ w n. onBool w (λ b. if Bool·beq b (endsAt q) then value (bool b) n else search q body vs n))
+unfoldable pub seek : Quantifier → (Value → ℕ → Outcome) → Values → ℕ → Outcome
+seek q body nil n = value (bool (not (endsAt q))) n
+seek q body (cons v vs) n =
+    bind (body v n) (λ w n. onBool w (λ b. if Bool·beq b (endsAt q) then value (bool b) n else seek q body vs n))
 
 unfoldable pub quantifiedRun : Quantifier → ℕ → Run → Run → Run
-quantifiedRun q i f g ρ n = bind (f ρ n) (λ v n. onColl v (λ k vs. search q (λ x. g (extend ρ i x)) vs n))
+quantifiedRun q i f g ρ n = bind (f ρ n) (λ v n. onColl v (λ k vs. seek q (λ x. g (extend ρ i x)) vs n))
 
 -- members in their stored order, up to the first undefined accumulator
 unfoldable pub fold : (Value → Value → ℕ → Outcome) → Values → Value → ℕ → Outcome
@@ -263,8 +263,8 @@ noOperandRun k vs ρ n = form (coll k vs) n
 unfoldable pub operandRun : Run → Gather → Gather
 operandRun f g k vs ρ n = bind (f ρ n) (λ v n. g k (add k v vs) ρ n)
 
-unfoldable pub collectRun : Kind → Gather → Run
-collectRun k g ρ n = g k nil ρ n
+unfoldable pub assembleRun : Kind → Gather → Run
+assembleRun k g ρ n = g k nil ρ n
 
 -- evaluation reads the marks of `attr` nodes and no types
 unfoldable mutual
@@ -282,7 +282,7 @@ unfoldable mutual
   formRun s mark p (attribute name a) = attributeRun s (mark p) (evaluation s mark a)
   formRun s mark p (quantified q i a b) = quantifiedRun q i (evaluation s mark a) (evaluation s mark b)
   formRun s mark p (iterate i j t a e b) = iterateRun i j (evaluation s mark a) (evaluation s mark e) (evaluation s mark b)
-  formRun s mark p (collect k es) = collectRun k (operandsRun s mark es)
+  formRun s mark p (assemble k es) = assembleRun k (operandsRun s mark es)
 
   pub operandsRun : Model → (ℕ → ℕ) → Operands → Gather
   operandsRun s mark noOperand = noOperandRun

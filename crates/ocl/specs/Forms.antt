@@ -63,7 +63,7 @@ mutual
     -- `iter s i j T e b`: the member, the accumulator, its type, then s, e, b
     iterate : ℕ → ℕ → Ty → Expr → Expr → Expr → Form
     -- `coll k e..`
-    collect : Kind → Operands → Form
+    assemble : Kind → Operands → Form
 
   pub data Operands : Type 0 where
     noOperand : Operands
@@ -85,7 +85,7 @@ unfoldable mutual
   inside (attribute name a) = reach a
   inside (quantified q i a b) = reach a + 127 * reach b
   inside (iterate i j t a e b) = reach a + (reach e + 127 * reach b)
-  inside (collect k es) = reaches es
+  inside (assemble k es) = reaches es
 
   pub reaches : Operands → ℕ
   reaches noOperand = 0
@@ -107,7 +107,7 @@ unfoldable mutual
   levelsIn (attribute name a) = levels a
   levelsIn (quantified q i a b) = max (levels a) (levels b)
   levelsIn (iterate i j t a e b) = max (levels a) (max (levels e) (levels b))
-  levelsIn (collect k es) = levelsOf es
+  levelsIn (assemble k es) = levelsOf es
 
   pub levelsOf : Operands → ℕ
   levelsOf noOperand = 0

@@ -13,7 +13,7 @@ use Rattle.ocl.specs.Types.{Kind, set, sequence, bag, Ty, Parents, Subty
 use Rattle.ocl.specs.Values.{Value, bool, int, obj, coll, Values, nil, cons, everyPart, order, same, has, add, addAll}
 use Rattle.ocl.specs.Model.{Model, belongs}
 use Rattle.ocl.specs.Environment.{Env}
-use Rattle.ocl.specs.Forms.{Leaf, truth, undef, number, self, var, all, Expr, node, Form, leaf, unary, binary, connective, isUndef, conditional, letIn, attribute, quantified, iterate, collect, Operands, noOperand, operand}
+use Rattle.ocl.specs.Forms.{Leaf, truth, undef, number, self, var, all, Expr, node, Form, leaf, unary, binary, connective, isUndef, conditional, letIn, attribute, quantified, iterate, assemble, Operands, noOperand, operand}
 use Rattle.ocl.specs.Typing.{refused, Marks, typing}
 use Rattle.ocl.specs.Evaluation.{value, inRange, instances, evaluation, evaluateRule}
 
@@ -35,7 +35,7 @@ unfoldable mutual
   numbersIn (attribute name a) = numbers a
   numbersIn (quantified q i a b) = numbers a ++ numbers b
   numbersIn (iterate i j t a e b) = numbers a ++ (numbers e ++ numbers b)
-  numbersIn (collect k es) = numbersOf es
+  numbersIn (assemble k es) = numbersOf es
 
   pub numbersOf : Operands → List ℕ
   numbersOf noOperand = []
@@ -65,7 +65,7 @@ unfoldable mutual
   literalsIn (attribute name a) = literals a
   literalsIn (quantified q i a b) = literals a ++ literals b
   literalsIn (iterate i j t a e b) = literals a ++ (literals e ++ literals b)
-  literalsIn (collect k es) = literalsOf es
+  literalsIn (assemble k es) = literalsOf es
 
   pub literalsOf : Operands → List ℤ
   literalsOf noOperand = []

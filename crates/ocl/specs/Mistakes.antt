@@ -1,16 +1,18 @@
--- Document 01, Worked and marked: the five mistakes to shut out, each as a case that a checker with it gets wrong.
+-- Document 01, Worked and marked: the five mistakes to shut out, each as a case that a checker with it gets wrong. The weight of a verdict:
+-- a loop that runs only its first body; and mistakes that no law of this crate would show.
 use mathlib.Core.Path.{_≡_}
-use mathlib.Core.Bool.{true}
+use mathlib.Core.Bool.{true, false}
 use mathlib.Core.Option.{Option, none, some}
 use mathlib.Core.List.{[], _∷_}
 use Prim.Native.Nat.{ℕ, zero, suc}
-use lib.IntN.{pos}
-use Rattle.ocl.specs.Types.{Boolean, Integer}
-use Rattle.ocl.specs.Values.{Value, bool, int}
+use lib.IntN.{pos, negsuc}
+use Rattle.ocl.specs.Types.{Boolean, Integer, sequence}
+use Rattle.ocl.specs.Values.{Value, bool, int, obj}
 use Rattle.ocl.specs.Model.{Row, Model}
-use Rattle.ocl.specs.Forms.{plus, truth, self, var, arith, sizeOf, castTo, Expr, node, leaf, unary, binary, conditional, letIn, attribute}
+use Rattle.ocl.specs.Forms.{plus, Quantifier, forAll, exists, truth, self, var, less, arith, sizeOf, castTo, Expr, node, leaf, unary, binary, conditional, letIn, attribute, quantified, iterate, assemble, noOperand, operand}
 use Rattle.ocl.specs.Typing.{typed, refused, Typed, typeRule, markOf}
-use Rattle.ocl.specs.Evaluation.{Outcome, value, undefined, evaluateRule}
+use Rattle.ocl.specs.Environment.{start}
+use Rattle.ocl.specs.Evaluation.{Outcome, value, undefined, stop, evaluation, evaluateRule}
 use Rattle.ocl.specs.Worked.{parents, undef₀, int₀}
 
 -- rows 0 and 1 have one name; class 1, below class 0, declares it again with another type
@@ -51,6 +53,26 @@ hidden = node 7 (letIn 1 (int₀ 0 (pos 2)) (node 6 (conditional
 unfoldable pub oneBranch : Expr
 oneBranch = node 5 (conditional (node 0 (leaf (truth true))) (int₀ 1 (pos 1)) (node 4 (binary (arith plus) (int₀ 2 (pos 1)) (int₀ 3 (pos 1)))))
 
+-- Q(1,3)
+unfoldable pub oneThree : Expr
+oneThree = node 2 (assemble sequence (operand (int₀ 0 (pos 1)) (operand (int₀ 1 (pos 3)) noOperand)))
+
+-- is each member of Q(1,3), or one of them, below n
+unfoldable pub eachBelow : Quantifier → ℕ → Expr
+eachBelow q n = node 6 (quantified q 1 oneThree (node 5 (binary less (node 3 (leaf (var 1))) (int₀ 4 (pos n)))))
+
+-- the sum of Q(1,3)
+unfoldable pub sumOf : Expr
+sumOf = node 7 (iterate 1 2 Integer oneThree (int₀ 3 (pos 0)) (node 6 (binary (arith plus) (node 4 (leaf (var 1))) (node 5 (leaf (var 2))))))
+
+-- let 1 = 2 in let 2 = 3 in var 1
+unfoldable pub outerSeen : Expr
+outerSeen = node 4 (letIn 1 (int₀ 0 (pos 2)) (node 3 (letIn 2 (int₀ 1 (pos 3)) (node 2 (leaf (var 1))))))
+
+-- `true`, where n steps have begun
+unfoldable pub trueAfter : ℕ → Outcome
+trueAfter n = evaluation model (λ p. 0) (node 0 (leaf (truth true))) (start (obj 0)) n
+
 pub record Mistakes : Type 0 where
   -- the attribute is found by the static class, not by the object's own
   pub static-type : ruleTyping attribute₅ ≡ record { answer = typed Integer; marks = (1, 0) ∷ [] }
@@ -66,3 +88,15 @@ pub record Mistakes : Type 0 where
   pub void-no-class : ruleTyping (node 1 (attribute 5 (undef₀ 0))) .answer ≡ refused 11 1
   pub void-no-cast : ruleTyping (node 1 (unary (castTo 0) (undef₀ 0))) .answer ≡ refused 11 1
   pub void-no-collection : ruleTyping (node 1 (unary sizeOf (undef₀ 0))) .answer ≡ refused 11 1
+  -- a loop goes on after its first body
+  pub all-bodies : outcomeIn (eachBelow forAll 2) ≡ value (bool false) 10
+  pub some-body : outcomeIn (eachBelow exists 1) ≡ value (bool false) 10
+  pub each-body : outcomeIn sumOf ≡ value (int (pos 4)) 11
+  -- a binding leaves those of other variables
+  pub outer-type : ruleTyping outerSeen .answer ≡ typed Integer
+  pub outer-value : outcomeIn outerSeen ≡ value (int (pos 2)) 5
+  -- negative Integers ascend
+  pub negative-less : outcomeIn (node 2 (binary less (int₀ 0 (negsuc 1)) (int₀ 1 (negsuc 0)))) ≡ value (bool true) 3
+  -- the 1,000,000th step is begun, the next one is not
+  pub last-step : trueAfter 999999 ≡ value (bool true) 1000000
+  pub step-stop : trueAfter 1000000 ≡ stop 16 1000000

@@ -6,7 +6,7 @@ use Prim.Native.Nat.{ℕ, zero, suc}
 use lib.Dec.{eqb}
 use Rattle.laws.specs.Choice.{if_then_else_}
 
--- the types that are no collection, but for Void
+-- the types other than Void and those of collections
 pub data Simple : Type 0 where
   any boolean integer : Simple
   class : ℕ → Simple

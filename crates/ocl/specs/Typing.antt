@@ -8,7 +8,7 @@ use Rattle.laws.specs.Choice.{if_then_else_}
 use Rattle.ocl.specs.Types.{any, boolean, integer, class, Kind, set, Letter, collection, exactly, Ty, void, simple, around, Boolean, Integer, Class, depth, sameKind, subtype, join}
 use Rattle.ocl.specs.Model.{Model, rowRead}
 use Rattle.ocl.specs.Environment.{Env, extend, start}
-use Rattle.ocl.specs.Forms.{Leaf, truth, undef, number, self, var, all, Unary, negation, sizeOf, convert, castTo, Binary, equal, less, arith, includes, including, union, Expr, node, Form, leaf, unary, binary, connective, isUndef, conditional, letIn, attribute, quantified, iterate, collect, Operands, noOperand, operand}
+use Rattle.ocl.specs.Forms.{Leaf, truth, undef, number, self, var, all, Unary, negation, sizeOf, convert, castTo, Binary, equal, less, arith, includes, including, union, Expr, node, Form, leaf, unary, binary, connective, isUndef, conditional, letIn, attribute, quantified, iterate, assemble, Operands, noOperand, operand}
 
 -- a type, or a refusal's number and its node
 pub data Answer : Type 0 where
@@ -191,8 +191,8 @@ noOperandTyping Γ = pure (typed void)
 unfoldable pub operandTyping : Model → ℕ → Typing → Typing → Typing
 operandTyping s p f g Γ = andThen (f Γ) (λ t. andThen (g Γ) (λ u. pure (common p (join (s .parent) t u) typed)))
 
-unfoldable pub collectTyping : ℕ → Kind → Typing → Typing
-collectTyping p k f Γ = andThen (f Γ) (λ t. pure (wrap p (exactly k) t))
+unfoldable pub assembleTyping : ℕ → Kind → Typing → Typing
+assembleTyping p k f Γ = andThen (f Γ) (λ t. pure (wrap p (exactly k) t))
 
 -- a node's refusals name that node
 unfoldable mutual
@@ -210,7 +210,7 @@ unfoldable mutual
   formTyping s p (attribute name a) = attributeTyping s p name (typing s a)
   formTyping s p (quantified q i a b) = quantifiedTyping s p i (typing s a) (typing s b)
   formTyping s p (iterate i j t a e b) = iterateTyping s p i j t (typing s a) (typing s e) (typing s b)
-  formTyping s p (collect k es) = collectTyping p k (operandsTyping s p es)
+  formTyping s p (assemble k es) = assembleTyping p k (operandsTyping s p es)
 
   pub operandsTyping : Model → ℕ → Operands → Typing
   operandsTyping s p noOperand = noOperandTyping

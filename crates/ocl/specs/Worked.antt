@@ -7,7 +7,7 @@ use lib.IntN.{ℤ, pos, negsuc}
 use Rattle.ocl.specs.Types.{set, sequence, collection, exactly, void, around, Any, Integer, Class, Parents, join}
 use Rattle.ocl.specs.Values.{bool, int, coll, nil, cons}
 use Rattle.ocl.specs.Model.{Model}
-use Rattle.ocl.specs.Forms.{Arith, plus, div, modulo, and, forAll, truth, undef, number, arith, Expr, node, leaf, binary, connective, isUndef, letIn, quantified, collect, noOperand, operand}
+use Rattle.ocl.specs.Forms.{Arith, plus, div, modulo, and, forAll, truth, undef, number, arith, Expr, node, leaf, binary, connective, isUndef, letIn, quantified, assemble, noOperand, operand}
 use Rattle.ocl.specs.Evaluation.{Outcome, value, undefined, evaluation}
 
 -- class 1 below class 0, and nothing else
@@ -62,11 +62,11 @@ pub record Worked : Type 0 where
   -- 2147483647 plus 1: u
   pub p8 : outcome (arith₂ plus (pos 2147483647) (pos 1)) ≡ undefined 3
   -- the Set of 2, 1, 2: S(1,2)
-  pub p9 : outcome (node 3 (collect set (operand (int₀ 0 (pos 2)) (operand (int₀ 1 (pos 1)) (operand (int₀ 2 (pos 2)) noOperand)))))
+  pub p9 : outcome (node 3 (assemble set (operand (int₀ 0 (pos 2)) (operand (int₀ 1 (pos 1)) (operand (int₀ 2 (pos 2)) noOperand)))))
       ≡ value (coll set (cons (int (pos 1)) (cons (int (pos 2)) nil))) 4
   -- #1 and Int: Any
   pub p10 : join (bareModel .parent) (Class 1) Integer ≡ some Any
   -- S(Int) and Q(Int): C(Int)
   pub p11 : join (bareModel .parent) (around (exactly set) Integer) (around (exactly sequence) Integer) ≡ some (around collection Integer)
   -- forAll over S(): t
-  pub p12 : outcome (node 2 (quantified forAll 1 (node 0 (collect set noOperand)) (false₀ 1))) ≡ value (bool true) 2
+  pub p12 : outcome (node 2 (quantified forAll 1 (node 0 (assemble set noOperand)) (false₀ 1))) ≡ value (bool true) 2

@@ -20,8 +20,8 @@ use Rattle.values.specs.Contracts.{means-bool, means-int, SortOf, PayloadOf, Sa
 use Rattle.values.specs.Integers.{numOf, Calculates, Lesser, arithOf}
 use Rattle.values.specs.declared.Simple.the-variants as simple
 use Rattle.values.specs.declared.Formed.{Formed}
-use Rattle.values.specs.declared.Num.{Num}
-use Rattle.values.specs.declared.Num.the-variants as num
+use Rattle.values.specs.declared.Computed.{Computed}
+use Rattle.values.specs.declared.Computed.the-variants as num
 use Rattle.values.proofs.Heads.{shape, Shape, shape-bool, shape-int, shape-obj, shape-coll, bias-small}
 use Rattle.values.proofs.Adding.{header}
 use Rattle.nodes.specs.Nodes.{binaryOf, arithByCode as arithCodeOf}
@@ -114,7 +114,7 @@ module _ {sp la lb s : ℕ} {B : List ℕ} where
           rw (i .is, j .is) (G .is (bool (isLess (orderInt (i .z) (j .z)))) fits-bool (rw (L .is (i .z) (j .z) (i .ranged) (j .ranged) (i .biased) (j .biased)) means-bool));
     }
 
-    module _ {o : Arith} {x : Num} (C : Calculates o p q x) where
+    module _ {o : Arith} {x : Computed} (C : Calculates o p q x) where
       calc : {A : List ℕ} {r : Ended} → SmallAnswer r → ((z y : ℤ) → x ≡ numOf (arithmetic o z y) → T (inRange z) → T (inRange y) → Ran (given (arithmetic o z y) s) sp B A r) → OfTwo (binaryApply (calculation o)) sp la lb s B A r
       unfolding binaryApply
       calc m g = record {

@@ -1,5 +1,5 @@
 -- An answer as one word and back. Assumes nothing.
-use mathlib.Core.Path.{_≡_, refl, _∙_}
+use mathlib.Core.Path.{_≡_, refl, ap, _∙_}
 use mathlib.Core.List.{List}
 use Prim.Native.Nat.{ℕ, _/_, _%_, _<_}
 use native.Mathlib.Omega.{arith}
@@ -7,7 +7,7 @@ use Rattle.ocl.specs.Evaluation.{Outcome}
 use Rattle.ocl.proofs.Steps.{Limited, limited-value, limited-undefined, limited-stuck, limited-stop}
 use Rattle.operations.specs.declared.Ended.{Ended}
 use Rattle.operations.specs.declared.Ended.the-variants as ended
-use Rattle.operations.specs.Answers.{Ends, ends-value, ends-undefined, ends-stuck, ends-stop, wordOf, endedOf, answerIn, Packs}
+use Rattle.operations.specs.Answers.{Ends, ends-value, ends-undefined, ends-stuck, ends-stop, wordOf, endedOf, answerIn, wordFor, Packs}
 
 -- the parts of a word
 module _ (k x s : ℕ) (h : k < 4) where
@@ -34,26 +34,29 @@ low-steps : (s : ℕ) → s < 1048576 → s % 1048576 ≡ s
 low-steps s h = omega arith
 
 pub packs-value : (len s : ℕ) {w : ℕ} → w ≡ wordOf 0 len s → Packs (ended.Value len s) w
-unfolding endedOf
+unfolding endedOf wordFor
 packs-value len s e = record {
+  is = e;
   small = λ h. rw (answer-in 0 len s (omega arith) e) (omega arith);
   same = λ h. answer-in 0 len s (omega arith) e ∙ rw (low-small len (h .0), low-steps s (h .1)) refl;
 }
 
 pub packs-undefined : (s : ℕ) {w : ℕ} → w ≡ wordOf 1 0 s → Packs (ended.Undef s) w
-unfolding endedOf
+unfolding endedOf wordFor
 packs-undefined s e = record {
+  is = e;
   small = λ h. rw (answer-in 1 0 s (omega arith) e) tt;
   same = λ h. answer-in 1 0 s (omega arith) e ∙ rw (low-steps s h) refl;
 }
 
 pub packs-stuck : {e : Ended} → ended.Stuck ≡ e → Packs e 2
-unfolding answerIn endedOf
-packs-stuck e = record { small = λ h. tt; same = λ h. e }
+unfolding answerIn endedOf wordFor
+packs-stuck e = record { is = ap wordFor e; small = λ h. tt; same = λ h. e }
 
 pub packs-stop : (c s : ℕ) {w : ℕ} → w ≡ wordOf 3 c s → Packs (ended.Stop c s) w
-unfolding endedOf
+unfolding endedOf wordFor
 packs-stop c s e = record {
+  is = e;
   small = λ h. rw (answer-in 3 c s (omega arith) e) tt;
   same = λ h. answer-in 3 c s (omega arith) e ∙ rw (low-small c (h .0), low-steps s (h .1)) refl;
 }

@@ -68,7 +68,15 @@ Slim (ended.Undef s) = s < 1048576
 Slim ended.Stuck = Unit {0}
 Slim (ended.Stop c s) = (c < 256) × (s < 1048576)
 
+-- every answer's word; one without room is cut to the bits there are
+unfoldable pub wordFor : Ended → ℕ
+wordFor (ended.Value len s) = wordOf 0 len s
+wordFor (ended.Undef s) = wordOf 1 0 s
+wordFor ended.Stuck = 2
+wordFor (ended.Stop c s) = wordOf 3 c s
+
 pub record Packs (e : Ended) (w : ℕ) : Type 0 where
+  pub is : w ≡ wordFor e
   pub small : SmallAnswer e → SmallAnswer (answerIn w)
   pub same : Slim e → answerIn w ≡ e
 

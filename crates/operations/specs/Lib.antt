@@ -2,3 +2,4 @@ pub mod Answers
 pub mod Tables
 pub mod Runs
 pub mod Operations
+pub mod Operand

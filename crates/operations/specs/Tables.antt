@@ -33,6 +33,12 @@ pub record Plain (st : Counts) (m : Model) : Type 0 where
   pub no-row : (i : ℕ) → st .rows ≤ i → m .row i .owner ≡ 0
   pub small : (o i : ℕ) (v : Value) → m .valueOf o i ≡ some v → size v ≤ 128
 
+-- the words hold the model, and i is among the rows that there can be
+pub record ReadsRow (st : Counts) (w0 : List ℕ) (i : ℕ) (m : Model) : Type 0 where
+  pub holds : HoldsModel st w0 m
+  pub plain : Plain st m
+  pub row : i < 64
+
 pub record IsA (st : Counts) (w0 : List ℕ) (o c : ℕ) (r : Bool) : Type 0 where
   pub is : (m : Model) → HoldsModel st w0 m → r ≡ isA m o (class c)
 

@@ -1,4 +1,4 @@
-// A value that was formed at the top of the stack, as an answer; an answer as one word; and a truth value read back.
+// Answers: with a value that was just formed on the stack; as one word; and a truth value read from a cell.
 use crate::Ended;
 use types::classes::wide;
 use values::Formed;
@@ -12,7 +12,7 @@ ghost use lib.ListN.{length};
 ghost use Rattle.values.specs.Contracts.{Narrow};
 ghost use Rattle.operations.specs.Answers.{formedAs, Gives, wordOf, answerIn, Packs, Truth};
 
-// A simple value at sp.
+// Puts a simple value at sp, which is then the answer.
 pub fn put(stack: &mut [u64], sp: usize, s: Simple, steps: u64) -> Ended
     requires { ⌜ Narrow s × (sp < length (now stack)) ⌝ }
     ensures { λ r. ⌜ Gives s sp steps (now (stack .entry)) (now (stack .exit)) r ⌝ }
@@ -21,7 +21,7 @@ pub fn put(stack: &mut [u64], sp: usize, s: Simple, steps: u64) -> Ended
     Ended::Value { len: 1, steps }
 }
 
-// What was formed, or 17 where it would be too large.
+// The collection that was formed, or stop 17 if it would be too large.
 pub fn formed(f: Formed, steps: u64) -> Ended
     ensures { λ r. ⌜ r ≡ formedAs f steps ⌝ }
 {
@@ -71,7 +71,7 @@ pub fn unpack(w: u64) -> Ended
     }
 }
 
-// 0 for false, 1 for true, 2 for any other value, by the value's first cell.
+// By a value's first cell: 0 for false, 1 for true, 2 for any other value.
 pub fn truth(cell: u64) -> u64
     ensures { λ r. ⌜ Truth cell r ⌝ }
 {

@@ -5,7 +5,7 @@ use crate::answers::put;
 use crate::answers::truth;
 use crate::lookup::is_a;
 use tables::Counts;
-use values::Num;
+use values::Computed;
 use values::Simple;
 use values::arith::END;
 use values::arith::ZERO;
@@ -16,9 +16,9 @@ use values::cells::OBJECT;
 use values::cells::SET;
 use values::cells::payload_of;
 use values::cells::sort_of;
-use values::collect::add;
-use values::collect::convert;
-use values::collect::union;
+use values::collections::add;
+use values::collections::convert;
+use values::collections::union;
 use values::order::equal;
 use values::order::includes;
 ghost use Prim.Native.Nat.{_+_, _≤_, _<_};
@@ -79,7 +79,7 @@ fn change(kind: u64, stack: &mut [u64], sp: usize, len: usize, steps: u64) -> En
     formed(convert(stack, sp, sp + len, kind), steps)
 }
 
-// `as`: an object of class c or below stays where it lies
+// `as`: an object of class c or below stays as it is, any other simple value becomes undefined
 fn cast(
     tables: &[u64],
     st: Counts,
@@ -107,7 +107,7 @@ fn cast(
     }
 }
 
-// The form with one operand that has this code; c is the class of `as`.
+// The strict form with one operand and this code; c is the class that `as` names.
 pub fn unary_apply(
     tables: &[u64],
     st: Counts,
@@ -130,7 +130,7 @@ pub fn unary_apply(
     }
 }
 
-// Whether the form with this code takes the value with this first cell on its left.
+// Whether the form with this code accepts a value with this first cell as its left operand.
 pub fn left_fits(form: u64, cell: u64) -> bool
     requires { ⌜ (13 ≤ form) × (form < 23) ⌝ }
     ensures { λ r. ⌜ FitsLeft form cell r ⌝ }
@@ -170,7 +170,7 @@ fn integers(form: u64, stack: &mut [u64], sp: usize, la: usize, lb: usize, steps
         let b = less(left, right);
         return put(stack, sp, Simple::Bool { b }, steps);
     }
-    let Num::Is { n } = calculate(form - 15, left, right) else {
+    let Computed::Is { n } = calculate(form - 15, left, right) else {
         return Ended::Undef { steps };
     };
     put(stack, sp, Simple::Integer { biased: n % END }, steps)
@@ -214,7 +214,7 @@ fn united(stack: &mut [u64], sp: usize, la: usize, lb: usize, steps: u64) -> End
     formed(union(stack, sp, sp + la, sp + la + lb), steps)
 }
 
-// The form with two operands that has this code.
+// The form with two operands and this code.
 pub fn binary_apply(
     form: u64,
     stack: &mut [u64],

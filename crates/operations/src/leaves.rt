@@ -1,4 +1,4 @@
-// The forms with no operand: `true` and `false`, `undef`, Integers, `self`, variables, and all objects of a class.
+// The forms without operands: `true` and `false`, `undef`, Integers, `self`, variables, and all objects of a class.
 use crate::Ended;
 use crate::answers::formed;
 use crate::answers::put;
@@ -10,13 +10,13 @@ use values::Simple;
 use values::arith::END;
 use values::cells::empty_of;
 use values::cells::push_copy;
-use values::collect::append_simple;
+use values::collections::append_simple;
 ghost use Prim.Native.Nat.{_+_, _≤_, _<_};
 ghost use lib.ListN.{length};
 ghost use Rattle.operations.specs.Tables.{Bounds, WithObject, Instances};
 ghost use Rattle.operations.specs.Runs.{Variable, Evals, ModelIn, leafFor};
 
-// The value of variable i, once more at sp.
+// Copies the value of variable i to sp.
 pub fn variable(i: usize, env: [usize; 16], stack: &mut [u64], sp: usize, steps: u64) -> Ended
     requires { ⌜ (i < 16) × (sp + 128 ≤ length (now stack)) ⌝ }
     ensures { λ r. ⌜ Variable i env sp steps (now (stack .entry)) (now (stack .exit)) r ⌝ }
@@ -32,7 +32,7 @@ pub fn variable(i: usize, env: [usize; 16], stack: &mut [u64], sp: usize, steps:
     formed(push_copy(stack, p, sp), steps)
 }
 
-// The Set of the len cells at sp, with object o where it is of class c or below.
+// Adds object o to the Set in the len cells at sp if the object is of class c or below.
 fn with_object(
     tables: &[u64],
     st: Counts,
@@ -53,7 +53,7 @@ fn with_object(
     }
 }
 
-// The Set of all objects of class c or below it. Objects ascend, so each goes to the end.
+// The Set of all objects of class c or below, in ascending order, so that each is added at the end.
 pub fn instances(tables: &[u64], st: Counts, c: u64, stack: &mut [u64], sp: usize) -> Formed
     requires { ⌜ Bounds st (length (now tables)) × (sp + 256 ≤ length (now stack)) ⌝ }
     ensures { λ r. ⌜ Instances st (now (tables .entry)) c sp (now (stack .entry)) (now (stack .exit)) r ⌝ }
@@ -72,7 +72,7 @@ pub fn instances(tables: &[u64], st: Counts, c: u64, stack: &mut [u64], sp: usiz
     Formed::Done { len }
 }
 
-// The form with this code; word is the literal, the variable or the class.
+// The form without operands that has this code; word is its literal, variable or class.
 pub fn leaf(
     tables: &[u64],
     st: Counts,

@@ -1,9 +1,10 @@
-// What the forms do once their operands have values, on a stack of lent words: forms with no operand, strict forms, and the
-// tables' values. Document 01, Evaluation. It depends on `values` for cells and on `tables`; the recursion is in `evaluation`.
-pub mod answers; // a value that was formed, as an answer; an answer as one word
-pub mod leaves; // forms with no operand
+// What each form does once its operands have run, on a stack of lent words: forms without operands, strict forms, and look-ups
+// in the tables. Document 01, Evaluation. It depends on `values` for cells and on `tables`; the recursion is in `evaluation`.
+pub mod answers; // answers with a value that was formed, and an answer as one word
+pub mod leaves; // forms without operands
 pub mod lookup; // objects, rows and values in the tables
 pub mod apply; // strict forms, given the values of their operands
+pub mod operand; // a form with one operand, once that has run
 
 // How evaluation ends: with a value of len cells, undefined, stuck, or with a stop's number; and the steps begun.
 pub enum Ended {

@@ -27,7 +27,7 @@ pub fn is_a(tables: &[u64], st: Counts, o: u64, c: u64) -> bool
     class_below(&tables[0..classes], tables[at], c)
 }
 
-// The class that declares row i; a row that is not there has owner 0.
+// The class that declares row i, or 0 if there is no such row.
 pub fn owner(tables: &[u64], st: Counts, i: u64) -> u64
     requires { ⌜ Bounds st (length (now tables)) ⌝ }
     ensures { λ r. ⌜ Owner st (now (tables .entry)) i r ⌝ }
@@ -38,7 +38,7 @@ pub fn owner(tables: &[u64], st: Counts, i: u64) -> u64
     tables[64 + wide(i)]
 }
 
-// The slot with the key: slots ascend by their keys, so the half in which it can be is halved.
+// The slot with this key, by binary search: slots stand in ascending order of their keys.
 pub fn find_slot(tables: &[u64], slots: usize, key: u64) -> Place
     requires { ⌜ (slots ≤ 1024) × (8192 ≤ length (now tables)) ⌝ }
     ensures { λ r. ⌜ FindsSlot (now (tables .entry)) slots key r ⌝ }
@@ -60,7 +60,7 @@ pub fn find_slot(tables: &[u64], slots: usize, key: u64) -> Place
     Place::Nowhere
 }
 
-// Where slot j's cells start among the cells; after the last slot, where the cells end.
+// Where slot j's cells start; for the place after the last slot, where all cells end.
 fn start_of(tables: &[u64], st: Counts, j: usize) -> u64
     requires { ⌜ (j ≤ 1024) × (8192 ≤ length (now tables)) ⌝ }
     ensures { λ r. ⌜ r ≡ cellsStart st (now (tables .entry)) j ⌝ }
@@ -71,7 +71,7 @@ fn start_of(tables: &[u64], st: Counts, j: usize) -> u64
     tables[1376 + j]
 }
 
-// The value in slot j, at sp.
+// Copies the value in slot j to sp.
 fn bring(tables: &[u64], st: Counts, j: usize, stack: &mut [u64], sp: usize, steps: u64) -> Ended
     requires { ⌜ (j < 1024) × (8192 ≤ length (now tables)) × (sp + 128 ≤ length (now stack)) ⌝ }
     ensures { λ r. ⌜ SlotStands st (now (tables .entry)) j sp steps (now (stack .entry)) (now (stack .exit)) r ⌝ }
@@ -90,7 +90,7 @@ fn bring(tables: &[u64], st: Counts, j: usize, stack: &mut [u64], sp: usize, ste
     )
 }
 
-// The value of row i for the object at sp, in the object's place.
+// Replaces the object at sp by its value in row i.
 pub fn attribute_of(
     tables: &[u64],
     st: Counts,

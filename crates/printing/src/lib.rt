@@ -1,20 +1,13 @@
-// What the program reads, and what it prints for a text. It depends on `checker` for the report, on `text` for writing a refusal,
-// and on the kit's io for reading.
+// What the program prints for a text. It depends on `checker` for the report and on `text` for writing a refusal.
 ghost use Prim.Native.Nat.{_≤_, _<_};
 ghost use lib.ListN.{length};
 ghost use Rattle.sheet.specs.Calls.{refusalAt};
 ghost use Rattle.sheet.specs.Report.{printed, program};
-ghost use Rattle.printing.specs.Printed.{Front, Within};
+ghost use Rattle.printing.specs.Printed.{Front};
 use checker::report_call::ocl_report;
 use text::spelling::put_byte;
 use text::spelling::put_bytes;
 use text::spelling::put_number;
-
-// How many bytes stand at the front of a buffer, or that the input could not be read.
-pub enum Filled {
-    With(usize),
-    Failed,
-}
 
 // `!`, number and place on a line, at the front of the output.
 fn put_refusal(number: u64, place: u64, out: &mut [u8]) -> usize
@@ -28,7 +21,7 @@ fn put_refusal(number: u64, place: u64, out: &mut [u8]) -> usize
     put_byte(out, end, b'\n')
 }
 
-// What the program prints for a text, at the front of the output; its length is answered.
+// Puts what the program prints for a text at the front of the output, and answers its length.
 pub fn printed_text(text: &[u8], out: &mut [u8; 65536]) -> usize
     ensures { λ r. ⌜ Front (program (now (text .entry))) (now (out .exit)) r ⌝ }
 {
@@ -41,23 +34,4 @@ pub fn printed_text(text: &[u8], out: &mut [u8; 65536]) -> usize
         return answer.length as usize;
     }
     put_refusal(number, answer.place, out)
-}
-
-// Reads until the input ends or the buffer is full.
-pub fn read_input(fd: i32, text: &mut [u8]) -> Filled
-    ensures { λ r. ⌜ Within (now (text .exit)) r ⌝ }
-{
-    let mut n: usize = 0;
-    while n < text.len() {
-        let got = libc::read(fd, &mut text[n..]);
-        if got < 0 {
-            return Filled::Failed;
-        }
-        let more = io::count(got, &text[n..]);
-        if more == 0 {
-            return Filled::With(n);
-        }
-        n += more;
-    }
-    Filled::With(n)
 }

@@ -25,7 +25,7 @@ use Rattle.tables.specs.declared.Step.the-variants as code
 use Rattle.tables.specs.Layout.{Holds, HoldsOpen, closed, opened, Fine, Moved, moved-next, moved-stop, Took}
 use Rattle.tables.proofs.Tables.{kept-refl, kept-then}
 use Rattle.slots.specs.Slots.{TookSlot}
-use Rattle.trees.specs.Rules.{RuleRoom, EndMoved, ended, Ended}
+use Rattle.trees.specs.Rules.{RuleRoom, EndMoved, ended, RuleEnded}
 use Rattle.reader.specs.Contracts.{placedAt, GoesOn, goes-on, refuses, TookLine, TookWhole, EndsAs, a-sheet, a-refusal, TookLast}
 use Rattle.reader.specs.declared.LineRead.the-variants as line-code
 use Rattle.reader.specs.declared.SheetRead.{SheetRead}
@@ -112,7 +112,7 @@ module _ (st : Counts) (k : ℕ) (line : Bytes) where
   unfolding onEnd
   end-stop f g EndMoved.refused = refuses
 
-  pub stop-whole : {n : ℕ} {w0 w1 v0 : List ℕ} → firstIsN (fieldsOf line) ≡ false → Ended st (code.Stop n) w0 w1 v0 → TookWhole st k line (line-code.Refused n k) w0 w1 v0 w1
+  pub stop-whole : {n : ℕ} {w0 w1 v0 : List ℕ} → firstIsN (fieldsOf line) ≡ false → RuleEnded st (code.Stop n) w0 w1 v0 → TookWhole st k line (line-code.Refused n k) w0 w1 v0 w1
   unfolding closing
   stop-whole {w1 = w1} e t = record { is = λ s h m f. rw e (end-stop f _ (t .is s h)); kept0 = t .kept; kept1 = kept-refl w1 }
 
@@ -121,7 +121,7 @@ module _ (st : Counts) (k : ℕ) (line : Bytes) where
   unfolding onEnd
   end-next f (ended {s = s} g h) (all-some m) t = rw (← add-one k) (at-line (k + 1) f (t .is s h m) (good-fields s (k + 1) (fieldsOf line) m))
 
-  pub next-whole : {su : Counts} {r : CodeStep} {w0 w1 v0 u0 : List ℕ} → firstIsN (fieldsOf line) ≡ false → Ended st (code.Next su) w0 w1 v0 → TookLine su (k + 1) line r v0 w1 u0 w1
+  pub next-whole : {su : Counts} {r : CodeStep} {w0 w1 v0 u0 : List ℕ} → firstIsN (fieldsOf line) ≡ false → RuleEnded st (code.Next su) w0 w1 v0 → TookLine su (k + 1) line r v0 w1 u0 w1
       → TookWhole st k line (placedAt r (k + 1)) w0 w1 u0 w1
   unfolding closing
   next-whole e t q = record { is = λ s h m f. rw e (end-next f (t .is s h) (good-endRule s m) q); kept0 = kept-then (t .kept) (q .kept0); kept1 = q .kept1 }
@@ -152,7 +152,7 @@ module _ (st : Counts) (k : ℕ) (part : Bytes) where
   unfolding onEnd
   last-stop g EndMoved.refused = a-refusal
 
-  pub stop-last : {n : ℕ} {w0 w1 v0 : List ℕ} → firstIsN (fieldsOf part) ≡ false → Ended st (code.Stop n) w0 w1 v0 → TookLast st k part (sheet.Refused n k) w0 w1 v0 w1
+  pub stop-last : {n : ℕ} {w0 w1 v0 : List ℕ} → firstIsN (fieldsOf part) ≡ false → RuleEnded st (code.Stop n) w0 w1 v0 → TookLast st k part (sheet.Refused n k) w0 w1 v0 w1
   unfolding readLines closing
   stop-last {w1 = w1} e t = record { is = λ s h. rw e (last-stop (readLast k part) (t .is s h)); kept0 = t .kept; kept1 = kept-refl w1 }
 
@@ -161,15 +161,15 @@ module _ (st : Counts) (k : ℕ) (part : Bytes) where
   unfolding onEnd
   last-next g (ended {s = s} a h) q = q s a h
 
-  next-last : {su : Counts} {r : SheetRead} {w0 w1 v0 : List ℕ} → firstIsN (fieldsOf part) ≡ false → Ended st (code.Next su) w0 w1 v0
+  next-last : {su : Counts} {r : SheetRead} {w0 w1 v0 : List ℕ} → firstIsN (fieldsOf part) ≡ false → RuleEnded st (code.Next su) w0 w1 v0
       → ((s : Sheet) → Fine su → Holds su v0 w1 s → EndsAs v0 w1 r (readLast k part s)) → TookLast st k part r w0 w1 v0 w1
   unfolding readLines closing
   next-last {w1 = w1} e t q = record { is = λ s h. rw e (last-next (readLast k part) (t .is s h) q); kept0 = t .kept; kept1 = kept-refl w1 }
 
-  pub sheet-last : {su : Counts} {w0 w1 v0 : List ℕ} → firstIsN (fieldsOf part) ≡ false → Ended st (code.Next su) w0 w1 v0 → length part ≡ 0
+  pub sheet-last : {su : Counts} {w0 w1 v0 : List ℕ} → firstIsN (fieldsOf part) ≡ false → RuleEnded st (code.Next su) w0 w1 v0 → length part ≡ 0
       → TookLast st k part (sheet.Sheet su) w0 w1 v0 w1
   sheet-last e t z = next-last e t (λ s a h. rw (last-empty k part s z) (a-sheet a h))
 
-  pub left-last : {su : Counts} {w0 w1 v0 : List ℕ} → firstIsN (fieldsOf part) ≡ false → Ended st (code.Next su) w0 w1 v0 → length part ≢ 0
+  pub left-last : {su : Counts} {w0 w1 v0 : List ℕ} → firstIsN (fieldsOf part) ≡ false → RuleEnded st (code.Next su) w0 w1 v0 → length part ≢ 0
       → TookLast st k part (sheet.Refused 3 (k + 1)) w0 w1 v0 w1
   left-last e t z = next-last e t (λ s a h. rw (last-left k part s z, ← add-one k) a-refusal)

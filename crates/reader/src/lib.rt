@@ -1,4 +1,4 @@
-// Reads a sheet line by line into the tables of the lent words. Document 01, The sheet. It depends on `text`, which parts the
+// Reads a sheet line by line into the tables of the lent words. Document 01, The sheet. It depends on `text`, which splits the
 // text, on `declarations`, `slots` and `trees`, which take the lines, and on `tables`.
 ghost use mathlib.Core.Path.{_≡_};
 ghost use mathlib.Core.Logic.{_≢_};

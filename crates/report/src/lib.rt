@@ -20,8 +20,7 @@ pub enum Reported {
     Refused(u64, u64),
 }
 
-// The length of the report of rules that all have types. Each line is formed in bytes of its own, so that the output stays as
-// it is.
+// The length of the report of rules that all have types. Each line is formed in separate bytes, so the output stays as it is.
 fn measured(w0: &[u64], st: Counts, w1: &mut [u64], w2: &mut [u64], bound: usize) -> usize
     requires { ⌜ (8192 ≤ length (now w0)) × (8192 ≤ length (now w1)) × (8192 ≤ length (now w2)) ⌝ }
     requires { ⌜ Bounded st (now w0) (now w1) bound ⌝ }
@@ -31,7 +30,7 @@ fn measured(w0: &[u64], st: Counts, w1: &mut [u64], w2: &mut [u64], bound: usize
     rule_lines(w0, st, w1, w2, &mut line, false)
 }
 
-// Whether the report fits into so many bytes: it is measured only where the bound does not tell.
+// Whether the report fits into so many bytes. It is measured only if the bound cannot tell.
 fn report_fits(
     w0: &[u64],
     st: Counts,

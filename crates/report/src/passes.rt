@@ -1,5 +1,5 @@
-// The report's lines, rule by rule and object by object: each is put behind those before it where it is kept, else over the
-// one before it, so that one line's room is enough to count them. `total` is the number of bytes so far.
+// The report's lines, rule by rule and object by object. Lines that are kept are put one behind the other; lines that are only
+// counted overwrite one another, so room for one is enough. `total` is the number of bytes so far.
 ghost use Prim.Native.Nat.{_≤_, _<_};
 ghost use lib.ListN.{length};
 ghost use Rattle.tables.specs.Layout.{Kept};

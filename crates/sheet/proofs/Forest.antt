@@ -15,7 +15,7 @@ use Rattle.laws.proofs.Lists.{length-more, member-append, each-imp, each-append
 use Rattle.laws.proofs.Tests.{and-l, and-r, or-l, or-r}
 use Rattle.ocl.specs.Forms.{Expr, node}
 use Rattle.ocl.specs.Laws.{numbers, numbersIn, numbersOf}
-use Rattle.sheet.specs.Lines.{Shape, leaf, unary, binary, connective, isUndef, conditional, letIn, attribute, quantified, iterate, collect}
+use Rattle.sheet.specs.Lines.{Shape, leaf, unary, binary, connective, isUndef, conditional, letIn, attribute, quantified, iterate, assemble}
 use Rattle.sheet.specs.Sheet.{operandsOf, growAll, grow, treeOf}
 use Rattle.sheet.specs.Refusals.{fresh}
 
@@ -55,7 +55,7 @@ grown f (letIn i a b) = two f a b
 grown f (attribute name a) = one f a
 grown f (quantified q i a b) = two f a b
 grown f (iterate i j t a e b) = three f a e b
-grown f (collect k es) = grown-all f es
+grown f (assemble k es) = grown-all f es
 
 -- ---- two lists with nothing in common
 

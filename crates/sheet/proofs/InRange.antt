@@ -11,7 +11,7 @@ use Rattle.ocl.specs.Values.{Value, bool, int, obj, coll, Values, nil, cons, ev
 use Rattle.ocl.specs.Forms.{Leaf, truth, undef, number, self, var, all, Expr}
 use Rattle.ocl.specs.Laws.{leafLiterals, literals, literalsIn, literalsOf, integerInRange, integersInRange}
 use Rattle.ocl.specs.Evaluation.{inRange}
-use Rattle.sheet.specs.Lines.{Shape, leaf, unary, binary, connective, isUndef, conditional, letIn, attribute, quantified, iterate, collect}
+use Rattle.sheet.specs.Lines.{Shape, leaf, unary, binary, connective, isUndef, conditional, letIn, attribute, quantified, iterate, assemble}
 use Rattle.sheet.specs.Sheet.{growAll, grow, treeOf}
 use Rattle.sheet.specs.Refusals.{partWithin, leafWithin, formWithin}
 
@@ -74,4 +74,4 @@ module _ (f : ℕ → Expr) (h : (a : ℕ) → InRange (literals (f a))) where
   grown-in-range (attribute name a) t = h a
   grown-in-range (quantified q i a b) t = each-append (h a) (h b)
   grown-in-range (iterate i j u a e b) t = each-append (h a) (each-append (h e) (h b))
-  grown-in-range (collect k es) t = all-grown es
+  grown-in-range (assemble k es) t = all-grown es

@@ -6,6 +6,7 @@ pub mod Good
 pub mod Acceptance
 pub mod Listed
 pub mod Soundness
+pub mod NeverStuck
 pub mod Examples
 pub mod Numbers
 pub mod Parsers

@@ -31,7 +31,7 @@ use Rattle.sheet.specs.Soundness.{Lent, sheetFrom, sheetIn, ruleReach, r
 use Rattle.sheet.specs.Laws.{ReadRefusal, over-length, at-line, TypeRefusals}
 use Rattle.sheet.proofs.Spelling.{type-back}
 use Rattle.sheet.proofs.Listed.{read-refusals}
-use Rattle.sheet.proofs.Good.{Good}
+use Rattle.sheet.proofs.Good.{RuleOk, Good}
 use Rattle.sheet.proofs.Acceptance.{accepted-good, good-model}
 
 -- ---- an outcome and what evaluate answers for it
@@ -64,12 +64,14 @@ module _ (m : Model) (t : Ty) (k : ℕ) where
 
 -- ---- a sheet, a rule and an object of it
 
-pub sound-rule : (s : Sheet) → Good s → (r o : ℕ) (x : Rule) (t : Ty) → getElem? (s .rules) r ≡ some x → typingOf s x .answer ≡ typed t
+pub sound-body : (s : Sheet) → Good s → (o : ℕ) (x : Rule) (t : Ty) → RuleOk (length (s .lines)) x → typingOf s x .answer ≡ typed t
     → T (isA (modelOf s) o (class (x .context))) → Sound (modelOf s) t (reach (x .body)) (outcomeOf s x o)
 unfolding typingOf outcomeOf
-sound-rule s g r o x t e h a =
-    let k = each-elem r (g .rules) e in
-    soundness (modelOf s) (good-model s g) (x .body) (k .distinct) (k .in-range) (x .context) o t h a
+sound-body s g o x t k h a = soundness (modelOf s) (good-model s g) (x .body) (k .distinct) (k .in-range) (x .context) o t h a
+
+pub sound-rule : (s : Sheet) → Good s → (r o : ℕ) (x : Rule) (t : Ty) → getElem? (s .rules) r ≡ some x → typingOf s x .answer ≡ typed t
+    → T (isA (modelOf s) o (class (x .context))) → Sound (modelOf s) t (reach (x .body)) (outcomeOf s x o)
+sound-rule s g r o x t e h a = sound-body s g o x t (each-elem r (g .rules) e) h a
 
 -- ---- the calls, with every slice at its minimum or above
 

@@ -96,7 +96,7 @@ onObject m (some d) o c v = if isA m o (class c) then v else refusal 15
 unfoldable pub outcomeOf : Sheet → Rule → ℕ → Outcome
 outcomeOf s r o = evaluateRule (modelOf s) (markOf (typingOf s r)) (r .body) o
 
--- stuck has no number of document 01: demand 3 says that no call ends so, and 100 stands for it
+-- stuck has no number of document 01, and 100 stands for it; no call ends so (`NeverStuck`, Soundness.antt)
 unfoldable pub ended : Outcome → Verdict
 ended (value v n) = record { number = 0; steps = n; place = 0; output = spellValue v }
 ended (undefined n) = record { number = 0; steps = n; place = 0; output = bytes "u" }

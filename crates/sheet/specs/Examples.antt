@@ -1,10 +1,11 @@
 -- Small sheets and what the program prints for each, as one table. Document 01's own sheet is the first.
 use mathlib.Core.Path.{_≡_}
 use mathlib.Core.List.{List, [], _∷_, _++_}
+use Prim.Native.Nat.{ℕ, zero, suc}
 use Prim.Native.String.{String}
 use lib.Dec.{eqb}
 use Rattle.laws.specs.Choice.{if_then_else_}
-use Rattle.sheet.specs.Text.{Bytes, bytes}
+use Rattle.sheet.specs.Text.{Bytes, bytes, spellNumber}
 use Rattle.sheet.specs.Report.{program}
 
 -- a space stands for the tab between two fields
@@ -21,6 +22,11 @@ lines (l ∷ ls) = tabbed (bytes l) ++ bytes "\n" ++ lines ls
 unfoldable pub prints : List String → Bytes
 prints ls = program (lines ls)
 
+-- a rule in which n times `not` stands over `true`
+unfoldable pub nots : ℕ → Bytes
+nots zero = lines ("C 0 -" ∷ "R 0 0" ∷ "N 0 true" ∷ [])
+nots (suc n) = nots n ++ bytes "N\t" ++ spellNumber (suc n) ++ bytes "\tnot\t" ++ spellNumber n ++ bytes "\n"
+
 pub record Examples : Type 0 where
   pub paper : prints ("C 0 -" ∷ "C 1 0" ∷ "A 0 0 5 Int" ∷ "O 0 1" ∷ "O 1 0" ∷ "V 0 0 9" ∷ "R 0 0"
       ∷ "N 0 self" ∷ "N 1 attr 0 5" ∷ "N 2 int 12" ∷ "N 3 less 1 2" ∷ []) ≡ bytes "0 0 t 4\n0 1 u 3\n"
@@ -36,10 +42,12 @@ pub record Examples : Type 0 where
   pub class-64 : prints ("C 64 7" ∷ []) ≡ bytes "! 4 1\n"
   pub integer-range : prints ("C 0 -" ∷ "R 0 0" ∷ "N 0 int 2147483648" ∷ []) ≡ bytes "! 4 3\n"
   pub four-deep : prints ("C 0 -" ∷ "A 0 9 5 S(Q(B(C(Int))))" ∷ []) ≡ bytes "! 4 2\n"
-  -- 5: a gap; a block that comes again; a name twice in a class; members out of order, before 6; the same variable twice
+  -- 5: a gap; a block that comes again; a name twice in a class; two values in one row of an object; members out of order, before 6; the
+  -- same variable twice
   pub gap : prints ("C 0 -" ∷ "C 2 0" ∷ []) ≡ bytes "! 5 2\n"
   pub block-again : prints ("C 0 -" ∷ "O 0 0" ∷ "C 1 0" ∷ []) ≡ bytes "! 5 3\n"
   pub name-twice : prints ("C 0 -" ∷ "A 0 0 5 Int" ∷ "A 1 0 5 Bool" ∷ []) ≡ bytes "! 5 3\n"
+  pub value-twice : prints ("C 0 -" ∷ "A 0 0 5 Int" ∷ "O 0 0" ∷ "V 0 0 1" ∷ "V 0 0 2" ∷ []) ≡ bytes "! 5 5\n"
   pub members-order : prints ("C 0 -" ∷ "A 0 0 5 S(#0)" ∷ "O 0 0" ∷ "V 0 0 S(@7,@7)" ∷ []) ≡ bytes "! 5 4\n"
   pub one-variable : prints ("C 0 -" ∷ "R 0 0" ∷ "N 0 iter 5 1 1 Int 6 7" ∷ []) ≡ bytes "! 5 3\n"
   -- 6: a parent that is the class itself
@@ -50,6 +58,9 @@ pub record Examples : Type 0 where
   pub used-twice : prints ("C 0 -" ∷ "R 0 0" ∷ "N 0 true" ∷ "N 1 and 0 0" ∷ []) ≡ bytes "! 8 4\n"
   pub unused : prints ("C 0 -" ∷ "R 0 0" ∷ "N 0 true" ∷ "N 1 true" ∷ "x" ∷ []) ≡ bytes "! 8 4\n"
   pub no-node : prints ("C 0 -" ∷ "R 0 0" ∷ []) ≡ bytes "! 8 2\n"
+  -- 12 levels pass, 13 do not
+  pub deepest-rule : program (nots 11) ≡ []
+  pub too-deep-rule : program (nots 12) ≡ bytes "! 8 15\n"
   -- 9 to 13, at the node's line
   pub unbound : prints ("C 0 -" ∷ "R 0 0" ∷ "N 0 true" ∷ "N 1 var 3" ∷ "N 2 and 0 1" ∷ []) ≡ bytes "! 9 4\n"
   pub no-common-type : prints ("C 0 -" ∷ "R 0 0" ∷ "N 0 true" ∷ "N 1 coll S" ∷ "N 2 eq 0 1" ∷ []) ≡ bytes "! 10 5\n"

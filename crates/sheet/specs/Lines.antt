@@ -26,7 +26,7 @@ pub data Shape : Type 0 where
   attribute : ℕ → ℕ → Shape
   quantified : Quantifier → ℕ → ℕ → ℕ → Shape
   iterate : ℕ → ℕ → Ty → ℕ → ℕ → ℕ → Shape
-  collect : Kind → List ℕ → Shape
+  assemble : Kind → List ℕ → Shape
 
 -- a line's content; numbers are of any size
 pub data Line : Type 0 where
@@ -94,10 +94,10 @@ iterateFields =
 
 -- `k e..`, at most four operands
 unfoldable pub atMostFour : Kind → List ℕ → Option Shape
-atMostFour k es = if leb (length es) 4 then some (collect k es) else none
+atMostFour k es = if leb (length es) 4 then some (assemble k es) else none
 
-unfoldable pub collectFields : List Bytes → Option Shape
-collectFields = next aKind (λ k fs. onSome (each aNumber fs) (atMostFour k))
+unfoldable pub assembleFields : List Bytes → Option Shape
+assembleFields = next aKind (λ k fs. onSome (each aNumber fs) (atMostFour k))
 
 -- a form's word and the fields after it
 unfoldable pub shapeOf : Bytes → List Bytes → Option Shape
@@ -108,7 +108,7 @@ shapeOf w fs =
     else if is w (bytes "int") then next anInteger (λ z. done (leaf (number z))) fs
     else if is w (bytes "self") then done (leaf self) fs
     else if is w (bytes "var") then next aNumber (λ i. done (leaf (var i))) fs
-    else if is w (bytes "coll") then collectFields fs
+    else if is w (bytes "coll") then assembleFields fs
     else if is w (bytes "let") then threeNumbers letIn fs
     else if is w (bytes "if") then threeNumbers conditional fs
     else if is w (bytes "and") then twoOperands (connective and) fs

@@ -11,7 +11,7 @@ use Rattle.ocl.specs.Values.{Value, bool, int, obj, coll, Values, nil, cons, si
 use Rattle.ocl.specs.Evaluation.{inRange, isLess}
 use Rattle.ocl.specs.Model.{Row, isA, belongs}
 use Rattle.ocl.specs.Forms.{Leaf, truth, undef, number, self, var, all, Unary, negation, sizeOf, convert, castTo}
-use Rattle.sheet.specs.Lines.{Shape, leaf, unary, binary, connective, isUndef, conditional, letIn, attribute, quantified, iterate, collect, Line, classLine, rowLine, objectLine, valueLine, ruleLine, nodeLine}
+use Rattle.sheet.specs.Lines.{Shape, leaf, unary, binary, connective, isUndef, conditional, letIn, attribute, quantified, iterate, assemble, Line, classLine, rowLine, objectLine, valueLine, ruleLine, nodeLine}
 use Rattle.sheet.specs.Sheet.{Slot, Current, Sheet, modelOf, operandsOf}
 
 -- ---- parts of lines
@@ -122,7 +122,7 @@ formWithin (letIn i a b) = isVariable i
 formWithin (attribute name a) = ltb name 256
 formWithin (quantified q i a b) = isVariable i
 formWithin (iterate i j t a e b) = isVariable i && isVariable j && typeWithin t
-formWithin (collect k es) = true
+formWithin (assemble k es) = true
 
 unfoldable pub parentWithin : Option ℕ → Bool
 parentWithin none = true
@@ -183,7 +183,7 @@ twoVariables (letIn i a b) = true
 twoVariables (attribute name a) = true
 twoVariables (quantified q i a b) = true
 twoVariables (iterate i j t a e b) = not (eqb i j)
-twoVariables (collect k es) = true
+twoVariables (assemble k es) = true
 
 unfoldable pub numbered : Sheet → Line → Bool
 numbered s (classLine n p) = eqb n (length (s .parents))
@@ -228,7 +228,7 @@ formKnown n (letIn i a b) = true
 formKnown n (attribute name a) = true
 formKnown n (quantified q i a b) = true
 formKnown n (iterate i j t a e b) = classBelow n t
-formKnown n (collect k es) = true
+formKnown n (assemble k es) = true
 
 unfoldable pub partsKnown : Sheet → Line → Bool
 partsKnown s (classLine n p) = parentSmaller n p

@@ -14,7 +14,7 @@ use Rattle.sheet.specs.Sheet.{Rule, Sheet, modelOf}
 use Rattle.sheet.specs.Reading.{readText}
 use Rattle.sheet.specs.Calls.{Verdict, answer, refusal, shortWords, shortOutput, onSheet, typingOf, onType, outcomeOf}
 
--- the value, or a stop's number behind `!`; stuck, which no typed rule ends in, is `!100`
+-- the value, or a stop's number behind `!`; stuck would be `!100`, which is in no report (`NeverStuck`, Soundness.antt)
 unfoldable pub spellOutcome : Outcome → Bytes
 spellOutcome (value v n) = spellValue v
 spellOutcome (undefined n) = bytes "u"

@@ -11,7 +11,7 @@ use Rattle.ocl.specs.Types.{void}
 use Rattle.ocl.specs.Values.{Value}
 use Rattle.ocl.specs.Model.{Row, Model}
 use Rattle.ocl.specs.Forms.{undef, Expr, node, Form, Operands, noOperand, operand, levels}
-use Rattle.sheet.specs.Lines.{Shape, leaf, unary, binary, connective, isUndef, conditional, letIn, attribute, quantified, iterate, collect, Line, classLine, rowLine, objectLine, valueLine, ruleLine, nodeLine}
+use Rattle.sheet.specs.Lines.{Shape, leaf, unary, binary, connective, isUndef, conditional, letIn, attribute, quantified, iterate, assemble, Line, classLine, rowLine, objectLine, valueLine, ruleLine, nodeLine}
 
 -- a V line: the value of a row for an object
 pub record Slot : Type 0 where
@@ -85,7 +85,7 @@ operandsOf (letIn i a b) = a ∷ b ∷ []
 operandsOf (attribute name a) = a ∷ []
 operandsOf (quantified q i a b) = a ∷ b ∷ []
 operandsOf (iterate i j t a e b) = a ∷ e ∷ b ∷ []
-operandsOf (collect k es) = es
+operandsOf (assemble k es) = es
 
 -- operands by their trees
 unfoldable pub growAll : (ℕ → Expr) → List ℕ → Operands
@@ -104,7 +104,7 @@ grow f (letIn i a b) = Form.letIn i (f a) (f b)
 grow f (attribute name a) = Form.attribute name (f a)
 grow f (quantified q i a b) = Form.quantified q i (f a) (f b)
 grow f (iterate i j t a e b) = Form.iterate i j t (f a) (f e) (f b)
-grow f (collect k es) = Form.collect k (growAll f es)
+grow f (assemble k es) = Form.assemble k (growAll f es)
 
 -- the tree of node a of the rule; an operand is a node before it, so that another is never asked for
 unfoldable pub treeOf : List Expr → ℕ → Expr

@@ -3,7 +3,7 @@ use mathlib.Core.Path.{_≡_}
 use mathlib.Core.Logic.{_≢_}
 use mathlib.Core.Bool.{Bool, false}
 use mathlib.Core.Option.{Option, none, some}
-use mathlib.Core.List.{List, []}
+use mathlib.Core.List.{List, [], _++_}
 use Prim.Native.Nat.{ℕ, _≤_}
 use lib.ListN.{length, getElem?}
 use lib.Dec.{T}
@@ -18,6 +18,7 @@ use Rattle.sheet.specs.Spelling.{spellType, spellValue}
 use Rattle.sheet.specs.Sheet.{Rule, Sheet, empty, modelOf}
 use Rattle.sheet.specs.Reading.{Reading, accepted, rejected, readText}
 use Rattle.sheet.specs.Calls.{Verdict, answer, readCall, typeCall, outcomeOf, evaluateCall}
+use Rattle.sheet.specs.Report.{reportCall, program}
 
 -- every lent slice (document 01's word for the words and the output that a caller hands over) is at its minimum or above
 pub record Lent (w0 w1 w2 : List ℕ) (out : Bytes) : Type 0 where
@@ -77,3 +78,17 @@ Demand3 =
     → typeCall text r w0 w1 w2 out ≡ answer (spellType t)
     → T (ofContext text r o)
     → SoundCall text r o t (evaluateCall text r o w0 w1 w2 out)
+
+-- what stands for stuck, 100 in `ended` and `!100` in a report, is never seen: each call's number is 0 or one of document 01's table, and
+-- `!100` is nowhere in a report or in what the program prints
+pub record NeverStuck (text : Bytes) (w0 w1 w2 : List ℕ) (out : Bytes) : Type 0 where
+  pub read-number : readCall text w0 w1 w2 .number ≤ 18
+  pub type-number : (r : ℕ) → typeCall text r w0 w1 w2 out .number ≤ 18
+  pub evaluate-number : (r o : ℕ) → evaluateCall text r o w0 w1 w2 out .number ≤ 18
+  pub report-number : reportCall text w0 w1 w2 out .number ≤ 18
+  pub report-bytes : (a b : Bytes) → reportCall text w0 w1 w2 out .output ≢ a ++ (bytes "!100" ++ b)
+  pub program-bytes : (a b : Bytes) → program text ≢ a ++ (bytes "!100" ++ b)
+
+-- whatever the text, accepted or not, and whatever is lent
+abbrev pub NeverStuckLaw : Type 0
+NeverStuckLaw = (text : Bytes) (w0 w1 w2 : List ℕ) (out : Bytes) → NeverStuck text w0 w1 w2 out

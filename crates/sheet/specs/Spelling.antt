@@ -92,7 +92,7 @@ unfoldable mutual
   spellValue (obj o) = byte "@" ∷ spellNumber o
   spellValue (coll k vs) = kindByte k ∷ byte "(" ∷ spellMembers vs
 
-  -- the members, parted by commas, and the bracket after them
+  -- the members, separated by commas, and the bracket after them
   pub spellMembers : Values → Bytes
   spellMembers nil = bytes ")"
   spellMembers (cons v vs) = spellValue v ++ spellMore vs

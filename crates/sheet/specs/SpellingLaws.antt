@@ -60,7 +60,7 @@ pub record LengthLaws : Type 0 where
   pub integer-length : (z : ℤ) → T (inRange z) → length (spellInteger z) ≤ 11
   -- three letters with their brackets, and four bytes
   pub type-length : (t : Ty) → depth t ≤ 3 → T (classBelow 64 t) → length (spellType t) ≤ 13
-  -- twelve bytes for each part: eleven of an Integer, and what parts it from the next
+  -- twelve bytes for each part: eleven of an Integer, and one that separates it from the next
   pub value-length : (v : Value) → T (everyPart partWithin v) → size v ≤ 128 → length (spellValue v) ≤ 1536
 
 -- ---- separators

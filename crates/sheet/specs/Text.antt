@@ -34,7 +34,7 @@ split sep (b ∷ s) = if eqb b sep then [] ∷ split sep s else onto b (split se
 unfoldable pub linesOf : Bytes → List Bytes
 linesOf text = split 10 text
 
--- a tab parts two fields
+-- a tab separates two fields
 unfoldable pub fieldsOf : Bytes → List Bytes
 fieldsOf line = split 9 line
 

@@ -21,7 +21,7 @@ use Rattle.values.proofs.Encoding.{order-law}
 use Rattle.values.proofs.Forming.{after-value}
 use Rattle.values.proofs.Members.{Left, next-member, none-left}
 use Rattle.slots.specs.Machine.{glue}
-use Rattle.slots.specs.Order.{follows, row, inRow, RowAt, OrderIs}
+use Rattle.slots.specs.Order.{follows, row, membersInOrder, RowAt, OrderIs}
 
 -- ---- rows make the whole
 
@@ -59,8 +59,8 @@ coll-ordered k us (cons v (cons w ws)) =
     ∙ rw (← follows-kind k us (order v w)) (three (ordered v) (follows (sort (coll k us)) (code (order v w))) (row (sort (coll k us)) (cons w ws)) (eachOrdered (cons w ws)))
 
 -- a value is ordered where its own members are in a row, and each of them is ordered
-ordered-law : (v : Value) → ordered v ≡ inRow v && eachOrdered (members v)
-unfolding ordered inRow members row eachOrdered
+ordered-law : (v : Value) → ordered v ≡ membersInOrder v && eachOrdered (members v)
+unfolding ordered membersInOrder members row eachOrdered
 ordered-law (bool b) = refl
 ordered-law (int z) = refl
 ordered-law (obj o) = refl
@@ -100,10 +100,10 @@ free-row t e (cons v nil) = refl
 free-row t e (cons v (cons w ws)) = rw (free-follows t (code (order v w)) e, free-row t e (cons w ws))
 
 pub row-free : {S : List ℕ} {p t : ℕ} {b : Bool} → p < length S → SortOf (getD S p 0) t → b ≡ follows t 2 → b ≡ true → RowAt S p true
-unfolding inRow
+unfolding membersInOrder
 row-free {S} {p} {t} h so got z = record { is = λ v y f e. told v y f e }
   where
-    told : (v : Value) (y : List ℕ) → Fits v → slice p (length S) S ≡ enc v ++ y → true ≡ inRow v
+    told : (v : Value) (y : List ℕ) → Fits v → slice p (length S) S ≡ enc v ++ y → true ≡ membersInOrder v
     told v y f e =
         let g : getD S p 0 ≡ head v = sym (ap (λ (l : List ℕ). getD l 0 0) (slice-cons p (length S) S 0 h (omega arith))) ∙ ap (λ (l : List ℕ). getD l 0 0) (e ∙ ap (λ (l : List ℕ). l ++ y) (enc-parts v)) in
         sym (ap (λ (n : ℕ). row n (members v)) (sym (so .is v f g)) ∙ free-row t (sym got ∙ z) (members v))
@@ -111,7 +111,7 @@ row-free {S} {p} {t} h so got z = record { is = λ v y f e. told v y f e }
 pub record InRow (S : List ℕ) (v : Value) (sort end q : ℕ) : Type 0 where
   pub rest : Values
   pub left : Left S q end rest
-  pub same : inRow v ≡ row sort rest
+  pub same : membersInOrder v ≡ row sort rest
 
 pub record Rowing (S : List ℕ) (p sort end q : ℕ) : Type 0 where
   pub room : end ≤ length S
@@ -119,7 +119,7 @@ pub record Rowing (S : List ℕ) (p sort end q : ℕ) : Type 0 where
   pub going : (v : Value) (y : List ℕ) → Fits v → slice p (length S) S ≡ enc v ++ y → InRow S v sort end q
 
 pub row-start : {S : List ℕ} {p t end : ℕ} → p < length S → SortOf (getD S p 0) t → Skips p (length S) S end → Rowing S p t end (p + 1)
-unfolding inRow
+unfolding membersInOrder
 row-start {S} {p} {t} {end} h so sk = record {
   room = sk .within;
   below = let u = sk .up h in omega arith;
@@ -155,7 +155,7 @@ module _ {S : List ℕ} {p t end q r : ℕ} (F : Rowing S p t end q) (h : q < en
       w : Value
       ws : Values
       left : Left S r end ws
-      same : inRow v ≡ (b && row t ws)
+      same : membersInOrder v ≡ (b && row t ws)
 
     two : (v : Value) (y : List ℕ) → Fits v → slice p (length S) S ≡ enc v ++ y → Two v
     unfolding row
@@ -223,7 +223,7 @@ module _ {S : List ℕ} {p : ℕ} (F : Ordering S p) where
               w = w;
               ws = ws;
               left = record { fits = glue-fits (members-fit g) gs; lies = split-right S p (length S) (head w ∷ []) (encs (glue (members w) ws)) (omega arith) (omega arith) x };
-              same = s ∙ ap (λ (a : Bool). a && eachOrdered ws) (ordered-law w) ∙ and-assoc (inRow w) (eachOrdered (members w)) (eachOrdered ws) ∙ rw (r .is w (encs ws) g d) (ap (λ (a : Bool). inRow w && a) (sym (each-glue (members w) ws)));
+              same = s ∙ ap (λ (a : Bool). a && eachOrdered ws) (ordered-law w) ∙ and-assoc (membersInOrder w) (eachOrdered (members w)) (eachOrdered ws) ∙ rw (r .is w (encs ws) g d) (ap (λ (a : Bool). membersInOrder w && a) (sym (each-glue (members w) ws)));
             }
 
     pub order-not : b ≡ false → OrderIs S false

@@ -22,11 +22,11 @@ row s (cons v nil) = true
 row s (cons v (cons w ws)) = follows s (code (order v w)) && row s (cons w ws)
 
 -- a value's own members, not those of its members
-unfoldable pub inRow : Value → Bool
-inRow v = row (sort v) (members v)
+unfoldable pub membersInOrder : Value → Bool
+membersInOrder v = row (sort v) (members v)
 
 pub record RowAt (cells : List ℕ) (p : ℕ) (r : Bool) : Type 0 where
-  pub is : (v : Value) (y : List ℕ) → Fits v → slice p (length cells) cells ≡ enc v ++ y → r ≡ inRow v
+  pub is : (v : Value) (y : List ℕ) → Fits v → slice p (length cells) cells ≡ enc v ++ y → r ≡ membersInOrder v
 
 pub record OrderIs (cells : List ℕ) (r : Bool) : Type 0 where
   pub is : (v : Value) → Fits v → cells ≡ enc v → r ≡ ordered v

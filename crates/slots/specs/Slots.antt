@@ -61,7 +61,7 @@ slotCounts st n = record {
   first = st .first;
 }
 
--- the line with the object o', the row a' and the value of n cells, of which the code has o and a cut at a million
+-- the line with the object o', the row a' and the value of n cells; the code has o' and a' as o and a, a million at most
 pub record SlotTook (st : Counts) (k o a n : ℕ) (r : Step) (w0 w1 v0 : List ℕ) : Type 0 where
   pub is : (s : Sheet) (o' a' : ℕ) (v : Value) → Holds st w0 w1 s → SmallRows s → ValueAt st w0 n v → n ≡ size v → valueWithin v ≡ true
       → o ≡ min o' 1000000 → a ≡ min a' 1000000 → Moved v0 w1 r (stepLine s k (valueLine o' a' v))

@@ -1,5 +1,5 @@
 // `V o a v`: the value v of row a for object o. A value's cells are written behind those of the slots so far before the line
-// is judged: words behind a table's count are free, so that a refusal leaves nothing to undo.
+// is judged: words behind a table's count are free, so a refusal leaves nothing to undo.
 ghost use mathlib.Core.Path.{_≡_};
 ghost use mathlib.Core.Bool.{true};
 ghost use mathlib.Core.List.{List, []};
@@ -44,7 +44,7 @@ fn read_into(f: &[u8], w0: &mut [u64], n: usize) -> Read
     read_value(f, &mut w0[from..CELLS_END])
 }
 
-// Is the key after that of the last of n slots.
+// Whether the key comes after that of the last of n slots.
 fn after_last(w0: &[u64], n: usize, key: u64) -> bool
     requires { ⌜ (n ≤ 1024) × (8192 ≤ length (now w0)) ⌝ }
     ensures { λ r. ⌜ r ≡ lastBefore (now (w0 .entry)) n key ⌝ }

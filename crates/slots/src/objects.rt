@@ -7,7 +7,7 @@ use values::cells::SORT;
 // Cells of objects start here, and end where those of collections start.
 const OBJECTS: u64 = 2 * SORT;
 
-// Is the cell no object's, or that of one of n objects.
+// Whether the cell is no object's, or that of one of n objects.
 fn known(n: u64, cell: u64) -> bool
     ensures { λ r. ⌜ r ≡ cellKnown n cell ⌝ }
 {
@@ -20,7 +20,7 @@ fn known(n: u64, cell: u64) -> bool
     cell - OBJECTS < n
 }
 
-// Is each object in the value one of n objects.
+// Whether each object in the value is one of n objects.
 pub fn all_known(cells: &[u64], n: u64) -> bool
     ensures { λ r. ⌜ KnownIs (now (cells .entry)) n r ⌝ }
 {

@@ -1,5 +1,5 @@
-// A Set's members ascend, and a Bag's do not descend. Each cell of a value begins a value, so that one pass over the cells
-// meets every collection, however they are nested.
+// A Set's members ascend, and a Bag's do not descend. Each cell of a value begins a value, so one pass over the cells meets
+// every collection, however deep it is nested.
 ghost use mathlib.Core.Path.{_≡_};
 ghost use Prim.Native.Nat.{_<_};
 ghost use lib.ListN.{length};
@@ -8,7 +8,7 @@ use values::cells::skip;
 use values::cells::sort_of;
 use values::order::compare;
 
-// May a member follow another, by the collection's sort and their order: 0 less, 1 the same, 2 greater.
+// Whether a member may follow another, by the collection's sort and their order: 0 less, 1 the same, 2 greater.
 fn may_follow(sort: u64, order: u64) -> bool
     ensures { λ r. ⌜ r ≡ follows sort order ⌝ }
 {
@@ -21,7 +21,7 @@ fn may_follow(sort: u64, order: u64) -> bool
     true
 }
 
-// Are the members of the value at p in order, if it is a Set or a Bag.
+// Whether the members of the value at p are in order, if it is a Set or a Bag.
 fn in_row(cells: &[u64], p: usize) -> bool
     requires { ⌜ p < length (now cells) ⌝ }
     ensures { λ r. ⌜ RowAt (now (cells .entry)) p r ⌝ }
@@ -46,7 +46,7 @@ fn in_row(cells: &[u64], p: usize) -> bool
     true
 }
 
-// Are the members of each Set and Bag in the value in order.
+// Whether the members of each Set and Bag in the value are in order.
 pub fn in_order(cells: &[u64]) -> bool
     ensures { λ r. ⌜ OrderIs (now (cells .entry)) r ⌝ }
 {

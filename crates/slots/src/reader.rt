@@ -1,6 +1,6 @@
-// A field that spells a value, read from left to right. Brackets may nest to any depth in a field that is spelled well, so
-// that no stack can hold them: of the open collections only their number is known. A value within the limits has at most
-// three of them, and only such a value's cells matter.
+// A field that spells a value, read from left to right. A field may be well spelled with brackets nested to any depth, so no
+// stack could hold them: only the number of open collections is kept. A value within the limits has at most three open at
+// once, and only such a value's cells matter.
 ghost use mathlib.Core.Path.{_≡_};
 ghost use Rattle.laws.specs.Choice.{if_then_else_};
 ghost use Prim.Native.Nat.{_+_, _<_, _≤_};
@@ -15,9 +15,9 @@ const OVER: usize = 129;
 // The most open collections of a value.
 const DEEPEST: usize = 3;
 
-// How many collections are open, and how many cells are written: more than the most once the value is over a limit, and then
-// no cell is written any more. The cell of the outermost open one is the first; those of the second and the third are
-// remembered.
+// How many collections are open, and how many cells are written. Once the value is over a limit, the latter is more than any
+// value may have, and no cell is written any more. The outermost open collection has the first cell; where the second and
+// the third have theirs is remembered.
 pub struct Open {
     pub depth: usize,
     pub size: usize,
@@ -51,7 +51,7 @@ fn header(o: Open) -> usize
     o.third
 }
 
-// One cell more, if it may be.
+// Writes one more cell, if there is room and the value stays within its size.
 fn add_cell(cells: &mut [u64], o: Open, cell: u64) -> Open
     ensures { λ r. ⌜ AddsCell cell (now (cells .entry)) o (now (cells .exit)) r ⌝ }
 {
@@ -101,7 +101,7 @@ fn raise(cells: &mut [u64], o: Open)
     cells[h] += 1;
 }
 
-// The field has ended after a value that no collection is around.
+// A value has ended at `at` with no collection open: the field must end there too.
 fn last(f: &[u8], at: usize, o: Open) -> Read
     ensures { λ r. ⌜ Last (now (f .entry)) at o r ⌝ }
 {

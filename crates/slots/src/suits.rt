@@ -26,7 +26,7 @@ fn parent_word(parents: &[u64], c: u64) -> u64
     0
 }
 
-// Is the base with this tag and class the class x.
+// Whether the base with this tag and class is the class x.
 fn same_class(tag: u64, d: u64, x: u64) -> bool
     ensures { λ r. ⌜ r ≡ sameSimple (class x) (simpleBy tag d) ⌝ }
 {
@@ -42,7 +42,7 @@ fn same_class(tag: u64, d: u64, x: u64) -> bool
     x == d
 }
 
-// Is class c the base or below it, in at most one step more than its number.
+// Whether class c is the base or below it, climbing at most one step more than its number.
 fn climbs(parents: &[u64], c: u64, tag: u64, d: u64) -> bool
     ensures { λ r. ⌜ ClimbsIs (now (parents .entry)) c tag d r ⌝ }
 {
@@ -64,7 +64,7 @@ fn climbs(parents: &[u64], c: u64, tag: u64, d: u64) -> bool
     }
 }
 
-// Does object o, if there is such an object, belong to the base.
+// Whether object o, if there is such an object, belongs to the base.
 pub fn object_suits(parents: &[u64], objects: &[u64], o: u64, tag: u64, d: u64) -> bool
     ensures { λ r. ⌜ ObjectSuits (now (parents .entry)) (now (objects .entry)) o tag d r ⌝ }
 {
@@ -75,7 +75,7 @@ pub fn object_suits(parents: &[u64], objects: &[u64], o: u64, tag: u64, d: u64) 
     false
 }
 
-// Does the value with this first cell belong to a base.
+// Whether the value with this first cell belongs to a base.
 fn base_suits(parents: &[u64], objects: &[u64], base: Base, cell: u64) -> bool
     ensures { λ r. ⌜ BaseSuits (now (parents .entry)) (now (objects .entry)) base cell r ⌝ }
 {
@@ -96,7 +96,7 @@ fn base_suits(parents: &[u64], objects: &[u64], base: Base, cell: u64) -> bool
     y == sort + 1
 }
 
-// Is the value with this first cell a collection of the letter's kind.
+// Whether the value with this first cell is a collection of the letter's kind.
 fn letter_suits(letter: u64, cell: u64) -> bool
     ensures { λ r. ⌜ LetterSuits letter cell r ⌝ }
 {
@@ -113,7 +113,7 @@ fn letter_suits(letter: u64, cell: u64) -> bool
     sort == letter + 1
 }
 
-// Does the value from p to end belong to the type.
+// Whether the value from p to end belongs to the type.
 pub fn belongs(
     parents: &[u64],
     objects: &[u64],

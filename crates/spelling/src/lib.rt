@@ -83,7 +83,7 @@ fn put_next(out: &mut [u8], at: usize, cells: &[u64], from: usize) -> Next
     put_members(out, inner, cells, from + 1, member_count(cell))
 }
 
-// n members, parted by commas, and the bracket behind them.
+// n members, separated by commas, and the bracket behind them.
 fn put_members(out: &mut [u8], at: usize, cells: &[u64], from: usize, n: usize) -> Next
     requires { ⌜ MembersWait n at from (now cells) (length (now out)) ⌝ }
     ensures { λ r. ⌜ ((vs : Values) → AllFit vs → n ≡ count vs → CellsStand (encs vs) (now (cells .entry)) from → Wrote (spellMembers vs) (length (encs vs)) at from (now (out .entry)) (now (out .exit)) r) ⌝ }

@@ -27,9 +27,9 @@ module _ (s : Sheet) (k : ℕ) (l : Line) where
   unfolding stepLine must
   not-suited a b c d = rw (a, b, c, d)
 
-  pub broken-tree : withinLimits s l ≡ true → inOrder s l ≡ true → partsKnown s l ≡ true → suits s l ≡ true → treeHolds s l ≡ false → stepLine s k l ≡ refuse 8
+  pub malformed-tree : withinLimits s l ≡ true → inOrder s l ≡ true → partsKnown s l ≡ true → suits s l ≡ true → treeHolds s l ≡ false → stepLine s k l ≡ refuse 8
   unfolding stepLine must
-  broken-tree a b c d e = rw (a, b, c, d, e)
+  malformed-tree a b c d e = rw (a, b, c, d, e)
 
   pub steps-on : withinLimits s l ≡ true → inOrder s l ≡ true → partsKnown s l ≡ true → suits s l ≡ true → treeHolds s l ≡ true → stepLine s k l ≡ taken (added s k l)
   unfolding stepLine must

@@ -11,7 +11,7 @@ use Rattle.laws.specs.Choice.{if_then_else_}
 use Rattle.ocl.specs.Types.{set, sequence, bag}
 use Rattle.ocl.specs.Forms.{plus, minus, times, div, modulo, and, or, forAll, exists, truth, undef, self, var, all, number, negation, sizeOf, convert, castTo, equal, less, arith, includes, including, union}
 use Rattle.sheet.specs.Text.{Bytes}
-use Rattle.sheet.specs.Lines.{Shape, leaf, unary, binary, connective, isUndef, conditional, letIn, attribute, quantified, is, next, done, aNumber, anInteger, oneOperand, twoOperands, threeNumbers, iterateFields, collectFields, shapeOf}
+use Rattle.sheet.specs.Lines.{Shape, leaf, unary, binary, connective, isUndef, conditional, letIn, attribute, quantified, is, next, done, aNumber, anInteger, oneOperand, twoOperands, threeNumbers, iterateFields, assembleFields, shapeOf}
 use Rattle.text.specs.Words.{formCode}
 use Rattle.text.specs.Forms.{shapeBy}
 use Rattle.text.proofs.FormLaws.{Table, codeIn, forms, forms-code}
@@ -64,7 +64,7 @@ by-code (r ∷ t) (x ∷ xs) w h = go (is w (r .0)) (fresh (r .1) t) refl (by-co
 unfoldable shapes : List Bytes → List (Option Shape)
 shapes fs =
     done (leaf (truth true)) fs ∷ done (leaf (truth false)) fs ∷ done (leaf undef) fs ∷ next anInteger (λ z. done (leaf (number z))) fs
-    ∷ done (leaf self) fs ∷ next aNumber (λ i. done (leaf (var i))) fs ∷ collectFields fs ∷ threeNumbers letIn fs ∷ threeNumbers conditional fs
+    ∷ done (leaf self) fs ∷ next aNumber (λ i. done (leaf (var i))) fs ∷ assembleFields fs ∷ threeNumbers letIn fs ∷ threeNumbers conditional fs
     ∷ twoOperands (connective and) fs ∷ twoOperands (connective or) fs ∷ oneOperand (unary negation) fs ∷ oneOperand isUndef fs
     ∷ twoOperands (binary equal) fs ∷ twoOperands (binary less) fs ∷ twoOperands (binary (arith plus)) fs ∷ twoOperands (binary (arith minus)) fs
     ∷ twoOperands (binary (arith times)) fs ∷ twoOperands (binary (arith div)) fs ∷ twoOperands (binary (arith modulo)) fs

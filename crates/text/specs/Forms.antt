@@ -9,7 +9,7 @@ use Rattle.laws.specs.Choice.{if_then_else_}
 use Rattle.ocl.specs.Types.{set, sequence, bag}
 use Rattle.ocl.specs.Forms.{plus, minus, times, div, modulo, and, or, forAll, exists, truth, undef, self, var, all, number, negation, sizeOf, convert, castTo, equal, less, arith, includes, including, union}
 use Rattle.sheet.specs.Text.{Bytes}
-use Rattle.sheet.specs.Lines.{Shape, leaf, unary, binary, connective, isUndef, conditional, letIn, attribute, quantified, next, done, aNumber, anInteger, oneOperand, twoOperands, threeNumbers, iterateFields, collectFields}
+use Rattle.sheet.specs.Lines.{Shape, leaf, unary, binary, connective, isUndef, conditional, letIn, attribute, quantified, next, done, aNumber, anInteger, oneOperand, twoOperands, threeNumbers, iterateFields, assembleFields}
 
 unfoldable pub shapeBy : ℕ → List Bytes → Option Shape
 shapeBy k fs =
@@ -19,7 +19,7 @@ shapeBy k fs =
     else if eqb k 3 then next anInteger (λ z. done (leaf (number z))) fs
     else if eqb k 4 then done (leaf self) fs
     else if eqb k 5 then next aNumber (λ i. done (leaf (var i))) fs
-    else if eqb k 27 then collectFields fs
+    else if eqb k 27 then assembleFields fs
     else if eqb k 32 then threeNumbers letIn fs
     else if eqb k 31 then threeNumbers conditional fs
     else if eqb k 23 then twoOperands (connective and) fs

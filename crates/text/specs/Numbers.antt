@@ -1,5 +1,5 @@
--- Decimal numbers and Integers as the code has them: cut at a bound, and Integers as natural numbers. proofs/NumberLaws.antt
--- ties them to crates/sheet's `number` and `integer`, and shows that no test sees the cut.
+-- Decimal numbers and Integers as the code has them: a number saturates at a bound above every limit, an Integer is a natural number.
+-- proofs/NumberLaws.antt ties them to crates/sheet's `number` and `integer`, and shows that no test can tell the difference.
 use Prim.Native.Nat.{ℕ, zero, suc, _+_, _≤_, min}
 use mathlib.Core.Path.{_≡_}
 use mathlib.Core.Option.{Option, none, some}
@@ -19,7 +19,7 @@ use Rattle.text.specs.declared.numbers.Whole.the-variants.{Bad as BadWho
 
 -- ---- numbers
 
--- a number, cut at a million, which is above each limit of document 01 on numbers of things
+-- a number, a million at most: every limit of document 01 on such a number is lower
 unfoldable pub cutNum : Option ℕ → Num
 cutNum none = Bad
 cutNum (some n) = Is (min n 1000000)
@@ -33,7 +33,7 @@ pub record DigitsEnd (s : Bytes) (at r : ℕ) : Type 0 where
   pub is : r ≡ at + length (digits (drop at s))
   pub within : r ≤ length s
 
--- the digits from `at` on, and what they stand for, cut at a bound above every Integer of the range
+-- the digits from `at` on, and the number they stand for, which saturates above every Integer of the range
 pub record DigitsRead (s : Bytes) (at : ℕ) (r : Digits) : Type 0 where
   pub ends : DigitsEnd s at (r .end)
   pub value : r .value ≡ min (valueOfDigits 0 (digits (drop at s))) 10000000000

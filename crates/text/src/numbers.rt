@@ -1,5 +1,5 @@
-// Decimal numbers and Integers: of any length, without a leading zero and without `-0`. A number's value is cut at a bound
-// on the way, so that it fits a word; no limit of document 01 lies above the bound.
+// Decimal numbers and Integers of any length, without a leading zero and without `-0`. Values saturate at a bound above every
+// limit of document 01, so that they fit a word.
 ghost use mathlib.Core.Path.{_≡_};
 ghost use Prim.Native.Nat.{_-_, _≤_, min};
 ghost use lib.ListN.{length, take, drop};
@@ -8,7 +8,7 @@ ghost use Rattle.sheet.specs.Lines.{aNumber, anInteger};
 ghost use Rattle.text.specs.Numbers.{cutNum, leading, DigitsRead, wholeOf, minusAt, signed, leadingInteger, IntegerRead};
 use crate::words::byte_kind;
 
-// A number as far as a million; one above it reads as a million.
+// A number; any number above a million reads as a million.
 pub enum Num {
     Bad,
     Is(u64),
@@ -21,14 +21,13 @@ pub enum Whole {
     Is(u64),
 }
 
-// Digits in a row: the position after them, and the number that they stand for, cut at a bound above every Integer of the
-// range.
+// A run of digits: the position after it, and the number it stands for, which saturates above every Integer of the range.
 pub struct Digits {
     pub end: usize,
     pub value: u64,
 }
 
-// Are the bytes from a up to e digits of a number without a leading zero, given that they are digits.
+// Whether the digits from a up to e are a number: there is at least one, and no zero leads others.
 fn plain(s: &[u8], a: usize, e: usize) -> bool
     requires { ⌜ (a ≤ e) × (e ≤ length (now s)) ⌝ }
     ensures { λ r. ⌜ r ≡ plainOf (take (e - a) (drop a (now (s .entry)))) ⌝ }
@@ -87,7 +86,7 @@ pub fn number_at(s: &[u8], at: usize, d: Digits) -> Num
     Num::Bad
 }
 
-// The number that a field is.
+// The number that a whole field spells.
 pub fn number(f: &[u8]) -> Num
     ensures { λ r. ⌜ r ≡ cutNum (aNumber (now (f .entry))) ⌝ }
 {
@@ -151,7 +150,7 @@ pub fn integer_at(s: &[u8], at: usize, d: Digits) -> Whole
     Whole::Bad
 }
 
-// The Integer that a field is.
+// The Integer that a whole field spells.
 pub fn integer(f: &[u8]) -> Whole
     ensures { λ r. ⌜ r ≡ wholeOf (anInteger (now (f .entry))) ⌝ }
 {

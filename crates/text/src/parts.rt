@@ -6,14 +6,14 @@ ghost use Prim.Native.Nat.{_<_};
 ghost use Rattle.sheet.specs.Text.{fieldsOf};
 ghost use Rattle.text.specs.Parts.{PartEnd, Cut};
 
-// The fields of a line by their ends. No line has more than nine fields, so that ten ends are enough: `count` is 11 where
-// there are more than ten fields, and then the ends are those of the first ten.
+// Where each field of a line ends. No line has more than nine fields, so ten ends are enough: a line of more than ten fields
+// has the count 11 and the ends of its first ten.
 pub struct Fields {
     pub count: usize,
     pub ends: [usize; 10],
 }
 
-// How many bytes stand before the first `sep`: all of them where there is none.
+// How many bytes come before the first `sep`; all of them if there is none.
 pub fn find(s: &[u8], sep: u8) -> usize
     ensures { λ r. ⌜ PartEnd sep (now (s .entry)) r ⌝ }
 {

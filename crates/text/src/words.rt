@@ -22,7 +22,7 @@ pub fn byte_kind(b: u8) -> u64
     }
 }
 
-// The byte of a field that has one byte; else 0, which is no letter.
+// The only byte of a field that has one; else 0, which is no letter.
 pub fn letter(f: &[u8]) -> u8
     ensures { λ r. ⌜ r ≡ onlyByte (now (f .entry)) ⌝ }
 {
@@ -32,7 +32,7 @@ pub fn letter(f: &[u8]) -> u8
     0
 }
 
-// Is the field this word.
+// Whether the field is this word.
 pub fn same(f: &[u8], w: &[u8]) -> bool
     ensures { λ r. ⌜ r ≡ is (now (f .entry)) (now (w .entry)) ⌝ }
 {
@@ -49,7 +49,7 @@ pub fn same(f: &[u8], w: &[u8]) -> bool
     true
 }
 
-// The code of the field among words of its own length, which stand with one byte between them; 99 where it is none.
+// The code of the field among words of its own length, with one byte between two words; 99 if it is none of them.
 fn among(f: &[u8], words: &[u8], codes: &[u8]) -> u64
     requires { ⌜ length (now codes) * (length (now f) + 1) ≤ length (now words) + 1 ⌝ }
     ensures { λ r. ⌜ r ≡ codeAmong (now (f .entry)) (now (words .entry)) (now (codes .entry)) ⌝ }
@@ -74,7 +74,7 @@ fn wide(b: u8) -> u64
     b as u64
 }
 
-// The code of a form by its word, 99 for a word that is no form. The length tells which words are compared: eight at most.
+// The code of a form by its word, 99 for a word that is no form. Only words of the same length are compared, eight at most.
 pub fn form_code(f: &[u8]) -> u64
     ensures { λ r. ⌜ r ≡ formCode (now (f .entry)) ⌝ }
 {

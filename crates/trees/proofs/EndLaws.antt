@@ -21,7 +21,7 @@ use Rattle.tables.specs.declared.Step.the-variants as code
 use Rattle.tables.proofs.Tables.{kept-refl, kept-set, kept-then}
 use Rattle.tables.proofs.Entries.{holds-kept, spare-context, spare-root, tab-next, tab-more-of, tab-more-by}
 use Rattle.trees.specs.Operands.{depthAt}
-use Rattle.trees.specs.Rules.{RuleRoom, usedIn, endedCounts, EndMoved, ended, refused, Ended}
+use Rattle.trees.specs.Rules.{RuleRoom, usedIn, endedCounts, EndMoved, ended, refused, RuleEnded}
 use Rattle.trees.proofs.NodeLaws.{OpenRule, open-rule}
 
 -- ---- the turns of `all_used`
@@ -75,7 +75,7 @@ used-same {c = c} h (suc m) l =
 -- ---- the answers
 
 module _ {st : Counts} {w1 : List ℕ} (w0 : List ℕ) where
-  pub end-none : (st .«open» ≡ 1 → ⊥) → Fine st → Ended st (code.Next st) w0 w1 w0
+  pub end-none : (st .«open» ≡ 1 → ⊥) → Fine st → RuleEnded st (code.Next st) w0 w1 w0
   unfolding endRule endFor
   end-none e fine = record {
     is = λ s h. go s h (s .current) refl (h .current);
@@ -91,7 +91,7 @@ module _ {st : Counts} {w1 : List ℕ} (w0 : List ℕ) where
     unfolding endRule endFor
     rule-end s o = ap (endFor s) (o .is)
 
-    pub end-empty : st .first ≡ st .nodes → Ended st (code.Stop 8) w0 w1 w0
+    pub end-empty : st .first ≡ st .nodes → RuleEnded st (code.Stop 8) w0 w1 w0
     unfolding endOf onSome
     end-empty e = record {
       is = λ s h.
@@ -125,7 +125,7 @@ module _ {st : Counts} {w1 : List ℕ} (w0 : List ℕ) where
         end-by = rw (last-tree (o .rule .trees) (st .nodes - 1 - st .first) many, ← its-used, its-depth)
 
       module _ {b : Bool} (told : b ≡ usedIn w1 (st .first) (st .nodes - 1 - st .first)) where
-        pub end-unused : not b ≡ true → Ended st (code.Stop 8) w0 w1 w0
+        pub end-unused : not b ≡ true → RuleEnded st (code.Stop 8) w0 w1 w0
         end-unused q = record {
           is = λ s h.
               let o = open-rule h is-open in
@@ -133,7 +133,7 @@ module _ {st : Counts} {w1 : List ℕ} (w0 : List ℕ) where
           kept = kept-refl w0;
         }
 
-        pub end-deep : not b ≡ false → 12 < getD w1 (6912 + (st .nodes - 1)) 0 / 2 → Ended st (code.Stop 8) w0 w1 w0
+        pub end-deep : not b ≡ false → 12 < getD w1 (6912 + (st .nodes - 1)) 0 / 2 → RuleEnded st (code.Stop 8) w0 w1 w0
         end-deep q l = record {
           is = λ s h.
               let o = open-rule h is-open in
@@ -227,7 +227,7 @@ module _ (st : Counts) (w0 : List ℕ) (long : 8192 ≤ length w0) (fine : Fine 
 
 pub end-down : {st : Counts} {w1 : List ℕ} {b : Bool} {r : Counts} (w0 : List ℕ) → st .«open» ≡ 1 → Fine st → (st .first ≡ st .nodes → ⊥)
     → b ≡ usedIn w1 (st .first) (st .nodes - 1 - st .first) → not b ≡ false → getD w1 (6912 + (st .nodes - 1)) 0 / 2 ≤ 12 → 8192 ≤ length w0 → RuleRoom st → r ≡ endedCounts st
-    → Ended st (code.Next r) w0 w1 (set (set w0 (4448 + st .rules) (st .context)) (4512 + st .rules) (st .nodes - 1))
+    → RuleEnded st (code.Next r) w0 w1 (set (set w0 (4448 + st .rules) (st .context)) (4512 + st .rules) (st .nodes - 1))
 unfolding endedCounts
 end-down {st} {w1} {b} w0 is-open fine node told q l long room e = rw e (record {
   is = λ s h.

@@ -16,7 +16,7 @@ use Rattle.laws.proofs.Cases.{AllBelow, all-below, from-below, zero-least}
 use Rattle.ocl.specs.Types.{set, sequence, bag}
 use Rattle.ocl.specs.Forms.{plus, minus, times, div, modulo, Connective, and, or, Leaf, truth, undef, self, Unary, negation, sizeOf, convert, Binary, equal, less, arith as calculation, includes, including, union}
 use Rattle.sheet.specs.Text.{Bytes}
-use Rattle.sheet.specs.Lines.{Shape, leaf, unary, binary, connective, isUndef, conditional, letIn, attribute, quantified, iterate, collect, done, oneOperand, twoOperands, threeNumbers}
+use Rattle.sheet.specs.Lines.{Shape, leaf, unary, binary, connective, isUndef, conditional, letIn, attribute, quantified, iterate, assemble, done, oneOperand, twoOperands, threeNumbers}
 use Rattle.sheet.specs.Sheet.{operandsOf}
 use Rattle.sheet.specs.Refusals.{isNode, isVariable, leafWithin, unaryWithin, formWithin, twoVariables, leafKnown, unaryKnown, formKnown}
 use Rattle.text.specs.Forms.{shapeBy}
@@ -128,7 +128,7 @@ isIterate (letIn i a b) = false
 isIterate (attribute name a) = false
 isIterate (quantified q i a b) = false
 isIterate (iterate i j t a e b) = true
-isIterate (collect k es) = false
+isIterate (assemble k es) = false
 
 pub no-type : (x : Shape) → isIterate x ≡ false → TypeSaid 0 x
 unfolding isIterate

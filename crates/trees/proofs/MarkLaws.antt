@@ -14,16 +14,16 @@ use Rattle.laws.proofs.Lists.{member-append}
 use Rattle.sheet.specs.Refusals.{fresh}
 use Rattle.tables.specs.Layout.{usedBit, Kept}
 use Rattle.tables.proofs.Tables.{kept-refl, kept-set, kept-then}
-use Rattle.trees.specs.Operands.{Marking, broken, deepest, depthAt, marking}
+use Rattle.trees.specs.Operands.{Marking, malformed, deepest, depthAt, marking}
 
 -- ---- the words that marking leaves alone
 
 unfoldable pub wordsOf : Marking → List ℕ
-wordsOf (broken w) = w
+wordsOf (malformed w) = w
 wordsOf (deepest d w) = w
 
 unfoldable pub depthOf : Marking → ℕ
-depthOf (broken w) = 0
+depthOf (malformed w) = 0
 depthOf (deepest d w) = d
 
 pub record Framed (before after : List ℕ) : Type 0 where
@@ -46,7 +46,7 @@ module _ (first n : ℕ) (room : first + n ≤ 768) where
   mark-frame (a ∷ es) d w = go (ltb a n) (eqb (getD w (depthAt first a) 0 % 2) 1) refl (mark-frame es)
     where
       go : (b u : Bool) → ltb a n ≡ b → ((d : ℕ) (w : List ℕ) → Framed w (wordsOf (marking first n d es w)))
-          → Framed w (wordsOf (if b then (if u then broken w else marking first n (max d (min (getD w (depthAt first a) 0 / 2) 1000)) es (set w (depthAt first a) (getD w (depthAt first a) 0 + 1))) else broken w))
+          → Framed w (wordsOf (if b then (if u then malformed w else marking first n (max d (min (getD w (depthAt first a) 0 / 2) 1000)) es (set w (depthAt first a) (getD w (depthAt first a) 0 + 1))) else malformed w))
       go true true e ih = framed-refl w
       go true false e ih = let l = ltb-true a n e in framed-set (depthAt first a) _ (omega arith) (omega arith) (ih _ _)
       go false u e ih = framed-refl w
@@ -57,7 +57,7 @@ module _ (first n : ℕ) (room : first + n ≤ 768) where
   mark-small (a ∷ es) d w h = go (ltb a n) (eqb (getD w (depthAt first a) 0 % 2) 1) (mark-small es)
     where
       go : (b u : Bool) → ((d : ℕ) (w : List ℕ) → d ≤ 1000 → depthOf (marking first n d es w) ≤ 1000)
-          → depthOf (if b then (if u then broken w else marking first n (max d (min (getD w (depthAt first a) 0 / 2) 1000)) es (set w (depthAt first a) (getD w (depthAt first a) 0 + 1))) else broken w) ≤ 1000
+          → depthOf (if b then (if u then malformed w else marking first n (max d (min (getD w (depthAt first a) 0 / 2) 1000)) es (set w (depthAt first a) (getD w (depthAt first a) 0 + 1))) else malformed w) ≤ 1000
       go true true ih = omega arith
       go true false ih = ih _ _ (omega arith)
       go false u ih = omega arith
@@ -73,7 +73,7 @@ pub record Depths (first n : ℕ) (lev : ℕ → ℕ) (used w : List ℕ) : Type
   pub at : (a : ℕ) → a < n → getD w (depthAt first a) 0 ≡ 2 * lev a + usedBit (member a used)
 
 pub data Marks (first n : ℕ) (lev : ℕ → ℕ) (d : ℕ) (used es : List ℕ) : Bool → Marking → Type 0 where
-  marks-broken : {w : List ℕ} → Marks first n lev d used es false (broken w)
+  marks-malformed : {w : List ℕ} → Marks first n lev d used es false (malformed w)
   marks-deepest : {e : ℕ} {w : List ℕ} → e ≡ max d (deepestOf lev es) → Depths first n lev (used ++ es) w → Marks first n lev d used es true (deepest e w)
 
 depths-same : {first n : ℕ} {lev : ℕ → ℕ} {u v w : List ℕ} → ((a : ℕ) → member a u ≡ member a v) → Depths first n lev u w → Depths first n lev v w
@@ -113,17 +113,17 @@ module _ (first n : ℕ) (lev : ℕ → ℕ) (low : (a : ℕ) → a < n → lev 
       at = set w (depthAt first a) (getD w (depthAt first a) 0 + 1)
 
       more : {b : Bool} {m : Marking} (e : ℕ) → e ≡ max d (lev a) → Marks first n lev e (a ∷ used) es b m → Marks first n lev d used (a ∷ es) b m
-      more e q marks-broken = marks-broken
+      more e q marks-malformed = marks-malformed
       more e q (marks-deepest {e = f} z k) = let y : f ≡ max d (max (lev a) (deepestOf lev es)) = omega arith in marks-deepest y (depths-same (member-turn a used es) k)
 
       go : (b u : Bool) → ltb a n ≡ b → member a used ≡ u
           → ((d : ℕ) (used w : List ℕ) → first + n ≤ 768 → 8192 ≤ length w → Depths first n lev used w → Marks first n lev d used es (fresh n used es) (marking first n d es w))
           → Marks first n lev d used (a ∷ es) (b && not u && fresh n (a ∷ used) es)
-          (if b then (if eqb (getD w (depthAt first a) 0 % 2) 1 then broken w else marking first n (max d (min (getD w (depthAt first a) 0 / 2) 1000)) es at) else broken w)
-      go false u e m ih = marks-broken
+          (if b then (if eqb (getD w (depthAt first a) 0 % 2) 1 then malformed w else marking first n (max d (min (getD w (depthAt first a) 0 / 2) 1000)) es at) else malformed w)
+      go false u e m ih = marks-malformed
       go true true e m ih =
           let v : getD w (depthAt first a) 0 ≡ 2 * lev a + 1 = h .at a (ltb-true a n e) ∙ rw m in
-          rw (eq-eqb (getD w (depthAt first a) 0 % 2) 1 (omega arith)) marks-broken
+          rw (eq-eqb (getD w (depthAt first a) 0 % 2) 1 (omega arith)) marks-malformed
       go true false e m ih =
           let l = ltb-true a n e in
           let v : getD w (depthAt first a) 0 ≡ 2 * lev a + 0 = h .at a l ∙ rw m in
@@ -143,13 +143,13 @@ fresh-low n used (a ∷ es) h = go (ltb a n) (member a used) refl (fresh-low n (
     go false u e ih h = absurd (true≢false (sym h))
 
 module _ {first n d : ℕ} {lev : ℕ → ℕ} {used es : List ℕ} where
-  pub broken-fresh : {b : Bool} {m : Marking} {w : List ℕ} → Marks first n lev d used es b m → broken w ≡ m → b ≡ false
-  broken-fresh marks-broken e = refl
-  broken-fresh (marks-deepest z k) e = absurd (let q : _≡_ {A = ℕ} 0 1 = cc in omega arith)
+  pub malformed-fresh : {b : Bool} {m : Marking} {w : List ℕ} → Marks first n lev d used es b m → malformed w ≡ m → b ≡ false
+  malformed-fresh marks-malformed e = refl
+  malformed-fresh (marks-deepest z k) e = absurd (let q : _≡_ {A = ℕ} 0 1 = cc in omega arith)
 
   pub deepest-fresh : {b : Bool} {m : Marking} {e : ℕ} {w : List ℕ} → Marks first n lev d used es b m → deepest e w ≡ m
       → (b ≡ true) × (e ≡ max d (deepestOf lev es)) × Depths first n lev (used ++ es) w
-  deepest-fresh marks-broken q = absurd (let z : _≡_ {A = ℕ} 0 1 = cc in omega arith)
+  deepest-fresh marks-malformed q = absurd (let z : _≡_ {A = ℕ} 0 1 = cc in omega arith)
   deepest-fresh {e = e} {w = w} (marks-deepest {e = f} {w = v} z k) q =
       let a : e ≡ f = cc in
       let b : w ≡ v = cc in

@@ -24,13 +24,13 @@ use Rattle.tables.specs.declared.Counts.{Counts}
 use Rattle.tables.specs.declared.Step.the-variants as code
 use Rattle.tables.proofs.Tables.{kept-set, kept-then}
 use Rattle.tables.proofs.Entries.{tables-same}
-use Rattle.tables.proofs.Steps.{broken-tree, steps-on}
+use Rattle.tables.proofs.Steps.{malformed-tree, steps-on}
 use Rattle.trees.specs.declared.Parsed.{Parsed}
 use Rattle.trees.specs.Fields.{cut}
 use Rattle.trees.specs.Forms.{operandsAt, StandsFor}
-use Rattle.trees.specs.Operands.{broken, deepest, depthAt, marking, shifted, WroteWords}
+use Rattle.trees.specs.Operands.{malformed, deepest, depthAt, marking, shifted, WroteWords}
 use Rattle.trees.specs.Rules.{nodeLimits, nodeOrder, nodeCounts, Placed}
-use Rattle.trees.proofs.MarkLaws.{wordsOf, depthOf, Framed, mark-frame, mark-small, Depths, deepestOf, Marks, marks-law, fresh-low, broken-fresh, deepest-fresh}
+use Rattle.trees.proofs.MarkLaws.{wordsOf, depthOf, Framed, mark-frame, mark-small, Depths, deepestOf, Marks, marks-law, fresh-low, malformed-fresh, deepest-fresh}
 use Rattle.trees.proofs.ShapeLaws.{grow-same, grow-depth, shape-shifted, shape-line}
 use Rattle.trees.proofs.PlaceLaws.{nodes-low, is-open, is-next, limits-same, form-within, operands-small, operands-are, order-same, known-same}
 
@@ -185,13 +185,13 @@ module _ (st : Counts) (n : ℕ) (p : Parsed) (w1 : List ℕ) (fine : Fine st) (
     unfolding treeHolds operandsFresh
     tree-test = ap (λ (c : Option Current). operandsFresh c x) (o .is)
 
-  pub place-8 : {v1 : List ℕ} → broken v1 ≡ marking (st .first) n 0 (operandsAt (p .words) (p .count)) w1 → Placed st n p (code.Stop 8) w1 v1
+  pub place-8 : {v1 : List ℕ} → malformed v1 ≡ marking (st .first) n 0 (operandsAt (p .words) (p .count)) w1 → Placed st n p (code.Stop 8) w1 v1
   unfolding suits wordsOf
   place-8 {v1} e = record {
     is = λ line w0 s i x u z h.
         let o = open-rule h (is-open st n p ordered) in
-        rw (broken-tree s line (nodeLine i x) (sym (limits-same i u z h) ∙ ok) (sym (order-same i u z h fine ok) ∙ ordered) (sym (known-same i u z h fine ok) ∙ le-leb (p .classes) (st .classes) classes) refl
-        (tree-test i u z h o ∙ broken-fresh (marks i u z h o) (e ∙ marking-same i u z h o))) moved-stop;
+        rw (malformed-tree s line (nodeLine i x) (sym (limits-same i u z h) ∙ ok) (sym (order-same i u z h fine ok) ∙ ordered) (sym (known-same i u z h fine ok) ∙ le-leb (p .classes) (st .classes) classes) refl
+        (tree-test i u z h o ∙ malformed-fresh (marks i u z h o) (e ∙ marking-same i u z h o))) moved-stop;
     kept = rw (ap wordsOf e) (mark-frame (st .first) n room (operandsAt (p .words) (p .count)) 0 w1 .kept);
   }
 

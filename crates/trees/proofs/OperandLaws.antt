@@ -14,7 +14,7 @@ use Rattle.laws.proofs.Parts.{at-next}
 use Rattle.sheet.specs.Refusals.{isNode}
 use Rattle.tables.proofs.Tables.{kept-refl, kept-set, kept-then}
 use Rattle.trees.specs.Forms.{operandsAt}
-use Rattle.trees.specs.Operands.{Marking, broken, deepest, depthAt, marking, shifted, WroteWords}
+use Rattle.trees.specs.Operands.{Marking, malformed, deepest, depthAt, marking, shifted, WroteWords}
 
 -- ---- the operands that are left after i
 
@@ -49,11 +49,11 @@ module _ (words : List ℕ) (count i : ℕ) (size : length words ≡ 8) (few : c
   -- ---- marked
 
   module _ (first n d : ℕ) (w : List ℕ) {x : Marking} (inv : marking first n d (drop i (operandsAt words count)) w ≡ x) where
-    pub mark-late : i < count → n ≤ getD words (1 + i) 0 → broken w ≡ x
+    pub mark-late : i < count → n ≤ getD words (1 + i) 0 → malformed w ≡ x
     unfolding marking
     mark-late h l = rw (operands-next h, le-ltb (getD words (1 + i) 0) n l) at inv
 
-    pub mark-used : i < count → getD words (1 + i) 0 < n → getD w (depthAt first (getD words (1 + i) 0)) 0 % 2 ≡ 1 → broken w ≡ x
+    pub mark-used : i < count → getD words (1 + i) 0 < n → getD w (depthAt first (getD words (1 + i) 0)) 0 % 2 ≡ 1 → malformed w ≡ x
     unfolding marking
     mark-used h l e = rw (operands-next h, lt-ltb (getD words (1 + i) 0) n l, e) at inv
 

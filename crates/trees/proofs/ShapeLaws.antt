@@ -9,7 +9,7 @@ use Rattle.laws.specs.Lists.{Each, each-nil, each-cons}
 use Rattle.laws.proofs.Cases.{AllBelow, all-below}
 use Rattle.ocl.specs.Types.{Kind}
 use Rattle.ocl.specs.Forms.{Expr, levels, levelsIn, levelsOf}
-use Rattle.sheet.specs.Lines.{Shape, leaf, unary, binary, connective, isUndef, conditional, letIn, attribute, quantified, iterate, collect}
+use Rattle.sheet.specs.Lines.{Shape, leaf, unary, binary, connective, isUndef, conditional, letIn, attribute, quantified, iterate, assemble}
 use Rattle.sheet.specs.Sheet.{operandsOf, growAll, grow}
 use Rattle.nodes.specs.Nodes.{operandWord, shapeWords}
 use Rattle.trees.specs.Operands.{shifted}
@@ -35,7 +35,7 @@ module _ (f g : ℕ → Expr) where
   grow-same (attribute name a) (each-cons p h) = rw p
   grow-same (quantified k i a b) (each-cons p (each-cons q h)) = rw (p, q)
   grow-same (iterate i j t a e b) (each-cons p (each-cons q (each-cons r h))) = rw (p, q, r)
-  grow-same (collect k es) h = rw (all-same es h)
+  grow-same (assemble k es) h = rw (all-same es h)
 
 -- ---- depth
 
@@ -57,7 +57,7 @@ module _ (f : ℕ → Expr) where
   grow-depth (attribute name a) = omega arith
   grow-depth (quantified q i a b) = omega arith
   grow-depth (iterate i j t a e b) = omega arith
-  grow-depth (collect k es) = all-depth es
+  grow-depth (assemble k es) = all-depth es
 
 -- ---- a node's words
 
@@ -70,14 +70,14 @@ unfolding AllBelow
 eight-at v = all-below (λ j. v j ≡ getD (eight v) j 0) 8 ((((((((tt, refl), refl), refl), refl), refl), refl), refl), refl)
 
 module _ (first type line : ℕ) where
-  collect-eight : (k : Kind) (es : List ℕ) → length es ≤ 4 → eight (shifted (shapeWords 0 type line (collect k es)) (length es) first) ≡ shapeWords first type line (collect k es)
+  assemble-eight : (k : Kind) (es : List ℕ) → length es ≤ 4 → eight (shifted (shapeWords 0 type line (assemble k es)) (length es) first) ≡ shapeWords first type line (assemble k es)
   unfolding shapeWords shifted operandWord
-  collect-eight k [] h = refl
-  collect-eight k (a ∷ []) h = simp zero-add
-  collect-eight k (a ∷ b ∷ []) h = simp zero-add
-  collect-eight k (a ∷ b ∷ c ∷ []) h = simp zero-add
-  collect-eight k (a ∷ b ∷ c ∷ d ∷ []) h = simp zero-add
-  collect-eight k (a ∷ b ∷ c ∷ d ∷ e ∷ es) h = absurd (omega arith)
+  assemble-eight k [] h = refl
+  assemble-eight k (a ∷ []) h = simp zero-add
+  assemble-eight k (a ∷ b ∷ []) h = simp zero-add
+  assemble-eight k (a ∷ b ∷ c ∷ []) h = simp zero-add
+  assemble-eight k (a ∷ b ∷ c ∷ d ∷ []) h = simp zero-add
+  assemble-eight k (a ∷ b ∷ c ∷ d ∷ e ∷ es) h = absurd (omega arith)
 
   shape-eight : (x : Shape) → length (operandsOf x) ≤ 4 → eight (shifted (shapeWords 0 type line x) (length (operandsOf x)) first) ≡ shapeWords first type line x
   unfolding shapeWords shifted operandsOf
@@ -91,7 +91,7 @@ module _ (first type line : ℕ) where
   shape-eight (attribute name a) h = simp zero-add
   shape-eight (quantified q i a b) h = simp zero-add
   shape-eight (iterate i j t a e b) h = simp zero-add
-  shape-eight (collect k es) h = collect-eight k es h
+  shape-eight (assemble k es) h = assemble-eight k es h
 
   pub shape-shifted : (x : Shape) → length (operandsOf x) ≤ 4 → (j : ℕ) → j < 8 → shifted (shapeWords 0 type line x) (length (operandsOf x)) first j ≡ getD (shapeWords first type line x) j 0
   shape-shifted x h j l = eight-at (shifted (shapeWords 0 type line x) (length (operandsOf x)) first) j l ∙ ap (λ (ws : List ℕ). getD ws j 0) (shape-eight x h)
@@ -108,4 +108,4 @@ module _ (first type line : ℕ) where
   shape-line (attribute name a) = refl
   shape-line (quantified q i a b) = refl
   shape-line (iterate i j t a e b) = refl
-  shape-line (collect k es) = refl
+  shape-line (assemble k es) = refl

@@ -11,7 +11,7 @@ use Rattle.sheet.specs.Text.{Bytes}
 use Rattle.sheet.specs.Lines.{each, aNumber}
 use Rattle.trees.specs.declared.numbers.Numbers.{Numbers}
 
--- a number as crates/text cuts it
+-- a number as crates/text reads it, a million at most
 abbrev pub cut : ℕ → ℕ
 cut n = min n 1000000
 

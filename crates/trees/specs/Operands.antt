@@ -13,7 +13,7 @@ use Rattle.trees.specs.declared.operands.Marked.the-variants as code
 
 -- a node that is no operand of node n, or the depth of the deepest operand; and the words
 pub data Marking : Type 0 where
-  broken : List ℕ → Marking
+  malformed : List ℕ → Marking
   deepest : ℕ → List ℕ → Marking
 
 -- where the depth and the use of the rule's node a stand
@@ -24,12 +24,12 @@ unfoldable pub marking : ℕ → ℕ → ℕ → List ℕ → List ℕ → Marki
 marking first n d [] w = deepest d w
 marking first n d (a ∷ es) w =
     if ltb a n
-    then (if eqb (getD w (depthAt first a) 0 % 2) 1 then broken w
+    then (if eqb (getD w (depthAt first a) 0 % 2) 1 then malformed w
     else marking first n (max d (min (getD w (depthAt first a) 0 / 2) 1000)) es (set w (depthAt first a) (getD w (depthAt first a) 0 + 1)))
-    else broken w
+    else malformed w
 
 unfoldable pub marked : Marked → List ℕ → Marking
-marked code.Broken w = broken w
+marked code.Malformed w = malformed w
 marked (code.Deepest d) w = deepest d w
 
 -- ---- words written

@@ -67,7 +67,7 @@ unfoldable pub usedIn : List ℕ → ℕ → ℕ → Bool
 usedIn w first zero = true
 usedIn w first (suc n) = eqb (getD w (depthAt first n) 0 % 2) 1 && usedIn w first n
 
--- the counts with the rule put down
+-- the counts with the rule stored
 unfoldable pub endedCounts : Counts → Counts
 endedCounts st = record {
   block = st .block;
@@ -87,6 +87,6 @@ pub data EndMoved (w0 w1 : List ℕ) : Step → Option Sheet → Type 0 where
   ended : {st : Counts} {s : Sheet} → Fine st → Holds st w0 w1 s → EndMoved w0 w1 (code.Next st) (some s)
   refused : EndMoved w0 w1 (code.Stop 8) none
 
-pub record Ended (st : Counts) (r : Step) (w0 w1 v0 : List ℕ) : Type 0 where
+pub record RuleEnded (st : Counts) (r : Step) (w0 w1 v0 : List ℕ) : Type 0 where
   pub is : (s : Sheet) → Holds st w0 w1 s → EndMoved v0 w1 r (endRule s)
   pub kept : Kept w0 v0

@@ -1,9 +1,9 @@
-// A rule's end: a tree of at most twelve levels that all of its nodes belong to is put down by its context and its root.
+// A rule's end: a tree of at most twelve levels that all of its nodes belong to is stored as its context and its root.
 ghost use mathlib.Core.Path.{_≡_};
 ghost use Prim.Native.Nat.{_+_, _≤_};
 ghost use lib.ListN.{length};
 ghost use Rattle.tables.specs.Layout.{Fine};
-ghost use Rattle.trees.specs.Rules.{RuleRoom, usedIn, endedCounts, Ended};
+ghost use Rattle.trees.specs.Rules.{RuleRoom, usedIn, endedCounts, RuleEnded};
 use tables::Counts;
 use tables::Step;
 
@@ -35,7 +35,7 @@ fn with_rule(st: Counts) -> Counts
 // Where no rule is open, nothing changes.
 pub fn end_rule(w0: &mut [u64], w1: &[u64], st: Counts) -> Step
     requires { ⌜ (8192 ≤ length (now w0)) × (8192 ≤ length (now w1)) × Fine st × RuleRoom st ⌝ }
-    ensures { λ r. ⌜ Ended st r (now (w0 .entry)) (now (w1 .entry)) (now (w0 .exit)) ⌝ }
+    ensures { λ r. ⌜ RuleEnded st r (now (w0 .entry)) (now (w1 .entry)) (now (w0 .exit)) ⌝ }
 {
     if st.open != 1 {
         return Step::Next(st);

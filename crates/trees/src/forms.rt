@@ -22,7 +22,7 @@ use text::parts::Fields;
 use text::parts::field;
 use text::words::letter;
 
-pub fn misspelled() -> Parsed
+pub(crate) fn misspelled() -> Parsed
     ensures { λ r. ⌜ ((n : ℕ) → FormRead n none r) ⌝ }
 {
     Parsed {
@@ -241,7 +241,7 @@ fn collection_form(line: &[u8], f: Fields, k: u64) -> Parsed
 }
 
 // The form with this code. This is the match with ranges over the form codes of document 01, Use these forms in these places.
-pub fn read_form(line: &[u8], f: Fields, code: u64, k: u64) -> Parsed
+pub(crate) fn read_form(line: &[u8], f: Fields, code: u64, k: u64) -> Parsed
     requires { ⌜ Cut (now line) f × (3 ≤ f .count) ⌝ }
     ensures { λ r. ⌜ FormRead k (shapeBy code (drop 3 (fieldsOf (now (line .entry))))) r ⌝ }
 {

@@ -1,5 +1,5 @@
 // The node lines of a sheet, and the end of a rule: a form's fields are read into eight words, held to their limits and their
-// order, and put into the node table; a rule that ends is put down by its context and its root. Document 01, The sheet. It
+// order, and put into the node table; a rule that ends is stored as its context and its root. Document 01, The sheet. It
 // depends on `text` and `types`, which read fields, on `nodes` for what a node's words say, and on `tables`.
 
 pub mod numbers; // fields that are numbers
@@ -12,7 +12,7 @@ pub mod ending; // a rule's end
 // A node line's form. Word 0 is the code; words 1 to `count` are the operands, by their numbers in the rule; then comes what
 // else the form holds, as the node table has it; word 7 is the line. `within` says whether that is inside its limits, `apart`
 // whether two variables differ, and `classes` how many classes there must be for the class that the form names. Numbers are
-// cut as crates/text cuts them. Where the fields spell no form, `spelled` is false and the rest says nothing.
+// those that crates/text reads, a million at most. If the fields spell no form, `spelled` is false and the rest means nothing.
 pub struct Parsed {
     pub spelled: bool,
     pub words: [u64; 8],

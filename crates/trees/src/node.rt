@@ -1,4 +1,5 @@
-// A node line: its limits, its order, its parts and its operands, in the order of their numbers, then its words.
+// A node line: its limits, its order, its parts and its operands are judged in the order of their refusals, 4, 5, 6 and 8; then
+// its words are written.
 ghost use mathlib.Core.Path.{_≡_};
 ghost use mathlib.Core.Bool.{true};
 ghost use Prim.Native.Nat.{_≤_};

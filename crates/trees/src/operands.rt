@@ -8,13 +8,13 @@ ghost use Rattle.sheet.specs.Refusals.{isNode};
 ghost use Rattle.trees.specs.Forms.{operandsAt};
 ghost use Rattle.trees.specs.Operands.{shifted, marking, marked, WroteWords};
 
-// A broken tree, or the depth of the deepest operand.
+// A malformed tree, or the depth of the deepest operand.
 pub enum Marked {
-    Broken,
+    Malformed,
     Deepest(u64),
 }
 
-// Are the operands numbers of nodes.
+// Whether each operand is a number that a node may have.
 pub fn operands_within(words: [u64; 8], count: usize) -> bool
     requires { ⌜ (length words ≡ 8) × (count ≤ 4) ⌝ }
     ensures { λ r. ⌜ r ≡ allOf isNode (operandsAt words count) ⌝ }
@@ -46,7 +46,7 @@ fn deeper(d: u64, word: u64) -> u64
     larger(d, 1000)
 }
 
-// The operands of the rule's node n, each marked as used. Words before the one that breaks the tree stay marked: the sheet is
+// Marks the operands of the rule's node n as used. If one of them breaks the tree, those before it stay marked: the sheet is
 // refused then, and nothing reads them.
 pub fn mark(w1: &mut [u64], words: [u64; 8], count: usize, first: u64, n: u64) -> Marked
     requires { ⌜ (8192 ≤ length (now w1)) × (length words ≡ 8) × (count ≤ 4) × (first + n ≤ 768) ⌝ }
@@ -57,12 +57,12 @@ pub fn mark(w1: &mut [u64], words: [u64; 8], count: usize, first: u64, n: u64) -
     while i < count {
         let a = words[1 + i];
         if a >= n {
-            return Marked::Broken;
+            return Marked::Malformed;
         }
         let at = (6912 + (first + a)) as usize;
         let d = w1[at];
         if d % 2 == 1 {
-            return Marked::Broken;
+            return Marked::Malformed;
         }
         w1[at] = d + 1;
         deepest = deeper(deepest, d);

@@ -10,7 +10,7 @@ pub fn wide(x: u64) -> usize
     x as usize
 }
 
-// One more than the parent of class c, or 0. A parent that is no smaller class counts as none, so that every climb ends.
+// One more than the parent of class c, or 0. A parent that is not a smaller class counts as none, so every climb ends.
 pub fn parent(parents: &[u64], c: u64) -> u64
     ensures { λ r. ⌜ r ≡ parentWord (now (parents .entry)) c ⌝ }
 {

@@ -19,7 +19,7 @@ pub enum Base {
 }
 
 // A base with at most three letters around it, the outermost first. A code is 0 for none, 1 for C, 2 for S, 3 for Q, 4 for
-// B; what stands after a code 0 says nothing.
+// B; codes after a 0 mean nothing.
 pub struct FlatType {
     pub base: Base,
     pub outer: u64,

@@ -81,7 +81,7 @@ pub fn set_of_class(c: u64) -> FlatType
     }
 }
 
-// The class that the type is; Void and collections of a class are none.
+// The class, if the type is one. Void is none, and neither is a collection of a class.
 pub fn is_class(t: FlatType) -> ClassNumber
     ensures { λ r. ⌜ classNumber r ≡ classOf (tyOf t) ⌝ }
 {

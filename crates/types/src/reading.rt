@@ -17,7 +17,7 @@ use text::numbers::Num;
 use text::numbers::number;
 use text::words::same;
 
-// How many times a byte and an opening bracket lead.
+// How many opening brackets stand in front, each behind another byte.
 fn opens(s: &[u8]) -> usize
     ensures { λ r. ⌜ Opens (now (s .entry)) r ⌝ }
 {

@@ -12,7 +12,7 @@ fn number(i: usize) -> u64
     i as u64
 }
 
-// The rows from here on, up to `rows`, have another name.
+// A row from which on none, up to `rows`, has the name.
 fn named_end(names: &[u64], rows: usize, name: u64) -> usize
     requires { ⌜ rows ≤ length (now names) ⌝ }
     ensures { λ r. ⌜ (r ≤ rows) × Unnamed (now (names .entry)) name r rows ⌝ }
@@ -27,7 +27,7 @@ fn named_end(names: &[u64], rows: usize, name: u64) -> usize
     0
 }
 
-// The rows before this one have another name.
+// A row before which none has the name.
 fn named_start(names: &[u64], end: usize, name: u64) -> usize
     requires { ⌜ end ≤ length (now names) ⌝ }
     ensures { λ r. ⌜ Unnamed (now (names .entry)) name 0 r ⌝ }
@@ -42,7 +42,7 @@ fn named_start(names: &[u64], end: usize, name: u64) -> usize
     i
 }
 
-// The row that class c itself declares with the name, which no row before `start` has. A class has a name once, so that the
+// The row that class c itself declares with the name, which no row before `start` has. A class has a name only once, so the
 // order does not matter.
 fn declared(owners: &[u64], names: &[u64], start: usize, end: usize, c: u64, name: u64) -> Found
     requires { ⌜ end ≤ length (now owners) ⌝ }
@@ -91,8 +91,8 @@ fn nearest(
     }
 }
 
-// The nearest declaration of the name from class c upward. Most names are a few rows', so that only those are looked at for
-// each class.
+// The nearest declaration of the name from class c upward. Few rows share a name, so the rows that have it are found first and
+// only they are looked at for each class.
 pub fn row_read(
     parents: &[u64],
     owners: &[u64],

@@ -8,7 +8,7 @@ use super::FlatType;
 use super::order::class_in;
 use super::order::tag;
 
-// A code that fits three bits: one over them counts as C.
+// A code in three bits; one that does not fit counts as C.
 fn three_bits(k: u64) -> u64
     ensures { λ r. ⌜ ThreeBits k r ⌝ }
 {

@@ -10,7 +10,7 @@ use Rattle.laws.specs.Choice.{onSome}
 use Rattle.ocl.specs.Types.{exactly, Letter, Ty, void, join}
 use Rattle.ocl.specs.Environment.{Env}
 use Rattle.ocl.specs.Model.{Model}
-use Rattle.ocl.specs.Typing.{typed, Typed, pure, thenFor, andThen, common, wrap, noOperandTyping, operandTyping, collectTyping, operandsTyping}
+use Rattle.ocl.specs.Typing.{typed, Typed, pure, thenFor, andThen, common, wrap, noOperandTyping, operandTyping, assembleTyping, operandsTyping}
 use Rattle.types.specs.declared.FlatType.{FlatType}
 use Rattle.types.specs.Flat.{parentsIn, letterOf, tyOf}
 use Rattle.types.proofs.Parents.{parents-small}
@@ -18,7 +18,7 @@ use Rattle.nodes.specs.Nodes.{word, kindOf, operandsIn}
 use Rattle.judgements.specs.declared.Reply.{Reply}
 use Rattle.judgements.specs.declared.Reply.the-variants as reply
 use Rattle.judgements.specs.Replies.{meaning, joinMore, Tells}
-use Rattle.typing.specs.Tables.{operandAt, membersAt, collectAt}
+use Rattle.typing.specs.Tables.{operandAt, membersAt, assembleAt}
 use Rattle.judgements.proofs.Composition.{early, after, done, then-then}
 use Rattle.typing.proofs.NodeTypings.{undef-done}
 use Rattle.judgements.proofs.Joins.{void-first, void-last, more-two}
@@ -49,7 +49,7 @@ membersLeft m t n k c d o Γ = andThen (membersAt t n c d m Γ) (λ u. lettered 
 
 -- i of the c members are typed
 pub record Left (m : Model) (t : List ℕ) (n k c i : ℕ) (o : Option Ty) (Γ : Env Ty) (before now : List ℕ) : Type 0 where
-  pub goes : {after : List ℕ} {r : Reply} → Tells (membersLeft m t n k (c - i) (i + 1) o Γ) now after r → Tells (collectAt t n k m Γ) before after r
+  pub goes : {after : List ℕ} {r : Reply} → Tells (membersLeft m t n k (c - i) (i + 1) o Γ) now after r → Tells (assembleAt t n k m Γ) before after r
 
 -- ---- the definition, member by member
 
@@ -90,30 +90,30 @@ module _ (m : Model) (t : List ℕ) (n k : ℕ) (Γ : Env Ty) (c : ℕ) where
       then-then (others i) _ _
       ∙ ap (andThen (others i)) (fun-ext (λ u. common-then n k (join (m .parent) s u) (joinMore (m .parent) o) ∙ ap (lettered n k) (two-more m ps q o s u)))
 
-  pub collect-over : {B : List ℕ} {r : FlatType} → c ≡ word t n 5 → 4 < c → tyOf r ≡ void → Tells (collectAt t n k m Γ) B B (reply.Is r)
-  unfolding collectAt
-  collect-over e h v = rw (← e, lt-ltb 4 c h) (undef-done n Γ v)
+  pub assemble-over : {B : List ℕ} {r : FlatType} → c ≡ word t n 5 → 4 < c → tyOf r ≡ void → Tells (assembleAt t n k m Γ) B B (reply.Is r)
+  unfolding assembleAt
+  assemble-over e h v = rw (← e, lt-ltb 4 c h) (undef-done n Γ v)
 
-  all-left : 27 ≤ k → k < 30 → membersLeft m t n k c 1 (some void) Γ ≡ collectTyping n (kindOf k) (membersAt t n c 1 m) Γ
-  unfolding membersLeft lettered collectTyping common
+  all-left : 27 ≤ k → k < 30 → membersLeft m t n k c 1 (some void) Γ ≡ assembleTyping n (kindOf k) (membersAt t n c 1 m) Γ
+  unfolding membersLeft lettered assembleTyping common
   all-left l g =
       ap (andThen (membersAt t n c 1 m Γ))
       (fun-ext (λ u. ap (lettered n k) (void-first (m .parent) u) ∙ ap (λ (z : Letter). pure (wrap n z u)) (kind-letter k l g)))
 
   pub left-all : {B : List ℕ} {o : Option Ty} → c ≡ word t n 5 → c ≤ 4 → 27 ≤ k → k < 30 → o ≡ some void → Left m t n k c 0 o Γ B B
-  unfolding collectAt
+  unfolding assembleAt
   left-all e h l g v =
       let z : c - 0 ≡ c = omega arith in
       record { goes = λ d. rw (← e, le-ltb 4 c h) (rw (z, v, all-left l g) at d) }
 
   module _ {B now : List ℕ} (i : ℕ) (o : Option Ty) (left : Left m t n k c i o Γ B now) where
-    pub left-refused : {next : List ℕ} {r : Reply} {a p : ℕ} → i < c → Tells (operandAt t n (i + 1) m Γ) now next r → r ≡ reply.No a p → Tells (collectAt t n k m Γ) B next r
+    pub left-refused : {next : List ℕ} {r : Reply} {a p : ℕ} → i < c → Tells (operandAt t n (i + 1) m Γ) now next r → r ≡ reply.No a p → Tells (assembleAt t n k m Γ) B next r
     left-refused h d q = left .goes (rw (left-by i o h) (early _ d q))
 
     pub left-next : {next : List ℕ} {r : Reply} {s : FlatType} {w : Option Ty} (ps : List ℕ) → m .parent ≡ parentsIn ps → i < c → Tells (operandAt t n (i + 1) m Γ) now next r → r ≡ reply.Is s
         → w ≡ joinMore (parentsIn ps) o (tyOf s) → Left m t n k c (i + 1) w Γ B next
     left-next {s = s} {w = w} ps e h d q v = record { goes = λ y. left .goes (rw (left-by i o h) (after _ d q (rw (others-by ps e i o (tyOf s)) (rw (v, ← e) at y)))) }
 
-    pub left-done : {r : Reply} → c ≤ i → meaning r ≡ common n o (wrap n (letterOf (k - 25))) → Tells (collectAt t n k m Γ) B now r
+    pub left-done : {r : Reply} → c ≤ i → meaning r ≡ common n o (wrap n (letterOf (k - 25))) → Tells (assembleAt t n k m Γ) B now r
     unfolding membersLeft lettered andThen thenFor
     left-done h v = left .goes (rw (members-none m t n (c - i) (i + 1) Γ (omega arith), void-last (m .parent) o) (done v))

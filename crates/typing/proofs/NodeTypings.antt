@@ -1,29 +1,31 @@
 -- What the recursion's contracts come to: each node by the range of its code, each operand, and what follows the operands of the
 -- forms that bind. Assumes nothing.
-use mathlib.Core.Path.{_≡_, refl, sym, ap, _∙_}
+use mathlib.Core.Path.{_≡_, refl, sym, ap, _∙_, fun-ext}
 use mathlib.Core.Bool.{Bool, true, false}
+use mathlib.Core.Logic.{_⊎_, inl, inr}
 use mathlib.Core.List.{List}
 use Prim.Native.Nat.{ℕ, _<_, _≤_}
 use native.Mathlib.Omega.{arith}
 use lib.Dec.{ltb}
-use borrow.Author.Tests.{ltb-true, ltb-false}
+use borrow.Author.Tests.{ltb-true, ltb-false, ne-eqb}
 use Rattle.laws.specs.Choice.{if_then_else_}
 use Rattle.ocl.specs.Types.{Letter, Ty, void, Parents, subtype}
 use Rattle.ocl.specs.Environment.{Env, extend}
 use Rattle.ocl.specs.Forms.{undef}
 use Rattle.ocl.specs.Model.{Model}
-use Rattle.ocl.specs.Typing.{typed, refused, Typed, pure, andThen, onCollection, leafType, leafTyping, iterateTyping}
+use Rattle.ocl.specs.Typing.{typed, refused, Typed, pure, andThen, onCollection, leafType, leafTyping, unaryTyping, isUndefTyping, attributeTyping, iterateTyping}
 use Rattle.types.specs.declared.FlatType.{FlatType}
 use Rattle.types.specs.Flat.{parentsIn, letterOf, tyOf}
 use Rattle.types.specs.Parts.{outerCode, memberType}
 use Rattle.types.specs.Word.{typeIn}
 use Rattle.types.proofs.Members.{no-collection, is-collection}
 use Rattle.nodes.specs.Nodes.{word, variable, leafOf}
-use Rattle.nodes.proofs.Typing.{operandTyping, leaf-typing, unary-typing, binary-typing, connective-typing, quantified-typing, collect-typing, isUndef-typing, conditional-typing, let-typing, attribute-typing, iterate-typing, over-typing, none-typing, operand-typing, late-typing}
+use Rattle.nodes.proofs.Typing.{operandTyping, leaf-typing, unary-typing, binary-typing, connective-typing, quantified-typing, assemble-typing, isUndef-typing, conditional-typing, let-typing, attribute-typing, iterate-typing, over-typing, none-typing, operand-typing, late-typing}
 use Rattle.judgements.specs.declared.Reply.{Reply}
 use Rattle.judgements.specs.declared.Reply.the-variants as reply
 use Rattle.judgements.specs.Replies.{Tells}
-use Rattle.typing.specs.Tables.{nodeAt, operandAt, membersAt, unaryAt, binaryAt, connectiveAt, isUndefAt, conditionalAt, letAt, attributeAt, quantifiedAt, iterateAt, bodyAt, collectAt}
+use Rattle.judgements.specs.Single.{singleType}
+use Rattle.typing.specs.Tables.{nodeAt, operandAt, membersAt, singleAt, binaryAt, connectiveAt, conditionalAt, letAt, quantifiedAt, iterateAt, bodyAt, assembleAt}
 use Rattle.judgements.proofs.Composition.{done}
 
 -- ---- a node by its code
@@ -32,9 +34,9 @@ module _ (m : Model) (t : List ℕ) (n k : ℕ) (e : k ≡ word t n 0) where
   pub leaf-node : k < 7 → nodeAt t n m ≡ leafTyping n (leafOf k (word t n))
   leaf-node h = leaf-typing m t n k e h
 
-  pub unary-node : 7 ≤ k → k < 13 → nodeAt t n m ≡ unaryAt t n k m
-  unfolding operandAt operandTyping
-  unary-node l h = unary-typing m t n k e l h
+  unary-node : 7 ≤ k → k < 13 → nodeAt t n m ≡ singleAt t n k m
+  unfolding operandAt operandTyping singleAt singleType unaryTyping
+  unary-node l h = unary-typing m t n k e l h ∙ fun-ext (λ Γ. ap (andThen (operandAt t n 1 m Γ)) (fun-ext (λ u. rw (ne-eqb k 30 (λ q. omega arith), ne-eqb k 33 (λ q. omega arith)))))
 
   pub binary-node : 13 ≤ k → k < 23 → nodeAt t n m ≡ binaryAt t n k m
   unfolding operandAt operandTyping
@@ -48,17 +50,17 @@ module _ (m : Model) (t : List ℕ) (n k : ℕ) (e : k ≡ word t n 0) where
   unfolding operandAt operandTyping
   quantified-node l h = quantified-typing m t n k e l h
 
-  by-count : (b : Bool) → ltb 4 (word t n 5) ≡ b → 27 ≤ k → k < 30 → nodeAt t n m ≡ collectAt t n k m
-  unfolding collectAt membersAt
+  by-count : (b : Bool) → ltb 4 (word t n 5) ≡ b → 27 ≤ k → k < 30 → nodeAt t n m ≡ assembleAt t n k m
+  unfolding assembleAt membersAt
   by-count true c l h = rw c (over-typing m t n k e l h (ltb-true 4 (word t n 5) c))
-  by-count false c l h = rw c (collect-typing m t n k e l h (ltb-false 4 (word t n 5) c))
+  by-count false c l h = rw c (assemble-typing m t n k e l h (ltb-false 4 (word t n 5) c))
 
-  pub collect-node : 27 ≤ k → k < 30 → nodeAt t n m ≡ collectAt t n k m
-  collect-node l h = by-count (ltb 4 (word t n 5)) refl l h
+  pub assemble-node : 27 ≤ k → k < 30 → nodeAt t n m ≡ assembleAt t n k m
+  assemble-node l h = by-count (ltb 4 (word t n 5)) refl l h
 
-  pub isUndef-node : k ≡ 30 → nodeAt t n m ≡ isUndefAt t n m
-  unfolding operandAt operandTyping
-  isUndef-node h = isUndef-typing m t n k e h
+  isUndef-node : k ≡ 30 → nodeAt t n m ≡ singleAt t n k m
+  unfolding operandAt operandTyping singleAt singleType isUndefTyping
+  isUndef-node h = isUndef-typing m t n k e h ∙ fun-ext (λ Γ. rw h)
 
   pub conditional-node : k ≡ 31 → nodeAt t n m ≡ conditionalAt t n m
   unfolding operandAt operandTyping
@@ -68,16 +70,24 @@ module _ (m : Model) (t : List ℕ) (n k : ℕ) (e : k ≡ word t n 0) where
   unfolding operandAt operandTyping
   let-node h = let-typing m t n k e h
 
-  pub attribute-node : k ≡ 33 → nodeAt t n m ≡ attributeAt t n m
-  unfolding operandAt operandTyping
-  attribute-node h = attribute-typing m t n k e h
+  attribute-node : k ≡ 33 → nodeAt t n m ≡ singleAt t n k m
+  unfolding operandAt operandTyping singleAt singleType attributeTyping
+  attribute-node h = attribute-typing m t n k e h ∙ fun-ext (λ Γ. rw h)
 
   pub iterate-node : k ≡ 34 → nodeAt t n m ≡ iterateAt t n m
   unfolding operandAt operandTyping
   iterate-node h = iterate-typing m t n k e h
 
-  pub none-node : 30 ≤ k → (k ≡ 30 → ⊥) → (k ≡ 31 → ⊥) → (k ≡ 32 → ⊥) → (k ≡ 33 → ⊥) → (k ≡ 34 → ⊥) → nodeAt t n m ≡ leafTyping n undef
-  none-node l a b c d f = none-typing m t n k e (omega arith)
+  pub single-node : ((k ≡ 30) ⊎ (k ≡ 33)) ⊎ ((7 ≤ k) × (k < 13)) → nodeAt t n m ≡ singleAt t n k m
+  single-node (inl (inl h)) = isUndef-node h
+  single-node (inl (inr h)) = attribute-node h
+  single-node (inr (l, h)) = unary-node l h
+
+  none-by : 30 ≤ k → (k ≡ 30 → ⊥) → (k ≡ 33 → ⊥) → (k ≡ 31 → ⊥) → (k ≡ 32 → ⊥) → (k ≡ 34 → ⊥) → nodeAt t n m ≡ leafTyping n undef
+  none-by l a b c d f = none-typing m t n k e (omega arith)
+
+  pub none-node : 30 ≤ k → ((k ≡ 30) ⊎ (k ≡ 33) → ⊥) → (k ≡ 31 → ⊥) → (k ≡ 32 → ⊥) → (k ≡ 34 → ⊥) → nodeAt t n m ≡ leafTyping n undef
+  none-node l a = none-by l (λ q. a (inl q)) (λ q. a (inr q))
 
 -- ---- operands
 

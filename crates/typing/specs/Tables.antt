@@ -9,15 +9,16 @@ use Rattle.ocl.specs.Types.{Ty}
 use Rattle.ocl.specs.Environment.{extend}
 use Rattle.ocl.specs.Forms.{undef}
 use Rattle.ocl.specs.Model.{Model}
-use Rattle.ocl.specs.Typing.{typed, Typed, Typing, pure, andThen, below, typing, leafTyping, unaryTyping, binaryTyping, connectiveTyping, isUndefTyping, conditionalTyping, letTyping, attributeTyping, quantifiedTyping, iterateTyping, collectTyping, operandsTyping}
+use Rattle.ocl.specs.Typing.{typed, Typed, Typing, pure, andThen, below, typing, leafTyping, binaryTyping, connectiveTyping, conditionalTyping, letTyping, quantifiedTyping, iterateTyping, assembleTyping, operandsTyping}
 use Rattle.types.specs.Flat.{tyOf}
 use Rattle.types.specs.Word.{typeIn}
-use Rattle.nodes.specs.Nodes.{word, variable, unaryOf, binaryOf, kindOf, operandsIn, treesBelow, treeAt}
+use Rattle.nodes.specs.Nodes.{word, variable, binaryOf, kindOf, operandsIn, treesBelow, treeAt}
 use Rattle.judgements.specs.declared.Slot.{Slot}
 use Rattle.judgements.specs.declared.Reply.{Reply}
 use Rattle.typing.specs.declared.PairReply.{PairReply}
 use Rattle.typing.specs.declared.PairReply.the-variants as two
 use Rattle.judgements.specs.Replies.{envOf, Tells, ReadsRows}
+use Rattle.judgements.specs.Single.{singleType}
 
 -- node n and so many rows are within what is lent
 pub record NodeRoom (n rows tables nodes marks : ℕ) : Type 0 where
@@ -53,8 +54,9 @@ operandAt t n k m = typing m (treesBelow t n (word t n k))
 unfoldable pub membersAt : List ℕ → ℕ → ℕ → ℕ → Model → Typing
 membersAt t n c k m = operandsTyping m n (operandsIn (treesBelow t n) (word t n) c k)
 
-abbrev pub unaryAt : List ℕ → ℕ → ℕ → Model → Typing
-unaryAt t n form m = unaryTyping m n (unaryOf form (word t n)) (operandAt t n 1 m)
+-- a single operand: its type, and what that leads to
+unfoldable pub singleAt : List ℕ → ℕ → ℕ → Model → Typing
+singleAt t n form m Γ = andThen (operandAt t n 1 m Γ) (singleType m n form (word t n))
 
 abbrev pub binaryAt : List ℕ → ℕ → ℕ → Model → Typing
 binaryAt t n form m = binaryTyping m n (binaryOf form) (operandAt t n 1 m) (operandAt t n 2 m)
@@ -62,17 +64,11 @@ binaryAt t n form m = binaryTyping m n (binaryOf form) (operandAt t n 1 m) (oper
 abbrev pub connectiveAt : List ℕ → ℕ → Model → Typing
 connectiveAt t n m = connectiveTyping m n (operandAt t n 1 m) (operandAt t n 2 m)
 
-abbrev pub isUndefAt : List ℕ → ℕ → Model → Typing
-isUndefAt t n m = isUndefTyping (operandAt t n 1 m)
-
 abbrev pub conditionalAt : List ℕ → ℕ → Model → Typing
 conditionalAt t n m = conditionalTyping m n (operandAt t n 1 m) (operandAt t n 2 m) (operandAt t n 3 m)
 
 abbrev pub letAt : List ℕ → ℕ → Model → Typing
 letAt t n m = letTyping (variable (word t n 3)) (operandAt t n 1 m) (operandAt t n 2 m)
-
-abbrev pub attributeAt : List ℕ → ℕ → Model → Typing
-attributeAt t n m = attributeTyping m n (word t n 2) (operandAt t n 1 m)
 
 abbrev pub quantifiedAt : List ℕ → ℕ → Model → Typing
 quantifiedAt t n m = quantifiedTyping m n (variable (word t n 3)) (operandAt t n 1 m) (operandAt t n 2 m)
@@ -86,6 +82,6 @@ unfoldable pub bodyAt : List ℕ → ℕ → Ty → Model → Typing
 bodyAt t n w m Γ = andThen (operandAt t n 3 m (extend Γ (variable (word t n 5)) w)) (λ b. pure (below m n b w (typed w)))
 
 -- over four operands, which no accepted sheet has, count as `undef`
-unfoldable pub collectAt : List ℕ → ℕ → ℕ → Model → Typing
-collectAt t n form m =
-    if ltb 4 (word t n 5) then leafTyping n undef else collectTyping n (kindOf form) (membersAt t n (word t n 5) 1 m)
+unfoldable pub assembleAt : List ℕ → ℕ → ℕ → Model → Typing
+assembleAt t n form m =
+    if ltb 4 (word t n 5) then leafTyping n undef else assembleTyping n (kindOf form) (membersAt t n (word t n 5) 1 m)

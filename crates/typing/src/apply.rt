@@ -2,7 +2,7 @@
 // Parameters as in walk.rt.
 ghost use Prim.Native.Nat.{_<_, _≤_};
 ghost use lib.ListN.{length};
-ghost use Rattle.typing.specs.Tables.{NodeRoom, Types, unaryAt, binaryAt, connectiveAt, isUndefAt, conditionalAt, attributeAt, collectAt};
+ghost use Rattle.typing.specs.Tables.{NodeRoom, Types, singleAt, binaryAt, connectiveAt, conditionalAt, assembleAt};
 use super::PairReply;
 use super::walk::operand;
 use super::walk::pair;
@@ -11,17 +11,17 @@ use judgements::Slot;
 use judgements::forms::around_common;
 use judgements::forms::binary_type;
 use judgements::forms::both_below;
+use judgements::forms::conditional_type;
 use judgements::forms::join_more;
-use judgements::forms::unary_type;
-use judgements::others::attribute_type;
-use judgements::others::conditional_type;
+use judgements::single::single_type;
 use nodes::node_word;
 use types::Base;
 use types::Joined;
 use types::classes::wide;
 use types::parts::plain;
 
-pub fn unary(
+// A form with a single operand.
+pub fn single(
     nodes: &[u64],
     parents: &[u64],
     tables: &[u64],
@@ -32,13 +32,13 @@ pub fn unary(
     marks: &mut [u64],
 ) -> Reply
     requires { ⌜ NodeRoom n rows (length (now tables)) (length (now nodes)) (length (now marks)) ⌝ }
-    ensures { λ r. ⌜ Types (now (parents .entry)) (now (tables .entry)) rows (unaryAt (now (nodes .entry)) n form) env (now (marks .entry)) (now (marks .exit)) r ⌝ }
+    ensures { λ r. ⌜ Types (now (parents .entry)) (now (tables .entry)) rows (singleAt (now (nodes .entry)) n form) env (now (marks .entry)) (now (marks .exit)) r ⌝ }
 {
     let first = operand(nodes, parents, tables, rows, n, 1, env, marks);
     let Reply::Is(t) = first else {
         return first;
     };
-    unary_type(parents, nodes, form, n, t)
+    single_type(nodes, parents, tables, rows, n, form, t, marks)
 }
 
 pub fn binary(
@@ -83,25 +83,6 @@ pub fn connective(
     }
 }
 
-pub fn is_undef(
-    nodes: &[u64],
-    parents: &[u64],
-    tables: &[u64],
-    rows: usize,
-    n: usize,
-    env: [Slot; 16],
-    marks: &mut [u64],
-) -> Reply
-    requires { ⌜ NodeRoom n rows (length (now tables)) (length (now nodes)) (length (now marks)) ⌝ }
-    ensures { λ r. ⌜ Types (now (parents .entry)) (now (tables .entry)) rows (isUndefAt (now (nodes .entry)) n) env (now (marks .entry)) (now (marks .exit)) r ⌝ }
-{
-    let first = operand(nodes, parents, tables, rows, n, 1, env, marks);
-    let Reply::Is(t) = first else {
-        return first;
-    };
-    Reply::Is(plain(Base::Bool))
-}
-
 // `if`: the condition, then both branches.
 pub fn conditional(
     nodes: &[u64],
@@ -128,29 +109,9 @@ pub fn conditional(
     }
 }
 
-pub fn attribute(
-    nodes: &[u64],
-    parents: &[u64],
-    tables: &[u64],
-    rows: usize,
-    n: usize,
-    env: [Slot; 16],
-    marks: &mut [u64],
-) -> Reply
-    requires { ⌜ NodeRoom n rows (length (now tables)) (length (now nodes)) (length (now marks)) ⌝ }
-    ensures { λ r. ⌜ Types (now (parents .entry)) (now (tables .entry)) rows (attributeAt (now (nodes .entry)) n) env (now (marks .entry)) (now (marks .exit)) r ⌝ }
-{
-    let first = operand(nodes, parents, tables, rows, n, 1, env, marks);
-    let Reply::Is(t) = first else {
-        return first;
-    };
-    let name = node_word(nodes, n, 2);
-    attribute_type(parents, tables, rows, n, name, t, marks)
-}
-
 // `coll`: the letter around the common type of the members, all of which are typed before a missing one is refused; over four
 // members, which no accepted sheet has, count as `undef`.
-pub fn collect(
+pub fn coll(
     nodes: &[u64],
     parents: &[u64],
     tables: &[u64],
@@ -162,7 +123,7 @@ pub fn collect(
 ) -> Reply
     requires { ⌜ (27 ≤ form) × (form < 30) ⌝ }
     requires { ⌜ NodeRoom n rows (length (now tables)) (length (now nodes)) (length (now marks)) ⌝ }
-    ensures { λ r. ⌜ Types (now (parents .entry)) (now (tables .entry)) rows (collectAt (now (nodes .entry)) n form) env (now (marks .entry)) (now (marks .exit)) r ⌝ }
+    ensures { λ r. ⌜ Types (now (parents .entry)) (now (tables .entry)) rows (assembleAt (now (nodes .entry)) n form) env (now (marks .entry)) (now (marks .exit)) r ⌝ }
 {
     let count = wide(node_word(nodes, n, 5));
     if 4 < count {

@@ -5,13 +5,11 @@ ghost use Prim.Native.Nat.{_<_};
 ghost use lib.ListN.{length};
 ghost use Rattle.typing.specs.Tables.{NodeRoom, Types, TypesTwo, nodeAt, operandAt};
 use super::PairReply;
-use super::apply::attribute;
 use super::apply::binary;
-use super::apply::collect;
+use super::apply::coll;
 use super::apply::conditional;
 use super::apply::connective;
-use super::apply::is_undef;
-use super::apply::unary;
+use super::apply::single;
 use super::scope::iterate;
 use super::scope::let_in;
 use super::scope::quantified;
@@ -39,15 +37,13 @@ pub fn node(
     let form = node_word(nodes, n, 0);
     match form {
         0..=6 => leaf_type(nodes, form, n, env),
-        7..=12 => unary(nodes, parents, tables, rows, n, form, env, marks),
+        7..=12 | 30 | 33 => single(nodes, parents, tables, rows, n, form, env, marks),
         13..=22 => binary(nodes, parents, tables, rows, n, form, env, marks),
         23..=24 => connective(nodes, parents, tables, rows, n, env, marks),
         25..=26 => quantified(nodes, parents, tables, rows, n, env, marks),
-        27..=29 => collect(nodes, parents, tables, rows, n, form, env, marks),
-        30 => is_undef(nodes, parents, tables, rows, n, env, marks),
+        27..=29 => coll(nodes, parents, tables, rows, n, form, env, marks),
         31 => conditional(nodes, parents, tables, rows, n, env, marks),
         32 => let_in(nodes, parents, tables, rows, n, env, marks),
-        33 => attribute(nodes, parents, tables, rows, n, env, marks),
         34 => iterate(nodes, parents, tables, rows, n, env, marks),
         _ => Reply::Is(plain(Base::Void)),
     }

@@ -15,8 +15,8 @@ use Rattle.ocl.specs.Forms.{Arith, plus, minus, times, div, modulo}
 use Rattle.ocl.specs.Evaluation.{inRange, ranged, isLess, unlessZero, quotient, remainder, arithmetic}
 use Rattle.values.specs.Cells.{bias, payload}
 use Rattle.values.specs.Integers.{numOf, Calculates, Lesser, distance, alike, side, arithOf}
-use Rattle.values.specs.declared.Num.{Num}
-use Rattle.values.specs.declared.Num.the-variants as num
+use Rattle.values.specs.declared.Computed.{Computed}
+use Rattle.values.specs.declared.Computed.the-variants as num
 use Rattle.values.proofs.Heads.{range-neg, bias-order}
 
 -- ---- in range, too low, too high
@@ -176,7 +176,7 @@ out-of-range true d h = is-high (pos d) d 0 (omega arith) (omega arith)
 out-of-range false d h = is-low (negℤ (pos d)) 0 d (neg-diff (pos d) d 0 (omega arith)) (omega arith)
 
 module _ (a b : ℕ) {m n : ℕ} (u : m ≡ distance a) (w : n ≡ distance b) where
-  pub times-is : {up : Bool} {r : Num} → up ≡ alike a b → r ≡ numOf (ranged (side up (m * n))) → Calculates times a b r
+  pub times-is : {up : Bool} {r : Computed} → up ≡ alike a b → r ≡ numOf (ranged (side up (m * n))) → Calculates times a b r
   unfolding arithmetic
   times-is v z = record { is = λ x y g h e f. z ∙ ap (λ (i : ℤ). numOf (ranged i)) (rw (v, u, w) (sym (product-side (sign x g e) (sign y h f)))) }
 
@@ -206,14 +206,14 @@ unfolding arithmetic numOf
 mod-by-zero z = record { is = λ x y g h e f. sym (ap numOf (none-by _ (sign y h f) z)) }
 
 module _ (a b : ℕ) {m n : ℕ} (u : m ≡ distance a) (w : n ≡ distance b) (some : b ≡ 2147483648 → ⊥) where
-  pub div-is : {up : Bool} {r : Num} → up ≡ alike a b → r ≡ numOf (ranged (side up (m / n))) → Calculates div a b r
+  pub div-is : {up : Bool} {r : Computed} → up ≡ alike a b → r ≡ numOf (ranged (side up (m / n))) → Calculates div a b r
   unfolding arithmetic
   div-is v z = record {
     is = λ x y g h e f.
         z ∙ ap (λ (i : ℤ). numOf (ranged i)) (rw (v, u, w) (sym (quotient-side (sign x g e) (sign y h f)))) ∙ sym (ap numOf (some-by _ (sign y h f) some));
   }
 
-  pub mod-is : {r : Num} → r ≡ numOf (ranged (side (leb 2147483648 a) (m % n))) → Calculates modulo a b r
+  pub mod-is : {r : Computed} → r ≡ numOf (ranged (side (leb 2147483648 a) (m % n))) → Calculates modulo a b r
   unfolding arithmetic
   mod-is z = record {
     is = λ x y g h e f.
@@ -246,5 +246,5 @@ arith-4 (suc (suc zero)) h = absurd (omega arith)
 arith-4 (suc (suc (suc zero))) h = absurd (omega arith)
 arith-4 (suc (suc (suc (suc n)))) h = refl
 
-pub by-number : {o p : Arith} {a b : ℕ} {r : Num} → p ≡ o → Calculates o a b r → Calculates p a b r
+pub by-number : {o p : Arith} {a b : ℕ} {r : Computed} → p ≡ o → Calculates o a b r → Calculates p a b r
 by-number e c = rw e c

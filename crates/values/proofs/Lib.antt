@@ -5,7 +5,7 @@ pub mod Members
 pub mod Growing
 pub mod Scanning
 pub mod Comparing
-mod Searching
+mod Seeking
 mod Sliding
 mod Finding
 mod Putting

@@ -25,6 +25,10 @@ copy-done S T L from to len i h k q e =
     let n = part-length L from len h in
     rw (e, q) (take-paste S to (take len (drop from L)) len (omega arith) (omega arith) ∙ ap (λ (l : List ℕ). take to S ++ l) (take-all len (take len (drop from L)) (omega arith)))
 
+pub copy-behind : (S T L : List ℕ) (from to len i : ℕ) → from + len ≤ length L → to + len ≤ length S → i ≡ len → T ≡ paste S to (take len (drop from L)) i
+    → drop (to + len) T ≡ drop (to + len) S
+copy-behind S T L from to len i h k q e = let n = part-length L from len h in rw (e, q) (drop-paste S to (take len (drop from L)) len (omega arith) (omega arith))
+
 -- ---- from other words
 
 pub copy-again : (S T L : List ℕ) (from to len i : ℕ) → from + len ≤ length L → to + len ≤ length S → i < len → T ≡ paste S to (take len (drop from L)) i

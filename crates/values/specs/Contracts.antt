@@ -1,10 +1,10 @@
--- What the contracts say. A value lies from a to b where the cells of that part are its own; each promise holds of every
--- value that lies there, and what is formed lies at sp, above cells that are as before.
+-- What the contracts say. A value lies from a to b if the cells there are its own. Each promise holds for every value that lies
+-- there; what is formed lies at sp, and the cells below sp stay as they were.
 use mathlib.Core.Path.{_≡_}
 use mathlib.Core.Bool.{Bool, true, false}
 use mathlib.Core.List.{List, _∷_, _++_}
 use Prim.Native.Nat.{ℕ, suc, _+_, _-_, _<_, _≤_}
-use lib.ListN.{length, getD, take}
+use lib.ListN.{length, getD, take, drop}
 use lib.Seq.{slice}
 use lib.Dec.{leb}
 use lib.IntN.{ℤ}
@@ -181,7 +181,7 @@ pub record MergesBy (apart h from mid start top : ℕ) (before after : List ℕ)
       → Forms (coll k (addAll k vs us)) top (take top before) after (formed.Done r)
 
 -- the members from `from` to end, as a collection of the kind
-pub record Collects (kind sp from end : ℕ) (before after : List ℕ) (r : Formed) : Type 0 where
+pub record Assembles (kind sp from end : ℕ) (before after : List ℕ) (r : Formed) : Type 0 where
   pub small : SmallForm r
   pub low : take sp after ≡ take sp before
   pub is : (k : Kind) (vs : Values) → kind ≡ kindCode k → AllFit vs → slice from end before ≡ encs vs
@@ -201,6 +201,11 @@ pub record Unites (sp mid end : ℕ) (before after : List ℕ) (r : Formed) : Ty
   pub is : (k : Kind) (us vs : Values) → Fits (coll k us) → Fits (coll k vs)
       → slice sp mid before ≡ enc (coll k us) → slice mid end before ≡ enc (coll k vs)
       → Forms (coll k (addAll k vs us)) sp (take sp before) after r
+
+-- the len cells at `from`, copied to `to`; every other cell is as it was
+pub record Slides (from to len : ℕ) (before after : List ℕ) : Type 0 where
+  pub front : take (to + len) after ≡ take to before ++ take len (drop from before)
+  pub behind : drop (to + len) after ≡ drop (to + len) before
 
 -- the value at p, below sp, once more at sp
 pub record Copies (p sp : ℕ) (before after : List ℕ) (r : Formed) : Type 0 where

@@ -10,15 +10,15 @@ use Rattle.ocl.specs.Values.{Value, orderInt}
 use Rattle.ocl.specs.Forms.{Arith, plus, minus, times, div, modulo}
 use Rattle.ocl.specs.Evaluation.{inRange, isLess, arithmetic}
 use Rattle.values.specs.Cells.{bias, payload}
-use Rattle.values.specs.declared.Num.{Num}
-use Rattle.values.specs.declared.Num.the-variants as num
+use Rattle.values.specs.declared.Computed.{Computed}
+use Rattle.values.specs.declared.Computed.the-variants as num
 
 -- the code's answer for a result that may be undefined
-unfoldable pub numOf : Option Value → Num
+unfoldable pub numOf : Option Value → Computed
 numOf none = num.Undef
 numOf (some v) = num.Is (payload v)
 
-pub record Calculates (op : Arith) (a b : ℕ) (r : Num) : Type 0 where
+pub record Calculates (op : Arith) (a b : ℕ) (r : Computed) : Type 0 where
   pub is : (x y : ℤ) → T (inRange x) → T (inRange y) → a ≡ bias x → b ≡ bias y → r ≡ numOf (arithmetic op x y)
 
 pub record Lesser (a b : ℕ) (r : Bool) : Type 0 where

@@ -1,15 +1,15 @@
 // Integers, each counted from -2147483648, so that all numbers here are unsigned. A result outside -2147483648 to
 // 2147483647 is undefined, as is one with a zero divisor.
-use crate::Num;
+use crate::Computed;
 ghost use mathlib.Core.Path.{_≡_};
 ghost use Prim.Native.Nat.{_≤_, _<_};
 ghost use Rattle.ocl.specs.Forms.{Arith};
 ghost use Rattle.ocl.specs.Evaluation.{ranged};
 ghost use Rattle.values.specs.Integers.{Calculates, Lesser, arithOf, numOf, side, distance as distanceOf, alike as alikeOf};
 
-// What 0 is held as.
+// How 0 is stored.
 pub const ZERO: u64 = 2_147_483_648;
-// All Integers are held below this.
+// Every stored Integer is below this.
 pub const END: u64 = 4_294_967_296;
 
 pub fn less(a: u64, b: u64) -> bool
@@ -18,33 +18,33 @@ pub fn less(a: u64, b: u64) -> bool
     a < b
 }
 
-pub fn plus(a: u64, b: u64) -> Num
+pub fn plus(a: u64, b: u64) -> Computed
     requires { ⌜ (a < 4294967296) × (b < 4294967296) ⌝ }
     ensures { λ r. ⌜ Calculates Arith.plus a b r ⌝ }
 {
     let s = a + b;
     if s < ZERO {
-        return Num::Undef;
+        return Computed::Undef;
     }
     if s - ZERO < END {
-        Num::Is { n: s - ZERO }
+        Computed::Is { n: s - ZERO }
     } else {
-        Num::Undef
+        Computed::Undef
     }
 }
 
-pub fn minus(a: u64, b: u64) -> Num
+pub fn minus(a: u64, b: u64) -> Computed
     requires { ⌜ (a < 4294967296) × (b < 4294967296) ⌝ }
     ensures { λ r. ⌜ Calculates Arith.minus a b r ⌝ }
 {
     let s = a + ZERO;
     if s < b {
-        return Num::Undef;
+        return Computed::Undef;
     }
     if s - b < END {
-        Num::Is { n: s - b }
+        Computed::Is { n: s - b }
     } else {
-        Num::Undef
+        Computed::Undef
     }
 }
 
@@ -63,56 +63,56 @@ fn alike(a: u64, b: u64) -> bool
 }
 
 // The Integer at distance d from 0, above or below it.
-fn toward(up: bool, d: u64) -> Num
+fn toward(up: bool, d: u64) -> Computed
     requires { ⌜ d ≤ 2147483648 ⌝ }
     ensures { λ r. ⌜ r ≡ numOf (ranged (side up d)) ⌝ }
 {
     if up {
         if d < ZERO {
-            Num::Is { n: ZERO + d }
+            Computed::Is { n: ZERO + d }
         } else {
-            Num::Undef
+            Computed::Undef
         }
     } else {
-        Num::Is { n: ZERO - d }
+        Computed::Is { n: ZERO - d }
     }
 }
 
-pub fn times(a: u64, b: u64) -> Num
+pub fn times(a: u64, b: u64) -> Computed
     requires { ⌜ (a < 4294967296) × (b < 4294967296) ⌝ }
     ensures { λ r. ⌜ Calculates Arith.times a b r ⌝ }
 {
     let p = distance(a) * distance(b);
     if ZERO < p {
-        return Num::Undef;
+        return Computed::Undef;
     }
     toward(alike(a, b), p)
 }
 
 // Cut toward zero: the distances are divided. Only -2147483648 by -1 leaves the range.
-pub fn div(a: u64, b: u64) -> Num
+pub fn div(a: u64, b: u64) -> Computed
     requires { ⌜ (a < 4294967296) × (b < 4294967296) ⌝ }
     ensures { λ r. ⌜ Calculates Arith.div a b r ⌝ }
 {
     if b == ZERO {
-        return Num::Undef;
+        return Computed::Undef;
     }
     toward(alike(a, b), distance(a) / distance(b))
 }
 
 // What `div` leaves, on the dividend's side of 0.
-pub fn modulo(a: u64, b: u64) -> Num
+pub fn modulo(a: u64, b: u64) -> Computed
     requires { ⌜ (a < 4294967296) × (b < 4294967296) ⌝ }
     ensures { λ r. ⌜ Calculates Arith.modulo a b r ⌝ }
 {
     if b == ZERO {
-        return Num::Undef;
+        return Computed::Undef;
     }
     toward(ZERO <= a, distance(a) % distance(b))
 }
 
 // The operation with the number op: 0 plus, 1 minus, 2 times, 3 div, 4 mod.
-pub fn calculate(op: u64, a: u64, b: u64) -> Num
+pub fn calculate(op: u64, a: u64, b: u64) -> Computed
     requires { ⌜ (a < 4294967296) × (b < 4294967296) ⌝ }
     ensures { λ r. ⌜ Calculates (arithOf op) a b r ⌝ }
 {

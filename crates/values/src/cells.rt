@@ -7,15 +7,15 @@ ghost use mathlib.Core.Logic.{_⊎_};
 ghost use Prim.Native.Nat.{_+_, _*_, _≤_, _<_};
 ghost use lib.ListN.{length, take, drop};
 ghost use Rattle.values.specs.Cells.{kids};
-ghost use Rattle.values.specs.Contracts.{SortOf, PayloadOf, SimpleOf, CellOf, Narrow, Pushes, EmptyOf, Skips, Copies, Brings};
+ghost use Rattle.values.specs.Contracts.{SortOf, PayloadOf, SimpleOf, CellOf, Narrow, Pushes, EmptyOf, Skips, Slides, Copies, Brings};
 
-// A cell is this many times its sort, and a payload below it.
+// A cell is its sort times this, plus a payload below it.
 pub const SORT: u64 = 4_294_967_296;
-// Cells of collections start here, and end before this.
+// Cells of collections start here, and end before TOP.
 pub const COLLECTIONS: u64 = 12_884_901_888;
 
 pub const TOP: u64 = 25_769_803_776;
-// The sorts: 0 for truth values, these for Integers and objects, then those of collections.
+// The sorts. That of truth values is 0.
 pub const INTEGER: u64 = 1;
 
 pub const OBJECT: u64 = 2;
@@ -48,7 +48,7 @@ pub fn payload_of(cell: u64) -> u64
     cell % SORT
 }
 
-// The simple value with this cell; what a collection's cell gives says nothing.
+// The simple value with this cell. For a collection's cell the result means nothing.
 pub fn simple_of(cell: u64) -> Simple
     ensures { λ r. ⌜ SimpleOf cell r ⌝ }
 {
@@ -119,11 +119,11 @@ pub fn skip(stack: &[u64], p: usize, limit: usize) -> usize
     q
 }
 
-// Copies the len cells at `from` to `to`, first to last: so `to` is below `from`, or the two parts do not meet.
+// Copies the len cells at `from` to `to`, the first one first: so `to` must not be above `from`, unless the parts don't overlap.
 pub fn slide(stack: &mut [u64], from: usize, to: usize, len: usize)
     requires { ⌜ (from + len ≤ length (now stack)) × (to + len ≤ length (now stack)) ⌝ }
     requires { ⌜ (to ≤ from) ⊎ (from + len ≤ to) ⌝ }
-    ensures { λ _. ⌜ take (to + len) (now (stack .exit)) ≡ take to (now (stack .entry)) ++ take len (drop from (now (stack .entry))) ⌝ }
+    ensures { λ _. ⌜ Slides from to len (now (stack .entry)) (now (stack .exit)) ⌝ }
 {
     let mut i = 0;
     while i < len {

@@ -1,11 +1,11 @@
 // Values as cells in lent words (specs/Cells.antt): a value is one word, and a collection's members follow its word. The
-// functions read values where they lie and form new ones on a stack of words, each above everything that is still wanted.
+// functions read values where they lie and form new ones on a stack of words, each above everything that is still needed.
 //
 // Contracts (specs/Contracts.antt) say: whatever values lie at these places, the answer is what document 01 gives for them.
 // It depends on no other code, and on crates/ocl for what a value is.
 pub mod arith;
 pub mod cells;
-pub mod collect;
+pub mod collections;
 pub mod merge;
 pub mod order;
 
@@ -16,7 +16,7 @@ pub enum Simple {
     Object { number: u64 },
 }
 
-// Where a member goes: at a member that is the same, or where none is.
+// Where a member goes: to a member that is the same, or to a place where it is new.
 pub enum Spot {
     Same { at: usize },
     New { at: usize },
@@ -29,7 +29,7 @@ pub enum Formed {
 }
 
 // The result of an operation on Integers, counted from -2147483648.
-pub enum Num {
+pub enum Computed {
     Is { n: u64 },
     Undef,
 }

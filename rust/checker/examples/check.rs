@@ -2,7 +2,7 @@
 //! the rule comes to for each of its objects, and the report; or why the sheet is
 //! refused, in words. It does what `examples/c/check.c` does.
 //!
-//! Its exit status is 0 after a report, 1 after a refusal and 2 where the file
+//! Its exit status is 0 after a report, 1 after a refusal and 2 if the file
 //! could not be read.
 
 use ocl_checker::{evaluate_rule, read, report, type_rule};
@@ -10,14 +10,14 @@ use ocl_checker::{Evaluated, Memory, Refusal, Refused, REPORT_OUTPUT};
 use std::path::PathBuf;
 use std::process::ExitCode;
 
-/// Prints what the rule comes to for each object that it is for.
+/// Prints what the rule comes to for each object it applies to.
 fn evaluate_for_all(text: &[u8], rule: u64, memory: &mut Memory, output: &mut [u8]) {
     for object in 0.. {
         match evaluate_rule(text, rule, object, memory, output) {
             Ok(Evaluated { value, steps }) => println!("  object {object}: {value}, {steps} steps"),
             Err(refused) => match refused.refusal() {
-                // The object before was the last.
-                Some(Refusal::NotListed) => return,
+                // The object before this one was the last.
+                Some(Refusal::NotFound) => return,
                 Some(Refusal::OtherClass) => {}
                 _ => println!("  object {object}: {refused}"),
             },
@@ -33,8 +33,8 @@ fn check(text: &[u8]) -> Result<(), Refused> {
     for rule in 0.. {
         match type_rule(text, rule, &mut memory, &mut output) {
             Ok(ty) => println!("rule {rule}: {ty}"),
-            // The rule before was the last.
-            Err(refused) if refused.refusal() == Some(Refusal::NotListed) => break,
+            // The rule before this one was the last.
+            Err(refused) if refused.refusal() == Some(Refusal::NotFound) => break,
             Err(refused) => return Err(refused),
         }
         evaluate_for_all(text, rule, &mut memory, &mut output);

@@ -1,5 +1,5 @@
 //! The calls as they are exported, on slices of any length: the answer's four
-//! numbers, and no `Result`. The functions of the crate's root stand over these.
+//! numbers, and no `Result`. The functions of the crate's root call these.
 
 #![allow(unsafe_code)]
 
@@ -9,7 +9,7 @@
 pub struct Answer {
     /// 0 for an answer, else the number of a [`Refusal`](crate::Refusal).
     pub number: u64,
-    /// The steps of an evaluation, of one that was stopped too; else 0.
+    /// The steps of an evaluation, also of one that was stopped; else 0.
     pub steps: u64,
     /// The line that is to blame, counted from 1; 0 where there is none.
     pub place: u64,
@@ -19,7 +19,7 @@ pub struct Answer {
 
 /// The three word slices that a call is lent. A slice below
 /// [`LEAST_WORDS`](crate::LEAST_WORDS) words is refused, and all is left as it
-/// was. Else the first so many words of each end as 0, the others as they were.
+/// was. Else that many words of each are 0 afterwards, the others as they were.
 pub type Words<'w> = [&'w mut [u64]; 3];
 
 // A slice is a pointer and a length in elements.

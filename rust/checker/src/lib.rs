@@ -74,11 +74,11 @@ pub struct Evaluated<'o> {
     pub steps: u64,
 }
 
-/// Reads a sheet: is it one?
+/// Reads a sheet and says whether it is valid.
 ///
 /// # Errors
 ///
-/// Why it is refused, by [`Refusal::LongSheet`] to [`Refusal::BrokenTree`].
+/// Why it is refused, by [`Refusal::SheetTooLong`] to [`Refusal::MalformedTree`].
 ///
 /// ```
 /// use ocl_checker::{read, Memory, Refusal};
@@ -86,7 +86,7 @@ pub struct Evaluated<'o> {
 /// let mut memory = Box::new(Memory::new());
 /// assert!(read(b"C\t0\t-\n", &mut memory).is_ok());
 /// let refused = read(b"C\t0\t-\nC\t1\t7\n", &mut memory).unwrap_err();
-/// assert_eq!((refused.refusal(), refused.place), (Some(Refusal::UnknownPart), 2));
+/// assert_eq!((refused.refusal(), refused.place), (Some(Refusal::UnknownReference), 2));
 /// ```
 pub fn read(text: &[u8], memory: &mut Memory) -> Result<(), Refused> {
     checked(calls::read_sheet(text, memory.lend())).map(|_| ())
@@ -97,9 +97,9 @@ pub fn read(text: &[u8], memory: &mut Memory) -> Result<(), Refused> {
 ///
 /// # Errors
 ///
-/// What [`read`] refuses; [`Refusal::NotListed`] where there is no such rule;
-/// [`Refusal::LooseEnd`] to [`Refusal::TooManyLayers`] where it has no type;
-/// [`Refusal::ShortBench`] where the output is too short.
+/// What [`read`] refuses; [`Refusal::NotFound`] where there is no such rule;
+/// [`Refusal::UnboundVariable`] to [`Refusal::TypeTooDeep`] where it has no type;
+/// [`Refusal::ShortSlice`] where the output is too short.
 pub fn type_rule<'o>(
     text: &[u8],
     rule: u64,
@@ -114,9 +114,9 @@ pub fn type_rule<'o>(
 ///
 /// # Errors
 ///
-/// What [`type_rule`] refuses; [`Refusal::NotListed`] where there is no such
-/// object, [`Refusal::OtherClass`] where the rule is not for it, before the rule
-/// is typed; [`Refusal::StepStop`] and [`Refusal::SizeStop`], with the steps.
+/// What [`type_rule`] refuses; [`Refusal::NotFound`] where there is no such
+/// object, [`Refusal::OtherClass`] where the rule does not apply to it, before the
+/// rule is typed; [`Refusal::StepStop`] and [`Refusal::SizeStop`], with the steps.
 ///
 /// ```
 /// use ocl_checker::{evaluate_rule, Memory, Refusal, LEAST_OUTPUT};
@@ -127,7 +127,7 @@ pub fn type_rule<'o>(
 /// let evaluated = evaluate_rule(sheet, 0, 0, &mut memory, &mut output).unwrap();
 /// assert_eq!(evaluated.value, "u");
 /// let refused = evaluate_rule(sheet, 0, 1, &mut memory, &mut output).unwrap_err();
-/// assert_eq!(refused.refusal(), Some(Refusal::NotListed));
+/// assert_eq!(refused.refusal(), Some(Refusal::NotFound));
 /// ```
 pub fn evaluate_rule<'o>(
     text: &[u8],
@@ -143,14 +143,14 @@ pub fn evaluate_rule<'o>(
     })
 }
 
-/// The report: a line for each rule and each object that it is for, with value
-/// and steps. A stop stands in its line as `!16` or `!17`, and the report goes on.
+/// The report: a line for each rule and each object it applies to, with value and
+/// steps. A stop is written in its line as `!16` or `!17`, and the report goes on.
 ///
 /// # Errors
 ///
-/// What [`read`] refuses; [`Refusal::LooseEnd`] to [`Refusal::TooManyLayers`]
-/// where a rule has no type; [`Refusal::SlipTooLong`] where the report is longer
-/// than the output; [`Refusal::ShortBench`] where that has not even
+/// What [`read`] refuses; [`Refusal::UnboundVariable`] to [`Refusal::TypeTooDeep`]
+/// where a rule has no type; [`Refusal::ReportTooLong`] where the report is longer
+/// than the output; [`Refusal::ShortSlice`] where the output has fewer than
 /// [`LEAST_OUTPUT`] bytes.
 pub fn report<'o>(
     text: &[u8],

@@ -8,65 +8,65 @@ use core::fmt;
 #[repr(u64)]
 pub enum Refusal {
     /// A word slice or the output is too short. Nothing was touched.
-    ShortBench = 1,
+    ShortSlice = 1,
     /// The text is longer than a sheet may be.
-    LongSheet,
+    SheetTooLong,
     /// A line is misspelled: its fields, letter, form, numbers or line feed.
     BadLine,
     /// A number, count, size or nesting is outside its limits.
-    OverMeasure,
+    OutOfLimits,
     /// Lines, numbers or members are out of order; a name or variable is there
     /// twice.
-    OutOfRow,
+    OutOfOrder,
     /// The sheet does not have this class, row or object by then.
-    UnknownPart,
+    UnknownReference,
     /// A row does not take the value, or the object has no such row.
-    WrongThread,
+    ValueMismatch,
     /// The nodes of a rule make no tree, or one that is too deep.
-    BrokenTree,
+    MalformedTree,
     /// Nothing binds the variable.
-    LooseEnd,
+    UnboundVariable,
     /// Two types have no common one, or a cast is between unrelated classes.
-    NoMatch,
+    NoCommonType,
     /// A form does not take an operand of this type.
-    WrongPiece,
+    WrongOperandType,
     /// The class has no attribute of this name.
-    NoSuchMark,
+    NoAttribute,
     /// A type would be over three deep.
-    TooManyLayers,
+    TypeTooDeep,
     /// The sheet has no such rule, or no such object.
-    NotListed,
-    /// The rule is not for objects of this class.
+    NotFound,
+    /// The rule does not apply to objects of this class.
     OtherClass,
     /// More than [`MOST_STEPS`](crate::MOST_STEPS) steps are due.
     StepStop,
     /// A value of a size over 128 would be formed.
     SizeStop,
     /// The report is longer than the output.
-    SlipTooLong,
+    ReportTooLong,
 }
 
 impl Refusal {
     /// All of them, in the order of their numbers.
     pub const ALL: [Refusal; 18] = [
-        Refusal::ShortBench,
-        Refusal::LongSheet,
+        Refusal::ShortSlice,
+        Refusal::SheetTooLong,
         Refusal::BadLine,
-        Refusal::OverMeasure,
-        Refusal::OutOfRow,
-        Refusal::UnknownPart,
-        Refusal::WrongThread,
-        Refusal::BrokenTree,
-        Refusal::LooseEnd,
-        Refusal::NoMatch,
-        Refusal::WrongPiece,
-        Refusal::NoSuchMark,
-        Refusal::TooManyLayers,
-        Refusal::NotListed,
+        Refusal::OutOfLimits,
+        Refusal::OutOfOrder,
+        Refusal::UnknownReference,
+        Refusal::ValueMismatch,
+        Refusal::MalformedTree,
+        Refusal::UnboundVariable,
+        Refusal::NoCommonType,
+        Refusal::WrongOperandType,
+        Refusal::NoAttribute,
+        Refusal::TypeTooDeep,
+        Refusal::NotFound,
         Refusal::OtherClass,
         Refusal::StepStop,
         Refusal::SizeStop,
-        Refusal::SlipTooLong,
+        Refusal::ReportTooLong,
     ];
 
     /// The refusal of a number from 1 to 18.
@@ -84,48 +84,50 @@ impl Refusal {
     /// Its trade word.
     pub fn word(self) -> &'static str {
         match self {
-            Refusal::ShortBench => "short bench",
-            Refusal::LongSheet => "long sheet",
+            Refusal::ShortSlice => "short bench",
+            Refusal::SheetTooLong => "long sheet",
             Refusal::BadLine => "bad line",
-            Refusal::OverMeasure => "over measure",
-            Refusal::OutOfRow => "out of row",
-            Refusal::UnknownPart => "unknown part",
-            Refusal::WrongThread => "wrong thread",
-            Refusal::BrokenTree => "broken tree",
-            Refusal::LooseEnd => "loose end",
-            Refusal::NoMatch => "no match",
-            Refusal::WrongPiece => "wrong piece",
-            Refusal::NoSuchMark => "no such mark",
-            Refusal::TooManyLayers => "too many layers",
-            Refusal::NotListed => "not listed",
+            Refusal::OutOfLimits => "over measure",
+            Refusal::OutOfOrder => "out of row",
+            Refusal::UnknownReference => "unknown part",
+            Refusal::ValueMismatch => "wrong thread",
+            Refusal::MalformedTree => "broken tree",
+            Refusal::UnboundVariable => "loose end",
+            Refusal::NoCommonType => "no match",
+            Refusal::WrongOperandType => "wrong piece",
+            Refusal::NoAttribute => "no such mark",
+            Refusal::TypeTooDeep => "too many layers",
+            Refusal::NotFound => "not listed",
             Refusal::OtherClass => "other class",
             Refusal::StepStop => "step stop",
             Refusal::SizeStop => "size stop",
-            Refusal::SlipTooLong => "slip too long",
+            Refusal::ReportTooLong => "slip too long",
         }
     }
 
     /// What it says, on one line.
     pub fn meaning(self) -> &'static str {
         match self {
-            Refusal::ShortBench => "a lent slice is too short",
-            Refusal::LongSheet => "the text is longer than a sheet may be",
+            Refusal::ShortSlice => "a lent slice is too short",
+            Refusal::SheetTooLong => "the text is longer than a sheet may be",
             Refusal::BadLine => "the line is misspelled",
-            Refusal::OverMeasure => "a number, count, size or nesting is outside its limits",
-            Refusal::OutOfRow => "something is out of order, or there twice",
-            Refusal::UnknownPart => "the sheet has no such class, row or object",
-            Refusal::WrongThread => "the value does not suit its row, or the row its object",
-            Refusal::BrokenTree => "the rule's nodes make no tree, or one that is too deep",
-            Refusal::LooseEnd => "nothing binds the variable",
-            Refusal::NoMatch => "there is no common type, or the cast is between unrelated classes",
-            Refusal::WrongPiece => "the form does not take an operand of this type",
-            Refusal::NoSuchMark => "the class has no attribute of this name",
-            Refusal::TooManyLayers => "the type would be over three deep",
-            Refusal::NotListed => "the sheet has no such rule or object",
+            Refusal::OutOfLimits => "a number, count, size or nesting is outside its limits",
+            Refusal::OutOfOrder => "something is out of order, or there twice",
+            Refusal::UnknownReference => "the sheet has no such class, row or object",
+            Refusal::ValueMismatch => "the value does not suit its row, or the row its object",
+            Refusal::MalformedTree => "the rule's nodes make no tree, or one that is too deep",
+            Refusal::UnboundVariable => "nothing binds the variable",
+            Refusal::NoCommonType => {
+                "there is no common type, or the cast is between unrelated classes"
+            }
+            Refusal::WrongOperandType => "the form does not take an operand of this type",
+            Refusal::NoAttribute => "the class has no attribute of this name",
+            Refusal::TypeTooDeep => "the type would be over three deep",
+            Refusal::NotFound => "the sheet has no such rule or object",
             Refusal::OtherClass => "the object is not of the rule's class or below",
             Refusal::StepStop => "more steps are due than an evaluation may take",
             Refusal::SizeStop => "a value of a size over 128 would be formed",
-            Refusal::SlipTooLong => "the report is longer than the output",
+            Refusal::ReportTooLong => "the report is longer than the output",
         }
     }
 }

@@ -47,14 +47,14 @@ fn refusals_are_errors() {
     let (text, mut memory) = (small(), Box::new(Memory::default()));
     let mut output = [0; LEAST_OUTPUT];
     let off = type_rule(&text, 2, &mut memory, &mut output);
-    assert_eq!(off, Err(refused(Refusal::NotListed, 0, 0)));
+    assert_eq!(off, Err(refused(Refusal::NotFound, 0, 0)));
     let stranger = evaluate_rule(&text, 0, 0, &mut memory, &mut output);
     assert_eq!(stranger, Err(refused(Refusal::OtherClass, 0, 0)));
-    let loose = sheet("C 0 -|R 0 0|N 0 var 1");
-    let loose = report(&loose, &mut memory, &mut output);
-    assert_eq!(loose, Err(refused(Refusal::LooseEnd, 0, 3)));
+    let unbound = sheet("C 0 -|R 0 0|N 0 var 1");
+    let unbound = report(&unbound, &mut memory, &mut output);
+    assert_eq!(unbound, Err(refused(Refusal::UnboundVariable, 0, 3)));
     let short = report(&text, &mut memory, &mut output[1..]);
-    assert_eq!(short, Err(refused(Refusal::ShortBench, 0, 0)));
+    assert_eq!(short, Err(refused(Refusal::ShortSlice, 0, 0)));
 }
 
 #[test]
@@ -81,7 +81,7 @@ fn refusals_have_numbers_and_words() {
     for number in [0, 19, 100, u64::MAX] {
         assert_eq!(Refusal::of(number), None);
     }
-    assert_eq!(Refusal::BrokenTree.word(), "broken tree");
+    assert_eq!(Refusal::MalformedTree.word(), "broken tree");
     let line = refused(Refusal::BadLine, 0, 2).to_string();
     assert_eq!(line, "line 2: bad line (3): the line is misspelled");
 }

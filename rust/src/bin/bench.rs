@@ -12,7 +12,7 @@ use std::time::Duration;
 
 /// Rounds, in each of which both are timed once; the best of them counts.
 const ROUNDS: usize = 40;
-/// A timing repeats its job until so much time has passed.
+/// A timing repeats its job until this much time has passed.
 const ENOUGH: Duration = Duration::from_millis(5);
 /// The product's time for each of the second evaluator's, at most.
 const RATIO: f64 = 1.0;

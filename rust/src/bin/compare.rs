@@ -67,7 +67,7 @@ impl Cases {
         })
     }
 
-    /// Should a call end the process, the last seed shown is near.
+    /// If a call ends the process, the last seed shown is close to it.
     fn show(&self, seed: u64) {
         if std::io::stderr().is_terminal() || (seed - self.seeds.start) % 1_000 == 0 {
             eprint!("seed {seed}\r");

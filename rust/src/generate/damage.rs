@@ -1,4 +1,4 @@
-//! Damage to a sheet: bytes, lines and blocks; `fields` has that to a line's fields.
+//! Damage to a sheet: bytes, lines and blocks; `fields` damages a line's fields.
 
 use super::fields::change;
 use super::random::Random;
@@ -87,7 +87,7 @@ fn split_line(line: &[u8]) -> Lines {
 }
 
 /// A line and those like it, chosen by line, by letter or by letter and form, so
-/// that rare letters and forms have their share.
+/// that rare letters and forms get their share.
 fn like_lines(random: &mut Random, lines: &Lines) -> Vec<usize> {
     let by = random.below(3);
     let key = |line: &Vec<u8>| -> Lines {
@@ -107,7 +107,7 @@ fn like_lines(random: &mut Random, lines: &Lines) -> Vec<usize> {
         .collect()
 }
 
-/// One line with one or two fields changed: two, so that one line can earn two
+/// One line with one or two fields changed: two, so that one line can get two
 /// refusals.
 fn fields(random: &mut Random, mut lines: Lines) -> Lines {
     let like = like_lines(random, &lines);

@@ -1,6 +1,6 @@
 //! A good sheet of any length from some 20,000 bytes to the longest.
 
-/// The text made so many bytes long by widening its Integers, each written `?`.
+/// The text made this many bytes long by widening its Integers, each written `?`.
 fn widen(text: &str, bytes: usize) -> String {
     const DIGITS: &str = "-1234567890";
     let mut left = bytes.saturating_sub(text.len());
@@ -18,7 +18,7 @@ fn widen(text: &str, bytes: usize) -> String {
     out
 }
 
-/// V lines at both their limits, lines and sizes, then one rule of so many groups.
+/// V lines at both their limits, lines and sizes, then one rule of this many groups.
 pub fn full(bytes: usize, groups: usize) -> Vec<u8> {
     let mut text = "C\t0\t-\nC\t1\t-\nA\t0\t0\t255\tQ(Int)\n".to_string();
     for row in 1..64 {
@@ -44,7 +44,7 @@ pub fn full(bytes: usize, groups: usize) -> Vec<u8> {
     widen(&text, bytes).into_bytes()
 }
 
-/// N lines of so many Sequences of the Integer, four times each, and their union.
+/// N lines of this many Sequences of the Integer, four times each, and their union.
 pub fn collections(groups: usize, integer: &str) -> String {
     let mut text = String::new();
     let mut tops = Vec::new();

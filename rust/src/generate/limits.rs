@@ -68,7 +68,7 @@ fn value_sizes(over: usize) -> String {
         + last
 }
 
-/// N lines of a chain so many nodes deep.
+/// N lines of a chain this many nodes deep.
 fn chain(depth: usize) -> String {
     "N\t0\ttrue\n".to_string() + &lines(depth - 1, |n| format!("N\t{}\tnot\t{n}", n + 1))
 }
@@ -82,7 +82,7 @@ fn rules(count: usize) -> String {
 }
 
 /// Three quantifiers inside each other and a few nodes around them, so that
-/// the rule takes exactly so many steps.
+/// the rule takes exactly this many steps.
 pub fn steps(random: &mut Random, steps: usize) -> String {
     let mut found = Vec::new();
     for wraps in 1..7 {
@@ -147,7 +147,7 @@ fn formed_size(random: &mut Random, over: usize) -> String {
     one_value(&format!("{kind}(Int)"), &value) + "R\t0\t0\nN\t0\tself\nN\t1\tattr\t0\t0\n" + &tail
 }
 
-/// A type, a value or collection forms nested so deep.
+/// A type, a value or collection forms nested this deep.
 fn nested(random: &mut Random, deep: usize) -> String {
     let open: String = (0..deep)
         .map(|_| *random.pick(&["S(", "Q(", "B("]))

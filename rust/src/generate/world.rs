@@ -5,7 +5,7 @@ use crate::model::{Classes, Model, Row};
 use crate::types::{Kind, Type, DEEPEST};
 use crate::values::{Collection, Value};
 
-/// How much a world holds at most, none over the limits of a sheet.
+/// How much a world holds at most, never more than a sheet may.
 #[derive(Clone, Copy)]
 pub struct Scale {
     pub classes: usize,

@@ -74,7 +74,7 @@ pub struct Vector {
 
 /// The vectors in the order of their names.
 pub fn vectors() -> io::Result<Vec<Vector>> {
-    let folder = Path::new(env!("CARGO_MANIFEST_DIR")).join("../crates/sheets/data");
+    let folder = Path::new(env!("CARGO_MANIFEST_DIR")).join("../crates/sheet_vectors/data");
     let mut vectors = Vec::new();
     for entry in fs::read_dir(folder)? {
         let path = entry?.path();

@@ -24,7 +24,7 @@ pub enum Fault {
     WordLeft,
     /// The first word not to be wiped is.
     WordBeyond,
-    /// Words wiped though the bench is short.
+    /// Words wiped though a slice is too short.
     WipedWhenShort,
     /// A byte of output touched by a refusal.
     OutputOfRefusal,

@@ -80,18 +80,18 @@ impl Reader {
     /// number must be the next.
     fn in_row(&mut self, block: Block, number: u8, count: usize) -> Result<(), Refusal> {
         self.in_block(block)?;
-        require(usize::from(number) == count, Refusal::OutOfRow)
+        require(usize::from(number) == count, Refusal::OutOfOrder)
     }
 
     fn in_block(&mut self, block: Block) -> Result<(), Refusal> {
-        require(self.block <= block, Refusal::OutOfRow)?;
+        require(self.block <= block, Refusal::OutOfOrder)?;
         self.block = block;
         Ok(())
     }
 
     fn known_class(&self, class: Option<u8>) -> Result<(), Refusal> {
         let known = class.is_none_or(|class| self.sheet.model.classes.holds(class));
-        require(known, Refusal::UnknownPart)
+        require(known, Refusal::UnknownReference)
     }
 
     fn class(&mut self, mut fields: Fields) -> Result<(), Refusal> {
@@ -100,7 +100,7 @@ impl Reader {
         fields.end()?;
         self.in_row(Block::Classes, number, self.sheet.model.classes.0.len())?;
         let smaller = parent.is_none_or(|parent| parent < number);
-        require(smaller, Refusal::UnknownPart)?;
+        require(smaller, Refusal::UnknownReference)?;
         self.sheet.model.classes.0.push(parent);
         Ok(())
     }
@@ -114,7 +114,7 @@ impl Reader {
         self.in_row(Block::Attributes, number, self.sheet.model.rows.len())?;
         let same = |row: &Row| row.class == class && row.name == name;
         let declared = self.sheet.model.rows.iter().any(same);
-        require(!declared, Refusal::OutOfRow)?;
+        require(!declared, Refusal::OutOfOrder)?;
         self.known_class(Some(class))?;
         self.known_class(ty.class())?;
         self.sheet.model.rows.push(Row { class, name, ty });
@@ -138,22 +138,22 @@ impl Reader {
         if self.sheet.model.values.len() == MOST_VALUES
             || self.value_sizes + value.size() > MOST_VALUE_SIZES
         {
-            fields.note(Refusal::OverMeasure);
+            fields.note(Refusal::OutOfLimits);
         }
         fields.end()?;
         self.in_block(Block::Values)?;
         let model = &mut self.sheet.model;
         let last = model.values.last();
         let ascends = last.is_none_or(|(last, _)| *last < (object, row));
-        require(ascends && value.is_ordered(), Refusal::OutOfRow)?;
+        require(ascends && value.is_ordered(), Refusal::OutOfOrder)?;
         let objects = model.objects.len();
         let known = usize::from(object) < objects
             && usize::from(row) < model.rows.len()
             && value.objects_below(objects);
-        require(known, Refusal::UnknownPart)?;
+        require(known, Refusal::UnknownReference)?;
         let declared = &model.rows[usize::from(row)];
         let suits = model.is_of(object, declared.class) && model.belongs(&value, &declared.ty);
-        require(suits, Refusal::WrongThread)?;
+        require(suits, Refusal::ValueMismatch)?;
         self.value_sizes += value.size();
         model.values.push(((object, row), value));
         Ok(())
@@ -187,7 +187,7 @@ impl Reader {
                 self.sheet.rules.push(Rule { context, root });
                 Ok(())
             }
-            _ => Err(Refusal::BrokenTree.at(rule.last_line)),
+            _ => Err(Refusal::MalformedTree.at(rule.last_line)),
         }
     }
 }

@@ -125,19 +125,19 @@ impl Reader {
         let form = parts.form();
         let operands = parts.operands;
         if self.nodes == MOST_NODES {
-            fields.note(Refusal::OverMeasure);
+            fields.note(Refusal::OutOfLimits);
         }
         fields.end()?;
 
-        let rule = self.open_rule.as_mut().ok_or(Refusal::OutOfRow)?;
-        require(number == rule.nodes.len(), Refusal::OutOfRow)?;
+        let rule = self.open_rule.as_mut().ok_or(Refusal::OutOfOrder)?;
+        require(number == rule.nodes.len(), Refusal::OutOfOrder)?;
         if let Form::Iter {
             member,
             accumulator,
             ..
         } = &form
         {
-            require(member != accumulator, Refusal::OutOfRow)?;
+            require(member != accumulator, Refusal::OutOfOrder)?;
         }
         let class = match &form {
             Form::All(class) | Form::As(class) => Some(*class),
@@ -145,12 +145,12 @@ impl Reader {
             _ => None,
         };
         let known = class.is_none_or(|class| self.sheet.model.classes.holds(class));
-        require(known, Refusal::UnknownPart)?;
+        require(known, Refusal::UnknownReference)?;
 
         // A node not there yet and a node moved away already are both refused.
         let mut take = |operand: usize| rule.nodes.get_mut(operand).and_then(Option::take);
         let operands = operands.into_iter().map(&mut take).collect();
-        let operands = Option::ok_or::<Refusal>(operands, Refusal::BrokenTree)?;
+        let operands = Option::ok_or::<Refusal>(operands, Refusal::MalformedTree)?;
         rule.nodes.push(Some(Node {
             form,
             operands,

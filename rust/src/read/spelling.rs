@@ -7,7 +7,7 @@ use crate::values::{Collection, Value};
 pub const LAST_CLASS: u64 = 63;
 pub const LAST_OBJECT: u64 = 95;
 
-/// What is spelt, or BadLine, or OverMeasure for a good spelling outside its limits.
+/// What is spelt, or BadLine, or OutOfLimits for a good spelling outside its limits.
 pub type Spelt<T> = Result<T, Refusal>;
 
 /// Decimal digits without a leading zero. Numbers beyond 64 bits count as the
@@ -27,7 +27,7 @@ fn digits(field: &[u8]) -> Spelt<u64> {
 pub fn number(field: &[u8], least: u64, most: u64) -> Spelt<u64> {
     let number = digits(field)?;
     if number < least || number > most {
-        return Err(Refusal::OverMeasure);
+        return Err(Refusal::OutOfLimits);
     }
     Ok(number)
 }
@@ -42,7 +42,7 @@ pub fn integer(field: &[u8]) -> Spelt<i32> {
     }
     let magnitude = i64::try_from(magnitude).unwrap_or(i64::MAX);
     let number = if minus { -magnitude } else { magnitude };
-    i32::try_from(number).map_err(|_| Refusal::OverMeasure)
+    i32::try_from(number).map_err(|_| Refusal::OutOfLimits)
 }
 
 pub fn ty(field: &[u8]) -> Spelt<Type> {
@@ -61,7 +61,7 @@ pub fn ty(field: &[u8]) -> Spelt<Type> {
         _ => return Err(Refusal::BadLine),
     };
     if letters.len() > DEEPEST {
-        return Err(Refusal::OverMeasure);
+        return Err(Refusal::OutOfLimits);
     }
     Ok(letters
         .iter()
@@ -72,7 +72,7 @@ pub fn ty(field: &[u8]) -> Spelt<Type> {
         }))
 }
 
-/// A value without members. `u` is none on a sheet.
+/// A value without members. On a sheet, `u` is not a value.
 fn simple(field: &[u8]) -> Spelt<Value> {
     match field {
         b"t" => Ok(Value::Bool(true)),
@@ -83,13 +83,13 @@ fn simple(field: &[u8]) -> Spelt<Value> {
 }
 
 /// A value as written, its members in the order given. A misspelling anywhere
-/// goes before a measure crossed, so reading goes on after the latter. The open
+/// goes before a limit crossed, so reading goes on after the latter. The open
 /// collections stand in a list, since a line can nest thousands of them.
 pub fn value(field: &[u8]) -> Spelt<Value> {
     let mut rest = field;
     let mut open: Vec<(Kind, Vec<Value>)> = Vec::new();
     let mut over = false;
-    // A value that is over measure; what stands in its place is not looked at.
+    // Stands in for a value outside its limits, and is never looked at.
     let lost = Value::Bool(false);
     loop {
         let mut whole = match rest {
@@ -108,9 +108,9 @@ pub fn value(field: &[u8]) -> Spelt<Value> {
                 let end = rest.iter().position(part).unwrap_or(rest.len());
                 let spelt = simple(&rest[..end]);
                 rest = &rest[end..];
-                over |= spelt == Err(Refusal::OverMeasure);
+                over |= spelt == Err(Refusal::OutOfLimits);
                 Some(match spelt {
-                    Err(Refusal::OverMeasure) => lost.clone(),
+                    Err(Refusal::OutOfLimits) => lost.clone(),
                     other => other?,
                 })
             }
@@ -132,7 +132,7 @@ pub fn value(field: &[u8]) -> Spelt<Value> {
                     over |= formed.is_none();
                     whole = Some(formed.unwrap_or_else(|| lost.clone()));
                 }
-                [] if open.is_empty() && over => return Err(Refusal::OverMeasure),
+                [] if open.is_empty() && over => return Err(Refusal::OutOfLimits),
                 [] if open.is_empty() => return whole.ok_or(Refusal::BadLine),
                 _ => return Err(Refusal::BadLine),
             }

@@ -4,7 +4,7 @@ use super::sheet;
 use crate::generate::full::{collections, joined};
 use crate::generate::limits::sequence;
 
-/// So many objects with a Sequence of 60 Integers and so many single ones.
+/// Objects with a Sequence of 60 Integers each, and with single Integers.
 pub fn values(objects: usize, integers: usize) -> Vec<u8> {
     let mut text = "C 0 -|C 1 -|A 0 0 0 Q(Int)|".to_string();
     for row in 1..=integers {
@@ -23,7 +23,7 @@ pub fn values(objects: usize, integers: usize) -> Vec<u8> {
     sheet(text)
 }
 
-/// A sheet of one rule: so many collections of four Integers, joined.
+/// A sheet of one rule: this many collections of four Integers, joined.
 pub fn nodes(groups: usize) -> Vec<u8> {
     [sheet("C 0 -|O 0 0|".to_string()), nodes_of(groups, 0)].concat()
 }
@@ -34,7 +34,7 @@ pub fn nodes_of(groups: usize, class: usize) -> Vec<u8> {
     sheet(format!("R 0 {class}|{nodes}"))
 }
 
-/// Attributes found far up a long chain of classes, compared in so many pairs.
+/// Attributes found far up a long chain of classes, compared in this many pairs.
 pub fn types(pairs: usize) -> Vec<u8> {
     let mut text = "C 0 -|".to_string();
     for class in 1..64 {
@@ -67,14 +67,14 @@ fn objects(count: usize) -> String {
     "C 1 0|".to_string() + &lines.collect::<String>()
 }
 
-/// Three quantifiers inside each other over so many objects.
+/// Three quantifiers inside each other over this many objects.
 pub fn quantifiers(count: usize) -> Vec<u8> {
     let nodes = "N 0 all 0|N 1 all 0|N 2 all 0|N 3 true|\
         N 4 forAll 2 3 3|N 5 forAll 1 2 4|N 6 forAll 0 1 5|";
     sheet(format!("C 0 -|{}R 0 0|{nodes}", objects(count)))
 }
 
-/// Three iterations inside each other over so many objects, counting them.
+/// Three iterations inside each other over this many objects, counting them.
 pub fn iterations(count: usize) -> Vec<u8> {
     let nodes = "N 0 all 0|N 1 int 0|N 2 all 0|N 3 int 0|N 4 all 0|N 5 int 0|\
         N 6 var 6|N 7 int 1|N 8 plus 6 7|N 9 iter 4 5 6 Int 5 8|\
@@ -83,7 +83,7 @@ pub fn iterations(count: usize) -> Vec<u8> {
     sheet(format!("C 0 -|{}R 0 0|{nodes}", objects(count)))
 }
 
-/// A hundred times a hundred unions and inclusions in a Set of so many members.
+/// A hundred times a hundred unions and inclusions in a Set of this many members.
 pub fn sets(members: usize) -> Vec<u8> {
     let full = sequence(members).replacen('Q', "S", 1);
     repeated(
@@ -93,7 +93,7 @@ pub fn sets(members: usize) -> Vec<u8> {
     )
 }
 
-/// A hundred times a hundred unions and conversions of a Bag of so many members.
+/// A hundred times a hundred unions and conversions of a Bag of this many members.
 pub fn bags(members: usize) -> Vec<u8> {
     let full = sequence(members).replacen('Q', "B", 1);
     repeated(

@@ -3,7 +3,7 @@ use Rattle.text.specs.Words.{onlyByte}
 use Rattle.trees.specs.Forms.{kindByteCode}
 use native.Mathlib.Omega.{arith}
 use mathlib.Core.Path.{ap, _∙_}
-use Rattle.trees.proofs.MoreFormLaws.{collect-none, collect-over, collect-other, collect-read}
+use Rattle.trees.proofs.LiteralLaws.{assemble-none, assemble-over, assemble-other, assemble-read}
 use Rattle.trees.proofs.FieldLaws.{rest-cons, rest-short, rest-long, rest-length, rest-part}
 use borrow.Author.Needs.{needs}
 use Rattle.trees.proofs.forms.collection_form.Statement.{statement}
@@ -13,13 +13,13 @@ misspelled-requires : tie.Need-misspelled-requires
 misspelled-requires c κs = search needs
 
 returns : tie.Need-returns
-returns c = rw (collect-none _ (rest-short (c .before .before .before .pre .0) (c .before .before .before .pre .1) (c .before .if1 .taken))) (c .misspelled .ensures _)
+returns c = rw (assemble-none _ (rest-short (c .before .before .before .pre .0) (c .before .before .before .pre .1) (c .before .if1 .taken))) (c .misspelled .ensures _)
 
 misspelled-requires-2 : tie.Need-misspelled-requires-2
 misspelled-requires-2 c κs = search needs
 
 returns-2 : tie.Need-returns-2
-returns-2 c = rw (collect-over _ (rest-long (c .before .before .before .before .pre .0) (c .before .if2 .taken))) (c .misspelled2 .ensures _)
+returns-2 c = rw (assemble-over _ (rest-long (c .before .before .before .before .pre .0) (c .before .if2 .taken))) (c .misspelled2 .ensures _)
 
 field-requires : tie.Need-field-requires
 field-requires c κs = search needs
@@ -31,7 +31,7 @@ misspelled-requires-3 : tie.Need-misspelled-requires-3
 misspelled-requires-3 c κs = search needs
 
 returns-3 : tie.Need-returns-3
-returns-3 c = rw (rest-cons (c .before .before .before .before .before .before .before .pre .0) (c .before .before .before .before .before .if1 .left), collect-other _ _ (c .before .before .kind-code .ensures ∙ ap (λ x. kindByteCode (onlyByte x)) (c .before .before .before .field .ensures)) (c .before .if3 .taken)) (c .misspelled3 .ensures _)
+returns-3 c = rw (rest-cons (c .before .before .before .before .before .before .before .pre .0) (c .before .before .before .before .before .if1 .left), assemble-other _ _ (c .before .before .kind-code .ensures ∙ ap (λ x. kindByteCode (onlyByte x)) (c .before .before .before .field .ensures)) (c .before .if3 .taken)) (c .misspelled3 .ensures _)
 
 number-fields-requires : tie.Need-number-fields-requires
 number-fields-requires c κs = search needs
@@ -49,7 +49,7 @@ array-read-t22 : tie.Need-array-read-t22
 array-read-t22 c = search needs
 
 returns-4 : tie.Need-returns-4
-returns-4 c = rw (rest-cons (c .before .before .before .before .before .before .before .before .pre .0) (c .before .before .before .before .before .before .if1 .left)) (collect-read _ _ (c .before .before .before .kind-code .ensures ∙ ap (λ x. kindByteCode (onlyByte x)) (c .before .before .before .before .field .ensures)) (c .before .before .if3 .left) (rest-length (c .before .before .before .before .before .before .before .before .pre .0) (c .before .before .before .before .before .if2 .left)) (omega arith) (rest-part (c .before .before .before .before .before .before .before .before .pre .0) (c .before .before .before .before .before .if2 .left) (c .before .number-fields .ensures)))
+returns-4 c = rw (rest-cons (c .before .before .before .before .before .before .before .before .pre .0) (c .before .before .before .before .before .before .if1 .left)) (assemble-read _ _ (c .before .before .before .kind-code .ensures ∙ ap (λ x. kindByteCode (onlyByte x)) (c .before .before .before .before .field .ensures)) (c .before .before .if3 .left) (rest-length (c .before .before .before .before .before .before .before .before .pre .0) (c .before .before .before .before .before .if2 .left)) (omega arith) (rest-part (c .before .before .before .before .before .before .before .before .pre .0) (c .before .before .before .before .before .if2 .left) (c .before .number-fields .ensures)))
 
 pub collection-form-spec : {M : Type 1} → statement M
 collection-form-spec =

@@ -4,7 +4,7 @@ use Rattle.text.specs.Numbers.{wholeOf}
 use Rattle.sheet.specs.Lines.{anInteger}
 use native.Mathlib.Omega.{arith}
 use mathlib.Core.Path.{sym, ap, _∙_}
-use Rattle.trees.proofs.MoreFormLaws.{integer-not}
+use Rattle.trees.proofs.LiteralLaws.{integer-not}
 use Rattle.trees.proofs.FieldLaws.{rest-first, rest-exact, rest-not}
 use borrow.Author.Needs.{needs}
 use Rattle.trees.proofs.forms.integer_form.Statement.{statement}

@@ -1,6 +1,6 @@
 -- `kind_code` meets its contract.
 use mathlib.Core.Path.{sym, _∙_}
-use Rattle.trees.proofs.MoreFormLaws.{kind-set, kind-sequence, kind-bag, kind-other}
+use Rattle.trees.proofs.LiteralLaws.{kind-set, kind-sequence, kind-bag, kind-other}
 use borrow.Author.Needs.{needs}
 use Rattle.trees.proofs.forms.kind_code.Statement.{statement}
 use Rattle.trees.proofs.forms.kind_code.Tie as tie

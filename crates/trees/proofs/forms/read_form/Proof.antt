@@ -1,6 +1,6 @@
 -- `read_form` meets its contract.
 use Rattle.text.proofs.FormLaws.{above}
-use Rattle.trees.proofs.MoreFormLaws.{gap-code, last-code}
+use Rattle.trees.proofs.LiteralLaws.{gap-code, last-code}
 use Rattle.trees.specs.Forms.{constant, itself, one, two, undefTest, conditional}
 use borrow.Author.Needs.{needs}
 use Rattle.trees.proofs.forms.read_form.Statement.{statement}

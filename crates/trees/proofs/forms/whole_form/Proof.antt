@@ -1,6 +1,6 @@
 -- `whole_form` meets its contract.
 use mathlib.Core.Path.{sym, _∙_}
-use Rattle.trees.proofs.MoreFormLaws.{integer-bad, integer-out, integer-is}
+use Rattle.trees.proofs.LiteralLaws.{integer-bad, integer-out, integer-is}
 use borrow.Author.Needs.{needs}
 use Rattle.trees.proofs.forms.whole_form.Statement.{statement}
 use Rattle.trees.proofs.forms.whole_form.Tie as tie

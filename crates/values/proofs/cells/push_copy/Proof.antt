@@ -25,7 +25,7 @@ same-length-2 : tie.Need-same-length-2
 same-length-2 c = search needs
 
 returns-2 : tie.Need-returns-2
-returns-2 c = copies-done (omega arith) (omega arith) (c .before .before .before .before .before .skip .ensures) (omega arith) (c .before .before .slide .ensures)
+returns-2 c = copies-done (omega arith) (omega arith) (c .before .before .before .before .before .skip .ensures) (omega arith) (c .before .before .slide .ensures .front)
 
 pub push-copy-spec : {M : Type 1} → statement M
 push-copy-spec =

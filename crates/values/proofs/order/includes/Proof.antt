@@ -1,18 +1,18 @@
 -- `values::order::includes` meets its contract. Assumes nothing.
 use Prim.Native.Nat.{_-_}
 use native.Mathlib.Omega.{arith}
-use Rattle.values.proofs.Searching.{Searching, search-start, search-found, search-again, search-end}
+use Rattle.values.proofs.Seeking.{Seeking, seek-start, seek-found, seek-again, seek-end}
 use Rattle.values.proofs.order.includes.Statement.{statement}
 use Rattle.values.proofs.order.includes.Tie as tie
 
 abbrev Inv-loop : tie.InvT-loop
-Inv-loop stack from end le q₀ q = Searching stack from end le q
+Inv-loop stack from end le q₀ q = Seeking stack from end le q
 
 abbrev μ-loop : tie.MeasureT-loop
 μ-loop stack from end le q₀ q = end - q
 
 loop-holds : tie.Need-loop-holds Inv-loop μ-loop
-loop-holds c = search-start (omega arith) (omega arith)
+loop-holds c = seek-start (omega arith) (omega arith)
 
 skip-requires : tie.Need-skip-requires Inv-loop μ-loop
 skip-requires c κs = omega arith
@@ -24,16 +24,16 @@ equal-requires : tie.Need-equal-requires Inv-loop μ-loop
 equal-requires c κs = let u = c .skip .ensures .up (c .before .loop-test .taken) in omega arith
 
 returns : tie.Need-returns Inv-loop μ-loop
-returns c = search-found (c .before .before .before .before .loop .inv) (c .before .before .before .loop-test .taken) (c .before .before .skip .ensures) (c .before .equal .ensures) (c .if1 .taken)
+returns c = seek-found (c .before .before .before .before .loop .inv) (c .before .before .before .loop-test .taken) (c .before .before .skip .ensures) (c .before .equal .ensures) (c .if1 .taken)
 
 loop-less : tie.Need-loop-less Inv-loop μ-loop
 loop-less c = omega (arith, c .before .before .skip .ensures .up (c .before .before .before .loop-test .taken))
 
 loop-again : tie.Need-loop-again Inv-loop μ-loop
-loop-again c = search-again (c .before .before .before .before .loop .inv) (c .before .before .before .loop-test .taken) (c .before .before .skip .ensures) (c .before .equal .ensures) (c .if1 .left)
+loop-again c = seek-again (c .before .before .before .before .loop .inv) (c .before .before .before .loop-test .taken) (c .before .before .skip .ensures) (c .before .equal .ensures) (c .if1 .left)
 
 returns-2 : tie.Need-returns-2 Inv-loop μ-loop
-returns-2 c = search-end (c .before .loop .inv) (omega arith)
+returns-2 c = seek-end (c .before .loop .inv) (omega arith)
 
 pub includes-spec : {M : Type 1} → statement M
 includes-spec =

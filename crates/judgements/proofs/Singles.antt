@@ -1,0 +1,29 @@
+-- The forms with a single operand, by the form's code. Assumes nothing.
+use mathlib.Core.Path.{_≡_, ap}
+use mathlib.Core.List.{List}
+use Prim.Native.Nat.{ℕ}
+use borrow.Author.Tests.{ne-eqb}
+use Rattle.ocl.specs.Types.{Ty, Boolean}
+use Rattle.ocl.specs.Model.{Model}
+use Rattle.ocl.specs.Typing.{typed, unaryType, attributeType}
+use Rattle.types.specs.declared.FlatType.{FlatType}
+use Rattle.types.specs.Flat.{tyOf}
+use Rattle.nodes.specs.Nodes.{unaryOf}
+use Rattle.judgements.specs.declared.Reply.{Reply}
+use Rattle.judgements.specs.declared.Reply.the-variants as reply
+use Rattle.judgements.specs.Replies.{meaning, Tells}
+use Rattle.judgements.specs.Single.{singleType}
+use Rattle.judgements.proofs.Composition.{done}
+
+module _ (m : Model) (n k : ℕ) (w : ℕ → ℕ) (t : Ty) where
+  pub undef-single : {B : List ℕ} {x : FlatType} → k ≡ 30 → tyOf x ≡ Boolean → Tells (singleType m n k w t) B B (reply.Is x)
+  unfolding singleType
+  undef-single h e = rw h (done (ap typed e))
+
+  pub attribute-single : {B A : List ℕ} {r : Reply} {name : ℕ} → k ≡ 33 → name ≡ w 2 → Tells (attributeType m n name t) B A r → Tells (singleType m n k w t) B A r
+  unfolding singleType
+  attribute-single h e d = rw (h, ← e) d
+
+  pub unary-single : {B : List ℕ} {r : Reply} → (k ≡ 30 → ⊥) → (k ≡ 33 → ⊥) → meaning r ≡ unaryType m n (unaryOf k w) t → Tells (singleType m n k w t) B B r
+  unfolding singleType
+  unary-single a b e = rw (ne-eqb k 30 a, ne-eqb k 33 b) (done e)

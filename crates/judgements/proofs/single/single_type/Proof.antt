@@ -1,0 +1,42 @@
+-- `single_type` meets its contract. Assumes nothing.
+use Rattle.judgements.proofs.Singles.{undef-single, attribute-single, unary-single}
+use borrow.Author.Needs.{needs}
+use Rattle.judgements.proofs.single.single_type.Statement.{statement}
+use Rattle.judgements.proofs.single.single_type.Tie as tie
+
+plain-requires : tie.Need-plain-requires
+plain-requires c κs = search needs
+
+node-word-requires : tie.Need-node-word-requires
+node-word-requires c κs = search needs
+
+attribute-type-requires : tie.Need-attribute-type-requires
+attribute-type-requires c κs = search needs
+
+unary-type-requires : tie.Need-unary-type-requires
+unary-type-requires c κs = search needs
+
+returns : tie.Need-returns
+returns c = λ m h. search undef-single
+
+same-length : tie.Need-same-length
+same-length c = search needs
+
+returns-2 : tie.Need-returns-2
+returns-2 c = λ m h. attribute-single m _ _ _ _ (c .before .before .before .before .before .match .keys2) (c .before .before .before .before .node-word .ensures) (c .before .before .attribute-type .ensures m h)
+
+returns-3 : tie.Need-returns-3
+returns-3 c = λ m h. unary-single m _ _ _ _ (c .before .match .rest .0 .1) (c .before .match .rest .1) (c .unary-type .ensures m (h .classes .parent))
+
+pub single-type-spec : {M : Type 1} → statement M
+single-type-spec =
+    tie.close
+    (tie.spec
+    plain-requires
+    node-word-requires
+    attribute-type-requires
+    unary-type-requires
+    returns
+    same-length
+    returns-2
+    returns-3)

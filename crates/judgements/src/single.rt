@@ -1,0 +1,36 @@
+// The forms with a single operand, strict or not, by the form's code: what follows once the operand has its type.
+ghost use Prim.Native.Nat.{_<_, _≤_};
+ghost use lib.ListN.{length};
+ghost use Rattle.ocl.specs.Model.{Model};
+ghost use Rattle.types.specs.Flat.{tyOf};
+ghost use Rattle.nodes.specs.Nodes.{word};
+ghost use Rattle.judgements.specs.Replies.{Tells, ReadsRows};
+ghost use Rattle.judgements.specs.Single.{singleType};
+use super::Reply;
+use super::attributes::attribute_type;
+use super::forms::unary_type;
+use nodes::node_word;
+use types::Base;
+use types::FlatType;
+use types::parts::plain;
+
+// Node n, whose operand has type t. `isUndef` is Bool, whatever its operand.
+pub fn single_type(
+    nodes: &[u64],
+    parents: &[u64],
+    tables: &[u64],
+    rows: usize,
+    n: usize,
+    form: u64,
+    t: FlatType,
+    marks: &mut [u64],
+) -> Reply
+    requires { ⌜ (rows ≤ 64) × (256 ≤ length (now tables)) × (n < 768) × (6144 ≤ length (now nodes)) × (768 ≤ length (now marks)) ⌝ }
+    ensures { λ r. ⌜ ((m : Model) → ReadsRows (now (parents .entry)) (now (tables .entry)) rows m → Tells (singleType m n form (word (now (nodes .entry)) n) (tyOf t)) (now (marks .entry)) (now (marks .exit)) r) ⌝ }
+{
+    match form {
+        30 => Reply::Is(plain(Base::Bool)),
+        33 => attribute_type(parents, tables, rows, n, node_word(nodes, n, 2), t, marks),
+        _ => unary_type(parents, nodes, form, n, t),
+    }
+}

@@ -1,0 +1,33 @@
+-- What follows the one operand of a form, by the form's code: 7 to 12, `isUndef` (30), `attr` (33).
+use mathlib.Core.Bool.{true, false}
+use mathlib.Core.List.{List}
+use Prim.Native.Nat.{ℕ, _+_}
+use lib.ListN.{getD}
+use lib.Dec.{eqb, ltb}
+use Rattle.laws.specs.Choice.{if_then_else_}
+use Rattle.ocl.specs.Values.{Value, bool}
+use Rattle.ocl.specs.Model.{Model}
+use Rattle.ocl.specs.Evaluation.{Outcome, value, undefined, unaryApply}
+use Rattle.nodes.specs.Nodes.{unaryOf}
+use Rattle.operations.specs.declared.Ended.{Ended}
+use Rattle.operations.specs.Answers.{Ran, SmallAnswer}
+use Rattle.operations.specs.Tables.{attributeIn}
+
+-- the mark of node n
+abbrev pub markIn : List ℕ → ℕ → ℕ
+markIn t n = getD t (6144 + n) 0
+
+-- what follows its value: w are the node's words, and i is the row that it is marked with
+unfoldable pub ofValue : Model → ℕ → (ℕ → ℕ) → ℕ → Value → ℕ → Outcome
+ofValue m k w i v s =
+    if ltb k 13 then unaryApply m (unaryOf k w) v s
+    else if eqb k 30 then value (bool false) s
+    else attributeIn m i v s
+
+-- what follows where it is undefined
+unfoldable pub ofUndefined : ℕ → ℕ → Outcome
+ofUndefined k s = if eqb k 30 then value (bool true) s else undefined s
+
+pub record FromUndefined (k sp s : ℕ) (B A : List ℕ) (r : Ended) : Type 0 where
+  pub small : SmallAnswer r
+  pub ran : Ran (ofUndefined k s) sp B A r

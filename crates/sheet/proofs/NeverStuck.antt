@@ -1,0 +1,267 @@
+-- What stands for stuck is never seen: each call's number is one of document 01's, and `!100` is in no report. Assumes nothing.
+use mathlib.Core.Path.{_≡_, refl, subst}
+use mathlib.Core.Logic.{_≢_, _⊎_, inl, inr}
+use mathlib.Core.Bool.{Bool, true, false, not, _||_}
+use mathlib.Core.Option.{Option, none, some}
+use mathlib.Core.List.{List, [], _∷_, _++_}
+use Prim.Native.Nat.{ℕ, zero, suc, _≤_}
+use native.Mathlib.Omega.{arith}
+use lib.IntN.{ℤ, pos, negsuc}
+use lib.ListN.{length, getElem?}
+use lib.Dec.{T, T-not, eqb, eqb-refl, ltb}
+use Rattle.laws.specs.Choice.{if_then_else_}
+use Rattle.laws.specs.Lists.{Each, each-nil, each-cons}
+use Rattle.laws.proofs.Tests.{by-if}
+use Rattle.laws.proofs.Elements.{each-elem}
+use Rattle.ocl.specs.Types.{class, Kind, set, sequence, bag, Ty, Class}
+use Rattle.ocl.specs.Values.{Value, bool, int, obj, coll, Values, nil, cons}
+use Rattle.ocl.specs.Model.{Model, isA}
+use Rattle.ocl.specs.Forms.{reach}
+use Rattle.ocl.specs.Environment.{start}
+use Rattle.ocl.specs.Typing.{Answer, typed, refused, typeRule}
+use Rattle.ocl.specs.Evaluation.{Outcome, value, undefined, stuck, stop, stepsOf}
+use Rattle.ocl.specs.Soundness.{Sound}
+use Rattle.ocl.proofs.Places.{typing-places}
+use Rattle.sheet.specs.Text.{Bytes, byte, bytes, isDigit, spellDigits, spellNumber, spellInteger}
+use Rattle.sheet.specs.Spelling.{letterByte, kindByte, spellBool, spellValue, spellMembers, spellMore}
+use Rattle.sheet.specs.Sheet.{Rule, Sheet, modelOf}
+use Rattle.sheet.specs.Reading.{Reading, accepted, rejected, readText}
+use Rattle.sheet.specs.Calls.{Verdict, answer, refusalAt, refusal, shortWords, shortOutput, onSheet, readCall, onRule, typingOf, onType, typeOn, typeCall, onObject, outcomeOf, ended, evaluateOn, evaluateCall}
+use Rattle.sheet.specs.Report.{spellOutcome, reportLine, objectLines, ruleLines, onTypes, fitting, reportOf, reportCall, printed, program}
+use Rattle.sheet.specs.Laws.{ReadRefusal, over-length, at-line}
+use Rattle.sheet.specs.Soundness.{NeverStuckLaw}
+use Rattle.sheet.proofs.Numbers.{digit-from, spell-digits}
+use Rattle.sheet.proofs.Listed.{read-refusals}
+use Rattle.sheet.proofs.Good.{Good, RuleOk}
+use Rattle.sheet.proofs.Acceptance.{accepted-good}
+use Rattle.sheet.proofs.Soundness.{sound-body}
+
+-- ---- bytes in which `!` stands only before a space, or before 1 and another byte than 0
+
+data Clean : Bytes → Type 0 where
+  clean-end : Clean []
+  clean-other : {b : ℕ} {s : Bytes} → b ≢ 33 → Clean s → Clean (b ∷ s)
+  clean-space : {s : Bytes} → Clean s → Clean (33 ∷ 32 ∷ s)
+  clean-stop : {b : ℕ} {s : Bytes} → b ≢ 48 → Clean (b ∷ s) → Clean (33 ∷ 49 ∷ b ∷ s)
+
+-- another byte
+other : (b : ℕ) {s : Bytes} → T (not (eqb b 33)) → Clean s → Clean (b ∷ s)
+other b t h = clean-other (λ q. T-not (eqb b 33) t (subst (λ (k : ℕ). T (eqb b k)) q (eqb-refl b))) h
+
+infixl 40 _next_
+_next_ : {a b : Bytes} → Clean a → Clean b → Clean (a ++ b)
+_next_ clean-end h = h
+_next_ (clean-other n g) h = clean-other n (g next h)
+_next_ (clean-space g) h = clean-space (g next h)
+_next_ (clean-stop n g) h = clean-stop n (g next h)
+
+-- `!100` is not in them
+clean-free : (a b : Bytes) {s : Bytes} → Clean s → s ≡ a ++ 33 ∷ 49 ∷ 48 ∷ 48 ∷ b → ⊥
+clean-free [] b clean-end e = absurd (let z : _≡_ {A = ℕ} 0 1 = cc in omega arith)
+clean-free [] b (clean-other n g) e = n cc
+clean-free [] b (clean-space g) e = absurd (let z : _≡_ {A = ℕ} 32 49 = cc in omega arith)
+clean-free [] b (clean-stop n g) e = n cc
+clean-free (x ∷ a) b clean-end e = absurd (let z : _≡_ {A = ℕ} 0 1 = cc in omega arith)
+clean-free (x ∷ a) b (clean-other n g) e = clean-free a b g cc
+clean-free (x ∷ a) b (clean-space {s} g) e = clean-free a b {s = 32 ∷ s} (other 32 tt g) cc
+clean-free (x ∷ a) b (clean-stop {b = c} {s} n g) e = clean-free a b {s = 49 ∷ c ∷ s} (other 49 tt g) cc
+
+-- ---- what is spelled has none, but for stops
+
+clean-digits : {d : Bytes} → Each (λ b. T (isDigit b)) d → Clean d
+clean-digits each-nil = clean-end
+clean-digits (each-cons {n} t h) = clean-other (λ (q : n ≡ 33). let k = digit-from n t in omega arith) (clean-digits h)
+
+clean-number : (n : ℕ) → Clean (spellNumber n)
+clean-number n = clean-digits (spell-digits n)
+
+clean-integer : (z : ℤ) → Clean (spellInteger z)
+unfolding spellInteger
+clean-integer (pos n) = clean-number n
+clean-integer (negsuc n) = other 45 tt (clean-number (suc n))
+
+clean-bool : (b : Bool) → Clean (spellBool b)
+unfolding spellBool bytes
+clean-bool true = other 116 tt clean-end
+clean-bool false = other 102 tt clean-end
+
+kind-other : (k : Kind) → kindByte k ≢ 33
+unfolding kindByte letterByte
+kind-other set q = omega arith
+kind-other sequence q = omega arith
+kind-other bag q = omega arith
+
+mutual
+  unfolding spellValue bytes
+
+  clean-value : (v : Value) → Clean (spellValue v)
+  clean-value (bool b) = clean-bool b
+  clean-value (int z) = clean-integer z
+  clean-value (obj o) = other 64 tt (clean-number o)
+  clean-value (coll k vs) = clean-other (kind-other k) (other 40 tt (clean-members vs))
+
+  clean-members : (vs : Values) → Clean (spellMembers vs)
+  clean-members nil = other 41 tt clean-end
+  clean-members (cons v vs) = clean-value v next clean-more vs
+
+  clean-more : (vs : Values) → Clean (spellMore vs)
+  clean-more nil = other 41 tt clean-end
+  clean-more (cons v vs) = other 44 tt (clean-value v next clean-more vs)
+
+space : Clean (bytes " ")
+unfolding bytes
+space = other 32 tt clean-end
+
+feed : Clean (bytes "\n")
+unfolding bytes
+feed = other 10 tt clean-end
+
+-- a stop is `!16` or `!17`; stuck is not met
+module _ (m : Model) (t : Ty) (k : ℕ) where
+  clean-outcome : (o : Outcome) → Sound m t k o → Clean (spellOutcome o)
+  unfolding spellOutcome bytes
+  clean-outcome (value v n) h = clean-value v
+  clean-outcome (undefined n) h = other 117 tt clean-end
+  clean-outcome stuck h = absurd (h .not-stuck refl)
+  clean-outcome (stop c n) h = by (h .known-stop c n refl)
+    where
+      by : (c ≡ 16) ⊎ (c ≡ 17) → Clean (byte "!" ∷ spellNumber c)
+      by (inl e) = rw e (unfold spellNumber spellDigits in clean-stop {b = 54} (λ (q : _≡_ {A = ℕ} 54 48). omega arith) (other 54 tt clean-end))
+      by (inr e) = rw e (unfold spellNumber spellDigits in clean-stop {b = 55} (λ (q : _≡_ {A = ℕ} 55 48). omega arith) (other 55 tt clean-end))
+
+  clean-line : (r i : ℕ) (o : Outcome) → Sound m t k o → Clean (reportLine r i o)
+  unfolding reportLine bytes
+  clean-line r i o h =
+      clean-number r next space next clean-number i next space next clean-outcome o h next space next clean-number (stepsOf o) next feed
+
+  ended-number : (o : Outcome) → Sound m t k o → ended o .number ≤ 18
+  unfolding ended
+  ended-number (value v n) h = omega arith
+  ended-number (undefined n) h = omega arith
+  ended-number stuck h = absurd (h .not-stuck refl)
+  ended-number (stop c n) h = by (h .known-stop c n refl)
+    where
+      by : (c ≡ 16) ⊎ (c ≡ 17) → c ≤ 18
+      by (inl e) = omega arith
+      by (inr e) = omega arith
+
+-- ---- the lines of a report, on a sheet whose rules have types
+
+-- a rule has a type
+abbrev HasType : Sheet → Rule → Type 0
+HasType s x = (t : Ty) × (typingOf s x .answer ≡ typed t)
+
+clean-objects : (s : Sheet) → Good s → (r : ℕ) (x : Rule) → RuleOk (length (s .lines)) x → (t : Ty) → typingOf s x .answer ≡ typed t → (n : ℕ) → Clean (objectLines s r x n)
+unfolding objectLines
+clean-objects s g r x k t e zero = clean-end
+clean-objects s g r x k t e (suc n) =
+    clean-objects s g r x k t e n
+    next (by-if Clean (isA (modelOf s) n (class (x .context))) (reportLine r n (outcomeOf s x n)) []
+    (λ a. clean-line (modelOf s) t (reach (x .body)) r n (outcomeOf s x n) (sound-body s g n x t k e a)) (λ a. clean-end))
+
+clean-rules : (s : Sheet) → Good s → (r : ℕ) (xs : List Rule) → Each (RuleOk (length (s .lines))) xs → Each (HasType s) xs → Clean (ruleLines s r xs)
+unfolding ruleLines
+clean-rules s g r [] k h = clean-end
+clean-rules s g r (x ∷ xs) (each-cons k ks) (each-cons h hs) =
+    clean-objects s g r x k (h .0) (h .1) (length (s .objects)) next clean-rules s g (suc r) xs ks hs
+
+-- ---- the calls: what holds of every refusal that document 01 lists, and of what follows a sheet, a type and a rule
+
+module _ (P : Verdict → Type 0) (p : (n k : ℕ) → n ≤ 18 → P (refusalAt n k)) where
+  on-reading : (text : Bytes) (f : Sheet → Verdict) → ((s : Sheet) → Good s → P (f s)) → P (onSheet (readText text) f)
+  unfolding onSheet
+  on-reading text f h = by (readText text) refl
+    where
+      high : (n k : ℕ) → ReadRefusal text n k → n ≤ 18
+      high n k (over-length a b) = omega arith
+      high n k (at-line a b c d) = omega arith
+
+      by : (x : Reading) → readText text ≡ x → P (onSheet x f)
+      by (accepted s) e = h s (accepted-good text s e)
+      by (rejected n k) e = p n k (high n k (read-refusals text n k e))
+
+  on-type : (s : Sheet) (x : Rule) (f : Ty → Verdict) → ((t : Ty) → typingOf s x .answer ≡ typed t → P (f t)) → P (onType s (typingOf s x .answer) f)
+  unfolding onType typingOf typeRule
+  on-type s x f h = by (typingOf s x .answer) refl
+    where
+      by : (a : Answer) → typingOf s x .answer ≡ a → P (onType s a f)
+      by (typed t) e = h t e
+      by (refused n q) e = p n _ (omega (arith, typing-places (modelOf s) (x .body) (start (Class (x .context))) .refusals n q e .high))
+
+  on-types : (s : Sheet) (xs : List Rule) (v : Verdict) → (Each (HasType s) xs → P v) → P (onTypes s xs v)
+  unfolding onTypes
+  on-types s [] v h = h each-nil
+  on-types s (x ∷ xs) v h = on-type s x (λ t. onTypes s xs v) (λ t e. on-types s xs v (λ k. h (each-cons (t, e) k)))
+
+  on-rule : (s : Sheet) → Good s → (r : ℕ) (f : Rule → Verdict) → ((x : Rule) → RuleOk (length (s .lines)) x → P (f x)) → P (onRule (getElem? (s .rules) r) f)
+  unfolding onRule refusal
+  on-rule s g r f h = by (getElem? (s .rules) r) refl
+    where
+      by : (x : Option Rule) → getElem? (s .rules) r ≡ x → P (onRule x f)
+      by none e = p 14 0 (omega arith)
+      by (some x) e = h x (each-elem r (g .rules) e)
+
+  on-object : (m : Model) (d : Option ℕ) (o c : ℕ) (v : Verdict) → (T (isA m o (class c)) → P v) → P (onObject m d o c v)
+  unfolding onObject refusal
+  on-object m none o c v h = p 14 0 (omega arith)
+  on-object m (some d) o c v h = by-if P (isA m o (class c)) v (refusal 15) h (λ t. p 15 0 (omega arith))
+
+abbrev Low : Verdict → Type 0
+Low v = v .number ≤ 18
+
+low : (n k : ℕ) → n ≤ 18 → Low (refusalAt n k)
+unfolding refusalAt
+low n k h = h
+
+low-answer : (b : Bytes) → Low (answer b)
+unfolding answer
+low-answer b = omega arith
+
+-- 1 for a short slice
+lent-by : (P : Verdict → Type 0) (b : Bool) (v : Verdict) → P (refusalAt 1 0) → P v → P (if b then refusal 1 else v)
+unfolding refusal
+lent-by P b v h k = by-if P b (refusal 1) v (λ t. h) (λ t. k)
+
+evaluate-low : (s : Sheet) → Good s → (r o : ℕ) → Low (evaluateOn s r o)
+unfolding evaluateOn
+evaluate-low s g r o = on-rule Low low s g r _ (λ x k.
+    on-object Low low (modelOf s) (modelOf s .classOf o) o (x .context) _ (λ a.
+    on-type Low low s x _ (λ t e. ended-number (modelOf s) t (reach (x .body)) (outcomeOf s x o) (sound-body s g o x t k e a))))
+
+-- a number of document 01, and no `!100`
+record Listed (v : Verdict) : Type 0 where
+  number : v .number ≤ 18
+  clean : Clean (v .output)
+
+listed : (n k : ℕ) → n ≤ 18 → Listed (refusalAt n k)
+unfolding refusalAt
+listed n k h = record { number = h; clean = clean-end }
+
+report-listed : (text : Bytes) (room : ℕ) → Listed (reportOf text room)
+unfolding reportOf fitting answer refusal
+report-listed text room = on-reading Listed listed text _ (λ s g.
+    on-types Listed listed s (s .rules) _ (λ h.
+    by-if Listed (ltb room (length (ruleLines s 0 (s .rules)))) (refusalAt 18 0) (answer (ruleLines s 0 (s .rules)))
+    (λ t. listed 18 0 (omega arith)) (λ t. record { number = omega arith; clean = clean-rules s g 0 (s .rules) (g .rules) h })))
+
+clean-printed : (v : Verdict) → Listed v → Clean (printed v)
+unfolding printed bytes
+clean-printed v h =
+    by-if Clean (eqb (v .number) 0) (v .output) _ (λ t. h .clean)
+    (λ t. clean-space clean-end next clean-number (v .number) next space next clean-number (v .place) next feed)
+
+pub never-stuck : NeverStuckLaw
+unfolding readCall typeCall evaluateCall reportCall typeOn program bytes
+never-stuck text w0 w1 w2 out =
+    let reported = lent-by Listed (shortWords w0 w1 w2 || shortOutput out) _ (listed 1 0 (omega arith)) (report-listed text (length out)) in
+    record {
+      read-number = lent-by Low (shortWords w0 w1 w2) _ (low 1 0 (omega arith)) (on-reading Low low text _ (λ s g. low-answer []));
+      type-number = λ r.
+          lent-by Low (shortWords w0 w1 w2 || shortOutput out) _ (low 1 0 (omega arith))
+          (on-reading Low low text _ (λ s g. on-rule Low low s g r _ (λ x k. on-type Low low s x _ (λ t e. low-answer _))));
+      evaluate-number = λ r o.
+          lent-by Low (shortWords w0 w1 w2 || shortOutput out) _ (low 1 0 (omega arith)) (on-reading Low low text _ (λ s g. evaluate-low s g r o));
+      report-number = reported .number;
+      report-bytes = λ a b. clean-free a b (reported .clean);
+      program-bytes = λ a b. clean-free a b (clean-printed (reportOf text 65536) (report-listed text 65536));
+    }

@@ -1,0 +1,258 @@
+-- `int` and `coll`, and codes of no form. Assumes nothing.
+use mathlib.Core.Path.{_≡_, refl, sym, _∙_}
+use mathlib.Core.Bool.{Bool, true, false, true≢false}
+use mathlib.Core.Option.{Option, none, some}
+use mathlib.Core.List.{List, [], _∷_, map}
+use Prim.Native.Nat.{ℕ, _<_, _≤_}
+use native.Mathlib.Nat.{zero-add}
+use native.Mathlib.Omega.{arith}
+use borrow.Author.Tests.{eq-eqb, ne-eqb, eqb-true, eqb-false, le-leb, lt-leb}
+use lib.IntN.{ℤ}
+use lib.Dec.{eqb}
+use lib.ListN.{length, getD, take}
+use Rattle.laws.specs.Choice.{if_then_else_, orElse, onSome, mapSome}
+use Rattle.laws.proofs.Cases.{AllBelow, from-below, zero-least}
+use Rattle.laws.proofs.Options.{nowhere}
+use Rattle.laws.proofs.Tests.{Any?, any-some}
+use Rattle.ocl.specs.Types.{Kind, set, sequence, bag}
+use Rattle.ocl.specs.Evaluation.{inRange}
+use Rattle.ocl.specs.Forms.{number}
+use Rattle.sheet.specs.Text.{Bytes, bytes, after, literal, _or_, whole, atEnd}
+use Rattle.sheet.specs.Lines.{leaf, assemble, next, done, each, aNumber, anInteger, aKind, atMostFour, assembleFields}
+use Rattle.sheet.specs.Sheet.{operandsOf}
+use Rattle.sheet.specs.Refusals.{leafWithin, formWithin, twoVariables, leafKnown, formKnown}
+use Rattle.text.specs.Forms.{shapeBy}
+use Rattle.laws.specs.Integers.{bias}
+use Rattle.text.specs.Numbers.{wholeOf}
+use Rattle.text.specs.Words.{onlyByte}
+use Rattle.text.specs.declared.numbers.Whole.the-variants as integer
+use Rattle.text.proofs.IntegerLaws.{whole-bad, whole-out, whole-is}
+use Rattle.nodes.specs.Nodes.{leafWords, assembleCode, operandWord, shapeWords}
+use Rattle.text.proofs.FormLaws.{above}
+use Rattle.trees.specs.declared.Parsed.{Parsed}
+use Rattle.trees.specs.declared.numbers.Numbers.{Numbers}
+use Rattle.trees.specs.Fields.{cut, four, Read, unread, read, NumbersRead}
+use Rattle.trees.specs.Forms.{StandsFor, Spelled, misspelled, spelled, FormRead, kindByteCode}
+use Rattle.trees.proofs.ExactLaws.{each-length}
+use Rattle.trees.proofs.FormLaws.{nodes-small, isIterate, no-type}
+
+-- ---- `int`
+
+pub integer-not : (fs : List Bytes) → (length fs ≡ 1 → ⊥) → shapeBy 3 fs ≡ none
+unfolding shapeBy next done
+integer-not [] h = refl
+integer-not (f ∷ []) h = absurd (h refl)
+integer-not (f ∷ g ∷ fs) h = nowhere (anInteger f) _ (λ z. refl)
+
+integer-one : (fs : List Bytes) → length fs ≡ 1 → shapeBy 3 fs ≡ onSome (anInteger (getD fs 0 [])) (λ z. some (leaf (number z)))
+unfolding shapeBy next done
+integer-one [] h = absurd (omega arith)
+integer-one (f ∷ []) h = refl
+integer-one (f ∷ g ∷ fs) h = absurd (omega arith)
+
+module _ (fs : List Bytes) (many : length fs ≡ 1) where
+  pub integer-bad : integer.Bad ≡ wholeOf (anInteger (getD fs 0 [])) → shapeBy 3 fs ≡ none
+  unfolding onSome
+  integer-bad h = integer-one fs many ∙ rw (whole-bad (anInteger (getD fs 0 [])) h)
+
+  pub integer-out : {line : ℕ} → integer.Out ≡ wholeOf (anInteger (getD fs 0 []))
+      → FormRead line (shapeBy 3 fs) (record { spelled = true; words = 3 ∷ 0 ∷ 0 ∷ 0 ∷ 0 ∷ 0 ∷ 0 ∷ line ∷ []; count = 0; within = false; apart = true; classes = 0 })
+  unfolding onSome formWithin leafWithin twoVariables operandsOf isIterate
+  integer-out {line} h = rw (integer-one fs many) (record { is = go (anInteger (getD fs 0 [])) (whole-out (anInteger (getD fs 0 [])) h); few = omega arith; size = refl })
+    where
+      p : Parsed
+      p = record { spelled = true; words = 3 ∷ 0 ∷ 0 ∷ 0 ∷ 0 ∷ 0 ∷ 0 ∷ line ∷ []; count = 0; within = false; apart = true; classes = 0 }
+
+      go : (o : Option ℤ) → Any? (λ z. inRange z ≡ false) o → Spelled line (onSome o (λ z. some (leaf (number z)))) p
+      go (some z) (any-some e) =
+          spelled {p = p} refl
+          (record {
+            within = sym e;
+            apart = λ h. refl;
+            known = λ h n q. absurd (true≢false (sym h ∙ e));
+            counted = refl;
+            operands = refl;
+            type = 0;
+            said = λ h. no-type (leaf (number z)) refl;
+            words = λ h k. absurd (true≢false (sym h ∙ e));
+          })
+
+  pub integer-is : {line n : ℕ} → integer.Is n ≡ wholeOf (anInteger (getD fs 0 []))
+      → FormRead line (shapeBy 3 fs) (record { spelled = true; words = 3 ∷ n ∷ 0 ∷ 0 ∷ 0 ∷ 0 ∷ 0 ∷ line ∷ []; count = 0; within = true; apart = true; classes = 0 })
+  unfolding onSome formWithin leafWithin twoVariables formKnown leafKnown operandsOf shapeWords leafWords isIterate
+  integer-is {line} {n} h = rw (integer-one fs many) (record { is = go (anInteger (getD fs 0 [])) (whole-is (anInteger (getD fs 0 [])) h); few = omega arith; size = refl })
+    where
+      p : Parsed
+      p = record { spelled = true; words = 3 ∷ n ∷ 0 ∷ 0 ∷ 0 ∷ 0 ∷ 0 ∷ line ∷ []; count = 0; within = true; apart = true; classes = 0 }
+
+      go : (o : Option ℤ) → Any? (λ z. (inRange z ≡ true) × (n ≡ bias z)) o → Spelled line (onSome o (λ z. some (leaf (number z)))) p
+      go (some z) (any-some e) =
+          spelled {p = p} refl
+          (record {
+            within = sym (e .0);
+            apart = λ h. refl;
+            known = λ h n q. zero-least n;
+            counted = refl;
+            operands = refl;
+            type = 0;
+            said = λ h. no-type (leaf (number z)) refl;
+            words = λ h k. rw (e .1);
+          })
+
+-- ---- the kind of `coll`
+
+module _ (b : ℕ) where
+  pub kind-set : b ≡ 83 → 27 ≡ kindByteCode b
+  unfolding kindByteCode
+  kind-set e = rw e
+
+  pub kind-sequence : b ≡ 81 → 28 ≡ kindByteCode b
+  unfolding kindByteCode
+  kind-sequence e = rw e
+
+  pub kind-bag : b ≡ 66 → 29 ≡ kindByteCode b
+  unfolding kindByteCode
+  kind-bag e = rw e
+
+  pub kind-other : (b ≡ 83 → ⊥) → (b ≡ 81 → ⊥) → (b ≡ 66 → ⊥) → 0 ≡ kindByteCode b
+  unfolding kindByteCode
+  kind-other s q g = rw (ne-eqb b 83 s, ne-eqb b 81 q, ne-eqb b 66 g)
+
+data KindSaid : Option Kind → ℕ → Type 0 where
+  no-kind : KindSaid none 0
+  a-kind : {k : Kind} → KindSaid (some k) (assembleCode k)
+
+kind-one : (b : ℕ) → KindSaid (aKind (b ∷ [])) (kindByteCode b)
+unfolding aKind whole _or_ literal after bytes orElse onSome mapSome atEnd kindByteCode assembleCode
+kind-one b = go (eqb b 83) (eqb b 81) (eqb b 66) refl refl refl
+  where
+    turn : (c : ℕ) (t : Bool) → eqb b c ≡ t → eqb c b ≡ t
+    turn c true e = eq-eqb c b (sym (eqb-true b c e))
+    turn c false e = ne-eqb c b (λ q. eqb-false b c e (sym q))
+
+    go : (s q g : Bool) → eqb b 83 ≡ s → eqb b 81 ≡ q → eqb b 66 ≡ g → KindSaid (aKind (b ∷ [])) (if s then 27 else if q then 28 else if g then 29 else 0)
+    go true q g d e f = rw (turn 83 true d) a-kind
+    go false true g d e f = rw (turn 83 false d, turn 81 true e) a-kind
+    go false false true d e f = rw (turn 83 false d, turn 81 false e, turn 66 true f) a-kind
+    go false false false d e f = rw (turn 83 false d, turn 81 false e, turn 66 false f) no-kind
+
+kind-more : (b c : ℕ) (s : Bytes) → aKind (b ∷ c ∷ s) ≡ none
+unfolding aKind whole _or_ literal after bytes orElse onSome mapSome atEnd
+kind-more b c s = go (eqb 83 b) (eqb 81 b) (eqb 66 b) refl refl refl
+  where
+    go : (p q g : Bool) → eqb 83 b ≡ p → eqb 81 b ≡ q → eqb 66 b ≡ g → aKind (b ∷ c ∷ s) ≡ none
+    go true q g d e f = rw d
+    go false true g d e f = rw (d, e)
+    go false false true d e f = rw (d, e, f)
+    go false false false d e f = rw (d, e, f)
+
+kind-said : (f : Bytes) → KindSaid (aKind f) (kindByteCode (onlyByte f))
+unfolding onlyByte kindByteCode aKind whole _or_ literal after bytes orElse onSome mapSome atEnd
+kind-said [] = no-kind
+kind-said (b ∷ []) = kind-one b
+kind-said (b ∷ c ∷ s) = rw (kind-more b c s) no-kind
+
+-- ---- `coll`
+
+assemble-operands : (es : List ℕ) (m a b : ℕ) → length es ≤ 4 → take (length es) (getD (map cut es) 0 0 ∷ getD (map cut es) 1 0 ∷ getD (map cut es) 2 0 ∷ getD (map cut es) 3 0 ∷ m ∷ a ∷ b ∷ []) ≡ map cut es
+assemble-operands [] m a b h = refl
+assemble-operands (w ∷ []) m a b h = refl
+assemble-operands (w ∷ x ∷ []) m a b h = refl
+assemble-operands (w ∷ x ∷ y ∷ []) m a b h = refl
+assemble-operands (w ∷ x ∷ y ∷ z ∷ []) m a b h = refl
+assemble-operands (w ∷ x ∷ y ∷ z ∷ v ∷ es) m a b h = absurd (omega arith)
+
+assemble-words : (k : Kind) (es : List ℕ) (line : ℕ) → length es ≤ 4
+    → assembleCode k ∷ getD es 0 0 ∷ getD es 1 0 ∷ getD es 2 0 ∷ getD es 3 0 ∷ length es ∷ 0 ∷ line ∷ [] ≡ shapeWords 0 0 line (assemble k es)
+unfolding shapeWords operandWord
+assemble-words k [] line h = refl
+assemble-words k (w ∷ []) line h = simp zero-add
+assemble-words k (w ∷ x ∷ []) line h = simp zero-add
+assemble-words k (w ∷ x ∷ y ∷ []) line h = simp zero-add
+assemble-words k (w ∷ x ∷ y ∷ z ∷ []) line h = simp zero-add
+assemble-words k (w ∷ x ∷ y ∷ z ∷ v ∷ es) line h = absurd (omega arith)
+
+assemble-stands : {line m code : ℕ} {g : Bool} {at : List ℕ} (k : Kind) (es : List ℕ) → code ≡ assembleCode k → length es ≡ m → m ≤ 4 → at ≡ four (map cut es)
+    → StandsFor line (assemble k es) (record { spelled = g; words = code ∷ getD at 0 0 ∷ getD at 1 0 ∷ getD at 2 0 ∷ getD at 3 0 ∷ m ∷ 0 ∷ line ∷ []; count = m; within = true; apart = true; classes = 0 })
+unfolding formWithin twoVariables formKnown operandsOf isIterate
+assemble-stands {line} k es c n few e = record {
+  within = refl;
+  apart = λ h. refl;
+  known = λ h n q. zero-least n;
+  counted = sym n;
+  operands = rw (e, ← n) (assemble-operands es (length es) 0 line (omega arith));
+  type = 0;
+  said = λ h. no-type (assemble k es) refl;
+  words = λ h q. rw (c, e, nodes-small es q, ← n) (assemble-words k es line (omega arith));
+}
+
+-- over four members, and no kind
+assemble-many : (k : Kind) (gs : List Bytes) → 4 < length gs → onSome (each aNumber gs) (atMostFour k) ≡ none
+unfolding onSome atMostFour
+assemble-many k gs h = go (each aNumber gs) refl
+  where
+    go : (o : Option (List ℕ)) → each aNumber gs ≡ o → onSome o (atMostFour k) ≡ none
+    go none e = refl
+    go (some es) e = rw (lt-leb (length es) 4 (omega (arith, each-length gs es e)))
+
+pub assemble-none : (fs : List Bytes) → length fs ≡ 0 → shapeBy 27 fs ≡ none
+unfolding shapeBy assembleFields next
+assemble-none [] h = refl
+assemble-none (f ∷ fs) h = absurd (omega arith)
+
+pub assemble-over : (fs : List Bytes) → 5 < length fs → shapeBy 27 fs ≡ none
+unfolding shapeBy assembleFields next onSome
+assemble-over [] h = absurd (omega arith)
+assemble-over (f ∷ gs) h = go (aKind f)
+  where
+    go : (o : Option Kind) → onSome o (λ k. onSome (each aNumber gs) (atMostFour k)) ≡ none
+    go none = refl
+    go (some k) = assemble-many k gs (omega arith)
+
+pub assemble-other : {code : ℕ} (f : Bytes) (gs : List Bytes) → code ≡ kindByteCode (onlyByte f) → code ≡ 0 → shapeBy 27 (f ∷ gs) ≡ none
+unfolding shapeBy assembleFields next onSome assembleCode
+assemble-other {code} f gs c z = go (kind-said f) (sym c ∙ z)
+  where
+    never : (k : Kind) → assembleCode k ≡ 0 → ⊥
+    never set e = omega arith
+    never sequence e = omega arith
+    never bag e = omega arith
+
+    go : {o : Option Kind} {n : ℕ} → KindSaid o n → n ≡ 0 → onSome o (λ k. onSome (each aNumber gs) (atMostFour k)) ≡ none
+    go no-kind e = refl
+    go (a-kind {k}) e = absurd (never k e)
+
+pub assemble-read : {line m code : ℕ} {r : Numbers} (f : Bytes) (gs : List Bytes) → code ≡ kindByteCode (onlyByte f) → (code ≡ 0 → ⊥) → length gs ≡ m → m ≤ 4 → NumbersRead (each aNumber gs) r
+    → FormRead line (shapeBy 27 (f ∷ gs)) (record { spelled = r .good; words = code ∷ getD (r .at) 0 0 ∷ getD (r .at) 1 0 ∷ getD (r .at) 2 0 ∷ getD (r .at) 3 0 ∷ m ∷ 0 ∷ line ∷ []; count = m; within = true; apart = true; classes = 0 })
+unfolding shapeBy assembleFields next onSome atMostFour
+assemble-read {line} {m} {code} {r} f gs c z n few is = record { is = go (kind-said f) c; few = few; size = refl }
+  where
+    p : Parsed
+    p = record { spelled = r .good; words = code ∷ getD (r .at) 0 0 ∷ getD (r .at) 1 0 ∷ getD (r .at) 2 0 ∷ getD (r .at) 3 0 ∷ m ∷ 0 ∷ line ∷ []; count = m; within = true; apart = true; classes = 0 }
+
+    members : (k : Kind) → code ≡ assembleCode k → (o : Option (List ℕ)) → each aNumber gs ≡ o → Read o r → Spelled line (onSome o (atMostFour k)) p
+    members k c none e (unread b) = misspelled b
+    members k c (some es) e (read b a) =
+        let l : length es ≡ m = each-length gs es e ∙ n in
+        rw (le-leb (length es) 4 (omega arith)) (spelled {p = p} b (assemble-stands k es c l few a))
+
+    go : {o : Option Kind} {n : ℕ} → KindSaid o n → code ≡ n → Spelled line (onSome o (λ k. onSome (each aNumber gs) (atMostFour k))) p
+    go no-kind c = absurd (z c)
+    go (a-kind {k}) c = members k c (each aNumber gs) refl (is .is)
+
+-- ---- codes of no form
+
+pub no-code : (k : ℕ) (fs : List Bytes) → 34 < k → shapeBy k fs ≡ none
+unfolding shapeBy
+no-code k fs h =
+    rw (off 1 (omega arith), off 0 (omega arith), off 2 (omega arith), off 3 (omega arith), off 4 (omega arith), off 5 (omega arith), off 27 (omega arith), off 32 (omega arith), off 31 (omega arith), off 23 (omega arith), off 24 (omega arith), off 7 (omega arith), off 30 (omega arith), off 13 (omega arith), off 14 (omega arith), off 15 (omega arith), off 16 (omega arith), off 17 (omega arith), off 18 (omega arith), off 19 (omega arith), off 33 (omega arith), off 6 (omega arith), off 12 (omega arith), off 8 (omega arith), off 20 (omega arith), off 9 (omega arith), off 11 (omega arith), off 10 (omega arith), off 21 (omega arith), off 22 (omega arith), off 34 (omega arith), off 25 (omega arith), off 26 (omega arith))
+  where
+    off : (j : ℕ) → j < 35 → eqb k j ≡ false
+    off j l = ne-eqb k j (λ e. omega arith)
+
+pub gap-code : (k : ℕ) (fs : List Bytes) → 28 ≤ k → k < 30 → shapeBy k fs ≡ none
+unfolding shapeBy AllBelow
+gap-code k fs = from-below (λ k. shapeBy k fs ≡ none) 28 2 ((tt, refl), refl) k
+
+pub last-code : (k : ℕ) (fs : List Bytes) → 30 ≤ k → (k ≡ 30 → ⊥) → (k ≡ 31 → ⊥) → (k ≡ 32 → ⊥) → (k ≡ 33 → ⊥) → (k ≡ 34 → ⊥) → shapeBy k fs ≡ none
+last-code k fs h a b c d e = no-code k fs (above (above (above (above (above h a) b) c) d) e)
