@@ -4,7 +4,7 @@
  * What a call does depends on the text, the numbers and the lengths that it is given, and on nothing else. It keeps nothing
  * between calls, calls nothing but the C library's memset, memcpy and memmove, and can fail only by the number that it
  * returns. So calls may run in several threads at a time, each with memory of its own; several may share a text. A call
- * takes up to 64 KiB of stack (docs/USING.md, section 5).
+ * takes up to 96 KiB of stack (docs/USING.md, section 5).
  *
  * What is lent to each call:
  *

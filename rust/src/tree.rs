@@ -3,7 +3,7 @@
 use crate::types::{Kind, Type};
 
 /// The greatest depth of a rule, its root being depth 1.
-pub const DEEPEST_RULE: usize = 12;
+pub const DEEPEST_RULE: usize = 19;
 
 /// What a node does, without its operands.
 #[derive(Clone, PartialEq, Eq, Debug)]

@@ -8,7 +8,7 @@ use lib.ListN.{getD, getElem?, take}
 use Rattle.ocl.specs.Forms.{levels}
 use Rattle.ocl.specs.Typing.{refused as untyped, Typed, markOf}
 use Rattle.sheet.specs.Text.{Bytes}
-use Rattle.sheet.specs.Sheet.{Rule, Sheet, modelOf}
+use Rattle.sheet.specs.Sheet.{Rule, Sheet, modelOf, mostLevels}
 use Rattle.sheet.specs.Reading.{accepted, readText}
 use Rattle.sheet.specs.Calls.{typingOf}
 use Rattle.nodes.specs.Nodes.{word, treeAt}
@@ -37,7 +37,7 @@ pub record RuleIn (w0 w1 : List ℕ) (r : ℕ) (x : Rule) : Type 0 where
   pub context : getD w0 (4448 + r) 0 ≡ x .context
   pub body : treeAt w1 (getD w0 (4512 + r) 0) ≡ x .body
   pub root : getD w0 (4512 + r) 0 < 768
-  pub shallow : levels (x .body) ≤ 12
+  pub shallow : levels (x .body) ≤ mostLevels
 
 pub record Ready (st : Counts) (w0 w1 : List ℕ) (s : Sheet) : Type 0 where
   -- classes and rows, for typing

@@ -1,5 +1,5 @@
 -- What every sheet that reading accepts has: parents that are smaller, slots that ascend, values that belong to their rows' types and are
--- formed, rules whose trees have no node twice and at most 12 levels, Integers in range. The induction over the lines, over the laws of
+-- formed, rules whose trees have no node twice and at most 19 levels, Integers in range. The induction over the lines, over the laws of
 -- proofs/Good.antt. Assumes nothing.
 use mathlib.Core.Path.{_≡_, refl, subst}
 use mathlib.Core.Bool.{Bool, true, false, _&&_}
@@ -20,7 +20,7 @@ use Rattle.ocl.specs.Laws.{integersInRange, Formed, numbers, literals}
 use Rattle.ocl.specs.Soundness.{AcceptedModel}
 use Rattle.sheet.specs.Text.{Bytes, fieldsOf, linesOf}
 use Rattle.sheet.specs.Lines.{Line, lineOf, firstIsN}
-use Rattle.sheet.specs.Sheet.{Slot, Current, Sheet, empty, lookup, noRow, modelOf, treeOf, lastTree, allUsed, withRule, endOf, endFor, endRule}
+use Rattle.sheet.specs.Sheet.{Slot, Current, Sheet, empty, lookup, noRow, modelOf, treeOf, lastTree, allUsed, withRule, mostLevels, endOf, endFor, endRule}
 use Rattle.sheet.specs.Refusals.{withinLimits, inOrder, partsKnown, suits, treeHolds}
 use Rattle.sheet.specs.Reading.{Step, taken, refuse, must, stepLine, stepSpelled, step, Reading, accepted, rejected, onStep, onEnd, closing, readLast, readLines, readText}
 use Rattle.sheet.proofs.InRange.{InRange, tree-in-range}
@@ -40,7 +40,7 @@ last-tree [] body e = absurd (let z : _≡_ {A = ℕ} 0 1 = cc in omega arith)
 last-tree (x ∷ []) body e = record { index = 0; inside = omega arith; is = (let z : x ≡ body = cc in z) }
 last-tree (x ∷ y ∷ trees) body e = let r = last-tree (y ∷ trees) body e in record { index = suc (r .index); inside = omega arith; is = r .is }
 
-rule-ok : (n : ℕ) (c : Current) (body : Expr) → CurrentOk n c → lastTree (c .trees) ≡ some body → levels body ≤ 12 → RuleOk n (record { context = c .context; body = body })
+rule-ok : (n : ℕ) (c : Current) (body : Expr) → CurrentOk n c → lastTree (c .trees) ≡ some body → levels body ≤ mostLevels → RuleOk n (record { context = c .context; body = body })
 rule-ok n c body h e l = let r = last-tree (c .trees) body e in record {
   distinct = subst (λ x. Distinct (numbers x)) (r .is) (h .forest .distinct (r .index) (r .inside));
   on-sheet = subst (λ i. Each (λ p. p < i) (numbers body)) (h .count) (subst (λ x. Each (λ p. p < c .first + length (c .trees)) (numbers x)) (r .is) (h .forest .below (r .index) (r .inside)));
@@ -49,11 +49,11 @@ rule-ok n c body h e l = let r = last-tree (c .trees) body e in record {
 }
 
 good-body : (s : Sheet) (c : Current) → Good s → CurrentOk (length (s .lines)) c → (o : Option Expr) → lastTree (c .trees) ≡ o
-    → All? Good (onSome o (λ body. if allUsed (c .used) (length (c .trees) - 1) && leb (levels body) 12 then some (withRule s (c .context) body) else none))
+    → All? Good (onSome o (λ body. if allUsed (c .used) (length (c .trees) - 1) && leb (levels body) mostLevels then some (withRule s (c .context) body) else none))
 unfolding onSome withRule plain
 good-body s c g h none e = all-none
 good-body s c g h (some body) e =
-    by-if (All? Good) (allUsed (c .used) (length (c .trees) - 1) && leb (levels body) 12) _ none
+    by-if (All? Good) (allUsed (c .used) (length (c .trees) - 1) && leb (levels body) mostLevels) _ none
     (λ t. all-some (record {
       parents = g .parents;
       early = g .early;
@@ -61,7 +61,7 @@ good-body s c g h (some body) e =
       ascending = g .ascending;
       rules =
           each-append (g .rules)
-          (each-cons (rule-ok (length (s .lines)) c body h e (leb→le (levels body) 12 (and-r (allUsed (c .used) (length (c .trees) - 1)) _ t))) each-nil);
+          (each-cons (rule-ok (length (s .lines)) c body h e (leb→le (levels body) mostLevels (and-r (allUsed (c .used) (length (c .trees) - 1)) _ t))) each-nil);
       current = no-rule;
       room = λ d e. absurd (let z : _≡_ {A = ℕ} 0 1 = cc in omega arith);
     }))

@@ -1,5 +1,5 @@
 -- What holds of a sheet after every line that is taken: parents that are smaller, slots that ascend, values that belong to their rows'
--- types and are formed, rules of at most 12 levels, a forest of the open rule's nodes, room for that rule, and Integers in range. One law
+-- types and are formed, rules of at most 19 levels, a forest of the open rule's nodes, room for that rule, and Integers in range. One law
 -- for each line kind. Assumes nothing.
 use mathlib.Core.Path.{_≡_, refl, sym, ap, subst}
 use mathlib.Core.Bool.{Bool, true, false, _&&_}
@@ -21,7 +21,7 @@ use Rattle.ocl.specs.Model.{Model, every, isA, belongs}
 use Rattle.ocl.specs.Forms.{node, levels}
 use Rattle.ocl.specs.Laws.{integersInRange, Formed, numbers, literals}
 use Rattle.sheet.specs.Lines.{Line, classLine, rowLine, objectLine, valueLine, ruleLine, nodeLine, Shape}
-use Rattle.sheet.specs.Sheet.{Slot, Rule, Current, Sheet, empty, noRow, modelOf, operandsOf, grow, treeOf, withNode, added}
+use Rattle.sheet.specs.Sheet.{Slot, Rule, Current, Sheet, empty, noRow, modelOf, operandsOf, grow, treeOf, withNode, added, mostLevels}
 use Rattle.sheet.specs.Refusals.{partWithin, valueWithin, isNode, formWithin, withinLimits, blockOf, numbered, inOrder, afterSlots, ordered, parentSmaller, partsKnown, suits, operandsFresh, treeHolds}
 use Rattle.sheet.proofs.Ascending.{Ascending, ascending-nil, ascending-more}
 use Rattle.sheet.proofs.InRange.{InRange, value-in-range, tree-in-range, grown-in-range}
@@ -76,7 +76,7 @@ pub record SlotOk (m : Model) (x : Slot) : Type 0 where
 pub record RuleOk (n : ℕ) (r : Rule) : Type 0 where
   pub distinct : Distinct (numbers (r .body))
   pub on-sheet : Each (λ p. p < n) (numbers (r .body))
-  pub shallow : levels (r .body) ≤ 12
+  pub shallow : levels (r .body) ≤ mostLevels
   pub in-range : InRange (literals (r .body))
 
 pub record CurrentOk (n : ℕ) (c : Current) : Type 0 where

@@ -58,9 +58,9 @@ pub record Examples : Type 0 where
   pub used-twice : prints ("C 0 -" ∷ "R 0 0" ∷ "N 0 true" ∷ "N 1 and 0 0" ∷ []) ≡ bytes "! 8 4\n"
   pub unused : prints ("C 0 -" ∷ "R 0 0" ∷ "N 0 true" ∷ "N 1 true" ∷ "x" ∷ []) ≡ bytes "! 8 4\n"
   pub no-node : prints ("C 0 -" ∷ "R 0 0" ∷ []) ≡ bytes "! 8 2\n"
-  -- 12 levels pass, 13 do not
-  pub deepest-rule : program (nots 11) ≡ []
-  pub too-deep-rule : program (nots 12) ≡ bytes "! 8 15\n"
+  -- 19 levels pass, 20 do not
+  pub deepest-rule : program (nots 18) ≡ []
+  pub too-deep-rule : program (nots 19) ≡ bytes "! 8 22\n"
   -- 9 to 13, at the node's line
   pub unbound : prints ("C 0 -" ∷ "R 0 0" ∷ "N 0 true" ∷ "N 1 var 3" ∷ "N 2 and 0 1" ∷ []) ≡ bytes "! 9 4\n"
   pub no-common-type : prints ("C 0 -" ∷ "R 0 0" ∷ "N 0 true" ∷ "N 1 coll S" ∷ "N 2 eq 0 1" ∷ []) ≡ bytes "! 10 5\n"

@@ -209,10 +209,14 @@ withRule s c body = record {
   current = none;
 }
 
--- there is a node, each node but the last is an operand, and the tree is at most 12 deep; else none
+-- the depth of a rule's tree is at most this (document 02, F-1)
+abbrev pub mostLevels : ℕ
+mostLevels = 19
+
+-- there is a node, each node but the last is an operand, and the tree is not too deep; else none
 unfoldable pub endOf : Sheet → Current → Option Sheet
 endOf s c = onSome (lastTree (c .trees)) (λ body.
-    if allUsed (c .used) (length (c .trees) - 1) && leb (levels body) 12 then some (withRule s (c .context) body) else none)
+    if allUsed (c .used) (length (c .trees) - 1) && leb (levels body) mostLevels then some (withRule s (c .context) body) else none)
 
 -- a sheet with no rule open stays as it is
 unfoldable pub endFor : Sheet → Option Current → Option Sheet

@@ -13,7 +13,7 @@ use Rattle.laws.specs.Choice.{if_then_else_, onSome}
 use Rattle.laws.specs.Lists.{member, each-nil, each-cons}
 use Rattle.laws.proofs.Lists.{length-more, each-append}
 use Rattle.ocl.specs.Forms.{Expr, levels}
-use Rattle.sheet.specs.Sheet.{Current, Sheet, Rule, treeOf, lastTree, allUsed, endOf, endFor, endRule, withRule as ruleDown}
+use Rattle.sheet.specs.Sheet.{Current, Sheet, Rule, treeOf, lastTree, allUsed, mostLevels, endOf, endFor, endRule, withRule as ruleDown}
 use Rattle.nodes.specs.Nodes.{treeAt}
 use Rattle.tables.specs.Layout.{tab, usedBit, HoldsCurrent, HoldsOpen, closed, opened, Holds, Fine}
 use Rattle.tables.specs.declared.Counts.{Counts}
@@ -119,7 +119,7 @@ module _ {st : Counts} {w1 : List ℕ} (w0 : List ℕ) where
             ap (λ (v : ℕ). v / 2) q ∙ bit-half (levels (treeOf (o .rule .trees) (st .nodes - 1 - st .first))) (member (st .nodes - 1 - st .first) (o .rule .used))
 
         end-by : endOf s (o .rule)
-            ≡ (if usedIn w1 (st .first) (st .nodes - 1 - st .first) && leb (getD w1 (6912 + (st .nodes - 1)) 0 / 2) 12
+            ≡ (if usedIn w1 (st .first) (st .nodes - 1 - st .first) && leb (getD w1 (6912 + (st .nodes - 1)) 0 / 2) mostLevels
             then some (ruleDown s (o .rule .context) (treeOf (o .rule .trees) (st .nodes - 1 - st .first))) else none)
         unfolding endOf onSome
         end-by = rw (last-tree (o .rule .trees) (st .nodes - 1 - st .first) many, ← its-used, its-depth)
@@ -133,11 +133,11 @@ module _ {st : Counts} {w1 : List ℕ} (w0 : List ℕ) where
           kept = kept-refl w0;
         }
 
-        pub end-deep : not b ≡ false → 12 < getD w1 (6912 + (st .nodes - 1)) 0 / 2 → RuleEnded st (code.Stop 8) w0 w1 w0
+        pub end-deep : not b ≡ false → mostLevels < getD w1 (6912 + (st .nodes - 1)) 0 / 2 → RuleEnded st (code.Stop 8) w0 w1 w0
         end-deep q l = record {
           is = λ s h.
               let o = open-rule h is-open in
-              rw (rule-end s o, end-by h o, ← told, not-false b q, lt-leb (getD w1 (6912 + (st .nodes - 1)) 0 / 2) 12 l) refused;
+              rw (rule-end s o, end-by h o, ← told, not-false b q, lt-leb (getD w1 (6912 + (st .nodes - 1)) 0 / 2) mostLevels l) refused;
           kept = kept-refl w0;
         }
 
@@ -226,13 +226,13 @@ module _ (st : Counts) (w0 : List ℕ) (long : 8192 ≤ length w0) (fine : Fine 
     }
 
 pub end-down : {st : Counts} {w1 : List ℕ} {b : Bool} {r : Counts} (w0 : List ℕ) → st .«open» ≡ 1 → Fine st → (st .first ≡ st .nodes → ⊥)
-    → b ≡ usedIn w1 (st .first) (st .nodes - 1 - st .first) → not b ≡ false → getD w1 (6912 + (st .nodes - 1)) 0 / 2 ≤ 12 → 8192 ≤ length w0 → RuleRoom st → r ≡ endedCounts st
+    → b ≡ usedIn w1 (st .first) (st .nodes - 1 - st .first) → not b ≡ false → getD w1 (6912 + (st .nodes - 1)) 0 / 2 ≤ mostLevels → 8192 ≤ length w0 → RuleRoom st → r ≡ endedCounts st
     → RuleEnded st (code.Next r) w0 w1 (set (set w0 (4448 + st .rules) (st .context)) (4512 + st .rules) (st .nodes - 1))
 unfolding endedCounts
 end-down {st} {w1} {b} w0 is-open fine node told q l long room e = rw e (record {
   is = λ s h.
       let o = open-rule h is-open in
-      rw (rule-end w0 is-open s o, end-by w0 is-open fine node h o, ← told, not-false b q, le-leb (getD w1 (6912 + (st .nodes - 1)) 0 / 2) 12 l)
+      rw (rule-end w0 is-open s o, end-by w0 is-open fine node h o, ← told, not-false b q, le-leb (getD w1 (6912 + (st .nodes - 1)) 0 / 2) mostLevels l)
       (ended (down-fine st w0 long fine (room .room is-open) (st .nodes - 1) h (o .rule .context) _ (o .holds .context) (tree s h o) (inside s h)) (down-holds st w0 long fine (room .room is-open) (st .nodes - 1) h (o .rule .context) _ (o .holds .context) (tree s h o) (inside s h)));
   kept = kept-then (kept-set w0 (4448 + st .rules) (st .context) (omega (arith, fine .rules))) (kept-set (set w0 (4448 + st .rules) (st .context)) (4512 + st .rules) (st .nodes - 1) (omega (arith, fine .rules)));
 })

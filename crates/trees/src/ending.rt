@@ -1,4 +1,4 @@
-// A rule's end: a tree of at most twelve levels that all of its nodes belong to is stored as its context and its root.
+// A rule's end: a tree that all of its nodes belong to, and that is not too deep, is stored as its context and its root.
 ghost use mathlib.Core.Path.{_≡_};
 ghost use Prim.Native.Nat.{_+_, _≤_};
 ghost use lib.ListN.{length};
@@ -6,6 +6,9 @@ ghost use Rattle.tables.specs.Layout.{Fine};
 ghost use Rattle.trees.specs.Rules.{RuleRoom, usedIn, endedCounts, RuleEnded};
 use tables::Counts;
 use tables::Step;
+
+// The depth of a tree is at most this.
+const MOST_LEVELS: u64 = 19;
 
 // Is each of the first `count` nodes from `first` on an operand.
 fn all_used(w1: &[u64], first: usize, count: usize) -> bool
@@ -49,7 +52,7 @@ pub fn end_rule(w0: &mut [u64], w1: &[u64], st: Counts) -> Step
     if !all_used(w1, first, last - first) {
         return Step::Stop(8);
     }
-    if w1[6912 + last] / 2 > 12 {
+    if w1[6912 + last] / 2 > MOST_LEVELS {
         return Step::Stop(8);
     }
     let rule = st.rules as usize;

@@ -1,7 +1,9 @@
 //! Sheets at a limit, or over it by one.
 
+use super::draft::Draft;
 use super::full::full;
 use super::random::Random;
+use crate::tree::DEEPEST_RULE;
 
 pub const KINDS: usize = 15;
 
@@ -20,7 +22,7 @@ pub fn limit(random: &mut Random, kind: usize) -> Vec<u8> {
         }
         6 => rules(64) + if over == 1 { "N\t12\tnot\t11\n" } else { "" },
         7 => "C\t0\t-\n".to_string() + &lines(64 + over, |n| format!("R\t{n}\t0\nN\t0\tint\t{n}")),
-        8 => "C\t0\t-\nO\t0\t0\nR\t0\t0\n".to_string() + &chain(12 + over),
+        8 => deep_rule(random, DEEPEST_RULE + over),
         9 => return full(49_152 + over, 128),
         10 => steps(random, 1_000_000 + over),
         11 => formed_size(random, over),
@@ -71,6 +73,29 @@ fn value_sizes(over: usize) -> String {
 /// N lines of a chain this many nodes deep.
 fn chain(depth: usize) -> String {
     "N\t0\ttrue\n".to_string() + &lines(depth - 1, |n| format!("N\t{}\tnot\t{n}", n + 1))
+}
+
+/// A rule so many nodes deep, through the last operand of a form.
+fn deep_rule(random: &mut Random, depth: usize) -> String {
+    // A form, and the leaves that are its other operands.
+    const WAYS: [(&str, &[&str]); 7] = [
+        ("not %", &[]),
+        ("coll Q %", &[]),
+        ("or % %", &["false"]),
+        ("let 1 % %", &["int 1"]),
+        ("if % % %", &["true", "true"]),
+        ("forAll % 1 %", &["all 0"]),
+        ("iter % 1 2 Bool % %", &["all 0", "false"]),
+    ];
+    let (form, leaves) = *random.pick(&WAYS);
+    let mut draft = Draft::default();
+    let mut top = draft.line("true", &[]);
+    for _ in 1..depth {
+        let mut operands: Vec<usize> = leaves.iter().map(|leaf| draft.line(leaf, &[])).collect();
+        operands.push(top);
+        top = draft.line(form, &operands);
+    }
+    format!("C\t0\t-\nO\t0\t0\nR\t0\t0\n{}", draft.spell(random))
 }
 
 fn rules(count: usize) -> String {

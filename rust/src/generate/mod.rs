@@ -14,6 +14,7 @@ pub mod world;
 use crate::calls::{program, LEAST_OUTPUT, LEAST_WORDS, PROGRAM_OUTPUT};
 use crate::model::Model;
 use crate::read::read;
+use crate::tree::DEEPEST_RULE;
 use crate::types::{Type, DEEPEST};
 use draft::Draft;
 use random::Random;
@@ -79,7 +80,7 @@ fn rule(random: &mut Random, model: &Model, budget: usize, faulty: bool) -> (u8,
         0 => Type::Bool,
         _ => any_type(random, &model.classes, DEEPEST),
     };
-    let depth = random.between(1, 12);
+    let depth = random.between(1, DEEPEST_RULE);
     let mut growth = Growth {
         random,
         model,
