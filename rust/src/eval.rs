@@ -191,14 +191,21 @@ impl Evaluation<'_> {
     }
 
     /// `forAll` and `exists`: the first body that gives the deciding truth
-    /// decides, the first undefined one ends undefined.
+    /// decides. With none, one undefined body makes the whole undefined.
     fn quantifier(&mut self, operands: &[Node], variable: u8, deciding: bool) -> Outcome {
         let source = self.collection(&operands[0])?;
+        let mut some_undefined = false;
         for element in &source.members {
-            let outcome = self.with(variable, element.clone(), &operands[1])?;
-            if truth(outcome)? == deciding {
-                return Ok(Value::Bool(deciding));
+            let body = self.with(variable, element.clone(), &operands[1]);
+            match body.and_then(truth) {
+                Ok(truth) if truth == deciding => return Ok(Value::Bool(deciding)),
+                Ok(_) => {}
+                Err(End::Undefined) => some_undefined = true,
+                Err(stop) => return Err(stop),
             }
+        }
+        if some_undefined {
+            return Err(End::Undefined);
         }
         Ok(Value::Bool(!deciding))
     }

@@ -16,7 +16,7 @@ use denote.Enum.Declared.{tagOf}
 use Rattle.laws.specs.Choice.{if_then_else_}
 use Rattle.ocl.specs.Values.{Value}
 use Rattle.ocl.specs.Environment.{Env, extend}
-use Rattle.ocl.specs.Evaluation.{Outcome, value, undefined, stuck, stop, bind, tick}
+use Rattle.ocl.specs.Evaluation.{Outcome, value, undefined, stuck, stop, resume, bind, tick}
 use Rattle.operations.proofs.Ended.{the-type}
 use Rattle.operations.specs.declared.Ended.{Ended}
 use Rattle.operations.specs.declared.Ended.the-variants as ended
@@ -52,6 +52,10 @@ rel-bind {env} {S} {sp} {ρ} {i} {at} v n h r = record {
 -- no value
 abbrev pub Other : Ended → Type 0
 Other r = OneOf (1 ∷ 2 ∷ 3 ∷ []) (tagOf the-type r)
+
+-- and not undefined
+abbrev pub Fatal : Ended → Type 0
+Fatal r = OneOf (0 ∷ 2 ∷ 3 ∷ []) (tagOf the-type r) × Other r
 
 pub record Valued (o : Outcome) (sp : ℕ) (B A : List ℕ) (len s : ℕ) : Type 0 where
   pub v : Value
@@ -104,6 +108,16 @@ falls {sp} {mid} {B} {C} {A} o k h u x z = record { kept = under-then (under-dow
     by : {o : Outcome} {r : Ended} → Ends mid A o r → Other r → Ends sp A (bind o k) r
     by (ends-value a m) z = absurd (⊎-elim (λ e. omega arith) (⊎-elim (λ e. omega arith) (λ e. omega arith)) z)
     by ends-undefined z = ends-undefined
+    by ends-stuck z = ends-stuck
+    by ends-stop z = ends-stop
+
+-- one that is neither a value nor undefined ends what goes on after both
+pub breaks : {sp mid : ℕ} {B C A : List ℕ} {r : Ended} (o : Outcome) (k : Value → ℕ → Outcome) (u : ℕ → Outcome) → sp ≤ mid → Under sp C B → Ran o mid C A r → Fatal r → Ran (resume o k u) sp B A r
+breaks {sp} {mid} {B} {C} {A} o k u h under x z = record { kept = under-then (under-down h (x .kept)) under; ends = by (x .ends) z }
+  where
+    by : {o : Outcome} {r : Ended} → Ends mid A o r → Fatal r → Ends sp A (resume o k u) r
+    by (ends-value a m) z = absurd (⊎-elim (λ e. omega arith) (⊎-elim (λ e. omega arith) (λ e. omega arith)) (z .1))
+    by ends-undefined z = absurd (⊎-elim (λ e. omega arith) (⊎-elim (λ e. omega arith) (λ e. omega arith)) (z .0))
     by ends-stuck z = ends-stuck
     by ends-stop z = ends-stop
 

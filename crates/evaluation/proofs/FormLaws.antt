@@ -145,7 +145,7 @@ module _ {Ok : World → Type 0} (t : List ℕ) (n : ℕ) {env B A : List ℕ} {
   -- ---- a source whose members are gone through
 
   abbrev members : ℕ → World → Env Value → Value → ℕ → Outcome
-  members k w ρ v n' = onColl v (λ c vs. seek (quantifierOf k) (λ y. operandFor t n 2 w (extend ρ (variable (word t n 3)) y)) vs n')
+  members k w ρ v n' = onColl v (λ c vs. seek (quantifierOf k) (λ y. operandFor t n 2 w (extend ρ (variable (word t n 3)) y)) false vs n')
 
   abbrev foldAll : World → Env Value → Values → Value → ℕ → Outcome
   foldAll w ρ vs a n' = fold (λ y z. operandFor t n 3 w (extend (extend ρ (variable (word t n 4)) y) (variable (word t n 5)) z)) vs a n'
@@ -165,7 +165,7 @@ module _ {Ok : World → Type 0} (t : List ℕ) (n : ℕ) {env B A : List ℕ} {
     pub quantified-stuck : (k : ℕ) → d < 3 → Evals Ok (quantifiedNode t n k) env sp s B A ended.Stuck
     unfolding quantifiedNode quantifiedRun
     quantified-stuck k h = after (members k) (λ w ρ. refl) x q tt (λ w ok ρ rel v l u.
-        rw (no-coll l S h (λ c vs. seek (quantifierOf k) (λ y. operandFor t n 2 w (extend ρ (variable (word t n 3)) y)) vs sa)) (ran-stuck-at u))
+        rw (no-coll l S h (λ c vs. seek (quantifierOf k) (λ y. operandFor t n 2 w (extend ρ (variable (word t n 3)) y)) false vs sa)) (ran-stuck-at u))
 
     pub iterate-stuck : d < 3 → Evals Ok (iterateNode t n) env sp s B A ended.Stuck
     unfolding iterateNode iterateRun

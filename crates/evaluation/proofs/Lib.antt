@@ -2,5 +2,6 @@ pub mod Composition
 pub mod ConnectiveLaws
 pub mod FormLaws
 pub mod LoopLaws
+pub mod FoldLaws
 pub mod AssembleLaws
 pub mod NodeLaws

@@ -1,10 +1,11 @@
--- The loops over a collection's members, for `forAll`, `exists` and `iter`: what is left means what the whole meant. Assumes nothing.
+-- The loop of `forAll` and `exists` over a collection's members: what is left means what the whole meant. And the next member of a loop,
+-- where it lies, for that of `iter` too (FoldLaws). Assumes nothing.
 use mathlib.Core.Path.{_≡_, refl, sym, ap, _∙_}
 use mathlib.Core.Bool.{Bool, true, false, not, Bool·beq}
-use mathlib.Core.List.{List, _++_}
+use mathlib.Core.List.{List}
 use Prim.Native.Nat.{ℕ, _+_, _-_, _<_, _≤_}
 use native.Mathlib.Omega.{arith}
-use lib.ListN.{length, getD, take, drop, set}
+use lib.ListN.{length, getD, set}
 use lib.Seq.{slice, length-slice}
 use lib.Dec.{eqb}
 use borrow.Author.Tests.{eqb-true, eqb-false}
@@ -13,33 +14,34 @@ use Rattle.laws.proofs.Slices.{under-top, split-left, split-size}
 use Rattle.ocl.specs.Values.{Value, bool, Values, nil, cons, size}
 use Rattle.ocl.specs.Environment.{Env, extend}
 use Rattle.ocl.specs.Forms.{Quantifier, forAll, exists}
-use Rattle.ocl.specs.Evaluation.{Outcome, value, bind, onBool, endsAt, seek, fold}
+use Rattle.ocl.specs.Evaluation.{Outcome, value, onBool, endsAt, seek}
 use Rattle.values.specs.Cells.{bit, enc, encs, fits-bool, AllFit, fit-cons}
 use Rattle.values.specs.Contracts.{means-bool, Skips}
 use Rattle.values.specs.declared.Simple.the-variants as simple
 use Rattle.values.proofs.Encoding.{size-law}
 use Rattle.values.proofs.Members.{Left, next-member, none-left}
-use Rattle.nodes.specs.Nodes.{quantifierOf}
+use Rattle.nodes.specs.Nodes.{variable, quantifierOf}
+use Rattle.tables.specs.declared.Counts.{Counts}
 use Rattle.operations.specs.declared.Ended.{Ended}
 use Rattle.operations.specs.declared.Ended.the-variants as ended
 use Rattle.operations.specs.Answers.{Lies, Under, Ran, Gives, Truth}
 use Rattle.operations.specs.Runs.{World, held, Rel, Meaning, Evals}
-use Rattle.evaluation.specs.Evaluating.{Seeks, Folds}
-use Rattle.operations.proofs.Words.{under-refl, under-then, under-down, slid}
+use Rattle.evaluation.specs.Evaluating.{StackRoom, Seeks}
+use Rattle.operations.proofs.Words.{under-refl, under-then, under-down}
 use Rattle.operations.proofs.Sorts.{bit-one}
-use Rattle.evaluation.proofs.Composition.{rel-kept, rel-bind, Other, valued, falls, bounds, ran-from, ran-value, ran-stuck-at}
+use Rattle.evaluation.proofs.Composition.{rel-kept, rel-bind, Fatal, valued, is-undefined, breaks, ran-from, ran-stuck-at, ran-undefined-at}
 use Rattle.evaluation.proofs.ConnectiveLaws.{beq-yes, beq-no, bool-at, not-bool-at}
 
 -- ---- the next member, where it lies
 
-record First (S : List ℕ) (p end : ℕ) (rest : Values) : Type 0 where
-  v : Value
-  vs : Values
-  are : rest ≡ cons v vs
-  lies : Lies v p (size v) S
-  within : p + size v ≤ end
+pub record First (S : List ℕ) (p end : ℕ) (rest : Values) : Type 0 where
+  pub v : Value
+  pub vs : Values
+  pub are : rest ≡ cons v vs
+  pub lies : Lies v p (size v) S
+  pub within : p + size v ≤ end
 
-first-member : {S : List ℕ} {p end : ℕ} {rest : Values} → Left S p end rest → p < end → end ≤ length S → First S p end rest
+pub first-member : {S : List ℕ} {p end : ℕ} {rest : Values} → Left S p end rest → p < end → end ≤ length S → First S p end rest
 unfolding encs
 first-member {S} {p} {end} {rest} l h room = by rest (l .fits) (l .lies)
   where
@@ -56,11 +58,11 @@ first-member {S} {p} {end} {rest} l h room = by rest (l .fits) (l .lies)
           within = omega arith;
         }
 
-left-kept : {S T : List ℕ} {p end : ℕ} {rest : Values} → Under end T S → Left S p end rest → Left T p end rest
+pub left-kept : {S T : List ℕ} {p end : ℕ} {rest : Values} → Under end T S → Left S p end rest → Left T p end rest
 left-kept {S} {T} {p} {end} u l = record { fits = l .fits; lies = under-top T S end p end (omega arith) (u .same) ∙ l .lies }
 
 -- and those after it
-after-first : {S : List ℕ} {p end q : ℕ} (v : Value) (vs : Values) → end ≤ length S → p < end → Skips p end S q → Left S p end (cons v vs) → Left S q end vs
+pub after-first : {S : List ℕ} {p end q : ℕ} (v : Value) (vs : Values) → end ≤ length S → p < end → Skips p end S q → Left S p end (cons v vs) → Left S q end vs
 after-first v vs room h k l =
     let n = next-member room h k l in
     let a = n .are in
@@ -69,7 +71,7 @@ after-first v vs room h k l =
 
 -- ---- `forAll` and `exists`
 
-pub ends-code : (k : ℕ) → 25 ≤ k → k < 27 → k - 25 ≡ bit (endsAt (quantifierOf k))
+ends-code : (k : ℕ) → 25 ≤ k → k < 27 → k - 25 ≡ bit (endsAt (quantifierOf k))
 unfolding bit endsAt quantifierOf
 ends-code k l h = by (eqb k 25) refl
   where
@@ -77,7 +79,7 @@ ends-code k l h = by (eqb k 25) refl
     by true e = let z = eqb-true k 25 e in omega arith
     by false e = let z = eqb-false k 25 e in omega arith
 
-pub none-code : (k : ℕ) → eqb k 25 ≡ not (endsAt (quantifierOf k))
+none-code : (k : ℕ) → eqb k 25 ≡ not (endsAt (quantifierOf k))
 unfolding endsAt quantifierOf
 none-code k = by (eqb k 25) refl
   where
@@ -88,21 +90,22 @@ none-code k = by (eqb k 25) refl
 abbrev each : Meaning → ℕ → World → Env Value → Value → ℕ → Outcome
 each g i w ρ v = g w (extend ρ i v)
 
--- where the loop stands: what is left of the members lies from p to end; S₀ is the stack where the loop begins
-pub record SeekAt (q : Quantifier) (i : ℕ) (g : Meaning) (w : World) (ρ : Env Value) (end : ℕ) (S₀ S : List ℕ) (s p : ℕ) (whole : Outcome) : Type 0 where
+-- where the loop stands: what is left of the members lies from p to end; a body was undefined (blank); S₀ is the stack where the loop
+-- begins
+pub record SeekAt (q : Quantifier) (i : ℕ) (g : Meaning) (w : World) (ρ : Env Value) (end : ℕ) (S₀ S : List ℕ) (blank : Bool) (s p : ℕ) (whole : Outcome) : Type 0 where
   pub rest : Values
   pub left : Left S p end rest
-  pub same : whole ≡ seek q (each g i w ρ) rest s
+  pub same : whole ≡ seek q (each g i w ρ) blank rest s
   pub kept : Under end S S₀
 
-pub record Seeking (Ok : World → Type 0) (q : Quantifier) (i : ℕ) (g : Meaning) (env : List ℕ) (sp end : ℕ) (S₀ S : List ℕ) (s₀ s p : ℕ) : Type 0 where
+pub record Seeking (Ok : World → Type 0) (q : Quantifier) (i : ℕ) (g : Meaning) (env : List ℕ) (sp end : ℕ) (S₀ S : List ℕ) (s₀ : ℕ) (blank : Bool) (s p : ℕ) : Type 0 where
   pub long : length S ≡ length S₀
   pub up : sp < p
   pub within : p ≤ end
   pub at : (w : World) → Ok w → (ρ : Env Value) → Rel env S₀ sp ρ → (vs : Values) → AllFit vs → slice (sp + 1) end S₀ ≡ encs vs
-      → SeekAt q i g w ρ end S₀ S s p (seek q (each g i w ρ) vs s₀)
+      → SeekAt q i g w ρ end S₀ S blank s p (seek q (each g i w ρ) false vs s₀)
 
-pub seek-starts : {Ok : World → Type 0} {q : Quantifier} {i : ℕ} {g : Meaning} {env S : List ℕ} {sp end s : ℕ} → sp + 1 ≤ end → Seeking Ok q i g env sp end S S s s (sp + 1)
+pub seek-starts : {Ok : World → Type 0} {q : Quantifier} {i : ℕ} {g : Meaning} {env S : List ℕ} {sp end s : ℕ} → sp + 1 ≤ end → Seeking Ok q i g env sp end S S s false s (sp + 1)
 seek-starts h = record {
   long = refl;
   up = omega arith;
@@ -110,179 +113,124 @@ seek-starts h = record {
   at = λ w ok ρ rel vs f e. record { rest = vs; left = record { fits = f; lies = e }; same = refl; kept = under-refl };
 }
 
-module _ {Ok : World → Type 0} {q : Quantifier} {i : ℕ} {g : Meaning} {env : List ℕ} {sp la : ℕ} {S₀ S : List ℕ} {s₀ s p : ℕ} (G : Seeking Ok q i g env sp (sp + la) S₀ S s₀ s p) (room : sp + la ≤ length S₀) where
-  pub seek-none : {D : List ℕ} {b : Bool} {r : Ended} → sp + la ≤ p → b ≡ not (endsAt q) → Gives (simple.Bool b) sp s S D r → Seeks Ok q i g env sp la s₀ S₀ D r
+-- what the code knows in the loop: form k is a quantifier, its variable is i, and the stack has room
+module _ {Ok : World → Type 0} (k i : ℕ) {g : Meaning} {env : List ℕ} {sp la w0 w1 n levels : ℕ} {st : Counts} {S₀ S : List ℕ} {s₀ s p : ℕ} {blank : Bool}
+    (G : Seeking Ok (quantifierOf k) (variable i) g env sp (sp + la) S₀ S s₀ blank s p) (has : StackRoom st w0 w1 (length S₀) n sp levels) (small : la ≤ 128) where
+  room : sp + la ≤ length S₀
+  room = let a = has .room in let b = has .stack in omega arith
+
+  -- no member is left
+  pub seek-none : {D : List ℕ} {r : Ended} → sp + la ≤ p → blank ≡ false → Gives (simple.Bool (eqb k 25)) sp s S D r → Seeks Ok (quantifierOf k) (variable i) g env sp la s₀ S₀ D r
   unfolding seek
-  seek-none {b = b} m c z = record {
+  seek-none m o z = record {
     small = z .small;
-    ran = λ w ok ρ rel vs f e.
-        let a = G .at w ok ρ rel vs f e in
-        let n = none-left (a .left) (let k = G .within in omega arith) in
-        rw (a .same, n) (ran-from (under-down (omega arith) (a .kept)) (z .is (bool (not (endsAt q))) fits-bool (rw c means-bool)));
+    ran = λ w ok ρ rel vs f l.
+        let a = G .at w ok ρ rel vs f l in
+        let c = none-left (a .left) (let k = G .within in omega arith) in
+        rw (a .same, c, o) (ran-from (under-down (omega arith) (a .kept)) (z .is (bool (not (endsAt (quantifierOf k)))) fits-bool (rw (none-code k) means-bool)));
   }
 
-  module _ {S' : List ℕ} {i' : ℕ} {r : Ended} (eq : i' ≡ i) (low : i' < 16) (small : la ≤ 128) (more : p < sp + la) (z : Evals Ok g (set env i' (p + 1)) (sp + la) s S S' r) where
+  pub seek-blank : sp + la ≤ p → blank ≡ true → Seeks Ok (quantifierOf k) (variable i) g env sp la s₀ S₀ S (ended.Undef s)
+  unfolding seek
+  seek-blank m o = record {
+    small = tt;
+    ran = λ w ok ρ rel vs f l.
+        let a = G .at w ok ρ rel vs f l in
+        let c = none-left (a .left) (let k = G .within in omega arith) in
+        rw (a .same, c, o) (ran-undefined-at (under-down (omega arith) (a .kept)));
+  }
+
+  module _ {S' : List ℕ} {i' : ℕ} {r : Ended} (eq : i' ≡ variable i) (more : p < sp + la) (z : Evals Ok g (set env i' (p + 1)) (sp + la) s S S' r) where
+    low : i' < 16
+    low = omega arith
+
     -- the body over the next member, at the loop's place
-    turn : {w : World} {ρ : Env Value} {whole : Outcome} → Ok w → Rel env S₀ sp ρ → (a : SeekAt q i g w ρ (sp + la) S₀ S s p whole) → (f : First S p (sp + la) (a .rest)) → Ran (each g i w ρ (f .v) s) (sp + la) S S' r
+    turn : {w : World} {ρ : Env Value} {whole : Outcome} → Ok w → Rel env S₀ sp ρ → (a : SeekAt (quantifierOf k) (variable i) g w ρ (sp + la) S₀ S blank s p whole) → (f : First S p (sp + la) (a .rest)) → Ran (each g (variable i) w ρ (f .v) s) (sp + la) S S' r
     turn {w} {ρ} ok rel a f =
         let u = G .up in
         rw (← eq) (z .ran w ok (extend ρ i' (f .v))
         (rel-bind (f .v) low (held p refl (f .lies) (let k = f .within in omega arith) (f .within)) (rel-kept (omega arith) (under-down (omega arith) (a .kept)) rel)))
 
-    next : {w : World} {ρ : Env Value} {whole : Outcome} → (a : SeekAt q i g w ρ (sp + la) S₀ S s p whole) → First S p (sp + la) (a .rest)
+    next : {w : World} {ρ : Env Value} {whole : Outcome} → (a : SeekAt (quantifierOf k) (variable i) g w ρ (sp + la) S₀ S blank s p whole) → First S p (sp + la) (a .rest)
     next a = first-member (a .left) more (let k = G .long in omega arith)
 
-    pub seek-early : Other r → Seeks Ok q i g env sp la s₀ S₀ S' r
+    -- one that stops, or is stuck
+    pub seek-early : Fatal r → Seeks Ok (quantifierOf k) (variable i) g env sp la s₀ S₀ S' r
     unfolding seek
     seek-early o = record {
       small = z .small;
-      ran = λ w ok ρ rel vs f e.
-          let a = G .at w ok ρ rel vs f e in
+      ran = λ w ok ρ rel vs f l.
+          let a = G .at w ok ρ rel vs f l in
           let b = next a in
-          rw (a .same, b .are) (falls (each g i w ρ (b .v) s) (λ x n. onBool x (λ c. if Bool·beq c (endsAt q) then value (bool c) n else seek q (each g i w ρ) (b .vs) n))
+          rw (a .same, b .are) (breaks (each g (variable i) w ρ (b .v) s)
+          (λ x n. onBool x (λ c. if Bool·beq c (endsAt (quantifierOf k)) then value (bool c) n else seek (quantifierOf k) (each g (variable i) w ρ) blank (b .vs) n)) (λ n. seek (quantifierOf k) (each g (variable i) w ρ) true (b .vs) n)
           (omega arith) (under-down (omega arith) (a .kept)) (turn ok rel a b) o);
     }
 
+    -- one that is undefined is gone past
+    pub seek-past : {sb p' : ℕ} → r ≡ ended.Undef sb → length S' ≡ length S → Skips p (sp + la) S' p' → Seeking Ok (quantifierOf k) (variable i) g env sp (sp + la) S₀ S' s₀ true sb p'
+    unfolding seek
+    seek-past {sb} y m skips = record {
+      long = m ∙ G .long;
+      up = (let a = skips .up more in let b = G .up in omega arith);
+      within = skips .within;
+      at = λ w ok ρ rel vs f l.
+          let a = G .at w ok ρ rel vs f l in
+          let b = next a in
+          let v = turn ok rel a b in
+          let e : seek (quantifierOf k) (each g (variable i) w ρ) blank (cons (b .v) (b .vs)) s ≡ seek (quantifierOf k) (each g (variable i) w ρ) true (b .vs) sb = rw (is-undefined v y) in
+          record {
+            rest = b .vs;
+            left = after-first (b .v) (b .vs) (let x = G .long in omega arith) more skips (rw (b .are) at (left-kept (v .kept) (a .left)));
+            same = a .same ∙ ap (λ (x : Values). seek (quantifierOf k) (each g (variable i) w ρ) blank x s) (b .are) ∙ e;
+            kept = under-then (v .kept) (a .kept);
+          };
+    }
+
     module _ {lb sb d : ℕ} (y : r ≡ ended.Value lb sb) (t : Truth (getD S' (sp + la) 0) d) where
-      pub seek-stuck : 1 < d → Seeks Ok q i g env sp la s₀ S₀ S' ended.Stuck
+      pub seek-stuck : 1 < d → Seeks Ok (quantifierOf k) (variable i) g env sp la s₀ S₀ S' ended.Stuck
       unfolding seek
       seek-stuck h = record {
         small = tt;
-        ran = λ w ok ρ rel vs f e.
-            let a = G .at w ok ρ rel vs f e in
+        ran = λ w ok ρ rel vs f l.
+            let a = G .at w ok ρ rel vs f l in
             let b = next a in
             let v = valued (turn ok rel a b) y in
-            rw (a .same, b .are, v .is, not-bool-at (v .lies) t h (λ c. if Bool·beq c (endsAt q) then value (bool c) sb else seek q (each g i w ρ) (b .vs) sb))
+            rw (a .same, b .are, v .is, not-bool-at (v .lies) t h (λ c. if Bool·beq c (endsAt (quantifierOf k)) then value (bool c) sb else seek (quantifierOf k) (each g (variable i) w ρ) blank (b .vs) sb))
             (ran-stuck-at (under-down (omega arith) (under-then (v .kept) (a .kept))));
       }
 
-      module _ (h : d ≤ 1) where
-        pub seek-ends : {D : List ℕ} {r' : Ended} → d ≡ bit (endsAt q) → Gives (simple.Bool (eqb d 1)) sp sb S' D r' → Seeks Ok q i g env sp la s₀ S₀ D r'
+      module _ (from : 25 ≤ k) (to : k < 27) (h : d ≤ 1) where
+        pub seek-ends : {D : List ℕ} {r' : Ended} → d ≡ k - 25 → Gives (simple.Bool (eqb d 1)) sp sb S' D r' → Seeks Ok (quantifierOf k) (variable i) g env sp la s₀ S₀ D r'
         unfolding seek
-        seek-ends c x = record {
-          small = x .small;
-          ran = λ w ok ρ rel vs f e.
-              let a = G .at w ok ρ rel vs f e in
-              let b = next a in
-              let v = valued (turn ok rel a b) y in
-              let k = bool-at (v .lies) t h in
-              let m : eqb d 1 ≡ k .b = ap (λ (j : ℕ). eqb j 1) (k .code) ∙ bit-one (k .b) in
-              rw (a .same, b .are, v .is, k .is, beq-yes (k .b) (endsAt q) (sym (k .code) ∙ c))
-              (ran-from (under-down (omega arith) (under-then (v .kept) (a .kept))) (x .is (bool (k .b)) fits-bool (rw m means-bool)));
-        }
-
-        pub seek-again : {p' : ℕ} → (d ≡ bit (endsAt q) → ⊥) → length S' ≡ length S → Skips p (sp + la) S' p' → Seeking Ok q i g env sp (sp + la) S₀ S' s₀ sb p'
-        unfolding seek
-        seek-again c n k = record {
-          long = n ∙ G .long;
-          up = (let a = k .up more in let b = G .up in omega arith);
-          within = k .within;
-          at = λ w ok ρ rel vs f e.
-              let a = G .at w ok ρ rel vs f e in
+        seek-ends c o = record {
+          small = o .small;
+          ran = λ w ok ρ rel vs f l.
+              let a = G .at w ok ρ rel vs f l in
               let b = next a in
               let v = valued (turn ok rel a b) y in
               let j = bool-at (v .lies) t h in
-              let m : seek q (each g i w ρ) (cons (b .v) (b .vs)) s ≡ seek q (each g i w ρ) (b .vs) sb = rw (v .is, j .is, beq-no (j .b) (endsAt q) (λ x. c (j .code ∙ x))) in
+              let m : eqb d 1 ≡ j .b = ap (λ (c : ℕ). eqb c 1) (j .code) ∙ bit-one (j .b) in
+              rw (a .same, b .are, v .is, j .is, beq-yes (j .b) (endsAt (quantifierOf k)) (sym (j .code) ∙ c ∙ ends-code k from to))
+              (ran-from (under-down (omega arith) (under-then (v .kept) (a .kept))) (o .is (bool (j .b)) fits-bool (rw m means-bool)));
+        }
+
+        pub seek-again : {p' : ℕ} → (d ≡ k - 25 → ⊥) → length S' ≡ length S → Skips p (sp + la) S' p' → Seeking Ok (quantifierOf k) (variable i) g env sp (sp + la) S₀ S' s₀ blank sb p'
+        unfolding seek
+        seek-again c m skips = record {
+          long = m ∙ G .long;
+          up = (let a = skips .up more in let b = G .up in omega arith);
+          within = skips .within;
+          at = λ w ok ρ rel vs f l.
+              let a = G .at w ok ρ rel vs f l in
+              let b = next a in
+              let v = valued (turn ok rel a b) y in
+              let j = bool-at (v .lies) t h in
+              let e : seek (quantifierOf k) (each g (variable i) w ρ) blank (cons (b .v) (b .vs)) s ≡ seek (quantifierOf k) (each g (variable i) w ρ) blank (b .vs) sb = rw (v .is, j .is, beq-no (j .b) (endsAt (quantifierOf k)) (λ e. c (j .code ∙ e ∙ sym (ends-code k from to)))) in
               record {
                 rest = b .vs;
-                left = after-first (b .v) (b .vs) (let x = G .long in omega arith) more k (rw (b .are) at (left-kept (v .kept) (a .left)));
-                same = a .same ∙ ap (λ (x : Values). seek q (each g i w ρ) x s) (b .are) ∙ m;
+                left = after-first (b .v) (b .vs) (let x = G .long in omega arith) more skips (rw (b .are) at (left-kept (v .kept) (a .left)));
+                same = a .same ∙ ap (λ (x : Values). seek (quantifierOf k) (each g (variable i) w ρ) blank x s) (b .are) ∙ e;
                 kept = under-then (v .kept) (a .kept);
               };
         }
-
--- ---- `iter`
-
-abbrev both : Meaning → ℕ → ℕ → World → Env Value → Value → Value → ℕ → Outcome
-both h i j w ρ v a = h w (extend (extend ρ i v) j a)
-
--- the accumulator is the len cells at mid, after the source
-pub record FoldAt (i j : ℕ) (h : Meaning) (w : World) (ρ : Env Value) (mid : ℕ) (S₀ S : List ℕ) (s p len : ℕ) (whole : Outcome) : Type 0 where
-  pub rest : Values
-  pub left : Left S p mid rest
-  pub acc : Value
-  pub lies : Lies acc mid len S
-  pub same : whole ≡ fold (both h i j w ρ) rest acc s
-  pub kept : Under mid S S₀
-
-pub record Folding (Ok : World → Type 0) (i j : ℕ) (h : Meaning) (env : List ℕ) (sp mid lb : ℕ) (S₀ S : List ℕ) (s₀ s p len : ℕ) : Type 0 where
-  pub long : length S ≡ length S₀
-  pub up : sp < p
-  pub within : p ≤ mid
-  pub some : 1 ≤ len
-  pub small : len ≤ 128
-  pub at : (w : World) → Ok w → (ρ : Env Value) → Rel env S₀ sp ρ → (vs : Values) → AllFit vs → slice (sp + 1) mid S₀ ≡ encs vs → (a : Value) → Lies a mid lb S₀
-      → FoldAt i j h w ρ mid S₀ S s p len (fold (both h i j w ρ) vs a s₀)
-
-pub fold-starts : {Ok : World → Type 0} {i j : ℕ} {h : Meaning} {env S : List ℕ} {sp mid lb s : ℕ} → sp + 1 ≤ mid → 1 ≤ lb → lb ≤ 128 → Folding Ok i j h env sp mid lb S S s s (sp + 1) lb
-fold-starts l m n = record {
-  long = refl;
-  up = omega arith;
-  within = l;
-  some = m;
-  small = n;
-  at = λ w ok ρ rel vs f e a k. record { rest = vs; left = record { fits = f; lies = e }; acc = a; lies = k; same = refl; kept = under-refl };
-}
-
-module _ {Ok : World → Type 0} {i j : ℕ} {h : Meaning} {env : List ℕ} {sp la lb : ℕ} {S₀ S : List ℕ} {s₀ s p len : ℕ} (G : Folding Ok i j h env sp (sp + la) lb S₀ S s₀ s p len) (room : sp + la ≤ length S₀) where
-  -- the accumulator is moved down over the source
-  pub fold-none : {D : List ℕ} → sp + la ≤ p → take (sp + len) D ≡ take sp S ++ take len (drop (sp + la) S) → Folds Ok i j h env sp la lb s₀ S₀ D (ended.Value len s)
-  unfolding fold
-  fold-none m z = record {
-    small = (G .some, G .small);
-    ran = λ w ok ρ rel vs f e a k.
-        let b = G .at w ok ρ rel vs f e a k in
-        let n = none-left (b .left) (let x = G .within in omega arith) in
-        let x = G .long in
-        let y = slid {from = sp + la} {to = sp} {len = len} z (omega arith) (omega arith) (b .lies) in
-        rw (b .same, n) (ran-value (y .there) (under-then (y .kept) (under-down (omega arith) (b .kept))) (G .small));
-  }
-
-  module _ {S' : List ℕ} {i' j' : ℕ} {r : Ended} (eq : i' ≡ i) (eq' : j' ≡ j) (low : i' < 16) (low' : j' < 16) (small : la ≤ 128) (more : p < sp + la)
-      (z : Evals Ok h (set (set env i' (p + 1)) j' (sp + la + 1)) (sp + la + len) s S S' r) where
-    turned : {w : World} {ρ : Env Value} {whole : Outcome} → Ok w → Rel env S₀ sp ρ → (a : FoldAt i j h w ρ (sp + la) S₀ S s p len whole) → (f : First S p (sp + la) (a .rest)) → Ran (both h i j w ρ (f .v) (a .acc) s) (sp + la + len) S S' r
-    turned {w} {ρ} ok rel a f =
-        let u = G .up in
-        rw (← eq, ← eq') (z .ran w ok (extend (extend ρ i' (f .v)) j' (a .acc))
-        (rel-bind (a .acc) low' (held (sp + la) refl (a .lies) (G .small) (omega arith))
-        (rel-bind (f .v) low (held p refl (f .lies) (let k = f .within in omega arith) (let k = f .within in omega arith)) (rel-kept (omega arith) (under-down (omega arith) (a .kept)) rel))))
-
-    following : {w : World} {ρ : Env Value} {whole : Outcome} → (a : FoldAt i j h w ρ (sp + la) S₀ S s p len whole) → First S p (sp + la) (a .rest)
-    following a = first-member (a .left) more (let k = G .long in omega arith)
-
-    pub fold-early : Other r → Folds Ok i j h env sp la lb s₀ S₀ S' r
-    unfolding fold
-    fold-early o = record {
-      small = z .small;
-      ran = λ w ok ρ rel vs f e c k.
-          let a = G .at w ok ρ rel vs f e c k in
-          let b = following a in
-          rw (a .same, b .are) (falls (both h i j w ρ (b .v) (a .acc) s) (λ x n. fold (both h i j w ρ) (b .vs) x n) (omega arith) (under-down (omega arith) (a .kept)) (turned ok rel a b) o);
-    }
-
-    -- the body's value is moved down over the accumulator
-    pub fold-again : {lt sb p' : ℕ} {D : List ℕ} → r ≡ ended.Value lt sb → length S' ≡ length S → length D ≡ length S' → sp + la + len ≤ length S' → take (sp + la + lt) D ≡ take (sp + la) S' ++ take lt (drop (sp + la + len) S') → Skips p (sp + la) D p'
-        → Folding Ok i j h env sp (sp + la) lb S₀ D s₀ sb p' lt
-    unfolding fold
-    fold-again {lt} {sb} {p'} {D} y n n' room' m k = record {
-      long = n' ∙ n ∙ G .long;
-      up = (let a = k .up more in let b = G .up in omega arith);
-      within = k .within;
-      some = bounds (z .small) y .0;
-      small = bounds (z .small) y .1;
-      at = λ w ok ρ rel vs f e c l.
-          let a = G .at w ok ρ rel vs f e c l in
-          let b = following a in
-          let v = valued (turned ok rel a b) y in
-          let d = slid {from = sp + la + len} {to = sp + la} {len = lt} m (omega arith) room' (v .lies) in
-          let u : Under (sp + la) D S = under-then (d .kept) (under-down (omega arith) (v .kept)) in
-          let x : fold (both h i j w ρ) (cons (b .v) (b .vs)) (a .acc) s ≡ fold (both h i j w ρ) (b .vs) (v .v) sb = ap (λ (o : Outcome). bind o (λ y n. fold (both h i j w ρ) (b .vs) y n)) (v .is) in
-          record {
-            rest = b .vs;
-            left = after-first (b .v) (b .vs) (let x = G .long in omega arith) more k (rw (b .are) at (left-kept u (a .left)));
-            acc = v .v;
-            lies = d .there;
-            same = a .same ∙ ap (λ (x : Values). fold (both h i j w ρ) x (a .acc) s) (b .are) ∙ x;
-            kept = under-then u (a .kept);
-          };
-    }

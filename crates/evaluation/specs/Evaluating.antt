@@ -1,7 +1,7 @@
 -- What the recursion's contracts say: for every model and marks that the words hold, and every environment whose values lie
 -- below sp, the answer is the definition's outcome.
 use mathlib.Core.Path.{_≡_}
-use mathlib.Core.Bool.{Bool, _||_, Bool·beq}
+use mathlib.Core.Bool.{Bool, false, _||_, Bool·beq}
 use mathlib.Core.List.{List}
 use Prim.Native.Nat.{ℕ, _+_, _*_, _≤_, _<_}
 use lib.Seq.{slice}
@@ -102,7 +102,7 @@ pub record Shallow (t : List ℕ) (n left : ℕ) : Type 0 where
 pub record Seeks (Ok : World → Type 0) (q : Quantifier) (i : ℕ) (g : Meaning) (env : List ℕ) (sp la s : ℕ) (B A : List ℕ) (r : Ended) : Type 0 where
   pub small : SmallAnswer r
   pub ran : (w : World) → Ok w → (ρ : Env Value) → Rel env B sp ρ → (vs : Values) → AllFit vs → slice (sp + 1) (sp + la) B ≡ encs vs
-      → Ran (seek q (λ x. g w (extend ρ i x)) vs s) sp B A r
+      → Ran (seek q (λ x. g w (extend ρ i x)) false vs s) sp B A r
 
 -- the accumulator is the lb cells after the collection
 pub record Folds (Ok : World → Type 0) (i j : ℕ) (h : Meaning) (env : List ℕ) (sp la lb s : ℕ) (B A : List ℕ) (r : Ended) : Type 0 where

@@ -80,7 +80,8 @@ pub fn quantified(
     seek(tables, st, nodes, n, form, i, env, stack, sp, la, left, sa)
 }
 
-// Members in their order, up to the first whose body ends it: `forAll` (25) at 0, `exists` (26) at 1.
+// Members in their order, up to the first whose body ends it: `forAll` (25) at 0, `exists` (26) at 1. Where none does, it is
+// undefined if a body was.
 fn seek(
     tables: &[u64],
     st: Counts,
@@ -101,12 +102,19 @@ fn seek(
     ensures { λ r. ⌜ Seeks (ReadsWorld st (now (tables .entry)) (now (nodes .entry))) (quantifierOf form) (variable (word (now (nodes .entry)) n 3)) (operandFor (now (nodes .entry)) n 2) env sp la steps (now (stack .entry)) (now (stack .exit)) r ⌝ }
 {
     let end = sp + la;
+    let mut blank = false;
     let mut s = steps;
     let mut p = sp + 1;
     while p < end {
         let mut inner = env;
         inner[i] = p + 1;
         let turn = below(tables, st, nodes, n, 2, inner, stack, end, left, s);
+        p = skip(stack, p, end);
+        if let Ended::Undef { steps: su } = turn {
+            blank = true;
+            s = su;
+            continue;
+        }
         let Ended::Value { len: _, steps: sb } = turn else {
             return turn;
         };
@@ -118,7 +126,9 @@ fn seek(
             return put(stack, sp, Simple::Bool { b: t == 1 }, sb);
         }
         s = sb;
-        p = skip(stack, p, end);
+    }
+    if blank {
+        return Ended::Undef { steps: s };
     }
     put(stack, sp, Simple::Bool { b: form == 25 }, s)
 }

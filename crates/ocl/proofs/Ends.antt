@@ -86,12 +86,13 @@ ends-coll P (int z) p h = ends-stuck
 ends-coll P (obj o) p h = ends-stuck
 ends-coll P (coll c vs) p h = h c vs p
 
-pub ends-seek : {P Q R : Value → Type 0} {body : Value → ℕ → Outcome} (q : Quantifier) {vs : Values} (n : ℕ) → Every P vs → ((b : Bool) → Q (bool b))
-    → ((v : Value) (m : ℕ) → P v → Ends R (body v m)) → Ends Q (seek q body vs n)
+pub ends-seek : {P Q R : Value → Type 0} {body : Value → ℕ → Outcome} (q : Quantifier) (blank : Bool) {vs : Values} (n : ℕ) → Every P vs → ((b : Bool) → Q (bool b))
+    → ((v : Value) (m : ℕ) → P v → Ends R (body v m)) → Ends Q (seek q body blank vs n)
 unfolding seek
-ends-seek q n every-nil r g = ends-value (r (not (endsAt q)))
-ends-seek q n (every-cons {v} p h) r g =
-    ends-bind (g v n p) (λ w m x. ends-bool w (λ b. ends-if (Bool·beq b (endsAt q)) (ends-value (r b)) (ends-seek q m h r g)))
+ends-seek q blank n every-nil r g = ends-if blank ends-undefined (ends-value (r (not (endsAt q))))
+ends-seek q blank n (every-cons {v} p h) r g =
+    ends-resume (g v n p) (λ w m x. ends-bool w (λ b. ends-if (Bool·beq b (endsAt q)) (ends-value (r b)) (ends-seek q blank m h r g)))
+    (λ m. ends-seek q true m h r g)
 
 pub ends-fold : {P Q : Value → Type 0} {body : Value → Value → ℕ → Outcome} {vs : Values} (a : Value) (n : ℕ) → Every P vs → Q a
     → ((v a : Value) (m : ℕ) → P v → Q a → Ends Q (body v a m)) → Ends Q (fold body vs a n)

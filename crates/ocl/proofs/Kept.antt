@@ -148,7 +148,7 @@ module _ {s : Model} {P : Value → Type 0} {Held : Kind → Values → Type 0} 
   unfolding quantifiedRun
   quantified-kept q i hf hg = record {
     run = λ ρ r n. ends-bind (hf .run ρ r n) (λ v m p. ends-coll P v p (λ k vs h.
-        ends-seek q m (ok .of-members h) (ok .of-bool) (λ x l y. hg .run (extend ρ i x) (extend-bound i r y) l)));
+        ends-seek q false m (ok .of-members h) (ok .of-bool) (λ x l y. hg .run (extend ρ i x) (extend-bound i r y) l)));
   }
 
   iterate-kept : (i j : ℕ) {f g h : Run} → Kept f → Kept g → Kept h → Kept (iterateRun i j f g h)

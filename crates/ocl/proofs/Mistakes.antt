@@ -8,10 +8,10 @@ use Rattle.ocl.specs.Environment.{extend, start}
 use Rattle.ocl.specs.Typing.{thenFor, andThen, common, onCollection, boundType, leafType, castType, unaryType, bothBelow, binaryType, conditionalType, rowType, attributeType, leafTyping, unaryTyping, binaryTyping, conditionalTyping, letTyping, attributeTyping, typing, typeRule, markOr, markOf}
 use Rattle.ocl.specs.Evaluation.{tick, form, isLess, inRange, ranged, arithmetic, leafRun, leftFits, binaryApply, binaryRun, conditionalRun, letRun, attributeRun, endsAt, seek, quantifiedRun, fold, iterateRun, noOperandRun, operandRun, assembleRun, evaluation, evaluateRule}
 use Rattle.ocl.specs.Worked.{parents, undef₀, int₀}
-use Rattle.ocl.specs.Mistakes.{redeclared, onlyObject, nineAndTrue, model, ruleTyping, outcomeIn, attribute₅, hidden, oneBranch, oneThree, eachBelow, sumOf, outerSeen, trueAfter, Mistakes}
+use Rattle.ocl.specs.Mistakes.{redeclared, onlyObject, nineAndTrue, model, ruleTyping, outcomeIn, attribute₅, hidden, oneBranch, oneThree, eachBelow, blankThen, sumOf, outerSeen, trueAfter, Mistakes}
 
 pub mistakes : Mistakes
-unfolding orElse onSome join simpleJoin firstAbove simpleSubtype climbs sameSimple simpleCode up parentOr height subtype classIsA isA declared nearest rowRead extend start thenFor andThen common onCollection boundType leafType castType unaryType bothBelow binaryType conditionalType rowType attributeType leafTyping unaryTyping binaryTyping conditionalTyping letTyping attributeTyping typing typeRule markOr markOf tick form isLess inRange ranged arithmetic leafRun leftFits binaryApply binaryRun conditionalRun letRun attributeRun endsAt seek quantifiedRun fold iterateRun noOperandRun operandRun assembleRun evaluation evaluateRule size add append orderInt parents undef₀ int₀ oneThree eachBelow sumOf outerSeen trueAfter redeclared onlyObject nineAndTrue model ruleTyping outcomeIn attribute₅ hidden oneBranch
+unfolding orElse onSome join simpleJoin firstAbove simpleSubtype climbs sameSimple simpleCode up parentOr height subtype classIsA isA declared nearest rowRead extend start thenFor andThen common onCollection boundType leafType castType unaryType bothBelow binaryType conditionalType rowType attributeType leafTyping unaryTyping binaryTyping conditionalTyping letTyping attributeTyping typing typeRule markOr markOf tick form isLess inRange ranged arithmetic leafRun leftFits binaryApply binaryRun conditionalRun letRun attributeRun endsAt seek quantifiedRun fold iterateRun noOperandRun operandRun assembleRun evaluation evaluateRule size add append orderInt parents undef₀ int₀ oneThree eachBelow blankThen sumOf outerSeen trueAfter redeclared onlyObject nineAndTrue model ruleTyping outcomeIn attribute₅ hidden oneBranch
 mistakes = record {
   static-type = refl;
   static-row = refl;
@@ -25,6 +25,10 @@ mistakes = record {
   all-bodies = refl;
   some-body = refl;
   each-body = refl;
+  blank-then-false = refl;
+  blank-then-true = refl;
+  blank-for-all = refl;
+  blank-exists = refl;
   outer-type = refl;
   outer-value = refl;
   negative-less = refl;

@@ -119,13 +119,13 @@ safe-bool (int z) h g = absurd h
 safe-bool (obj o) h g = absurd h
 safe-bool (coll c vs) h g = absurd h
 
-pub safe-seek : {P Q : Value → Type 0} {j : ℕ} {body : Value → ℕ → Outcome} {vs : Values} (q : Quantifier) → Every P vs → ((b : Bool) → Q (bool b))
-    → ((v : Value) → P v → Safe IsBool j (body v)) → Safe Q (count vs * j) (seek q body vs)
+pub safe-seek : {P Q : Value → Type 0} {j : ℕ} {body : Value → ℕ → Outcome} {vs : Values} (q : Quantifier) (blank : Bool) → Every P vs → ((b : Bool) → Q (bool b))
+    → ((v : Value) → P v → Safe IsBool j (body v)) → Safe Q (count vs * j) (seek q body blank vs)
 unfolding seek count
-safe-seek q every-nil p g = safe-value (bool (not (endsAt q))) (p (not (endsAt q)))
-safe-seek {body} q (every-cons {v} {vs} r h) p g =
-    safe-le (omega arith) (safe-bind (g v r) (λ w i. safe-bool {f = λ b n. (if Bool·beq b (endsAt q) then value (bool b) n else seek q body vs n)} w i
-    (λ b. safe-if (Bool·beq b (endsAt q)) (λ t. safe-value (bool b) (p b)) (λ t. safe-seek q h p g))))
+safe-seek q blank every-nil p g = safe-if blank (λ t. safe-undefined) (λ t. safe-value (bool (not (endsAt q))) (p (not (endsAt q))))
+safe-seek {body} q blank (every-cons {v} {vs} r h) p g =
+    safe-le (omega arith) (safe-resume (g v r) (λ w i. safe-bool {f = λ b n. (if Bool·beq b (endsAt q) then value (bool b) n else seek q body blank vs n)} w i
+    (λ b. safe-if (Bool·beq b (endsAt q)) (λ t. safe-value (bool b) (p b)) (λ t. safe-seek q blank h p g))) (safe-seek q true h p g))
 
 -- ---- what Fine says, in the statement's words
 

@@ -185,7 +185,7 @@ module _ (s : Model) (ok : AcceptedModel s) (mark : ℕ → ℕ) where
   unfolding quantifiedRun
   quantified-sem {n = n} q i p hf hg = record {
     run = λ ρ r. safe-bind (hf .run ρ r) (λ v j. coll-sem (coll-of v j) (λ k vs x h z.
-        safe-le (mul-le-mul-right n z) (safe-seek q h bool-ok (λ w y. safe-weak (λ v o. is-bool v p o) (omega linear) (hg .run (extend ρ i w) (extend-ok i r y))))));
+        safe-le (mul-le-mul-right n z) (safe-seek q false h bool-ok (λ w y. safe-weak (λ v o. is-bool v p o) (omega linear) (hg .run (extend ρ i w) (extend-ok i r y))))));
   }
 
   iterate-sem : {Γ : Env Ty} {k m n : ℕ} {l : Letter} {a t e b : Ty} {f g h : Run} (i j : ℕ) → Below s e t → Below s b t → Sem s Γ k (around l a) f → Sem s Γ m e g → Sem s (extend (extend Γ i a) j t) n b h

@@ -79,11 +79,12 @@ limited-coll (int z) h = limited-stuck
 limited-coll (obj o) h = limited-stuck
 limited-coll (coll c vs) h = h c vs
 
-limited-seek : (q : Quantifier) {body : Value → ℕ → Outcome} (vs : Values) {n : ℕ} → n ≤ 1000000 → After body → Limited (seek q body vs n)
+limited-seek : (q : Quantifier) {body : Value → ℕ → Outcome} (blank : Bool) (vs : Values) {n : ℕ} → n ≤ 1000000 → After body → Limited (seek q body blank vs n)
 unfolding seek
-limited-seek q nil l h = limited-value l
-limited-seek q (cons v vs) {n} l h =
-    limited-bind (h v n l) (λ w m k. limited-bool w (λ b. limited-if (Bool·beq b (endsAt q)) (limited-value k) (limited-seek q vs k h)))
+limited-seek q blank nil l h = limited-if blank (limited-undefined l) (limited-value l)
+limited-seek q blank (cons v vs) {n} l h =
+    limited-resume (h v n l) (λ w m k. limited-bool w (λ b. limited-if (Bool·beq b (endsAt q)) (limited-value k) (limited-seek q blank vs k h)))
+    (λ m k. limited-seek q true vs k h)
 
 limited-fold : {body : Value → Value → ℕ → Outcome} (vs : Values) (a : Value) {n : ℕ} → n ≤ 1000000 → ((v : Value) → After (body v)) → Limited (fold body vs a n)
 unfolding fold
@@ -179,7 +180,7 @@ module _ (s : Model) where
   quantified-stays : (q : Quantifier) (i : ℕ) {f g : Run} → Stays f → Stays g → Stays (quantifiedRun q i f g)
   unfolding quantifiedRun
   quantified-stays q i hf hg = record {
-    run = λ ρ n l. limited-bind (hf .run ρ n l) (λ v m k. limited-coll v (λ c vs. limited-seek q vs k (λ x. hg .run (extend ρ i x))));
+    run = λ ρ n l. limited-bind (hf .run ρ n l) (λ v m k. limited-coll v (λ c vs. limited-seek q false vs k (λ x. hg .run (extend ρ i x))));
   }
 
   iterate-stays : (i j : ℕ) {f g h : Run} → Stays f → Stays g → Stays h → Stays (iterateRun i j f g h)

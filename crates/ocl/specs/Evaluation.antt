@@ -233,14 +233,16 @@ unfoldable pub endsAt : Quantifier → Bool
 endsAt forAll = false
 endsAt exists = true
 
--- members in their stored order, up to the first whose body is undefined or ends it
-unfoldable pub seek : Quantifier → (Value → ℕ → Outcome) → Values → ℕ → Outcome
-seek q body nil n = value (bool (not (endsAt q))) n
-seek q body (cons v vs) n =
-    bind (body v n) (λ w n. onBool w (λ b. if Bool·beq b (endsAt q) then value (bool b) n else seek q body vs n))
+-- members in their stored order, up to the first whose body ends it; blank: a body before these was undefined, so that the whole is
+-- undefined where none of these ends it (document 02, F-2)
+unfoldable pub seek : Quantifier → (Value → ℕ → Outcome) → Bool → Values → ℕ → Outcome
+seek q body blank nil n = if blank then undefined n else value (bool (not (endsAt q))) n
+seek q body blank (cons v vs) n = resume (body v n)
+    (λ w n. onBool w (λ b. if Bool·beq b (endsAt q) then value (bool b) n else seek q body blank vs n))
+    (λ n. seek q body true vs n)
 
 unfoldable pub quantifiedRun : Quantifier → ℕ → Run → Run → Run
-quantifiedRun q i f g ρ n = bind (f ρ n) (λ v n. onColl v (λ k vs. seek q (λ x. g (extend ρ i x)) vs n))
+quantifiedRun q i f g ρ n = bind (f ρ n) (λ v n. onColl v (λ k vs. seek q (λ x. g (extend ρ i x)) false vs n))
 
 -- members in their stored order, up to the first undefined accumulator
 unfoldable pub fold : (Value → Value → ℕ → Outcome) → Values → Value → ℕ → Outcome

@@ -1,7 +1,7 @@
 -- Document 01, Worked and marked: the five mistakes to shut out, each as a case that a checker with it gets wrong. The weight of a verdict:
 -- a loop that runs only its first body; and mistakes that no law of this crate would show.
 use mathlib.Core.Path.{_≡_}
-use mathlib.Core.Bool.{true, false}
+use mathlib.Core.Bool.{Bool, true, false}
 use mathlib.Core.Option.{Option, none, some}
 use mathlib.Core.List.{[], _∷_}
 use Prim.Native.Nat.{ℕ, zero, suc}
@@ -61,6 +61,11 @@ oneThree = node 2 (assemble sequence (operand (int₀ 0 (pos 1)) (operand (int�
 unfoldable pub eachBelow : Quantifier → ℕ → Expr
 eachBelow q n = node 6 (quantified q 1 oneThree (node 5 (binary less (node 3 (leaf (var 1))) (int₀ 4 (pos n)))))
 
+-- a quantifier over Q(1,3) whose body is undefined for 1, and b for 3
+unfoldable pub blankThen : Quantifier → Bool → Expr
+blankThen q b = node 9 (quantified q 1 oneThree (node 8 (conditional
+    (node 5 (binary less (node 3 (leaf (var 1))) (int₀ 4 (pos 2)))) (undef₀ 6) (node 7 (leaf (truth b))))))
+
 -- the sum of Q(1,3)
 unfoldable pub sumOf : Expr
 sumOf = node 7 (iterate 1 2 Integer oneThree (int₀ 3 (pos 0)) (node 6 (binary (arith plus) (node 4 (leaf (var 1))) (node 5 (leaf (var 2))))))
@@ -92,6 +97,11 @@ pub record Mistakes : Type 0 where
   pub all-bodies : outcomeIn (eachBelow forAll 2) ≡ value (bool false) 10
   pub some-body : outcomeIn (eachBelow exists 1) ≡ value (bool false) 10
   pub each-body : outcomeIn sumOf ≡ value (int (pos 4)) 11
+  -- an undefined body does not hide one that decides, and shows where none does
+  pub blank-then-false : outcomeIn (blankThen forAll false) ≡ value (bool false) 14
+  pub blank-then-true : outcomeIn (blankThen exists true) ≡ value (bool true) 14
+  pub blank-for-all : outcomeIn (blankThen forAll true) ≡ undefined 14
+  pub blank-exists : outcomeIn (blankThen exists false) ≡ undefined 14
   -- a binding leaves those of other variables
   pub outer-type : ruleTyping outerSeen .answer ≡ typed Integer
   pub outer-value : outcomeIn outerSeen ≡ value (int (pos 2)) 5

@@ -55,6 +55,8 @@ examples = record {
   static-row = refl;
   sum = refl;
   decided = refl;
+  blank-then-false = refl;
+  blank-then-true = refl;
   size-stop = refl;
   spelled = refl;
 }

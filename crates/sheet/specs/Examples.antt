@@ -78,6 +78,11 @@ pub record Examples : Type 0 where
   -- a quantifier ends at the member that decides; a Set is in order
   pub decided : prints ("C 0 -" ∷ "O 0 0" ∷ "R 0 0" ∷ "N 0 int 4" ∷ "N 1 int 1" ∷ "N 2 coll S 0 1" ∷ "N 3 var 1" ∷ "N 4 int 2" ∷ "N 5 less 3 4"
       ∷ "N 6 exists 2 1 5" ∷ []) ≡ bytes "0 0 t 7\n"
+  -- an undefined body does not hide a false one; with none false it shows
+  pub blank-then-false : prints ("C 0 -" ∷ "A 0 0 5 Int" ∷ "O 0 0" ∷ "O 1 0" ∷ "V 1 0 9" ∷ "R 0 0" ∷ "N 0 all 0" ∷ "N 1 var 1" ∷ "N 2 attr 1 5" ∷ "N 3 int 3" ∷ "N 4 less 2 3"
+      ∷ "N 5 forAll 0 1 4" ∷ []) ≡ bytes "0 0 f 9\n0 1 f 9\n"
+  pub blank-then-true : prints ("C 0 -" ∷ "A 0 0 5 Int" ∷ "O 0 0" ∷ "O 1 0" ∷ "V 1 0 2" ∷ "R 0 0" ∷ "N 0 all 0" ∷ "N 1 var 1" ∷ "N 2 attr 1 5" ∷ "N 3 int 3" ∷ "N 4 less 2 3"
+      ∷ "N 5 forAll 0 1 4" ∷ []) ≡ bytes "0 0 u 9\n0 1 u 9\n"
   -- 2, 4, .. 128 members: 17 with the steps begun
   pub size-stop : prints ("C 0 -" ∷ "O 0 0" ∷ "R 0 0" ∷ "N 0 int 1" ∷ "N 1 int 1" ∷ "N 2 coll Q 0 1" ∷ "N 3 var 1" ∷ "N 4 var 1" ∷ "N 5 union 3 4"
       ∷ "N 6 var 2" ∷ "N 7 var 2" ∷ "N 8 union 6 7" ∷ "N 9 var 3" ∷ "N 10 var 3" ∷ "N 11 union 9 10" ∷ "N 12 var 4" ∷ "N 13 var 4" ∷ "N 14 union 12 13"

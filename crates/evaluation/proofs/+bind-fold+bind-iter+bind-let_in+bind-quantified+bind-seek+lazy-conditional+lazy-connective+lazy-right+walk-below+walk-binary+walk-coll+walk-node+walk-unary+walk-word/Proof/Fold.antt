@@ -5,7 +5,7 @@ use Prim.Native.Nat.{_+_, _-_, ℕ}
 use Rattle.nodes.specs.Nodes.{word, variable}
 use Rattle.evaluation.specs.Evaluating.{ReadsWorld, operandFor}
 use Rattle.evaluation.proofs.Composition.{bounds}
-use Rattle.evaluation.proofs.LoopLaws.{Folding, fold-starts, fold-none, fold-early, fold-again}
+use Rattle.evaluation.proofs.FoldLaws.{Folding, fold-starts, fold-none, fold-early, fold-again}
 use borrow.Author.Needs.{needs}
 use native.Mathlib.Omega.{arith}
 use Rattle.evaluation.proofs.walk.below.Reads as below
