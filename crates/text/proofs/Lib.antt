@@ -4,4 +4,5 @@ pub mod FormLaws
 pub mod NumberLaws
 pub mod IntegerLaws
 pub mod WrittenLaws
+pub mod DigitLaws
 pub mod ShapeLaws

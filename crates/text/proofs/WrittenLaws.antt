@@ -1,4 +1,4 @@
--- Laws of bytes written at a position, and of spelled numbers digit by digit. Assumes nothing.
+-- Laws of bytes written at a position, and of spelled Integers. Assumes nothing.
 use Prim.Native.Nat.{ℕ, suc, _+_, _-_, _<_, _≤_}
 use mathlib.Core.Path.{_≡_, refl, sym, ap, _∙_}
 use mathlib.Core.List.{[], _∷_, _++_, append-assoc, append-nil}
@@ -8,10 +8,8 @@ use borrow.Author.Tests.{lt-ltb, le-ltb}
 use lib.ListN.{length, getD, take, drop, set, length-append, length-take, length-drop, length-set, take-append-drop}
 use lib.Seq.{append-snoc, set-split, take-at, drop-append-add, drop-drop, take-length, paste-zero, paste-suc, paste}
 use Rattle.sheet.specs.Text.{Bytes, spellNumber, spellInteger}
-use Rattle.sheet.proofs.Numbers.{spell-one, spell-more}
 use Rattle.laws.specs.Integers.{unbias}
-use Rattle.text.specs.Written.{Puts, LastOf}
-use Rattle.text.specs.declared.spelling.Tail.{Tail}
+use Rattle.text.specs.Written.{Puts}
 
 -- ---- bytes at a position
 
@@ -68,39 +66,6 @@ module _ (at : ℕ) (w before : Bytes) (room : at + length w ≤ length before) 
 
   pub put-all : {now : Bytes} {i : ℕ} → PutTo at w before now i → i ≡ length w → Puts at w before now (at + i)
   put-all {now} {i} so h = record { is = so .is ∙ rw (h, take-length w); end = ap (λ (k : ℕ). at + k) h }
-
--- ---- digits
-
-module _ {n : ℕ} {t : Tail} (last : LastOf n t) where
-  pub last-only : t .rest ≡ 0 → (t .digit ∷ []) ≡ spellNumber n
-  last-only h = sym (spell-one n (omega (arith, last .rest)) ∙ ap (λ (d : ℕ). d ∷ []) (omega (arith, last .rest, last .digit)))
-
-  pub last-more : (t .rest ≡ 0 → ⊥) → spellNumber (t .rest) ++ (t .digit ∷ []) ≡ spellNumber n
-  last-more h = rw (last .rest, last .digit) (sym (spell-more n (omega (arith, last .rest))))
-
-  last-room : (t .rest ≡ 0 → ⊥) → length (spellNumber (t .rest)) + 1 ≡ length (spellNumber n)
-  last-room h = sym (length-append (spellNumber (t .rest)) (t .digit ∷ [])) ∙ ap length (last-more h)
-
-  pub last-less : (t .rest ≡ 0 → ⊥) → t .rest < n
-  last-less h = omega (arith, last .rest)
-
-  -- what `put_number` asks of the calls in it, and what they give
-  module _ (at : ℕ) (a : Bytes) (room : at + length (spellNumber n) ≤ length a) where
-    pub room-only : t .rest ≡ 0 → at < length a
-    room-only h = omega (arith, ap length (last-only h))
-
-    pub puts-only : {b : Bytes} {r : ℕ} → t .rest ≡ 0 → Puts at (t .digit ∷ []) a b r → Puts at (spellNumber n) a b r
-    puts-only h p = rw (last-only h) at p
-
-    pub room-front : (t .rest ≡ 0 → ⊥) → at + length (spellNumber (t .rest)) ≤ length a
-    room-front h = omega (arith, last-room h)
-
-    module _ {b : Bytes} {e : ℕ} (h : t .rest ≡ 0 → ⊥) (front : Puts at (spellNumber (t .rest)) a b e) where
-      pub room-back : e < length b
-      room-back = omega (arith, last-room h, puts-length front (room-front h), front .end)
-
-      pub puts-back : {c : Bytes} {r : ℕ} → Puts e (t .digit ∷ []) b c r → Puts at (spellNumber n) a c r
-      puts-back p = rw (last-more h) at (puts-then front p (omega (arith, last-room h)))
 
 -- ---- Integers
 

@@ -1,15 +1,40 @@
 // Writing bytes and numbers at a position. Each function answers the position after what it wrote.
 ghost use mathlib.Core.List.{[], _∷_};
-ghost use Prim.Native.Nat.{_+_, _<_, _≤_};
+ghost use mathlib.Core.Path.{_≡_};
+ghost use Prim.Native.Nat.{_+_, _*_, _<_, _≤_};
 ghost use lib.ListN.{length};
 ghost use Rattle.sheet.specs.Text.{spellNumber, spellInteger};
 ghost use Rattle.laws.specs.Integers.{unbias};
-ghost use Rattle.text.specs.Written.{Puts, LastOf};
+ghost use Rattle.text.specs.Written.{Puts, LeadOf};
 
-// A number without its last digit, and that digit as a byte.
-pub struct Tail {
-    pub rest: u64,
+// The powers of ten that a word holds. Whoever uses them takes them into a local first: each use of the constant is a table anew.
+const POWERS: [u64; 20] = [
+    1,
+    10,
+    100,
+    1_000,
+    10_000,
+    100_000,
+    1_000_000,
+    10_000_000,
+    100_000_000,
+    1_000_000_000,
+    10_000_000_000,
+    100_000_000_000,
+    1_000_000_000_000,
+    10_000_000_000_000,
+    100_000_000_000_000,
+    1_000_000_000_000_000,
+    10_000_000_000_000_000,
+    100_000_000_000_000_000,
+    1_000_000_000_000_000_000,
+    10_000_000_000_000_000_000,
+];
+
+// A number's digit at a place, as a byte, and what the digits behind it stand for.
+pub struct Lead {
     pub digit: u8,
+    pub rest: u64,
 }
 
 pub fn put_byte(out: &mut [u8], at: usize, b: u8) -> usize
@@ -32,28 +57,51 @@ pub fn put_bytes(out: &mut [u8], at: usize, w: &[u8]) -> usize
     at + i
 }
 
-// The one place where digits are found.
-fn last_digit(n: u64) -> Tail
-    ensures { λ r. ⌜ LastOf n r ⌝ }
+// How many digits n has.
+fn digit_count(n: u64) -> usize
+    ensures { λ r. ⌜ r ≡ length (spellNumber n) ⌝ }
 {
-    Tail {
-        rest: n / 10,
-        digit: 48 + (n % 10) as u8,
+    let powers = POWERS;
+    let mut k: usize = 1;
+    while k < 20 {
+        if n < powers[k] {
+            return k;
+        }
+        k += 1;
     }
+    k
+}
+
+// The one place where a digit is found: p is taken off n as often as it goes.
+fn leading(n: u64, p: u64) -> Lead
+    requires { ⌜ n < p * 10 ⌝ }
+    ensures { λ r. ⌜ LeadOf n p r ⌝ }
+{
+    let mut digit = b'0';
+    let mut rest = n;
+    while p <= rest {
+        rest -= p;
+        digit += 1;
+    }
+    Lead { digit, rest }
 }
 
 pub fn put_number(out: &mut [u8], at: usize, n: u64) -> usize
     requires { ⌜ at + length (spellNumber n) ≤ length (now out) ⌝ }
     ensures { λ r. ⌜ Puts at (spellNumber n) (now (out .entry)) (now (out .exit)) r ⌝ }
 {
-    let last = last_digit(n);
-    let rest = last.rest;
-    let digit = last.digit;
-    if rest == 0 {
-        return put_byte(out, at, digit);
+    let powers = POWERS;
+    let mut k = digit_count(n);
+    let mut e = at;
+    let mut rest = n;
+    while 0 < k {
+        k -= 1;
+        let lead = leading(rest, powers[k]);
+        let digit = lead.digit;
+        e = put_byte(out, e, digit);
+        rest = lead.rest;
     }
-    let e = put_number(out, at, rest);
-    put_byte(out, e, digit)
+    e
 }
 
 // The Integer with 2147483648 added to it, as value cells hold it.
