@@ -9,6 +9,7 @@ use lib.Dec.{T}
 use Rattle.ocl.specs.Types.{Ty}
 use Rattle.ocl.specs.Values.{Value, size}
 use Rattle.ocl.specs.Model.{Model, belongs}
+use Rattle.ocl.specs.Evaluation.{Stop}
 use Rattle.ocl.specs.Laws.{integersInRange, Formed}
 use Rattle.sheet.specs.Text.{Bytes, bytes}
 use Rattle.sheet.specs.Spelling.{spellType, spellValue}
@@ -30,8 +31,7 @@ pub data AnswerEnding (m : Model) (t : Ty) (a : Answer) (out : Bytes) : Type 0 w
   undefined-said : Says (bytes "u") a out → AnswerEnding m t a out
   value-said : (v : Value) → T (belongs m t v) → size v ≤ 128 → T (integersInRange v) → Formed v → Says (spellValue v) a out
       → AnswerEnding m t a out
-  step-stopped : a .number ≡ 16 → AnswerEnding m t a out
-  size-stopped : a .number ≡ 17 → AnswerEnding m t a out
+  stop-said : Stop (a .number) → AnswerEnding m t a out
 
 pub record SoundAnswer (text : Bytes) (r : ℕ) (t : Ty) (a : Answer) (out : Bytes) : Type 0 where
   pub ending : AnswerEnding (modelOf (sheetIn text)) t a out

@@ -19,7 +19,7 @@ pub data Outcome : Type 0 where
   stuck : Outcome
   stop : ℕ → ℕ → Outcome
 
--- a stop's number: the step stop, the size stop (document 01's words), and an Integer out of range
+-- a stop's number: the step stop, the size stop (document 01's words), and over the range (document 02, F-5)
 pub data Stop : ℕ → Type 0 where
   step-stop : Stop 16
   size-stop : Stop 17
@@ -108,7 +108,7 @@ pub data Result : Type 0 where
   noResult : Result
   overRange : Result
 
--- over the range is 19
+-- document 02, F-5: over the range is a stop, and a zero divisor remains undefined
 abbrev pub resulting : Result → ℕ → Outcome
 resulting (result v) n = value v n
 resulting noResult n = undefined n
@@ -117,7 +117,6 @@ resulting overRange n = stop 19 n
 unfoldable pub ranged : ℤ → Result
 ranged z = if inRange z then result (int z) else overRange
 
--- a zero divisor has no result
 unfoldable pub unlessZero : ℤ → Result → Result
 unlessZero (pos zero) r = noResult
 unlessZero (pos (suc n)) r = r

@@ -1,4 +1,4 @@
--- Document 01, Worked and marked: P1 to P12, as one table.
+-- Document 01, Worked and marked: P1 to P12, as one table; P8 as document 02, F-5, changes it.
 use mathlib.Core.Path.{_≡_}
 use mathlib.Core.Bool.{true, false}
 use mathlib.Core.Option.{none, some}
