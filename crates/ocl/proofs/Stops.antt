@@ -1,11 +1,12 @@
 -- Each form passes a stop upward; the ends of the range by computation. Assumes nothing.
 use mathlib.Core.Path.{_≡_, refl}
 use mathlib.Core.Bool.{not}
-use Prim.Native.Nat.{ℕ}
+use Prim.Native.Nat.{ℕ, _≤_}
+use native.Mathlib.Omega.{arith}
 use Rattle.ocl.specs.Environment.{Env}
 use Rattle.ocl.specs.Values.{Value, bool}
 use Rattle.ocl.specs.Forms.{Connective, and, or}
-use Rattle.ocl.specs.Evaluation.{value, stop, Run, inRange, ranged, unlessZero, quotient, remainder, arithmetic, unaryRun, binaryRun, decides, connectiveRun, isUndefRun, conditionalRun, letRun, attributeRun, seek, quantifiedRun, fold, iterateRun, operandRun}
+use Rattle.ocl.specs.Evaluation.{value, stop, Stop, step-stop, size-stop, range-stop, Run, inRange, ranged, unlessZero, quotient, remainder, arithmetic, unaryRun, binaryRun, decides, connectiveRun, isUndefRun, conditionalRun, letRun, attributeRun, seek, quantifiedRun, fold, iterateRun, operandRun}
 use Rattle.ocl.specs.Stops.{Upward, least, greatest, RangeEnds}
 
 pub upward : Upward
@@ -35,6 +36,12 @@ upward = record {
     second : (o : Connective) (f g : Run) (ρ : Env Value) (n p c m : ℕ) → f ρ n ≡ value (bool (not (decides o))) p → g ρ p ≡ stop c m → connectiveRun o f g ρ n ≡ stop c m
     second and f g ρ n p c m d e = rw (d, e)
     second or f g ρ n p c m d e = rw (d, e)
+
+-- where the numbers of the stops lie
+pub stop-within : {c : ℕ} → Stop c → (16 ≤ c) × (c ≤ 19)
+stop-within step-stop = (omega arith, omega arith)
+stop-within size-stop = (omega arith, omega arith)
+stop-within range-stop = (omega arith, omega arith)
 
 pub range-ends : RangeEnds
 unfolding inRange ranged unlessZero quotient remainder arithmetic least greatest
