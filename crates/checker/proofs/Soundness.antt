@@ -75,7 +75,7 @@ pub never-stuck-of-call : NeverStuckOfCall
 never-stuck-of-call text w0 w1 w2 out a v0 v1 v2 after =
     let n = never-stuck text w0 w1 w2 out in
     record {
-      evaluated = λ r o z. subst⁻¹ (λ (b : Answer). b .number ≤ 18) (z .answers .is) (n .evaluate-number r o);
-      reported = λ z. subst⁻¹ (λ (b : Answer). b .number ≤ 18) (z .answers .is) (n .report-number);
+      evaluated = λ r o z. subst⁻¹ (λ (b : Answer). b .number ≤ 19) (z .answers .is) (n .evaluate-number r o);
+      reported = λ z. subst⁻¹ (λ (b : Answer). b .number ≤ 19) (z .answers .is) (n .report-number);
       report-bytes = λ z b c e. n .report-bytes b c (sym (written (reportCall text w0 w1 w2 out) z) ∙ e);
     }
