@@ -71,7 +71,8 @@ enum ocl_number {
     OCL_OTHER_CLASS = 15,        /* the rule does not apply to objects of this class (E) */
     OCL_STEP_STOP = 16,          /* stopped: over OCL_MOST_STEPS steps are due (E, with the steps) */
     OCL_SIZE_STOP = 17,          /* stopped: a value of a size over 128 would be formed (E, with the steps) */
-    OCL_REPORT_TOO_LONG = 18     /* the output is too short for the report (P) */
+    OCL_REPORT_TOO_LONG = 18,    /* the output is too short for the report (P) */
+    OCL_OVER_RANGE = 19          /* stopped: an exact result leaves the Integer range (E, with the steps) */
 };
 
 /* Reads a sheet and says whether it is valid. Writes nothing. The other three read it too, and refuse it with the same number. */
@@ -101,7 +102,7 @@ ocl_answer ocl_evaluate_rule(
 
 /*
  * Types all rules, evaluates each for every object of its class or below, and writes a line for each: rule, object, value and
- * steps, with single spaces between them and a line feed at the end. A stop is written in its line as `!16` or `!17`.
+ * steps, with single spaces between them and a line feed at the end. A stop is written in its line as `!16`, `!17` or `!19`.
  */
 ocl_answer ocl_report(
     const uint8_t *text, size_t text_length,

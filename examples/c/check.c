@@ -43,6 +43,7 @@ static const char *const meanings[][2] = {
     [OCL_STEP_STOP] = {"step stop", "more steps are due than an evaluation may take"},
     [OCL_SIZE_STOP] = {"size stop", "a value of a size over 128 would be formed"},
     [OCL_REPORT_TOO_LONG] = {"slip too long", "the report is longer than the output"},
+    [OCL_OVER_RANGE] = {"over the range", "an exact result leaves the Integer range"},
 };
 
 static void print_refusal(ocl_answer answer)

@@ -21,6 +21,7 @@ enum End {
 pub enum Stop {
     Steps,
     Size,
+    Range,
     /// An operand of a wrong kind or an unbound variable: no typed rule ends here.
     Stuck,
 }
@@ -210,12 +211,13 @@ impl Evaluation<'_> {
         Ok(Value::Bool(!deciding))
     }
 
-    /// No operation on two Integers of 32 bits overflows 64.
+    /// No operation on two Integers of 32 bits overflows 64: only a zero divisor
+    /// gives none, and an exact result that leaves the range is a stop.
     fn arithmetic(&mut self, operands: &[Node], operation: fn(i64, i64) -> Option<i64>) -> Outcome {
         let left = i64::from(self.integer(&operands[0])?);
         let right = i64::from(self.integer(&operands[1])?);
         let exact = operation(left, right).ok_or(End::Undefined)?;
-        let within = i32::try_from(exact).map_err(|_| End::Undefined)?;
+        let within = i32::try_from(exact).map_err(|_| End::Stop(Stop::Range))?;
         Ok(Value::Int(within))
     }
 

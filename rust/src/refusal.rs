@@ -20,6 +20,7 @@ pub enum Refusal {
     StepStop,
     SizeStop,
     ReportTooLong,
+    OverRange,
 }
 
 /// A refusal with its line from 1, or 0 where no line is to blame.

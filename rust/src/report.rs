@@ -42,6 +42,7 @@ impl Stop {
         match self {
             Stop::Steps => Refusal::StepStop,
             Stop::Size => Refusal::SizeStop,
+            Stop::Range => Refusal::OverRange,
             Stop::Stuck => panic!("a typed rule ended stuck"),
         }
     }

@@ -47,15 +47,15 @@ const FORMS: [&str; 33] = [
     "forAll",
     "exists",
 ];
-const OUTCOMES: [&str; 5] = ["value", "undefined", "16", "17", "stuck"];
+const OUTCOMES: [&str; 6] = ["value", "undefined", "16", "17", "19", "stuck"];
 const KINDS: [&str; 7] = ["f", "t", "Integer", "object", "Set", "Sequence", "Bag"];
 
 /// The objects evaluated for each rule, so that large sheets do not take all the time.
 const OBJECTS: usize = 4;
 
 pub struct Statistics {
-    /// Answers by number, 0 to 18.
-    pub numbers: [u64; 19],
+    /// Answers by number, 0 to 19.
+    pub numbers: [u64; 20],
     pub forms: BTreeMap<&'static str, u64>,
     pub outcomes: BTreeMap<&'static str, u64>,
     pub kinds: BTreeMap<&'static str, u64>,
@@ -65,7 +65,7 @@ impl Statistics {
     pub fn over(seeds: std::ops::Range<u64>) -> Statistics {
         let zeros = |names: &[&'static str]| names.iter().map(|name| (*name, 0)).collect();
         let mut statistics = Statistics {
-            numbers: [0; 19],
+            numbers: [0; 20],
             forms: zeros(&FORMS),
             outcomes: zeros(&OUTCOMES),
             kinds: zeros(&KINDS),
@@ -98,6 +98,7 @@ impl Statistics {
                     Ok(None) => "undefined",
                     Err(Stop::Steps) => "16",
                     Err(Stop::Size) => "17",
+                    Err(Stop::Range) => "19",
                     Err(Stop::Stuck) => "stuck",
                 };
                 *self.outcomes.entry(outcome).or_default() += 1;

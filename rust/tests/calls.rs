@@ -152,6 +152,9 @@ fn a_stop_has_steps_and_no_place() {
     let steps = text(&(start + nest));
     let stop = lent(|words, out| calls::evaluate_rule(&steps, 0, 0, words, out));
     assert_eq!(stop, answer(16, 1_000_000, 0, ""));
+    let range = text("C 0 -|O 0 0|R 0 0|N 0 int 2147483647|N 1 int 1|N 2 plus 0 1|N 3 isUndef 2");
+    let stop = lent(|words, out| calls::evaluate_rule(&range, 0, 0, words, out));
+    assert_eq!(stop, answer(19, 4, 0, ""));
 }
 
 #[test]

@@ -1,6 +1,6 @@
 -- The call that evaluates a rule for an object. Assumes nothing.
 use mathlib.Core.Path.{_≡_, refl, sym, ap, _∙_}
-use mathlib.Core.Logic.{_≢_, ⊎-elim}
+use mathlib.Core.Logic.{_≢_}
 use mathlib.Core.Bool.{Bool, true, false}
 use mathlib.Core.Option.{Option, none, some}
 use mathlib.Core.List.{List}
@@ -16,6 +16,7 @@ use Rattle.ocl.specs.Model.{Model, isA}
 use Rattle.ocl.specs.Typing.{Answer as TypeAnswer, typed, refused as untyped}
 use Rattle.ocl.specs.Evaluation.{Outcome, value, undefined, stuck, stop}
 use Rattle.ocl.specs.Soundness.{Sound}
+use Rattle.ocl.proofs.Stops.{stop-within}
 use Rattle.sheet.specs.Text.{Bytes}
 use Rattle.sheet.specs.Sheet.{Rule, Sheet, modelOf}
 use Rattle.sheet.specs.Reading.{accepted, readText}
@@ -129,7 +130,7 @@ unfolding ended refusal refusalAt
 outcome-number (value v n) h q = omega arith
 outcome-number (undefined n) h q = omega arith
 outcome-number stuck h q = omega arith
-outcome-number (stop c n) h q = ⊎-elim (λ e. omega arith) (λ e. omega arith) (h .known-stop c n refl)
+outcome-number (stop c n) h q = omega (arith, stop-within (h .known-stop c n refl))
 
 module _ (text : Bytes) (s : Sheet) (r o : ℕ) (was : readText text ≡ accepted s) where
   typed-number : (x : Rule) → getElem? (s .rules) r ≡ some x → T (isA (modelOf s) o (class (x .context))) → (a : TypeAnswer) → typingOf s x .answer ≡ a

@@ -12,12 +12,12 @@ use Rattle.sheet.specs.Spelling.{spellType, spellValue}
 use Rattle.sheet.specs.Reading.{Reading, accepted, rejected, readText}
 use Rattle.sheet.specs.Calls.{Verdict, answer, refusalAt, outputAfter, onSheet, readCall, typeOn, typeCall}
 use Rattle.sheet.specs.Report.{reportCall}
-use Rattle.sheet.specs.Soundness.{Lent, Ending, undefined-end, value-end, step-stop, size-stop}
+use Rattle.sheet.specs.Soundness.{Lent, Ending, undefined-end, value-end, stop-end}
 use Rattle.sheet.proofs.Soundness.{read-lent, type-lent, demand3, type-plain}
 use Rattle.sheet.proofs.NeverStuck.{never-stuck}
 use Rattle.checker.specs.declared.Answer.{Answer}
 use Rattle.checker.specs.Answers.{answerOf, AnswersWith}
-use Rattle.checker.specs.Soundness.{Says, AnswerEnding, undefined-said, value-said, step-stopped, size-stopped, Demand3OfCall, NeverStuckOfCall}
+use Rattle.checker.specs.Soundness.{Says, AnswerEnding, undefined-said, value-said, stop-said, Demand3OfCall, NeverStuckOfCall}
 
 -- an answer that says t is typing's answer t
 types-as : (text : Bytes) (r : ℕ) (t : Ty) {x0 x1 x2 y0 y1 y2 : List ℕ} {put after : Bytes} {b : Answer} → Lent x0 x1 x2 put
@@ -52,8 +52,7 @@ module _ {a : Answer} {after : Bytes} (out : Bytes) where
   unfolding outputAfter
   answer-ending (undefined-end {n}) e q = undefined-said (answer-says (bytes "u") n e q)
   answer-ending (value-end {n} v b l r f) e q = value-said v b l r f (answer-says (spellValue v) n e q)
-  answer-ending step-stop e q = step-stopped (ap (λ (b : Answer). b .number) e)
-  answer-ending size-stop e q = size-stopped (ap (λ (b : Answer). b .number) e)
+  answer-ending (stop-end c) e q = stop-said (rw (ap (λ (b : Answer). b .number) e) c)
 
 pub demand3-of-call : Demand3OfCall
 demand3-of-call text r o t x0 x1 x2 put k b y0 y1 y2 said y s h w0 w1 w2 out l a v0 v1 v2 after z =
@@ -76,7 +75,7 @@ pub never-stuck-of-call : NeverStuckOfCall
 never-stuck-of-call text w0 w1 w2 out a v0 v1 v2 after =
     let n = never-stuck text w0 w1 w2 out in
     record {
-      evaluated = λ r o z. subst⁻¹ (λ (b : Answer). b .number ≤ 18) (z .answers .is) (n .evaluate-number r o);
-      reported = λ z. subst⁻¹ (λ (b : Answer). b .number ≤ 18) (z .answers .is) (n .report-number);
+      evaluated = λ r o z. subst⁻¹ (λ (b : Answer). b .number ≤ 19) (z .answers .is) (n .evaluate-number r o);
+      reported = λ z. subst⁻¹ (λ (b : Answer). b .number ≤ 19) (z .answers .is) (n .report-number);
       report-bytes = λ z b c e. n .report-bytes b c (sym (written (reportCall text w0 w1 w2 out) z) ∙ e);
     }

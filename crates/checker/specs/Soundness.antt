@@ -9,6 +9,7 @@ use lib.Dec.{T}
 use Rattle.ocl.specs.Types.{Ty}
 use Rattle.ocl.specs.Values.{Value, size}
 use Rattle.ocl.specs.Model.{Model, belongs}
+use Rattle.ocl.specs.Evaluation.{Stop}
 use Rattle.ocl.specs.Laws.{integersInRange, Formed}
 use Rattle.sheet.specs.Text.{Bytes, bytes}
 use Rattle.sheet.specs.Spelling.{spellType, spellValue}
@@ -30,8 +31,7 @@ pub data AnswerEnding (m : Model) (t : Ty) (a : Answer) (out : Bytes) : Type 0 w
   undefined-said : Says (bytes "u") a out → AnswerEnding m t a out
   value-said : (v : Value) → T (belongs m t v) → size v ≤ 128 → T (integersInRange v) → Formed v → Says (spellValue v) a out
       → AnswerEnding m t a out
-  step-stopped : a .number ≡ 16 → AnswerEnding m t a out
-  size-stopped : a .number ≡ 17 → AnswerEnding m t a out
+  stop-said : Stop (a .number) → AnswerEnding m t a out
 
 pub record SoundAnswer (text : Bytes) (r : ℕ) (t : Ty) (a : Answer) (out : Bytes) : Type 0 where
   pub ending : AnswerEnding (modelOf (sheetIn text)) t a out
@@ -53,11 +53,11 @@ Demand3OfCall =
     → (a : Answer) (v0 v1 v2 : List ℕ) (after : Bytes) → AnswersWith (evaluateCall text r o w0 w1 w2 out) a w0 w1 w2 out v0 v1 v2 after
     → SoundAnswer text r t a after
 
--- whatever the text and whatever is lent: evaluate and report answer 0 or a number of document 01's table, and the report that is written
+-- whatever the text and whatever is lent: evaluate and report answer 0 or a number of the documents, and the report that is written
 -- has no `!100`
 pub record NeverStuckAnswer (text : Bytes) (w0 w1 w2 : List ℕ) (out : Bytes) (a : Answer) (v0 v1 v2 : List ℕ) (after : Bytes) : Type 0 where
-  pub evaluated : (r o : ℕ) → AnswersWith (evaluateCall text r o w0 w1 w2 out) a w0 w1 w2 out v0 v1 v2 after → a .number ≤ 18
-  pub reported : AnswersWith (reportCall text w0 w1 w2 out) a w0 w1 w2 out v0 v1 v2 after → a .number ≤ 18
+  pub evaluated : (r o : ℕ) → AnswersWith (evaluateCall text r o w0 w1 w2 out) a w0 w1 w2 out v0 v1 v2 after → a .number ≤ 19
+  pub reported : AnswersWith (reportCall text w0 w1 w2 out) a w0 w1 w2 out v0 v1 v2 after → a .number ≤ 19
   pub report-bytes : AnswersWith (reportCall text w0 w1 w2 out) a w0 w1 w2 out v0 v1 v2 after
       → (b c : Bytes) → take (a .length) after ≢ b ++ (bytes "!100" ++ c)
 

@@ -12,12 +12,13 @@ use Rattle.ocl.specs.Types.{Parents, boolean, integer, class, Kind, Lett
 use Rattle.ocl.specs.Values.{Value, bool, int, obj, coll, Values, nil, cons, count, size, sizes}
 use Rattle.ocl.specs.Model.{Model, classIsA, isA}
 use Rattle.ocl.specs.Typing.{Answer, below}
-use Rattle.ocl.specs.Evaluation.{Outcome, value, Run, form, given, onBool, onInt, onObj, onColl, isInt, isColl, Gather}
+use Rattle.ocl.specs.Evaluation.{Outcome, value, Run, form, given, Result, resulting, onBool, onInt, onObj, onColl, isInt, isColl, Gather}
 use Rattle.ocl.specs.Soundness.{AcceptedModel}
 use Rattle.ocl.proofs.SimpleTypes.{class-not-boolean, class-not-integer, boolean-not-class, integer-not-class}
 use Rattle.ocl.proofs.Types.{join-upper}
 use Rattle.ocl.proofs.Values.{Every, every-nil, every-cons, every-imp, count-sizes, Belongs, belongs-up}
-use Rattle.ocl.proofs.Runs.{Safe, safe-value, safe-undefined, safe-form, IsBool, safe-bool}
+use Rattle.ocl.proofs.Runs.{Safe, safe-value, safe-undefined, safe-form, safe-over, IsBool, safe-bool}
+use Rattle.ocl.proofs.Ends.{Results, results, no-result, over-range}
 use Rattle.ocl.proofs.Means.{Gives, no-type, gives-if}
 
 -- a value of the type and of an allowed size
@@ -167,6 +168,11 @@ module _ {s : Model} where
   pub given-sem : {t : Ty} {k : ℕ} {o : Option Value} → All? (Ok s t) o → Safe (Ok s t) k (λ n. given o n)
   given-sem all-none = safe-undefined
   given-sem (all-some {x} h) = safe-value x h
+
+  pub result-sem : {t : Ty} {k : ℕ} {r : Result} → Results (Ok s t) r → Safe (Ok s t) k (λ n. resulting r n)
+  result-sem (results {v} h) = safe-value v h
+  result-sem no-result = safe-undefined
+  result-sem over-range = safe-over
 
   pub form-sem : {k : ℕ} {t : Ty} {l : Letter} (j : Kind) (vs : Values) → T (letterSubtype (exactly j) l) → Every (Belongs s t) vs → Safe (Ok s (around l t)) k (form (coll j vs))
   unfolding Belongs

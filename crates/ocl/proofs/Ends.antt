@@ -2,7 +2,7 @@
 -- Assumes nothing.
 use mathlib.Core.Path.{_≡_, subst}
 use mathlib.Core.Bool.{Bool, true, false, not, Bool·beq}
-use mathlib.Core.Option.{Option, none, some}
+use mathlib.Core.Option.{Option}
 use Prim.Native.Nat.{ℕ, zero, suc, _+_, _≤_}
 use native.Mathlib.Omega.{arith}
 use lib.IntN.{ℤ, pos, negsuc}
@@ -12,7 +12,7 @@ use Rattle.ocl.specs.Types.{Kind}
 use Rattle.ocl.specs.Values.{Value, bool, int, obj, coll, Values, size}
 use Rattle.ocl.specs.Environment.{Env}
 use Rattle.ocl.specs.Forms.{Arith, plus, minus, times, div, modulo, Quantifier}
-use Rattle.ocl.specs.Evaluation.{Outcome, value, undefined, stuck, stop, Run, resume, bind, tick, form, given, bound, onBool, onInt, onObj, onColl, inRange, ranged, unlessZero, arithmetic, endsAt, seek, fold}
+use Rattle.ocl.specs.Evaluation.{Outcome, value, undefined, stuck, stop, Run, resume, bind, tick, form, given, bound, onBool, onInt, onObj, onColl, inRange, Result, result, noResult, overRange, resulting, ranged, unlessZero, arithmetic, endsAt, seek, fold}
 use Rattle.laws.proofs.Tests.{by-if, All?, all-none, all-some}
 use Rattle.ocl.proofs.Values.{Every, every-nil, every-cons}
 
@@ -102,18 +102,29 @@ ends-fold a n (every-cons {v} p h) q g = ends-bind (g v a n p q) (λ b m r. ends
 
 -- ---- Integers: what holds of those in range holds of what arithmetic gives
 
-module _ (P : Value → Type 0) (h : (z : ℤ) → T (inRange z) → P (int z)) where
-  ranged-all : (z : ℤ) → All? P (ranged z)
-  unfolding ranged
-  ranged-all z = by-if (All? P) (inRange z) (some (int z)) none (λ t. all-some (h z t)) (λ t. all-none)
+-- P of the value, if there is one
+pub data Results (P : Value → Type 0) : Result → Type 0 where
+  results : {v : Value} → P v → Results P (result v)
+  no-result : Results P noResult
+  over-range : Results P overRange
 
-  unless-all : (y z : ℤ) → All? P (unlessZero y (ranged z))
+pub ends-result : {P : Value → Type 0} {r : Result} (n : ℕ) → Results P r → Ends P (resulting r n)
+ends-result n (results p) = ends-value p
+ends-result n no-result = ends-undefined
+ends-result n over-range = ends-stop
+
+module _ (P : Value → Type 0) (h : (z : ℤ) → T (inRange z) → P (int z)) where
+  ranged-all : (z : ℤ) → Results P (ranged z)
+  unfolding ranged
+  ranged-all z = by-if (Results P) (inRange z) (result (int z)) overRange (λ t. results (h z t)) (λ t. over-range)
+
+  unless-all : (y z : ℤ) → Results P (unlessZero y (ranged z))
   unfolding unlessZero
-  unless-all (pos zero) z = all-none
+  unless-all (pos zero) z = no-result
   unless-all (pos (suc n)) z = ranged-all z
   unless-all (negsuc n) z = ranged-all z
 
-  pub arithmetic-all : (o : Arith) (x y : ℤ) → All? P (arithmetic o x y)
+  pub arithmetic-all : (o : Arith) (x y : ℤ) → Results P (arithmetic o x y)
   unfolding arithmetic
   arithmetic-all plus x y = ranged-all _
   arithmetic-all minus x y = ranged-all _

@@ -19,7 +19,7 @@ use Rattle.ocl.specs.Evaluation.{value, Run, isLess, inRange, instances,
 use Rattle.laws.proofs.Tests.{All?, all-none, all-some, all-imp, all-self}
 use Rattle.laws.proofs.Lists.{each-head, each-left, each-right}
 use Rattle.ocl.proofs.Values.{Every, every-nil, every-cons}
-use Rattle.ocl.proofs.Ends.{Ends, ends-value, ends-undefined, ends-stuck, ends-at, ends-resume, ends-bind, ends-if, ends-tick, ends-form, ends-given, ends-bound, ends-bool, ends-int, ends-obj, ends-coll, ends-seek, ends-fold, arithmetic-all}
+use Rattle.ocl.proofs.Ends.{Ends, ends-value, ends-undefined, ends-stuck, ends-at, ends-resume, ends-bind, ends-if, ends-tick, ends-form, ends-given, ends-bound, ends-bool, ends-int, ends-obj, ends-coll, ends-seek, ends-fold, ends-result, arithmetic-all}
 
 -- P of a value, and Held of the members of a collection that is being gathered
 pub record Keeps (s : Model) (P : Value → Type 0) (Held : Kind → Values → Type 0) : Type 0 where
@@ -104,7 +104,7 @@ module _ {s : Model} {P : Value → Type 0} {Held : Kind → Values → Type 0} 
   unfolding binaryApply
   binary-ends equal v w n p q = give-bool (same v w)
   binary-ends less v w n p q = ends-int v (λ x. ends-int w (λ y. give-bool (isLess (orderInt x y))))
-  binary-ends (arith o) v w n p q = ends-int v (λ x. ends-int w (λ y. ends-given n (arithmetic-all P (ok .of-integer) o x y)))
+  binary-ends (arith o) v w n p q = ends-int v (λ x. ends-int w (λ y. ends-result n (arithmetic-all P (ok .of-integer) o x y)))
   binary-ends includes v w n p q = ends-coll P v p (λ k vs h. give-bool (has w vs))
   binary-ends including v w n p q = ends-coll P v p (λ k vs h. ends-form _ n (ok .formed (ok .of-added k w q (ok .held h))))
   binary-ends union v w n p q = ends-coll P v p (λ j vs h. ends-coll P w q (λ k ws g. ends-if (sameKind j k) (ends-form _ n (ok .formed (all-held j (ok .of-members g) (ok .held h)))) ends-stuck))

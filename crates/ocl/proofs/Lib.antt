@@ -16,5 +16,6 @@ pub mod Places
 pub mod Means
 pub mod ByType
 pub mod Soundness
+pub mod Stops
 pub mod Worked
 pub mod Mistakes

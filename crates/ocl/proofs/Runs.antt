@@ -1,7 +1,6 @@
 -- Safe runs: within a number of steps, never stuck, stopped by the count only where that number is over the limit. A law for each piece
 -- that evaluation is written in. Assumes nothing.
 use mathlib.Core.Path.{_≡_, refl, subst}
-use mathlib.Core.Logic.{_⊎_, inl, inr}
 use mathlib.Core.Bool.{Bool, true, false, not, Bool·beq}
 use Prim.Native.Nat.{ℕ, suc, _+_, _*_, _≤_, _<_}
 use native.Mathlib.Omega.{arith}
@@ -12,7 +11,7 @@ use Rattle.ocl.specs.Types.{Ty}
 use Rattle.ocl.specs.Values.{Value, bool, int, obj, coll, Values, count, size}
 use Rattle.ocl.specs.Model.{Model, belongs}
 use Rattle.ocl.specs.Forms.{Quantifier}
-use Rattle.ocl.specs.Evaluation.{Outcome, value, undefined, stuck, stop, stepsOf, Run, resume, bind, tick, form, onBool, endsAt, seek, fold}
+use Rattle.ocl.specs.Evaluation.{Outcome, value, undefined, stuck, stop, Stop, step-stop, size-stop, range-stop, stepsOf, Run, resume, bind, tick, form, onBool, endsAt, seek, fold}
 use Rattle.ocl.specs.Laws.{integersInRange, Formed}
 use Rattle.ocl.specs.Soundness.{Sound}
 use Rattle.laws.proofs.Tests.{by-if}
@@ -23,7 +22,7 @@ unfoldable pub Fine : (Value → Type 0) → ℕ → Outcome → Type 0
 Fine P b (value v n) = P v × (n ≤ b)
 Fine P b (undefined n) = n ≤ b
 Fine P b stuck = ⊥
-Fine P b (stop c n) = (n ≤ b) × (c ≡ 16 → 1000000 < b) × ((c ≡ 16) ⊎ (c ≡ 17))
+Fine P b (stop c n) = (n ≤ b) × (c ≡ 16 → 1000000 < b) × Stop c
 
 -- at most k steps more
 pub record Safe (P : Value → Type 0) (k : ℕ) (m : ℕ → Outcome) : Type 0 where
@@ -85,7 +84,7 @@ safe-tick {P} {k} f ρ h = record {
   from = λ n.
       by-if (Fine P (n + suc k)) (ltb n 1000000) (f ρ (n + 1)) (stop 16 n)
       (λ t. fine-weak P P (n + 1 + k) (n + suc k) (f ρ (n + 1)) (λ y q. q) (omega arith) (h .from (n + 1)))
-      (λ t. (omega arith, λ e. omega (arith, nltb→le n 1000000 t), inl refl));
+      (λ t. (omega arith, λ e. omega (arith, nltb→le n 1000000 t), step-stop));
 }
 
 pub safe-form : {P : Value → Type 0} {k : ℕ} (v : Value) → (size v ≤ 128 → P v) → Safe P k (form v)
@@ -93,8 +92,12 @@ unfolding form Fine
 safe-form {P} {k} v p = record {
   from = λ n.
       by-if (Fine P (n + k)) (leb (size v) 128) (value v n) (stop 17 n)
-      (λ t. (p (leb→le (size v) 128 t), omega arith)) (λ t. (omega arith, λ e. absurd (omega arith), inr refl));
+      (λ t. (p (leb→le (size v) 128 t), omega arith)) (λ t. (omega arith, λ e. absurd (omega arith), size-stop));
 }
+
+pub safe-over : {P : Value → Type 0} {k : ℕ} → Safe P k (λ n. stop 19 n)
+unfolding Fine
+safe-over = record { from = λ n. (omega arith, λ e. absurd (omega arith), range-stop) }
 
 pub safe-if : {P : Value → Type 0} {k : ℕ} {f g : ℕ → Outcome} (b : Bool) → (T b → Safe P k f) → (T (not b) → Safe P k g) → Safe P k (λ n. if b then f n else g n)
 safe-if true f g = f tt

@@ -23,7 +23,7 @@ use Rattle.ocl.proofs.Types.{sameKind→eq, sameKind-refl}
 use Rattle.ocl.proofs.Values.{Every, every-nil, append-every, add-every, addAll-every, Belongs, belongs-by, belongs-test, isA-up, Above, rowRead-above}
 use Rattle.ocl.proofs.Runs.{Safe, safe-weak, safe-le, safe-value, safe-undefined, safe-resume, safe-bind, safe-tick, safe-if, safe-fold, safe-seek, Fits, fine-sound, safe-zero}
 use Rattle.ocl.proofs.Means.{Gives, no-type, gives, Means, means-pure, means-then, means-imp, means-collection, means-if, gives-if, gives-common, gives-wrap, gives-collection, gives-kind}
-use Rattle.ocl.proofs.ByType.{Ok, Below, EnvOk, Sem, SemAll, below-by, gives-below, joined, below-same, below-then, extend-ok, ok-up, is-bool, bool-sem, int-of, int-sem, int-fits, obj-sem, coll-of, coll-sem, coll-fits, bool-ok, int-ok, give-bool, give-int, given-sem, form-sem, bels}
+use Rattle.ocl.proofs.ByType.{Ok, Below, EnvOk, Sem, SemAll, below-by, gives-below, joined, below-same, below-then, extend-ok, ok-up, is-bool, bool-sem, int-of, int-sem, int-fits, obj-sem, coll-of, coll-sem, coll-fits, bool-ok, int-ok, give-bool, give-int, given-sem, result-sem, form-sem, bels}
 use Rattle.ocl.proofs.Ends.{arithmetic-all}
 use Rattle.ocl.proofs.InRange.{ends-in-range}
 use Rattle.ocl.proofs.Formed.{formed-ends}
@@ -114,7 +114,7 @@ module _ (s : Model) (ok : AcceptedModel s) (mark : ℕ → ℕ) where
   binary-sem {t = t} {u = u} p less hf hg = gives-below ok p t Integer (λ a. gives-below ok p u Integer (λ b. gives (binary-run less hf hg (λ v i. int-fits (int-of v a i))
       (λ v x i j. int-sem (int-of v a i) (λ y. int-sem (int-of x b j) (λ z. give-bool (isLess (orderInt y z))))))))
   binary-sem {t = t} {u = u} p (arith o) hf hg = gives-below ok p t Integer (λ a. gives-below ok p u Integer (λ b. gives (binary-run (arith o) hf hg (λ v i. int-fits (int-of v a i))
-      (λ v x i j. int-sem (int-of v a i) (λ y. int-sem (int-of x b j) (λ z. given-sem (arithmetic-all (Ok s Integer) (λ z h. int-ok z) o y z)))))))
+      (λ v x i j. int-sem (int-of v a i) (λ y. int-sem (int-of x b j) (λ z. result-sem (arithmetic-all (Ok s Integer) (λ z h. int-ok z) o y z)))))))
   binary-sem {Γ} {k} {t = t} {u = u} {f = f} p includes hf hg = gives-collection (λ t. Sem s Γ k t f) p t hf (λ l m hf. gives-common p (joined ok m u) (λ w q.
       gives (binary-run includes hf hg (λ v i. coll-fits (coll-of v i)) (λ v x i j. coll-sem (coll-of v i) (λ c vs y h z. give-bool (has x vs))))))
   binary-sem {Γ} {k} {t = t} {u = u} {f = f} p including hf hg = gives-collection (λ t. Sem s Γ k t f) p t hf (λ l m hf. gives-kind (λ l. Sem s Γ k (around l m) f) p l hf (λ c hf.

@@ -1,4 +1,4 @@
--- No run returns more than 1,000,000 steps, typed or not, and none stops with another number than 16 or 17: a law for each piece that
+-- No run returns more than 1,000,000 steps, typed or not, and each stop is one of those that are named: a law for each piece that
 -- evaluation is written in, and one induction over the forms. Assumes nothing.
 use mathlib.Core.Bool.{Bool, true, false, Bool·beq}
 use mathlib.Core.Option.{Option, none, some}
@@ -13,13 +13,13 @@ use Rattle.ocl.specs.Values.{Value, bool, int, obj, coll, Values, nil, c
 use Rattle.ocl.specs.Model.{Model, isA}
 use Rattle.ocl.specs.Environment.{Env, extend, start}
 use Rattle.ocl.specs.Forms.{Connective, Quantifier, Leaf, truth, undef, number, self, var, all, Unary, negation, sizeOf, convert, castTo, Binary, equal, less, arith, includes, including, union, Expr, node, Form, leaf, unary, binary, connective, isUndef, conditional, letIn, attribute, quantified, iterate, assemble, Operands, noOperand, operand}
-use Rattle.ocl.specs.Evaluation.{Outcome, value, undefined, stuck, stop, stepsOf, Run, resume, bind, tick, form, given, bound, onBool, onInt, onObj, onColl, arithmetic, leafRun, cast, unaryApply, unaryRun, leftFits, binaryApply, binaryRun, decides, connectiveRun, isUndefRun, conditionalRun, letRun, attributeRun, endsAt, seek, quantifiedRun, fold, iterateRun, Gather, noOperandRun, operandRun, assembleRun, evaluation, formRun, operandsRun, evaluateRule}
+use Rattle.ocl.specs.Evaluation.{Outcome, value, undefined, stuck, stop, Stop, step-stop, size-stop, range-stop, stepsOf, Run, resume, bind, tick, form, given, bound, onBool, onInt, onObj, onColl, Result, result, noResult, overRange, resulting, arithmetic, leafRun, cast, unaryApply, unaryRun, leftFits, binaryApply, binaryRun, decides, connectiveRun, isUndefRun, conditionalRun, letRun, attributeRun, endsAt, seek, quantifiedRun, fold, iterateRun, Gather, noOperandRun, operandRun, assembleRun, evaluation, formRun, operandsRun, evaluateRule}
 
 pub data Limited : Outcome → Type 0 where
   limited-value : {v : Value} {n : ℕ} → n ≤ 1000000 → Limited (value v n)
   limited-undefined : {n : ℕ} → n ≤ 1000000 → Limited (undefined n)
   limited-stuck : Limited stuck
-  limited-stop : {c n : ℕ} → c ≤ 17 → n ≤ 1000000 → Limited (stop c n)
+  limited-stop : {c n : ℕ} → Stop c → n ≤ 1000000 → Limited (stop c n)
 
 -- what follows a value, or undefined, is limited if the steps so far are
 abbrev After : (Value → ℕ → Outcome) → Type 0
@@ -45,11 +45,16 @@ limited-if false h k = k
 
 limited-form : (v : Value) {n : ℕ} → n ≤ 1000000 → Limited (form v n)
 unfolding form
-limited-form v l = limited-if (leb (size v) 128) (limited-value l) (limited-stop (omega linear) l)
+limited-form v l = limited-if (leb (size v) 128) (limited-value l) (limited-stop size-stop l)
 
 limited-given : (o : Option Value) {n : ℕ} → n ≤ 1000000 → Limited (given o n)
 limited-given none l = limited-undefined l
 limited-given (some v) l = limited-value l
+
+limited-result : (r : Result) {n : ℕ} → n ≤ 1000000 → Limited (resulting r n)
+limited-result (result v) l = limited-value l
+limited-result noResult l = limited-undefined l
+limited-result overRange l = limited-stop range-stop l
 
 limited-bound : (o : Option Value) {n : ℕ} → n ≤ 1000000 → Limited (bound o n)
 limited-bound none l = limited-stuck
@@ -103,7 +108,7 @@ record Gathers (g : Gather) : Type 0 where
 tick-stays : {f : Run} → Stays f → Stays (tick f)
 unfolding tick
 tick-stays {f} h = record {
-  run = λ ρ n l. by-if Limited (ltb n 1000000) (f ρ (n + 1)) (stop 16 n) (λ t. h .run ρ (n + 1) (let k = ltb→lt n 1000000 t in omega linear)) (λ t. limited-stop (omega linear) l);
+  run = λ ρ n l. by-if Limited (ltb n 1000000) (f ρ (n + 1)) (stop 16 n) (λ t. h .run ρ (n + 1) (let k = ltb→lt n 1000000 t in omega linear)) (λ t. limited-stop step-stop l);
 }
 
 module _ (s : Model) where
@@ -138,7 +143,7 @@ module _ (s : Model) where
   unfolding binaryApply
   binary-limited equal v w n l = limited-value l
   binary-limited less v w n l = limited-int v (λ x. limited-int w (λ y. limited-value l))
-  binary-limited (arith o) v w n l = limited-int v (λ x. limited-int w (λ y. limited-given (arithmetic o x y) l))
+  binary-limited (arith o) v w n l = limited-int v (λ x. limited-int w (λ y. limited-result (arithmetic o x y) l))
   binary-limited includes v w n l = limited-coll v (λ k vs. limited-value l)
   binary-limited including v w n l = limited-coll v (λ k vs. limited-form _ l)
   binary-limited union v w n l = limited-coll v (λ j vs. limited-coll w (λ k ws. limited-if (sameKind j k) (limited-form _ l) limited-stuck))

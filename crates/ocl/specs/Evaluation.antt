@@ -12,12 +12,18 @@ use Rattle.ocl.specs.Environment.{Env, extend, start}
 use Rattle.ocl.specs.Forms.{Arith, plus, minus, times, div, modulo, Connective, and, or, Quantifier, forAll, exists, Leaf, truth, undef, number, self, var, all, Unary, negation, sizeOf, convert, castTo, Binary, equal, less, arith, includes, including, union, Expr, node, Form, leaf, unary, binary, connective, isUndef, conditional, letIn, attribute, quantified, iterate, assemble, Operands, noOperand, operand}
 
 -- a value, or undefined, with the steps begun; stuck (document 01's word): an operand of a kind that the form does not take, or an
--- unbound variable; or a stop with its number, 16 or 17, and the steps begun
+-- unbound variable; or a stop with its number and the steps begun
 pub data Outcome : Type 0 where
   value : Value → ℕ → Outcome
   undefined : ℕ → Outcome
   stuck : Outcome
   stop : ℕ → ℕ → Outcome
+
+-- a stop's number: the step stop, the size stop (document 01's words), and over the range (document 02, F-5)
+pub data Stop : ℕ → Type 0 where
+  step-stop : Stop 16
+  size-stop : Stop 17
+  range-stop : Stop 19
 
 -- the steps that an outcome returns
 unfoldable pub stepsOf : Outcome → ℕ
@@ -96,13 +102,23 @@ unfoldable pub inRange : ℤ → Bool
 inRange (pos n) = ltb n 2147483648
 inRange (negsuc n) = ltb n 2147483648
 
--- a result outside the range is undefined
-unfoldable pub ranged : ℤ → Option Value
-ranged z = if inRange z then some (int z) else none
+-- what arithmetic comes to: a value; no value, which is undefined; or over the range
+pub data Result : Type 0 where
+  result : Value → Result
+  noResult : Result
+  overRange : Result
 
--- so is one with a zero divisor
-unfoldable pub unlessZero : ℤ → Option Value → Option Value
-unlessZero (pos zero) r = none
+-- document 02, F-5: over the range is a stop, and a zero divisor remains undefined
+abbrev pub resulting : Result → ℕ → Outcome
+resulting (result v) n = value v n
+resulting noResult n = undefined n
+resulting overRange n = stop 19 n
+
+unfoldable pub ranged : ℤ → Result
+ranged z = if inRange z then result (int z) else overRange
+
+unfoldable pub unlessZero : ℤ → Result → Result
+unlessZero (pos zero) r = noResult
 unlessZero (pos (suc n)) r = r
 unlessZero (negsuc n) r = r
 
@@ -118,7 +134,7 @@ unfoldable pub remainder : ℤ → ℤ → ℤ
 remainder (pos a) y = pos (a % natAbs y)
 remainder (negsuc a) y = negℤ (pos (suc a % natAbs y))
 
-unfoldable pub arithmetic : Arith → ℤ → ℤ → Option Value
+unfoldable pub arithmetic : Arith → ℤ → ℤ → Result
 arithmetic plus x y = ranged (x +ℤ y)
 arithmetic minus x y = ranged (x -ℤ y)
 arithmetic times x y = ranged (x *ℤ y)
@@ -190,7 +206,7 @@ leftFits union v = isColl v
 unfoldable pub binaryApply : Binary → Value → Value → ℕ → Outcome
 binaryApply equal v w n = value (bool (same v w)) n
 binaryApply less v w n = onInt v (λ x. onInt w (λ y. value (bool (isLess (orderInt x y))) n))
-binaryApply (arith o) v w n = onInt v (λ x. onInt w (λ y. given (arithmetic o x y) n))
+binaryApply (arith o) v w n = onInt v (λ x. onInt w (λ y. resulting (arithmetic o x y) n))
 binaryApply includes v w n = onColl v (λ k vs. value (bool (has w vs)) n)
 binaryApply including v w n = onColl v (λ k vs. form (coll k (add k w vs)) n)
 -- two of one kind: Sets merge, Bags add up, Sequences join

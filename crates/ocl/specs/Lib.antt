@@ -5,6 +5,7 @@ pub mod Environment
 pub mod Forms
 pub mod Typing
 pub mod Evaluation
+pub mod Stops
 pub mod Laws
 pub mod Soundness
 pub mod Worked

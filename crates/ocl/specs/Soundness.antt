@@ -1,7 +1,7 @@
 -- Document 01, Evaluation, on demand 3: stated over the language, for every model and tree that reading can give.
 -- sheet/specs/Soundness.antt states it from the bytes.
 use mathlib.Core.Path.{_≡_}
-use mathlib.Core.Logic.{_≢_, _⊎_}
+use mathlib.Core.Logic.{_≢_}
 use mathlib.Core.Option.{some}
 use Prim.Native.Nat.{ℕ, _≤_, _<_}
 use lib.Dec.{T}
@@ -11,7 +11,7 @@ use Rattle.ocl.specs.Values.{Value, size}
 use Rattle.ocl.specs.Model.{Model, isA, belongs}
 use Rattle.ocl.specs.Forms.{Expr, reach}
 use Rattle.ocl.specs.Typing.{typed, typeRule, markOf}
-use Rattle.ocl.specs.Evaluation.{Outcome, value, stuck, stop, stepsOf, inRange, evaluateRule}
+use Rattle.ocl.specs.Evaluation.{Outcome, value, stuck, stop, Stop, stepsOf, inRange, evaluateRule}
 use Rattle.ocl.specs.Laws.{integersInRange, Formed, numbers, literals}
 
 -- what reading makes sure of
@@ -35,8 +35,8 @@ pub record Sound (s : Model) (t : Ty) (k : ℕ) (o : Outcome) : Type 0 where
   pub of-size : (v : Value) (n : ℕ) → o ≡ value v n → size v ≤ 128
   pub in-range : (v : Value) (n : ℕ) → o ≡ value v n → T (integersInRange v)
   pub formed : (v : Value) (n : ℕ) → o ≡ value v n → Formed v
-  -- a stop is the step stop, 16, or the size stop, 17 (document 01's words)
-  pub known-stop : (c n : ℕ) → o ≡ stop c n → (c ≡ 16) ⊎ (c ≡ 17)
+  -- a stop is one of those that are named
+  pub known-stop : (c n : ℕ) → o ≡ stop c n → Stop c
   -- the steps are within the reach
   pub in-reach : stepsOf o ≤ k
   -- no step stop where the reach is within the limit

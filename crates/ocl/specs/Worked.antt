@@ -1,4 +1,4 @@
--- Document 01, Worked and marked: P1 to P12, as one table.
+-- Document 01, Worked and marked: P1 to P12, as one table; P8 as document 02, F-5, changes it.
 use mathlib.Core.Path.{_≡_}
 use mathlib.Core.Bool.{true, false}
 use mathlib.Core.Option.{none, some}
@@ -8,7 +8,7 @@ use Rattle.ocl.specs.Types.{set, sequence, collection, exactly, void, ar
 use Rattle.ocl.specs.Values.{bool, int, coll, nil, cons}
 use Rattle.ocl.specs.Model.{Model}
 use Rattle.ocl.specs.Forms.{Arith, plus, div, modulo, and, forAll, truth, undef, number, arith, Expr, node, leaf, binary, connective, isUndef, letIn, quantified, assemble, noOperand, operand}
-use Rattle.ocl.specs.Evaluation.{Outcome, value, undefined, evaluation}
+use Rattle.ocl.specs.Evaluation.{Outcome, value, undefined, stop, evaluation}
 
 -- class 1 below class 0, and nothing else
 unfoldable pub parents : Parents
@@ -59,8 +59,8 @@ pub record Worked : Type 0 where
   pub p6 : outcome (arith₂ div (negsuc 6) (pos 2)) ≡ value (int (negsuc 2)) 3
   -- -7 mod 2: -1
   pub p7 : outcome (arith₂ modulo (negsuc 6) (pos 2)) ≡ value (int (negsuc 0)) 3
-  -- 2147483647 plus 1: u
-  pub p8 : outcome (arith₂ plus (pos 2147483647) (pos 1)) ≡ undefined 3
+  -- 2147483647 plus 1: over the range, 19
+  pub p8 : outcome (arith₂ plus (pos 2147483647) (pos 1)) ≡ stop 19 3
   -- the Set of 2, 1, 2: S(1,2)
   pub p9 : outcome (node 3 (assemble set (operand (int₀ 0 (pos 2)) (operand (int₀ 1 (pos 1)) (operand (int₀ 2 (pos 2)) noOperand)))))
       ≡ value (coll set (cons (int (pos 1)) (cons (int (pos 2)) nil))) 4

@@ -1,20 +1,20 @@
 -- The strict forms with two operands, over values that lie on the stack. Assumes nothing.
 use mathlib.Core.Path.{_≡_, refl, sym, ap, _∙_}
 use mathlib.Core.Bool.{Bool, true, false}
-use mathlib.Core.Option.{Option, none, some}
 use mathlib.Core.List.{List}
 use Prim.Native.Nat.{ℕ, zero, suc, _+_, _-_, _%_, _<_, _≤_}
 use native.Mathlib.Omega.{arith}
 use lib.ListN.{length, getD}
-use lib.IntN.{ℤ, pos, negsuc}
+use lib.IntN.{ℤ}
 use lib.Dec.{T, eqb, leb}
 use borrow.Author.Tests.{lt-ltb, le-ltb, eq-eqb, ne-eqb}
 use Rattle.laws.specs.Choice.{if_then_else_}
 use Rattle.laws.proofs.Tests.{by-if}
 use Rattle.ocl.specs.Types.{Kind, kindCode, sameKind}
 use Rattle.ocl.specs.Values.{Value, bool, int, coll, Values, same, has, add, addAll, orderInt}
-use Rattle.ocl.specs.Forms.{Arith, plus, minus, times, div, modulo, Binary, equal, less, arith as calculation, includes, including, union}
-use Rattle.ocl.specs.Evaluation.{Outcome, value, stuck, onInt, onColl, given, inRange, isLess, ranged, unlessZero, arithmetic, form, leftFits, binaryApply, isInt, isColl}
+use Rattle.ocl.specs.Forms.{Arith, Binary, equal, less, arith as calculation, includes, including, union}
+use Rattle.ocl.specs.Evaluation.{Outcome, value, stuck, onInt, onColl, inRange, isLess, Result, result, noResult, overRange, resulting, arithmetic, form, leftFits, binaryApply, isInt, isColl}
+use Rattle.ocl.proofs.Ends.{Results, results, arithmetic-all}
 use Rattle.values.specs.Cells.{bias, payload, fits-bool, fits-int}
 use Rattle.values.specs.Contracts.{means-bool, means-int, SortOf, PayloadOf, SameAt, HasAt, Adds, Unites}
 use Rattle.values.specs.Integers.{numOf, Calculates, Lesser, arithOf}
@@ -28,10 +28,10 @@ use Rattle.nodes.specs.Nodes.{binaryOf, arithByCode as arithCodeOf}
 use Rattle.operations.specs.declared.Ended.{Ended}
 use Rattle.operations.specs.declared.Ended.the-variants as ended
 use Rattle.operations.specs.Answers.{Lies, Ran, SmallAnswer, Gives, formedAs}
-use Rattle.operations.specs.Operations.{OfTwo, FitsLeft}
+use Rattle.operations.specs.Operations.{OfTwo, Calculated, FitsLeft}
 use Rattle.operations.proofs.Words.{formed-small, formed-ran}
 use Rattle.operations.proofs.Sorts.{no-ints, no-int, no-coll, is-coll, is-int, sorted, int-test, coll-test, same-kind}
-use Rattle.operations.proofs.OperationLaws.{ran-stuck, ran-undefined}
+use Rattle.operations.proofs.OperationLaws.{ran-stuck, ran-undefined, ran-stop}
 
 -- the forms of two Integers, by their codes
 int-forms : (P : Binary → Type 0) {k : ℕ} → 14 ≤ k → k < 20 → P less → ((o : Arith) → P (calculation o)) → P (binaryOf k)
@@ -61,28 +61,44 @@ module _ {k cell : ℕ} where
 
 -- ---- two operands
 
--- what arithmetic gives is an Integer in range, or nothing
-data IntOrNone : Option Value → Type 0 where
-  no-int-at-all : IntOrNone none
-  an-int : {z : ℤ} → T (inRange z) → IntOrNone (some (int z))
+-- an Integer in range, as arithmetic gives
+data Ranged : Value → Type 0 where
+  ranged-int : {z : ℤ} → T (inRange z) → Ranged (int z)
 
-ranged-int : (z : ℤ) → IntOrNone (ranged z)
-unfolding ranged
-ranged-int z = by-if IntOrNone (inRange z) (some (int z)) none (λ h. an-int h) (λ h. no-int-at-all)
+module _ {sp s : ℕ} {B : List ℕ} where
+  -- whatever arithmetic gives
+  calculated-by : {c : Computed} {A : List ℕ} {r : Ended} → SmallAnswer r → ((x : Result) → Results Ranged x → c ≡ numOf x → Ran (resulting x s) sp B A r) → Calculated c sp s B A r
+  calculated-by m g = record { small = m; is = λ o x y e. g (arithmetic o x y) (arithmetic-all Ranged (λ z h. ranged-int h) o x y) e }
 
-unless-int : (y : ℤ) (v : Option Value) → IntOrNone v → IntOrNone (unlessZero y v)
-unfolding unlessZero
-unless-int (pos zero) v h = no-int-at-all
-unless-int (pos (suc n)) v h = h
-unless-int (negsuc n) v h = h
+  pub calculated-is : {n : ℕ} {A : List ℕ} {r : Ended} → Gives (simple.Integer (n % 4294967296)) sp s B A r → Calculated (num.Is n) sp s B A r
+  unfolding numOf payload
+  calculated-is {n} {A} {r} G = calculated-by (G .small) by
+    where
+      by : (x : Result) → Results Ranged x → num.Is n ≡ numOf x → Ran (resulting x s) sp B A r
+      by (result v) (results (ranged-int {z} h)) e =
+          let m : n ≡ bias z = cc in
+          let k = bias-small z h in
+          G .is (int z) (fits-int h) (means-int (omega arith))
+      by noResult h e = absurd (let z : _≡_ {A = ℕ} 0 1 = cc in omega arith)
+      by overRange h e = absurd (let z : _≡_ {A = ℕ} 0 1 = cc in omega arith)
 
-arith-int : (o : Arith) (x y : ℤ) → IntOrNone (arithmetic o x y)
-unfolding arithmetic
-arith-int plus x y = ranged-int _
-arith-int minus x y = ranged-int _
-arith-int times x y = ranged-int _
-arith-int div x y = unless-int y _ (ranged-int _)
-arith-int modulo x y = unless-int y _ (ranged-int _)
+  pub calculated-undefined : Calculated num.Undef sp s B B (ended.Undef s)
+  unfolding numOf
+  calculated-undefined = calculated-by tt by
+    where
+      by : (x : Result) → Results Ranged x → num.Undef ≡ numOf x → Ran (resulting x s) sp B B (ended.Undef s)
+      by (result v) h e = absurd (let z : _≡_ {A = ℕ} 0 1 = cc in omega arith)
+      by noResult h e = ran-undefined
+      by overRange h e = absurd (let z : _≡_ {A = ℕ} 0 1 = cc in omega arith)
+
+  pub calculated-over : Calculated num.Over sp s B B (ended.Stop 19 s)
+  unfolding numOf
+  calculated-over = calculated-by tt by
+    where
+      by : (x : Result) → Results Ranged x → num.Over ≡ numOf x → Ran (resulting x s) sp B B (ended.Stop 19 s)
+      by (result v) h e = absurd (let z : _≡_ {A = ℕ} 0 1 = cc in omega arith)
+      by noResult h e = absurd (let z : _≡_ {A = ℕ} 0 1 = cc in omega arith)
+      by overRange h e = ran-stop
 
 module _ {sp la lb s : ℕ} {B : List ℕ} where
   pub same-done : {b : Bool} {A : List ℕ} {r : Ended} → SameAt B sp la (sp + la) lb b → Gives (simple.Bool b) sp s B A r → OfTwo (binaryApply equal) sp la lb s B A r
@@ -114,34 +130,14 @@ module _ {sp la lb s : ℕ} {B : List ℕ} where
           rw (i .is, j .is) (G .is (bool (isLess (orderInt (i .z) (j .z)))) fits-bool (rw (L .is (i .z) (j .z) (i .ranged) (j .ranged) (i .biased) (j .biased)) means-bool));
     }
 
-    module _ {o : Arith} {x : Computed} (C : Calculates o p q x) where
-      calc : {A : List ℕ} {r : Ended} → SmallAnswer r → ((z y : ℤ) → x ≡ numOf (arithmetic o z y) → T (inRange z) → T (inRange y) → Ran (given (arithmetic o z y) s) sp B A r) → OfTwo (binaryApply (calculation o)) sp la lb s B A r
-      unfolding binaryApply
-      calc m g = record {
-        small = m;
-        ran = λ v w l k.
-            let i = is-int l S X e in let j = is-int k R Y f in
-            rw (i .is, j .is) (g (i .z) (j .z) (C .is (i .z) (j .z) (i .ranged) (j .ranged) (i .biased) (j .biased)) (i .ranged) (j .ranged));
-      }
-
-      pub arith-undef : x ≡ num.Undef → OfTwo (binaryApply (calculation o)) sp la lb s B B (ended.Undef s)
-      unfolding numOf
-      arith-undef d = calc tt (λ z y g a b. by (arithmetic o z y) (sym d ∙ g))
-        where
-          by : (v : Option Value) → num.Undef ≡ numOf v → Ran (given v s) sp B B (ended.Undef s)
-          by none g = ran-undefined
-          by (some v) g = absurd (let z : _≡_ {A = ℕ} 0 1 = cc in omega arith)
-
-      pub arith-done : {n : ℕ} {A : List ℕ} {r : Ended} → x ≡ num.Is n → Gives (simple.Integer (n % 4294967296)) sp s B A r → OfTwo (binaryApply (calculation o)) sp la lb s B A r
-      unfolding numOf payload
-      arith-done {n} {A} {r} d G = calc (G .small) (λ z y g a b. by (arithmetic o z y) (arith-int o z y) (sym d ∙ g))
-        where
-          by : (v : Option Value) → IntOrNone v → num.Is n ≡ numOf v → Ran (given v s) sp B A r
-          by none i g = absurd (let z : _≡_ {A = ℕ} 0 1 = cc in omega arith)
-          by (some v) (an-int {z} h) g =
-              let m : n ≡ bias z = cc in
-              let k = bias-small z h in
-              G .is (int z) (fits-int h) (means-int (omega arith))
+    pub arith-done : {o : Arith} {c : Computed} {A : List ℕ} {r : Ended} → Calculates o p q c → Calculated c sp s B A r → OfTwo (binaryApply (calculation o)) sp la lb s B A r
+    unfolding binaryApply
+    arith-done {o} C G = record {
+      small = G .small;
+      ran = λ v w l k.
+          let i = is-int l S X e in let j = is-int k R Y f in
+          rw (i .is, j .is) (G .is o (i .z) (j .z) (C .is (i .z) (j .z) (i .ranged) (j .ranged) (i .biased) (j .biased)));
+    }
 
   module _ {t : ℕ} (S : SortOf (getD B sp 0) t) where
     pub includes-stuck : t < 3 → OfTwo (binaryApply includes) sp la lb s B B ended.Stuck

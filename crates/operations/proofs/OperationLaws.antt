@@ -12,7 +12,7 @@ use Rattle.ocl.specs.Types.{Kind, kindCode}
 use Rattle.ocl.specs.Values.{Value, bool, int, coll, nil, count, size, addAll}
 use Rattle.ocl.specs.Model.{Model}
 use Rattle.ocl.specs.Forms.{Unary, negation, sizeOf, convert, castTo}
-use Rattle.ocl.specs.Evaluation.{Outcome, value, undefined, stuck, inRange, form, cast, unaryApply}
+use Rattle.ocl.specs.Evaluation.{Outcome, value, undefined, stuck, stop, inRange, form, cast, unaryApply}
 use Rattle.ocl.proofs.Values.{count-sizes}
 use Rattle.values.specs.Cells.{bias, fits-bool, fits-int}
 use Rattle.values.specs.Contracts.{means-bool, means-int, SortOf, PayloadOf, Converts}
@@ -24,7 +24,7 @@ use Rattle.tables.specs.declared.Counts.{Counts}
 use Rattle.tables.specs.Stored.{HoldsModel}
 use Rattle.operations.specs.declared.Ended.{Ended}
 use Rattle.operations.specs.declared.Ended.the-variants as ended
-use Rattle.operations.specs.Answers.{Lies, ends-value, ends-undefined, ends-stuck, Ran, Gives, formedAs, Truth}
+use Rattle.operations.specs.Answers.{Lies, ends-value, ends-undefined, ends-stuck, ends-stop, Ran, Gives, formedAs, Truth}
 use Rattle.operations.specs.Tables.{IsA}
 use Rattle.operations.specs.Operations.{AnyModel, OfOne, kindFor, unaryFor}
 use Rattle.operations.proofs.Words.{under-refl, head-at, formed-small, formed-ran}
@@ -38,6 +38,9 @@ ran-stuck = record { kept = under-refl; ends = ends-stuck }
 
 pub ran-undefined : {sp s : ℕ} {B : List ℕ} → Ran (undefined s) sp B B (ended.Undef s)
 ran-undefined = record { kept = under-refl; ends = ends-undefined }
+
+pub ran-stop : {c sp s : ℕ} {B : List ℕ} → Ran (stop c s) sp B B (ended.Stop c s)
+ran-stop = record { kept = under-refl; ends = ends-stop }
 
 -- ---- one operand
 

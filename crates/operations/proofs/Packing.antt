@@ -3,7 +3,8 @@ use mathlib.Core.Path.{_≡_, refl, ap, _∙_}
 use mathlib.Core.List.{List}
 use Prim.Native.Nat.{ℕ, _/_, _%_, _<_}
 use native.Mathlib.Omega.{arith}
-use Rattle.ocl.specs.Evaluation.{Outcome}
+use Rattle.ocl.specs.Evaluation.{Outcome, Stop}
+use Rattle.ocl.proofs.Stops.{stop-within}
 use Rattle.ocl.proofs.Steps.{Limited, limited-value, limited-undefined, limited-stuck, limited-stop}
 use Rattle.operations.specs.declared.Ended.{Ended}
 use Rattle.operations.specs.declared.Ended.the-variants as ended
@@ -81,8 +82,12 @@ in-stop w a b c = let e : w % 4 ≡ 3 = omega arith in rw e refl
 
 -- ---- an outcome's answer has room in a word
 
+-- so has the number of each stop
+stop-small : {c : ℕ} → Stop c → c < 256
+stop-small h = omega (arith, stop-within h)
+
 pub ends-packed : {sp w : ℕ} {A : List ℕ} {o : Outcome} {r : Ended} → Ends sp A o r → Limited o → Packs r w → Ends sp A o (answerIn w)
 ends-packed (ends-value l m) (limited-value s) p = rw (p .same (omega arith, omega arith)) (ends-value l m)
 ends-packed ends-undefined (limited-undefined s) p = rw (p .same (omega arith)) ends-undefined
 ends-packed ends-stuck limited-stuck p = rw (p .same tt) ends-stuck
-ends-packed ends-stop (limited-stop c s) p = rw (p .same (omega arith, omega arith)) ends-stop
+ends-packed ends-stop (limited-stop c s) p = rw (p .same (stop-small c, omega arith)) ends-stop

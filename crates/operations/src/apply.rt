@@ -28,7 +28,7 @@ ghost use Rattle.ocl.specs.Evaluation.{unaryApply, binaryApply};
 ghost use Rattle.nodes.specs.Nodes.{binaryOf};
 ghost use Rattle.tables.specs.Stored.{HoldsModel};
 ghost use Rattle.operations.specs.Tables.{Bounds};
-ghost use Rattle.operations.specs.Operations.{AnyModel, OfOne, OfTwo, FitsLeft, kindFor, unaryFor};
+ghost use Rattle.operations.specs.Operations.{AnyModel, OfOne, OfTwo, Calculated, FitsLeft, kindFor, unaryFor};
 
 // The most cells that a value may have.
 const LARGEST: u64 = 128;
@@ -151,6 +151,18 @@ fn same_value(stack: &mut [u64], sp: usize, la: usize, lb: usize, steps: u64) ->
     put(stack, sp, Simple::Bool { b }, steps)
 }
 
+// What arithmetic came to, as an answer: a result goes to sp, and over the range is stop 19.
+fn calculated(c: Computed, stack: &mut [u64], sp: usize, steps: u64) -> Ended
+    requires { ⌜ sp < length (now stack) ⌝ }
+    ensures { λ r. ⌜ Calculated c sp steps (now (stack .entry)) (now (stack .exit)) r ⌝ }
+{
+    match c {
+        Computed::Is { n } => put(stack, sp, Simple::Integer { biased: n % END }, steps),
+        Computed::Undef => Ended::Undef { steps },
+        Computed::Over => Ended::Stop { number: 19, steps },
+    }
+}
+
 // `less` (14), `plus` (15), `minus` (16), `times` (17), `div` (18), `mod` (19)
 fn integers(form: u64, stack: &mut [u64], sp: usize, la: usize, lb: usize, steps: u64) -> Ended
     requires { ⌜ (14 ≤ form) × (form < 20) × (1 ≤ la) × (1 ≤ lb) × (sp + la + lb ≤ length (now stack)) ⌝ }
@@ -170,10 +182,7 @@ fn integers(form: u64, stack: &mut [u64], sp: usize, la: usize, lb: usize, steps
         let b = less(left, right);
         return put(stack, sp, Simple::Bool { b }, steps);
     }
-    let Computed::Is { n } = calculate(form - 15, left, right) else {
-        return Ended::Undef { steps };
-    };
-    put(stack, sp, Simple::Integer { biased: n % END }, steps)
+    calculated(calculate(form - 15, left, right), stack, sp, steps)
 }
 
 // `includes`

@@ -1,6 +1,5 @@
 -- How long a report line can be, for a rule of an accepted sheet with a type and an object of its context. Assumes nothing.
 use mathlib.Core.Path.{_≡_, refl}
-use mathlib.Core.Logic.{⊎-elim}
 use mathlib.Core.Bool.{Bool, true, false}
 use mathlib.Core.Option.{Option, none, some}
 use mathlib.Core.List.{List}
@@ -20,6 +19,7 @@ use Rattle.ocl.specs.Evaluation.{Outcome, value, undefined, stuck, stop, stepsO
 use Rattle.ocl.specs.Soundness.{Sound}
 use Rattle.ocl.proofs.SimpleTypes.{integer-not-class}
 use Rattle.ocl.proofs.Steps.{steps-limited}
+use Rattle.ocl.proofs.Stops.{stop-within}
 use Rattle.sheet.specs.Text.{bytes, spellNumber}
 use Rattle.sheet.specs.Spelling.{spellBool, spellValue}
 use Rattle.sheet.specs.Sheet.{Rule, Sheet, modelOf}
@@ -114,7 +114,7 @@ outcome-width m t k (undefined n) h p = let w = width-within t .0 in omega arith
 outcome-width m t k stuck h p = absurd (h .not-stuck refl)
 outcome-width m t k (stop c n) h p =
     let w = width-within t .0 in
-    let d = length-laws .number-length 2 c (omega arith) (⊎-elim (λ q. omega arith) (λ q. omega arith) (h .known-stop c n refl)) in
+    let d = length-laws .number-length 2 c (omega arith) (omega (arith, stop-within (h .known-stop c n refl))) in
     omega arith
 
 -- what lies in the words fits

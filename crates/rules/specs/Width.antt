@@ -2,7 +2,7 @@
 use Prim.Native.Nat.{ℕ}
 use Rattle.ocl.specs.Types.{any, boolean, integer, class, Ty, void, simple, around}
 
--- `!16` and `!17` have three bytes, and an object three; an Integer has eleven, and a value of size 128 at most 1,536
+-- a stop's `!16`, `!17` or `!19` has three bytes, and an object three; an Integer has eleven, and a value of size 128 at most 1,536
 unfoldable pub width : Ty → ℕ
 width void = 3
 width (simple any) = 1536

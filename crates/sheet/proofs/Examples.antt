@@ -58,5 +58,7 @@ examples = record {
   blank-then-false = refl;
   blank-then-true = refl;
   size-stop = refl;
+  over-range = refl;
+  over-unrun = refl;
   spelled = refl;
 }

@@ -1,6 +1,6 @@
--- What stands for stuck is never seen: each call's number is one of document 01's, and `!100` is in no report. Assumes nothing.
+-- What stands for stuck is never seen: each call's number is one of the documents', and `!100` is in no report. Assumes nothing.
 use mathlib.Core.Path.{_≡_, refl, subst}
-use mathlib.Core.Logic.{_≢_, _⊎_, inl, inr}
+use mathlib.Core.Logic.{_≢_}
 use mathlib.Core.Bool.{Bool, true, false, not, _||_}
 use mathlib.Core.Option.{Option, none, some}
 use mathlib.Core.List.{List, [], _∷_, _++_}
@@ -19,9 +19,10 @@ use Rattle.ocl.specs.Model.{Model, isA}
 use Rattle.ocl.specs.Forms.{reach}
 use Rattle.ocl.specs.Environment.{start}
 use Rattle.ocl.specs.Typing.{Answer, typed, refused, typeRule}
-use Rattle.ocl.specs.Evaluation.{Outcome, value, undefined, stuck, stop, stepsOf}
+use Rattle.ocl.specs.Evaluation.{Outcome, value, undefined, stuck, stop, Stop, step-stop, size-stop, range-stop, stepsOf}
 use Rattle.ocl.specs.Soundness.{Sound}
 use Rattle.ocl.proofs.Places.{typing-places}
+use Rattle.ocl.proofs.Stops.{stop-within}
 use Rattle.sheet.specs.Text.{Bytes, byte, bytes, isDigit, spellDigits, spellNumber, spellInteger}
 use Rattle.sheet.specs.Spelling.{letterByte, kindByte, spellBool, spellValue, spellMembers, spellMore}
 use Rattle.sheet.specs.Sheet.{Rule, Sheet, modelOf}
@@ -116,7 +117,7 @@ feed : Clean (bytes "\n")
 unfolding bytes
 feed = other 10 tt clean-end
 
--- a stop is `!16` or `!17`; stuck is not met
+-- a stop is `!16`, `!17` or `!19`; stuck is not met
 module _ (m : Model) (t : Ty) (k : ℕ) where
   clean-outcome : (o : Outcome) → Sound m t k o → Clean (spellOutcome o)
   unfolding spellOutcome bytes
@@ -125,25 +126,22 @@ module _ (m : Model) (t : Ty) (k : ℕ) where
   clean-outcome stuck h = absurd (h .not-stuck refl)
   clean-outcome (stop c n) h = by (h .known-stop c n refl)
     where
-      by : (c ≡ 16) ⊎ (c ≡ 17) → Clean (byte "!" ∷ spellNumber c)
-      by (inl e) = rw e (unfold spellNumber spellDigits in clean-stop {b = 54} (λ (q : _≡_ {A = ℕ} 54 48). omega arith) (other 54 tt clean-end))
-      by (inr e) = rw e (unfold spellNumber spellDigits in clean-stop {b = 55} (λ (q : _≡_ {A = ℕ} 55 48). omega arith) (other 55 tt clean-end))
+      by : {c : ℕ} → Stop c → Clean (byte "!" ∷ spellNumber c)
+      by step-stop = unfold spellNumber spellDigits in clean-stop {b = 54} (λ (q : _≡_ {A = ℕ} 54 48). omega arith) (other 54 tt clean-end)
+      by size-stop = unfold spellNumber spellDigits in clean-stop {b = 55} (λ (q : _≡_ {A = ℕ} 55 48). omega arith) (other 55 tt clean-end)
+      by range-stop = unfold spellNumber spellDigits in clean-stop {b = 57} (λ (q : _≡_ {A = ℕ} 57 48). omega arith) (other 57 tt clean-end)
 
   clean-line : (r i : ℕ) (o : Outcome) → Sound m t k o → Clean (reportLine r i o)
   unfolding reportLine bytes
   clean-line r i o h =
       clean-number r next space next clean-number i next space next clean-outcome o h next space next clean-number (stepsOf o) next feed
 
-  ended-number : (o : Outcome) → Sound m t k o → ended o .number ≤ 18
+  ended-number : (o : Outcome) → Sound m t k o → ended o .number ≤ 19
   unfolding ended
   ended-number (value v n) h = omega arith
   ended-number (undefined n) h = omega arith
   ended-number stuck h = absurd (h .not-stuck refl)
-  ended-number (stop c n) h = by (h .known-stop c n refl)
-    where
-      by : (c ≡ 16) ⊎ (c ≡ 17) → c ≤ 18
-      by (inl e) = omega arith
-      by (inr e) = omega arith
+  ended-number (stop c n) h = omega (arith, stop-within (h .known-stop c n refl))
 
 -- ---- the lines of a report, on a sheet whose rules have types
 
@@ -165,14 +163,14 @@ clean-rules s g r [] k h = clean-end
 clean-rules s g r (x ∷ xs) (each-cons k ks) (each-cons h hs) =
     clean-objects s g r x k (h .0) (h .1) (length (s .objects)) next clean-rules s g (suc r) xs ks hs
 
--- ---- the calls: what holds of every refusal that document 01 lists, and of what follows a sheet, a type and a rule
+-- ---- the calls: what holds of every refusal that the documents list, and of what follows a sheet, a type and a rule
 
-module _ (P : Verdict → Type 0) (p : (n k : ℕ) → n ≤ 18 → P (refusalAt n k)) where
+module _ (P : Verdict → Type 0) (p : (n k : ℕ) → n ≤ 19 → P (refusalAt n k)) where
   on-reading : (text : Bytes) (f : Sheet → Verdict) → ((s : Sheet) → Good s → P (f s)) → P (onSheet (readText text) f)
   unfolding onSheet
   on-reading text f h = by (readText text) refl
     where
-      high : (n k : ℕ) → ReadRefusal text n k → n ≤ 18
+      high : (n k : ℕ) → ReadRefusal text n k → n ≤ 19
       high n k (over-length a b) = omega arith
       high n k (at-line a b c d) = omega arith
 
@@ -207,9 +205,9 @@ module _ (P : Verdict → Type 0) (p : (n k : ℕ) → n ≤ 18 → P (refusalAt
   on-object m (some d) o c v h = by-if P (isA m o (class c)) v (refusal 15) h (λ t. p 15 0 (omega arith))
 
 abbrev Low : Verdict → Type 0
-Low v = v .number ≤ 18
+Low v = v .number ≤ 19
 
-low : (n k : ℕ) → n ≤ 18 → Low (refusalAt n k)
+low : (n k : ℕ) → n ≤ 19 → Low (refusalAt n k)
 unfolding refusalAt
 low n k h = h
 
@@ -228,12 +226,12 @@ evaluate-low s g r o = on-rule Low low s g r _ (λ x k.
     on-object Low low (modelOf s) (modelOf s .classOf o) o (x .context) _ (λ a.
     on-type Low low s x _ (λ t e. ended-number (modelOf s) t (reach (x .body)) (outcomeOf s x o) (sound-body s g o x t k e a))))
 
--- a number of document 01, and no `!100`
+-- a number of the documents, and no `!100`
 record Listed (v : Verdict) : Type 0 where
-  number : v .number ≤ 18
+  number : v .number ≤ 19
   clean : Clean (v .output)
 
-listed : (n k : ℕ) → n ≤ 18 → Listed (refusalAt n k)
+listed : (n k : ℕ) → n ≤ 19 → Listed (refusalAt n k)
 unfolding refusalAt
 listed n k h = record { number = h; clean = clean-end }
 

@@ -1,6 +1,6 @@
 -- Demand 3, from the bytes: what reading accepts is what the language's theorem asks, and the calls answer by its outcome. Assumes nothing.
 use mathlib.Core.Path.{_≡_, refl, sym, ap, _∙_, subst}
-use mathlib.Core.Logic.{_≢_, _⊎_, inl, inr}
+use mathlib.Core.Logic.{_≢_}
 use mathlib.Core.Bool.{false}
 use mathlib.Core.Option.{Option, none, some, Option·some-injective}
 use mathlib.Core.List.{List, []}
@@ -27,7 +27,7 @@ use Rattle.sheet.specs.Spelling.{readType, spellType}
 use Rattle.sheet.specs.Sheet.{Rule, Sheet, modelOf}
 use Rattle.sheet.specs.Reading.{Reading, accepted, rejected, readText}
 use Rattle.sheet.specs.Calls.{Verdict, answer, refusalAt, refusal, shortWords, shortOutput, onSheet, readCall, onRule, typingOf, onType, typeOn, typeCall, onObject, outcomeOf, ended, evaluateOn, evaluateCall}
-use Rattle.sheet.specs.Soundness.{Lent, sheetFrom, sheetIn, ruleReach, reachOf, contextHas, ofContext, Ending, undefined-end, value-end, step-stop, size-stop, Demand3}
+use Rattle.sheet.specs.Soundness.{Lent, sheetFrom, sheetIn, ruleReach, reachOf, contextHas, ofContext, Ending, undefined-end, value-end, stop-end, Demand3}
 use Rattle.sheet.specs.Laws.{ReadRefusal, over-length, at-line, TypeRefusals}
 use Rattle.sheet.proofs.Spelling.{type-back}
 use Rattle.sheet.proofs.Listed.{read-refusals}
@@ -37,16 +37,12 @@ use Rattle.sheet.proofs.Acceptance.{accepted-good, good-model}
 -- ---- an outcome and what evaluate answers for it
 
 module _ (m : Model) (t : Ty) (k : ℕ) where
-  stop-end : (c n : ℕ) → (c ≡ 16) ⊎ (c ≡ 17) → Ending m t (record { number = c; steps = n; place = 0; output = [] })
-  stop-end c n (inl e) = rw e step-stop
-  stop-end c n (inr e) = rw e size-stop
-
   end-of : (o : Outcome) → Sound m t k o → Ending m t (ended o)
   unfolding ended
   end-of (value v n) h = value-end v (h .of-type v n refl) (h .of-size v n refl) (h .in-range v n refl) (h .formed v n refl)
   end-of (undefined n) h = undefined-end
   end-of stuck h = absurd (h .not-stuck refl)
-  end-of (stop c n) h = stop-end c n (h .known-stop c n refl)
+  end-of (stop c n) h = stop-end (h .known-stop c n refl)
 
   steps-of : (o : Outcome) → Sound m t k o → ended o .steps ≤ k
   unfolding ended stepsOf refusal refusalAt

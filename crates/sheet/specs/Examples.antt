@@ -88,6 +88,10 @@ pub record Examples : Type 0 where
       ∷ "N 6 var 2" ∷ "N 7 var 2" ∷ "N 8 union 6 7" ∷ "N 9 var 3" ∷ "N 10 var 3" ∷ "N 11 union 9 10" ∷ "N 12 var 4" ∷ "N 13 var 4" ∷ "N 14 union 12 13"
       ∷ "N 15 var 5" ∷ "N 16 var 5" ∷ "N 17 union 15 16" ∷ "N 18 var 6" ∷ "N 19 var 6" ∷ "N 20 union 18 19"
       ∷ "N 21 let 6 17 20" ∷ "N 22 let 5 14 21" ∷ "N 23 let 4 11 22" ∷ "N 24 let 3 8 23" ∷ "N 25 let 2 5 24" ∷ "N 26 let 1 2 25" ∷ []) ≡ bytes "0 0 !17 27\n"
+  -- 19 with the steps begun, which `isUndef` does not hide; not where the operand is unrun
+  pub over-range : prints ("C 0 -" ∷ "O 0 0" ∷ "R 0 0" ∷ "N 0 int 2147483647" ∷ "N 1 int 1" ∷ "N 2 plus 0 1" ∷ "N 3 isUndef 2" ∷ []) ≡ bytes "0 0 !19 4\n"
+  pub over-unrun : prints ("C 0 -" ∷ "O 0 0" ∷ "R 0 0" ∷ "N 0 true" ∷ "N 1 int -2147483648" ∷ "N 2 int -1" ∷ "N 3 div 1 2" ∷ "N 4 isUndef 3" ∷ "N 5 or 0 4" ∷ [])
+      ≡ bytes "0 0 t 2\n"
   -- values with members, as they are spelled
   pub spelled : prints ("C 0 -" ∷ "A 0 0 5 S(Q(Any))" ∷ "O 0 0" ∷ "V 0 0 S(Q(),Q(f,-3),Q(@0,t))" ∷ "R 0 0" ∷ "N 0 self" ∷ "N 1 attr 0 5" ∷ "N 2 asBag 1" ∷ [])
       ≡ bytes "0 0 B(Q(),Q(f,-3),Q(@0,t)) 3\n"

@@ -11,7 +11,7 @@ use Rattle.ocl.specs.Types.{class, Ty}
 use Rattle.ocl.specs.Values.{Value, size}
 use Rattle.ocl.specs.Model.{Model, isA, belongs}
 use Rattle.ocl.specs.Forms.{reach}
-use Rattle.ocl.specs.Evaluation.{stuck}
+use Rattle.ocl.specs.Evaluation.{stuck, Stop}
 use Rattle.ocl.specs.Laws.{integersInRange, Formed}
 use Rattle.sheet.specs.Text.{Bytes, bytes}
 use Rattle.sheet.specs.Spelling.{spellType, spellValue}
@@ -52,13 +52,12 @@ unfoldable pub ofContext : Bytes → ℕ → ℕ → Bool
 ofContext text r o = contextHas (sheetIn text) (getElem? (sheetIn text .rules) r) o
 
 -- how evaluate may end for a rule of type t: undefined; a value of that type and of an allowed size whose Integers are in range and which
--- is formed; the step stop, 16; the size stop, 17 (document 01's words)
+-- is formed; or a stop
 pub data Ending (m : Model) (t : Ty) : Verdict → Type 0 where
   undefined-end : {n : ℕ} → Ending m t (record { number = 0; steps = n; place = 0; output = bytes "u" })
   value-end : {n : ℕ} (v : Value) → T (belongs m t v) → size v ≤ 128 → T (integersInRange v) → Formed v
       → Ending m t (record { number = 0; steps = n; place = 0; output = spellValue v })
-  step-stop : {n : ℕ} → Ending m t (record { number = 16; steps = n; place = 0; output = [] })
-  size-stop : {n : ℕ} → Ending m t (record { number = 17; steps = n; place = 0; output = [] })
+  stop-end : {c n : ℕ} → Stop c → Ending m t (record { number = c; steps = n; place = 0; output = [] })
 
 -- what evaluate comes to for rule r, of type t, and object o
 pub record SoundCall (text : Bytes) (r o : ℕ) (t : Ty) (v : Verdict) : Type 0 where
@@ -79,13 +78,13 @@ Demand3 =
     → T (ofContext text r o)
     → SoundCall text r o t (evaluateCall text r o w0 w1 w2 out)
 
--- what stands for stuck, 100 in `ended` and `!100` in a report, is never seen: each call's number is 0 or one of document 01's table, and
+-- what stands for stuck, 100 in `ended` and `!100` in a report, is never seen: each call's number is 0 or one of the documents', and
 -- `!100` is nowhere in a report or in what the program prints
 pub record NeverStuck (text : Bytes) (w0 w1 w2 : List ℕ) (out : Bytes) : Type 0 where
-  pub read-number : readCall text w0 w1 w2 .number ≤ 18
-  pub type-number : (r : ℕ) → typeCall text r w0 w1 w2 out .number ≤ 18
-  pub evaluate-number : (r o : ℕ) → evaluateCall text r o w0 w1 w2 out .number ≤ 18
-  pub report-number : reportCall text w0 w1 w2 out .number ≤ 18
+  pub read-number : readCall text w0 w1 w2 .number ≤ 19
+  pub type-number : (r : ℕ) → typeCall text r w0 w1 w2 out .number ≤ 19
+  pub evaluate-number : (r o : ℕ) → evaluateCall text r o w0 w1 w2 out .number ≤ 19
+  pub report-number : reportCall text w0 w1 w2 out .number ≤ 19
   pub report-bytes : (a b : Bytes) → reportCall text w0 w1 w2 out .output ≢ a ++ (bytes "!100" ++ b)
   pub program-bytes : (a b : Bytes) → program text ≢ a ++ (bytes "!100" ++ b)
 

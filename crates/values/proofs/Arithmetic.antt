@@ -1,7 +1,6 @@
 -- Integers held with their bias: what the proofs of the arithmetic cite. Assumes nothing.
 use mathlib.Core.Path.{_≡_, refl, sym, ap, _∙_}
 use mathlib.Core.Bool.{Bool, true, false}
-use mathlib.Core.Option.{Option, none, some}
 use Prim.Native.Nat.{ℕ, zero, suc, _+_, _-_, _*_, _/_, _%_, _<_, _≤_, compare}
 use native.Mathlib.Omega.{arith}
 use native.Mathlib.Nat.{div-le-self, mod-lt, mul-le-mul}
@@ -10,9 +9,9 @@ use lib.Dec.{T, ltb, leb}
 use borrow.Author.Tests.{lt-ltb, le-ltb, lt-leb, le-leb}
 use Rattle.laws.proofs.Integers.{Diff, add-diff, neg-diff}
 use Rattle.laws.proofs.Orders.{compare-lt, compare-eq, compare-gt, Three, less, same, over, three}
-use Rattle.ocl.specs.Values.{Value, orderInt}
+use Rattle.ocl.specs.Values.{orderInt}
 use Rattle.ocl.specs.Forms.{Arith, plus, minus, times, div, modulo}
-use Rattle.ocl.specs.Evaluation.{inRange, ranged, isLess, unlessZero, quotient, remainder, arithmetic}
+use Rattle.ocl.specs.Evaluation.{inRange, isLess, Result, noResult, ranged, unlessZero, quotient, remainder, arithmetic}
 use Rattle.values.specs.Cells.{bias, payload}
 use Rattle.values.specs.Integers.{numOf, Calculates, Lesser, distance, alike, side, arithOf}
 use Rattle.values.specs.declared.Computed.{Computed}
@@ -31,12 +30,12 @@ unfolding numOf payload ranged inRange bias
 is-ranged (pos n) p q r d h k e = rw (lt-ltb n 2147483648 (omega arith)) (ap (λ (m : ℕ). num.Is m) (omega arith))
 is-ranged (negsuc n) p q r d h k e = rw (lt-ltb n 2147483648 (omega arith)) (ap (λ (m : ℕ). num.Is m) (omega arith))
 
-is-low : (z : ℤ) (p q : ℕ) → Diff z p q → p + 2147483648 < q → num.Undef ≡ numOf (ranged z)
+is-low : (z : ℤ) (p q : ℕ) → Diff z p q → p + 2147483648 < q → num.Over ≡ numOf (ranged z)
 unfolding numOf ranged inRange
 is-low (pos n) p q d h = absurd (omega arith)
 is-low (negsuc n) p q d h = rw (le-ltb n 2147483648 (omega arith))
 
-is-high : (z : ℤ) (p q : ℕ) → Diff z p q → q + 2147483648 ≤ p → num.Undef ≡ numOf (ranged z)
+is-high : (z : ℤ) (p q : ℕ) → Diff z p q → q + 2147483648 ≤ p → num.Over ≡ numOf (ranged z)
 unfolding numOf ranged inRange
 is-high (pos n) p q d h = rw (le-ltb n 2147483648 (omega arith))
 is-high (negsuc n) p q d h = absurd (omega arith)
@@ -61,11 +60,11 @@ module _ {a b : ℕ} where
   sum : (x y : ℤ) → T (inRange x) → T (inRange y) → a ≡ bias x → b ≡ bias y → Diff (x +ℤ y) (a + b) (2147483648 + 2147483648)
   sum x y g h e f = rw (e, f) (add-diff x y (bias x) 2147483648 (bias y) 2147483648 (bias-diff x g) (bias-diff y h))
 
-  pub plus-low : a + b < 2147483648 → Calculates plus a b num.Undef
+  pub plus-low : a + b < 2147483648 → Calculates plus a b num.Over
   unfolding arithmetic
   plus-low l = record { is = λ x y g h e f. is-low (x +ℤ y) _ _ (sum x y g h e f) (omega arith) }
 
-  pub plus-high : 4294967296 ≤ a + b - 2147483648 → Calculates plus a b num.Undef
+  pub plus-high : 4294967296 ≤ a + b - 2147483648 → Calculates plus a b num.Over
   unfolding arithmetic
   plus-high l = record { is = λ x y g h e f. is-high (x +ℤ y) _ _ (sum x y g h e f) (omega arith) }
 
@@ -76,11 +75,11 @@ module _ {a b : ℕ} where
   dif : (x y : ℤ) → T (inRange x) → T (inRange y) → a ≡ bias x → b ≡ bias y → Diff (x -ℤ y) (a + 2147483648) (2147483648 + b)
   dif x y g h e f = rw (e, f) (add-diff x (negℤ y) (bias x) 2147483648 2147483648 (bias y) (bias-diff x g) (neg-diff y (bias y) 2147483648 (bias-diff y h)))
 
-  pub minus-low : a + 2147483648 < b → Calculates minus a b num.Undef
+  pub minus-low : a + 2147483648 < b → Calculates minus a b num.Over
   unfolding arithmetic
   minus-low l = record { is = λ x y g h e f. is-low (x -ℤ y) _ _ (dif x y g h e f) (omega arith) }
 
-  pub minus-high : 4294967296 ≤ a + 2147483648 - b → Calculates minus a b num.Undef
+  pub minus-high : 4294967296 ≤ a + 2147483648 - b → Calculates minus a b num.Over
   unfolding arithmetic
   minus-high l = record { is = λ x y g h e f. is-high (x -ℤ y) _ _ (dif x y g h e f) (omega arith) }
 
@@ -162,7 +161,7 @@ pub above-zero : {up : Bool} {d : ℕ} → up ≡ true → d < 2147483648 → nu
 unfolding side
 above-zero {up} {d} e h = rw e (is-ranged (pos d) d 0 (2147483648 + d) (omega arith) (omega arith) (omega arith) (omega arith))
 
-pub above-range : {up : Bool} {d : ℕ} → up ≡ true → 2147483648 ≤ d → num.Undef ≡ numOf (ranged (side up d))
+pub above-range : {up : Bool} {d : ℕ} → up ≡ true → 2147483648 ≤ d → num.Over ≡ numOf (ranged (side up d))
 unfolding side
 above-range {up} {d} e h = rw e (is-high (pos d) d 0 (omega arith) (omega arith))
 
@@ -170,7 +169,7 @@ pub below-zero : {up : Bool} {d : ℕ} → up ≡ false → d ≤ 2147483648 →
 unfolding side
 below-zero {up} {d} e h = rw e (is-ranged (negℤ (pos d)) 0 d (2147483648 - d) (neg-diff (pos d) d 0 (omega arith)) (omega arith) (omega arith) (omega arith))
 
-out-of-range : (up : Bool) (d : ℕ) → 2147483648 < d → num.Undef ≡ numOf (ranged (side up d))
+out-of-range : (up : Bool) (d : ℕ) → 2147483648 < d → num.Over ≡ numOf (ranged (side up d))
 unfolding side
 out-of-range true d h = is-high (pos d) d 0 (omega arith) (omega arith)
 out-of-range false d h = is-low (negℤ (pos d)) 0 d (neg-diff (pos d) d 0 (omega arith)) (omega arith)
@@ -180,22 +179,22 @@ module _ (a b : ℕ) {m n : ℕ} (u : m ≡ distance a) (w : n ≡ distance b) w
   unfolding arithmetic
   times-is v z = record { is = λ x y g h e f. z ∙ ap (λ (i : ℤ). numOf (ranged i)) (rw (v, u, w) (sym (product-side (sign x g e) (sign y h f)))) }
 
-  pub times-over : 2147483648 < m * n → Calculates times a b num.Undef
+  pub times-over : 2147483648 < m * n → Calculates times a b num.Over
   times-over l = times-is refl (out-of-range (alike a b) (m * n) l)
 
 -- ---- a zero divisor
 
-none-by : {b : ℕ} {y : ℤ} (o : Option Value) → Sign b y → b ≡ 2147483648 → unlessZero y o ≡ none
+none-by : {b : ℕ} {y : ℤ} (r : Result) → Sign b y → b ≡ 2147483648 → unlessZero y r ≡ noResult
 unfolding unlessZero distance
-none-by o (minus-sign h u) e = absurd (omega arith)
-none-by o (plus-sign {n = zero} h u) e = refl
-none-by o (plus-sign {n = suc n} h u) e = absurd (omega arith)
+none-by r (minus-sign h u) e = absurd (omega arith)
+none-by r (plus-sign {n = zero} h u) e = refl
+none-by r (plus-sign {n = suc n} h u) e = absurd (omega arith)
 
-some-by : {b : ℕ} {y : ℤ} (o : Option Value) → Sign b y → (b ≡ 2147483648 → ⊥) → unlessZero y o ≡ o
+some-by : {b : ℕ} {y : ℤ} (r : Result) → Sign b y → (b ≡ 2147483648 → ⊥) → unlessZero y r ≡ r
 unfolding unlessZero distance
-some-by o (minus-sign h u) e = refl
-some-by o (plus-sign {n = zero} h u) e = absurd (omega arith)
-some-by o (plus-sign {n = suc n} h u) e = refl
+some-by r (minus-sign h u) e = refl
+some-by r (plus-sign {n = zero} h u) e = absurd (omega arith)
+some-by r (plus-sign {n = suc n} h u) e = refl
 
 pub div-by-zero : {a b : ℕ} → b ≡ 2147483648 → Calculates div a b num.Undef
 unfolding arithmetic numOf

@@ -1,22 +1,22 @@
 -- What the contracts of the arithmetic say: each number is an Integer with its bias.
 use mathlib.Core.Path.{_≡_}
 use mathlib.Core.Bool.{Bool, true, false}
-use mathlib.Core.Option.{Option, none, some}
 use Prim.Native.Nat.{ℕ, zero, suc, _+_, _-_}
 use lib.IntN.{ℤ, pos, negℤ}
 use lib.Dec.{T, ltb, leb}
 use Rattle.laws.specs.Choice.{if_then_else_}
-use Rattle.ocl.specs.Values.{Value, orderInt}
+use Rattle.ocl.specs.Values.{orderInt}
 use Rattle.ocl.specs.Forms.{Arith, plus, minus, times, div, modulo}
-use Rattle.ocl.specs.Evaluation.{inRange, isLess, arithmetic}
+use Rattle.ocl.specs.Evaluation.{inRange, isLess, Result, result, noResult, overRange, arithmetic}
 use Rattle.values.specs.Cells.{bias, payload}
 use Rattle.values.specs.declared.Computed.{Computed}
 use Rattle.values.specs.declared.Computed.the-variants as num
 
--- the code's answer for a result that may be undefined
-unfoldable pub numOf : Option Value → Computed
-numOf none = num.Undef
-numOf (some v) = num.Is (payload v)
+-- the code's answer for what arithmetic comes to
+unfoldable pub numOf : Result → Computed
+numOf (result v) = num.Is (payload v)
+numOf noResult = num.Undef
+numOf overRange = num.Over
 
 pub record Calculates (op : Arith) (a b : ℕ) (r : Computed) : Type 0 where
   pub is : (x y : ℤ) → T (inRange x) → T (inRange y) → a ≡ bias x → b ≡ bias y → r ≡ numOf (arithmetic op x y)

@@ -1,5 +1,5 @@
 // Integers, each counted from -2147483648, so that all numbers here are unsigned. A result outside -2147483648 to
-// 2147483647 is undefined, as is one with a zero divisor.
+// 2147483647 is over the range; one with a zero divisor is undefined.
 use crate::Computed;
 ghost use mathlib.Core.Path.{_≡_};
 ghost use Prim.Native.Nat.{_≤_, _<_};
@@ -24,12 +24,12 @@ pub fn plus(a: u64, b: u64) -> Computed
 {
     let s = a + b;
     if s < ZERO {
-        return Computed::Undef;
+        return Computed::Over;
     }
     if s - ZERO < END {
         Computed::Is { n: s - ZERO }
     } else {
-        Computed::Undef
+        Computed::Over
     }
 }
 
@@ -39,12 +39,12 @@ pub fn minus(a: u64, b: u64) -> Computed
 {
     let s = a + ZERO;
     if s < b {
-        return Computed::Undef;
+        return Computed::Over;
     }
     if s - b < END {
         Computed::Is { n: s - b }
     } else {
-        Computed::Undef
+        Computed::Over
     }
 }
 
@@ -71,7 +71,7 @@ fn toward(up: bool, d: u64) -> Computed
         if d < ZERO {
             Computed::Is { n: ZERO + d }
         } else {
-            Computed::Undef
+            Computed::Over
         }
     } else {
         Computed::Is { n: ZERO - d }
@@ -84,7 +84,7 @@ pub fn times(a: u64, b: u64) -> Computed
 {
     let p = distance(a) * distance(b);
     if ZERO < p {
-        return Computed::Undef;
+        return Computed::Over;
     }
     toward(alike(a, b), p)
 }

@@ -28,8 +28,9 @@ pub enum Formed {
     Over,
 }
 
-// The result of an operation on Integers, counted from -2147483648.
+// What an operation on Integers comes to: a result, counted from -2147483648; none; or one that is over the range.
 pub enum Computed {
     Is { n: u64 },
     Undef,
+    Over,
 }

@@ -116,7 +116,8 @@ pub fn type_rule<'o>(
 ///
 /// What [`type_rule`] refuses; [`Refusal::NotFound`] where there is no such
 /// object, [`Refusal::OtherClass`] where the rule does not apply to it, before the
-/// rule is typed; [`Refusal::StepStop`] and [`Refusal::SizeStop`], with the steps.
+/// rule is typed; [`Refusal::StepStop`], [`Refusal::SizeStop`] and
+/// [`Refusal::OverRange`], with the steps.
 ///
 /// ```
 /// use ocl_checker::{evaluate_rule, Memory, Refusal, LEAST_OUTPUT};
@@ -144,7 +145,8 @@ pub fn evaluate_rule<'o>(
 }
 
 /// The report: a line for each rule and each object it applies to, with value and
-/// steps. A stop is written in its line as `!16` or `!17`, and the report goes on.
+/// steps. A stop is written in its line as `!16`, `!17` or `!19`, and the report
+/// goes on.
 ///
 /// # Errors
 ///

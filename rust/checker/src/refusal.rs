@@ -44,11 +44,13 @@ pub enum Refusal {
     SizeStop,
     /// The report is longer than the output.
     ReportTooLong,
+    /// An exact result leaves the Integer range.
+    OverRange,
 }
 
 impl Refusal {
     /// All of them, in the order of their numbers.
-    pub const ALL: [Refusal; 18] = [
+    pub const ALL: [Refusal; 19] = [
         Refusal::ShortSlice,
         Refusal::SheetTooLong,
         Refusal::BadLine,
@@ -67,9 +69,10 @@ impl Refusal {
         Refusal::StepStop,
         Refusal::SizeStop,
         Refusal::ReportTooLong,
+        Refusal::OverRange,
     ];
 
-    /// The refusal of a number from 1 to 18.
+    /// The refusal of a number from 1 to 19.
     pub fn of(number: u64) -> Option<Refusal> {
         Refusal::ALL
             .into_iter()
@@ -102,6 +105,7 @@ impl Refusal {
             Refusal::StepStop => "step stop",
             Refusal::SizeStop => "size stop",
             Refusal::ReportTooLong => "slip too long",
+            Refusal::OverRange => "over the range",
         }
     }
 
@@ -128,6 +132,7 @@ impl Refusal {
             Refusal::StepStop => "more steps are due than an evaluation may take",
             Refusal::SizeStop => "a value of a size over 128 would be formed",
             Refusal::ReportTooLong => "the report is longer than the output",
+            Refusal::OverRange => "an exact result leaves the Integer range",
         }
     }
 }
@@ -135,7 +140,7 @@ impl Refusal {
 /// A call's refusal, or a stop of its evaluation.
 #[derive(Clone, Copy, PartialEq, Eq, Debug)]
 pub struct Refused {
-    /// The refusal's number. The calls give no other than 1 to 18.
+    /// The refusal's number. The calls give no other than 1 to 19.
     pub number: u64,
     /// The steps begun where an evaluation was stopped, else 0.
     pub steps: u64,

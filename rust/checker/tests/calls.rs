@@ -70,15 +70,22 @@ fn a_stop_has_its_steps() {
         stop.to_string(),
         "size stop (17) after 3 steps: a value of a size over 128 would be formed"
     );
+    let text = sheet("C 0 -|O 0 0|R 0 0|N 0 int 2147483647|N 1 int 1|N 2 plus 0 1|N 3 isUndef 2");
+    let stop = evaluate_rule(&text, 0, 0, &mut memory, &mut [0; LEAST_OUTPUT]).unwrap_err();
+    assert_eq!(stop, refused(Refusal::OverRange, 4, 0));
+    assert_eq!(
+        stop.to_string(),
+        "over the range (19) after 4 steps: an exact result leaves the Integer range"
+    );
 }
 
 #[test]
 fn refusals_have_numbers_and_words() {
-    for number in 1..=18 {
+    for number in 1..=19 {
         let refusal = Refusal::of(number).unwrap();
         assert_eq!(refusal.number(), number);
     }
-    for number in [0, 19, 100, u64::MAX] {
+    for number in [0, 20, 100, u64::MAX] {
         assert_eq!(Refusal::of(number), None);
     }
     assert_eq!(Refusal::MalformedTree.word(), "broken tree");

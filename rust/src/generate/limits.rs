@@ -5,7 +5,7 @@ use super::full::full;
 use super::random::Random;
 use crate::tree::DEEPEST_RULE;
 
-pub const KINDS: usize = 15;
+pub const KINDS: usize = 16;
 
 /// A sheet at the limit of the kind, or one over it.
 pub fn limit(random: &mut Random, kind: usize) -> Vec<u8> {
@@ -28,6 +28,7 @@ pub fn limit(random: &mut Random, kind: usize) -> Vec<u8> {
         11 => formed_size(random, over),
         12 => nested(random, 3 + over),
         13 => long_report(random),
+        14 => range_end(random, over == 1),
         _ => {
             let operands = (0..4 + over).map(|n| format!("\t{n}")).collect::<String>();
             let ints = lines(4 + over, |n| format!("N\t{n}\tint\t{n}"));
@@ -170,6 +171,45 @@ fn formed_size(random: &mut Random, over: usize) -> String {
         _ => format!("N\t2\tself\nN\t3\tattr\t2\t0\nN\t4\tcoll\t{kind}\t1\t3\n"),
     };
     one_value(&format!("{kind}(Int)"), &value) + "R\t0\t0\nN\t0\tself\nN\t1\tattr\t0\t0\n" + &tail
+}
+
+/// An operation at an end of the range, or over it; in some rules below a form
+/// that would hide undefined, or in an operand that may not be run.
+fn range_end(random: &mut Random, over: bool) -> String {
+    const WITHIN: [[&str; 3]; 8] = [
+        ["2147483647", "plus", "0"],
+        ["-2147483648", "plus", "0"],
+        ["-1", "minus", "2147483647"],
+        ["2147483647", "minus", "0"],
+        ["65536", "times", "-32768"],
+        ["-2147483648", "div", "1"],
+        ["-2147483648", "div", "0"],
+        ["-2147483648", "mod", "-1"],
+    ];
+    const OVER: [[&str; 3]; 8] = [
+        ["2147483647", "plus", "1"],
+        ["-2147483648", "plus", "-1"],
+        ["-2", "minus", "2147483647"],
+        ["2147483647", "minus", "-1"],
+        ["65536", "times", "32768"],
+        ["65536", "times", "-32769"],
+        ["-46341", "times", "-46341"],
+        ["-2147483648", "div", "-1"],
+    ];
+    let [left, form, right] = *random.pick(if over { &OVER } else { &WITHIN });
+    let tails = [
+        "",
+        "N\t3\tisUndef\t2\n",
+        "N\t3\tisUndef\t2\nN\t4\tfalse\nN\t5\tand\t3\t4\n",
+        "N\t3\tisUndef\t2\nN\t4\tfalse\nN\t5\tand\t4\t3\n",
+        "N\t3\tisUndef\t2\nN\t4\tundef\nN\t5\tor\t4\t3\n",
+        "N\t3\ttrue\nN\t4\tint\t1\nN\t5\tif\t3\t4\t2\n",
+        "N\t3\tfalse\nN\t4\tint\t1\nN\t5\tif\t3\t4\t2\n",
+        "N\t3\tall\t0\nN\t4\tisUndef\t2\nN\t5\texists\t3\t1\t4\n",
+        "N\t3\tint\t0\nN\t4\tdiv\t2\t3\n",
+    ];
+    let tail = random.pick(&tails);
+    format!("C\t0\t-\nO\t0\t0\nR\t0\t0\nN\t0\tint\t{left}\nN\t1\tint\t{right}\nN\t2\t{form}\t0\t1\n{tail}")
 }
 
 /// A type, a value or collection forms nested this deep.

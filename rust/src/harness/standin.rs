@@ -85,9 +85,9 @@ impl Calls for StandIn {
         let length = answer.length as usize;
         match self.fault {
             Fault::Place if answer.place > 0 => answer.place += 1,
-            Fault::PlaceOfStop if number == 16 || number == 17 => answer.place = 1,
+            Fault::PlaceOfStop if matches!(number, 16 | 17 | 19) => answer.place = 1,
             Fault::Steps if answer.steps > 0 => answer.steps += 1,
-            Fault::StepsOfStop if number == 17 => answer.steps = 0,
+            Fault::StepsOfStop if matches!(number, 17 | 19) => answer.steps = 0,
             Fault::Length if answer.length > 0 => answer.length += 1,
             Fault::Number if number == 10 => answer.number = 11,
             Fault::WordLeft if number != 1 => middle[LEAST_WORDS - 1] = left.unwrap_or(0),

@@ -8,7 +8,7 @@ const NAMES: [&str; 4] = ["read", "type", "evaluate", "report"];
 
 /// Answers by call and number.
 #[derive(Default)]
-pub struct Tally([[u64; 19]; 4]);
+pub struct Tally([[u64; 20]; 4]);
 
 /// The calls in the order of `NAMES`, whatever their numbers.
 const CALLS: [Call; 4] = [
@@ -34,7 +34,7 @@ fn relevant(call: Call, number: usize) -> bool {
         (Call::Read, _) => false,
         (_, 9..=13) => true,
         (Call::Type { .. }, 14) => true,
-        (Call::Evaluate { .. }, 14..=17) => true,
+        (Call::Evaluate { .. }, 14..=17 | 19) => true,
         (Call::Report, 18) => true,
         _ => false,
     }
@@ -75,7 +75,7 @@ impl fmt::Display for Tally {
             write!(out, " {name:>10}")?;
         }
         writeln!(out)?;
-        for number in 0..19 {
+        for number in 0..20 {
             write!(out, "{number:>6}")?;
             for call in CALLS {
                 match self.0[position(call)][number] {

@@ -1,7 +1,7 @@
 -- `operations::apply::integers` meets its contract. Assumes nothing.
 use native.Mathlib.Omega.{arith}
 use borrow.Author.Needs.{needs}
-use Rattle.operations.proofs.BinaryLaws.{ints-left, ints-right, less-done, arith-undef, arith-done, binary-by, binary-14, binary-15}
+use Rattle.operations.proofs.BinaryLaws.{ints-left, ints-right, less-done, arith-done, binary-by, binary-14, binary-15}
 use Rattle.operations.proofs.apply.integers.Statement.{statement}
 use Rattle.operations.proofs.apply.integers.Tie as tie
 
@@ -56,23 +56,14 @@ sub-calculate c = search needs
 calculate-requires : tie.Need-calculate-requires
 calculate-requires c κs = search needs
 
-enum-known-n : tie.Need-enum-known-n
-enum-known-n c = search needs
-
-enum-told : tie.Need-enum-told
-enum-told c = search needs
-
-returns-4 : tie.Need-returns-4
-returns-4 c = binary-by _ (binary-15 (omega arith) (omega arith)) (arith-undef (c .before .before .before .before .before .before .before .before .before .sort-of .ensures) (c .before .before .before .before .before .before .before .sort-of2 .ensures) (c .before .before .before .before .before .before .before .before .if1 .left) (c .before .before .before .before .before .payload-of .ensures) (c .before .before .before .before .before .before .if2 .left) (c .before .before .before .before .payload-of2 .ensures) (c .before .before .calculate .ensures) (c .enum-told .given .1))
-
-put-requires-2 : tie.Need-put-requires-2
-put-requires-2 c κs = search needs
+calculated-requires : tie.Need-calculated-requires
+calculated-requires c κs = search needs
 
 same-length-2 : tie.Need-same-length-2
 same-length-2 c = search needs
 
-returns-5 : tie.Need-returns-5
-returns-5 c = binary-by _ (binary-15 (omega arith) (omega arith)) (arith-done (c .before .before .before .before .before .before .before .before .before .before .before .before .before .before .sort-of .ensures) (c .before .before .before .before .before .before .before .before .before .before .before .before .sort-of2 .ensures) (c .before .before .before .before .before .before .before .before .before .before .before .before .before .if1 .left) (c .before .before .before .before .before .before .before .before .before .before .payload-of .ensures) (c .before .before .before .before .before .before .before .before .before .before .before .if2 .left) (c .before .before .before .before .before .before .before .before .before .payload-of2 .ensures) (c .before .before .before .before .before .before .before .calculate .ensures) (c .before .before .before .before .before .n .given .1) (c .before .before .put2 .ensures))
+returns-4 : tie.Need-returns-4
+returns-4 c = binary-by _ (binary-15 (omega arith) (omega arith)) (arith-done (c .before .before .before .before .before .before .before .before .before .before .before .sort-of .ensures) (c .before .before .before .before .before .before .before .before .before .sort-of2 .ensures) (c .before .before .before .before .before .before .before .before .before .before .if1 .left) (c .before .before .before .before .before .before .before .payload-of .ensures) (c .before .before .before .before .before .before .before .before .if2 .left) (c .before .before .before .before .before .before .payload-of2 .ensures) (c .before .before .before .before .calculate .ensures) (c .before .before .calculated .ensures))
 
 pub integers-spec : {M : Type 1} → statement M
 integers-spec =
@@ -95,9 +86,6 @@ integers-spec =
     returns-3
     sub-calculate
     calculate-requires
-    enum-known-n
-    enum-told
-    returns-4
-    put-requires-2
+    calculated-requires
     same-length-2
-    returns-5)
+    returns-4)
