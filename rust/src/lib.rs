@@ -5,6 +5,7 @@ pub mod calls;
 pub mod eval;
 pub mod generate;
 pub mod harness;
+pub mod load;
 pub mod model;
 pub mod read;
 pub mod refusal;

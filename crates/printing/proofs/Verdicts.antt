@@ -1,18 +1,27 @@
 -- From the report call's promise to what the program prints. Assumes nothing.
-use Prim.Native.Nat.{ℕ}
+use Prim.Native.Nat.{ℕ, _+_, _≤_}
 use mathlib.Core.Path.{_≡_, refl, sym, ap, _∙_}
 use mathlib.Core.Logic.{_≢_}
 use mathlib.Core.List.{List}
 use native.Mathlib.Omega.{arith}
 use borrow.Author.Tests.{ne-eqb, eq-eqb}
-use lib.ListN.{length, drop, length-append}
+use lib.ListN.{length, take, drop, length-append}
 use lib.Seq.{take-at}
 use Rattle.sheet.specs.Text.{Bytes}
 use Rattle.sheet.specs.Calls.{Verdict, refusalAt, outputAfter, shortWords, shortOutput}
 use Rattle.sheet.specs.Report.{reportOf, reportCall, printed, program}
 use Rattle.checker.specs.Answers.{answerOf, AnswersWith}
 use Rattle.checker.specs.declared.Answer.{Answer}
+use Rattle.text.specs.Written.{Puts}
 use Rattle.printing.specs.Printed.{Front}
+
+-- what was written from the start stands at the front
+pub puts-front : {w a b : Bytes} {r : ℕ} → Puts 0 w a b r × (r ≤ length b) → Front w b r
+puts-front {w} {a} {b} {r} (p, room) = record {
+  size = p .end ∙ omega arith;
+  room = room;
+  is = ap (take r) (p .is) ∙ take-at w (drop (0 + length w) a) r (omega (arith, p .end));
+}
 
 -- an answer's bytes stand at the front of the output
 answer-front : (v : Verdict) (out : Bytes) → v .number ≡ 0 → Front (printed v) (outputAfter v out) (length (v .output))

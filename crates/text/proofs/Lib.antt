@@ -5,4 +5,5 @@ pub mod NumberLaws
 pub mod IntegerLaws
 pub mod WrittenLaws
 pub mod DigitLaws
+pub mod PrintedLaws
 pub mod ShapeLaws

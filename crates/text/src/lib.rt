@@ -2,5 +2,6 @@
 // answers is a definition of crates/sheet, or one of specs/ with a law in proofs/ that leads to it. It depends on no other code.
 pub mod numbers;
 pub mod parts;
+pub mod printed;
 pub mod spelling;
 pub mod words;

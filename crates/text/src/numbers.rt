@@ -45,13 +45,13 @@ fn plain(s: &[u8], a: usize, e: usize) -> bool
 }
 
 // What a digit adds to a number.
-fn digit(b: u8) -> u64
+pub fn digit(b: u8) -> u64
     ensures { λ r. ⌜ r ≡ b - 48 ⌝ }
 {
     if b < 48 { 0 } else { (b - 48) as u64 }
 }
 
-fn at_most(n: u64, bound: u64) -> u64
+pub fn at_most(n: u64, bound: u64) -> u64
     ensures { λ r. ⌜ r ≡ min n bound ⌝ }
 {
     if n < bound { n } else { bound }

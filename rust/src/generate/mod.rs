@@ -9,6 +9,7 @@ pub mod large;
 pub mod limits;
 pub mod random;
 pub mod rules;
+pub mod runs;
 pub mod world;
 
 use crate::calls::{program, LEAST_OUTPUT, LEAST_WORDS, PROGRAM_OUTPUT};

@@ -6,6 +6,7 @@ pub mod compare;
 pub mod linked;
 pub mod program;
 pub mod run;
+pub mod runs;
 pub mod shrink;
 pub mod standin;
 pub mod tally;

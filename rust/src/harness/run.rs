@@ -65,22 +65,27 @@ pub fn program_sheet(product: &Path, text: &[u8]) -> io::Result<Result<(), Diffe
     }))
 }
 
-/// A sheet with what the program must print for it.
+/// A sheet, or a run of stitch lengths, with what the program must print for it.
 pub struct Vector {
     pub name: String,
     pub text: Vec<u8>,
     pub printed: Vec<u8>,
 }
 
-/// The vectors in the order of their names.
+/// The sheets among the vectors.
 pub fn vectors() -> io::Result<Vec<Vector>> {
-    let folder = Path::new(env!("CARGO_MANIFEST_DIR")).join("../crates/sheet_vectors/data");
+    vectors_of("sheet_vectors", "sheet")
+}
+
+/// The vectors of a crate in the order of their names.
+pub fn vectors_of(crate_name: &str, ending: &str) -> io::Result<Vec<Vector>> {
+    let crates = Path::new(env!("CARGO_MANIFEST_DIR")).join("../crates");
     let mut vectors = Vec::new();
-    for entry in fs::read_dir(folder)? {
+    for entry in fs::read_dir(crates.join(crate_name).join("data"))? {
         let path = entry?.path();
         if path
             .extension()
-            .is_some_and(|extension| extension == "sheet")
+            .is_some_and(|extension| extension == ending)
         {
             let name = path.file_stem().unwrap_or_default().to_string_lossy();
             vectors.push(Vector {

@@ -2,7 +2,7 @@
 use native.Mathlib.Omega.{arith}
 use borrow.Author.Needs.{needs}
 use mathlib.Core.Path.{refl}
-use Rattle.printing.proofs.Verdicts.{report-printed, refusal-is}
+use Rattle.printing.proofs.Verdicts.{puts-front, report-printed, refusal-is}
 use Rattle.printing.proofs.printed_text.Statement.{statement}
 use Rattle.printing.proofs.printed_text.Tie as tie
 
@@ -25,7 +25,7 @@ put-refusal-requires : tie.Need-put-refusal-requires
 put-refusal-requires c κs = search needs
 
 returns-2 : tie.Need-returns-2
-returns-2 c = rw (← refusal-is (c .before .before .before .before .before .before .before .before .before .before .before .before .args .text .now) _ _ _ _ refl refl refl (omega arith) (c .before .before .before .before .before .before .ocl-report .ensures) (c .before .before .if1 .left)) (c .put-refusal .ensures)
+returns-2 c = rw (← refusal-is (c .before .before .before .before .before .before .before .before .before .before .before .before .args .text .now) _ _ _ _ refl refl refl (omega arith) (c .before .before .before .before .before .before .ocl-report .ensures) (c .before .before .if1 .left)) (puts-front (c .put-refusal .ensures))
 
 pub printed-text-spec : {M : Type 1} → statement M
 printed-text-spec =

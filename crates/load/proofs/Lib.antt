@@ -1,0 +1,9 @@
+pub mod Windows
+pub mod Largest
+pub mod Ring
+pub mod Record
+pub mod Lines
+pub mod Progress
+pub mod Steps
+pub mod Feeding
+pub mod Answers

@@ -1,0 +1,25 @@
+// For the build scripts of `checker` and `load`: links a static library of the
+// product, from the folder that CHECKER_LIB_DIR names, else from the one where the
+// repository's `rt staticlib` writes it.
+
+use std::env;
+use std::path::{Path, PathBuf};
+
+fn link(name: &str) {
+    println!("cargo:rerun-if-changed=build.rs");
+    println!("cargo:rerun-if-changed=../link.rs");
+    println!("cargo:rerun-if-env-changed=CHECKER_LIB_DIR");
+    let ours = || Path::new(env!("CARGO_MANIFEST_DIR")).join("../../target/staticlib");
+    let folder = env::var_os("CHECKER_LIB_DIR").map_or_else(ours, PathBuf::from);
+    let library = folder.join(format!("lib{name}.a"));
+    let Ok(library) = library.canonicalize() else {
+        panic!(
+            "there is no {}: run `rt staticlib {name}`, or name the library's folder by CHECKER_LIB_DIR",
+            library.display()
+        );
+    };
+    let folder = library.parent().expect("a file has a folder");
+    println!("cargo:rerun-if-changed={}", library.display());
+    println!("cargo:rustc-link-search=native={}", folder.display());
+    println!("cargo:rustc-link-lib=static={name}");
+}

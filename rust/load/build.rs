@@ -1,0 +1,7 @@
+//! Links `libload.a`.
+
+include!("../link.rs");
+
+fn main() {
+    link("load");
+}
