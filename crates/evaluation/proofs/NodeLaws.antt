@@ -2,12 +2,14 @@
 use mathlib.Core.Path.{_≡_, refl, ap, _∙_}
 use mathlib.Core.Bool.{Bool, true, false}
 use mathlib.Core.Option.{none}
-use mathlib.Core.List.{List}
+use mathlib.Core.Logic.{inl, inr}
+use mathlib.Core.List.{List, [], _∷_}
 use Prim.Native.Nat.{ℕ, zero, suc, _+_, _<_, _≤_}
 use native.Mathlib.Omega.{arith}
 use lib.ListN.{length, getD, set, replicate}
 use lib.Dec.{ltb}
 use borrow.Author.Tests.{ltb-true, ltb-false, lt-ltb, ne-eqb}
+use types.Run.{OneOf}
 use Rattle.laws.specs.Choice.{if_then_else_}
 use Rattle.ocl.specs.Values.{Value, obj, size}
 use Rattle.ocl.specs.Environment.{Env, extend, start}
@@ -19,7 +21,7 @@ use Rattle.values.specs.Contracts.{means-obj, Pushes}
 use Rattle.values.specs.declared.Simple.the-variants as simple
 use Rattle.nodes.specs.Nodes.{word, leafOf, unaryOf, treeAt}
 use Rattle.nodes.proofs.Nodes.{below-law}
-use Rattle.nodes.proofs.Levels.{assemble-levels}
+use Rattle.nodes.proofs.Levels.{unary-levels, assemble-levels, isUndef-levels, attribute-levels}
 use Rattle.nodes.proofs.Evaluation.{operandRun, leaf-run, unary-run, binary-run, connective-run, quantified-run, assemble-run, over-run, isUndef-run, conditional-run, let-run, attribute-run, iterate-run, none-run, operand-run, late-run}
 use Rattle.tables.specs.declared.Counts.{Counts}
 use Rattle.operations.specs.declared.Ended.{Ended}
@@ -49,6 +51,21 @@ assemble-by t n k e a b w false f = assemble-run (w .model) (w .mark) t n k e a 
 
 -- ---- one operand
 
+-- the codes of the forms with one operand
+pub data Single (k : ℕ) : Type 0 where
+  low-code : 7 ≤ k → k < 13 → Single k
+  lone-code : OneOf (30 ∷ 33 ∷ []) k → Single k
+
+pub single-codes : {k : ℕ} → Single k → 7 ≤ k
+single-codes (low-code a b) = a
+single-codes (lone-code (inl a)) = omega arith
+single-codes (lone-code (inr a)) = omega arith
+
+pub single-levels : (t : List ℕ) (n k : ℕ) → k ≡ word t n 0 → Single k → levels (operandTree t n 1) < levels (treeAt t n)
+single-levels t n k e (low-code a b) = unary-levels t n k e a b
+single-levels t n k e (lone-code (inl a)) = isUndef-levels t n k e a
+single-levels t n k e (lone-code (inr a)) = attribute-levels t n k e a
+
 -- a strict form is undefined where its operand is
 strict : (o : Outcome) (f g : Value → ℕ → Outcome) (u : ℕ → Outcome) → ((v : Value) (s : ℕ) → f v s ≡ g v s) → ((s : ℕ) → u s ≡ undefined s) → resume o f u ≡ bind o g
 strict (value v s) f g u a b = a v s
@@ -76,9 +93,11 @@ runs-as e x = record { small = x .small; ran = λ w ok ρ rel. rw (e w ρ) at (x
 
 -- the code k is node n's, and a step may begin
 module _ {Ok : World → Type 0} (t : List ℕ) (n k : ℕ) {env B A : List ℕ} {sp s : ℕ} {r : Ended} (e : k ≡ word t n 0) (h : s < 1000000) where
-  pub node-unary : 7 ≤ k → k < 13 → Evals Ok (unaryNode t n k) env sp (s + 1) B A r → Evals Ok (nodeFor t n) env sp s B A r
+  pub node-unary : Single k → Evals Ok (unaryNode t n k) env sp (s + 1) B A r → Evals Ok (nodeFor t n) env sp s B A r
   unfolding nodeFor operandFor operandRun
-  node-unary a b x = tick-on _ (λ w. unary-run (w .model) (w .mark) t n k e a b) h (runs-as (λ w ρ. unary-as t n k w ρ (s + 1) b) x)
+  node-unary (low-code a b) x = tick-on _ (λ w. unary-run (w .model) (w .mark) t n k e a b) h (runs-as (λ w ρ. unary-as t n k w ρ (s + 1) b) x)
+  node-unary (lone-code (inl a)) x = tick-on _ (λ w. isUndef-run (w .model) (w .mark) t n k e a) h (runs-as (λ w ρ. isUndef-as t n k w ρ (s + 1) a) x)
+  node-unary (lone-code (inr a)) x = tick-on _ (λ w. attribute-run (w .model) (w .mark) t n k e a) h (runs-as (λ w ρ. attribute-as t n k w ρ (s + 1) a) x)
 
   pub node-binary : 13 ≤ k → k < 23 → Evals Ok (binaryNode t n k) env sp (s + 1) B A r → Evals Ok (nodeFor t n) env sp s B A r
   unfolding nodeFor binaryNode operandFor operandRun
@@ -96,10 +115,6 @@ module _ {Ok : World → Type 0} (t : List ℕ) (n k : ℕ) {env B A : List ℕ}
   unfolding nodeFor assembleNode
   node-assemble a b x = tick-on (assembleNode t n k) (λ w. assemble-by t n k e a b w (ltb 4 (word t n 5)) refl) h x
 
-  pub node-isUndef : k ≡ 30 → Evals Ok (unaryNode t n k) env sp (s + 1) B A r → Evals Ok (nodeFor t n) env sp s B A r
-  unfolding nodeFor operandFor operandRun
-  node-isUndef a x = tick-on _ (λ w. isUndef-run (w .model) (w .mark) t n k e a) h (runs-as (λ w ρ. isUndef-as t n k w ρ (s + 1) a) x)
-
   pub node-conditional : k ≡ 31 → Evals Ok (conditionalNode t n) env sp (s + 1) B A r → Evals Ok (nodeFor t n) env sp s B A r
   unfolding nodeFor conditionalNode operandFor operandRun
   node-conditional a x = tick-on (conditionalNode t n) (λ w. conditional-run (w .model) (w .mark) t n k e a) h x
@@ -107,10 +122,6 @@ module _ {Ok : World → Type 0} (t : List ℕ) (n k : ℕ) {env B A : List ℕ}
   pub node-let : k ≡ 32 → Evals Ok (letNode t n) env sp (s + 1) B A r → Evals Ok (nodeFor t n) env sp s B A r
   unfolding nodeFor letNode operandFor operandRun
   node-let a x = tick-on (letNode t n) (λ w. let-run (w .model) (w .mark) t n k e a) h x
-
-  pub node-attribute : k ≡ 33 → Evals Ok (unaryNode t n k) env sp (s + 1) B A r → Evals Ok (nodeFor t n) env sp s B A r
-  unfolding nodeFor operandFor operandRun
-  node-attribute a x = tick-on _ (λ w. attribute-run (w .model) (w .mark) t n k e a) h (runs-as (λ w ρ. attribute-as t n k w ρ (s + 1) a) x)
 
   pub node-iterate : k ≡ 34 → Evals Ok (iterateNode t n) env sp (s + 1) B A r → Evals Ok (nodeFor t n) env sp s B A r
   unfolding nodeFor iterateNode operandFor operandRun
@@ -195,5 +206,5 @@ shallow t n k left e a b h = record { members = λ c i m. let l = assemble-level
 
 -- ---- codes of no form
 
-pub over-34 : (k : ℕ) → 30 ≤ k → (k ≡ 30 → ⊥) → (k ≡ 31 → ⊥) → (k ≡ 32 → ⊥) → (k ≡ 33 → ⊥) → (k ≡ 34 → ⊥) → 34 < k
-over-34 k h a b c d e = omega arith
+pub over-34 : (k : ℕ) → 30 ≤ k → (OneOf (30 ∷ 33 ∷ []) k → ⊥) → (k ≡ 31 → ⊥) → (k ≡ 32 → ⊥) → (k ≡ 34 → ⊥) → 34 < k
+over-34 k h a b c d = let e : k ≡ 30 → ⊥ = λ q. a (inl q) in let f : k ≡ 33 → ⊥ = λ q. a (inr q) in omega arith

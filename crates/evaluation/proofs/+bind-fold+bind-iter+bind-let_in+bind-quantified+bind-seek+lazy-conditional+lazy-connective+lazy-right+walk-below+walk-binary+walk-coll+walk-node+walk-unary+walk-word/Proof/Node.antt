@@ -1,8 +1,9 @@
 -- The needs of `node`.
+use mathlib.Core.Logic.{⊎-elim}
 use Prim.Native.Nat.{_-_, ℕ}
-use Rattle.evaluation.proofs.NodeLaws.{over-34, node-leaf, node-unary, node-binary, node-connective, node-quantified, node-assemble, node-isUndef, node-conditional, node-let, node-attribute, node-iterate, node-none, shallow}
+use Rattle.evaluation.proofs.NodeLaws.{low-code, lone-code, single-codes, single-levels, over-34, node-leaf, node-unary, node-binary, node-connective, node-quantified, node-assemble, node-conditional, node-let, node-iterate, node-none, shallow}
 use Rattle.nodes.specs.Nodes.{treeAt}
-use Rattle.nodes.proofs.Levels.{some-level, unary-levels, binary-levels, connective-levels, quantified-levels, isUndef-levels, conditional-levels, let-levels, attribute-levels, iterate-levels}
+use Rattle.nodes.proofs.Levels.{some-level, binary-levels, connective-levels, quantified-levels, conditional-levels, let-levels, iterate-levels}
 use borrow.Author.Needs.{needs}
 use native.Mathlib.Omega.{arith}
 use Rattle.evaluation.proofs.walk.binary.Reads as binary
@@ -22,7 +23,7 @@ use Rattle.evaluation.proofs.+bind-fold+bind-iter+bind-let_in+bind-quan
 
 module _ (t : ℕ) where
   abbrev calls : lts.Claims
-  calls = (node-word-reads.Asked, node-word-reads.Learnt, unary-below t, unary.Post, conditional-below t, conditional.Post, let-in-below t, let-in.Post, iter-below t, iter.Post, leaf-reads.Asked, leaf-reads.Learnt, binary-below t, binary.Post, connective-below t, connective.Post, wide-reads.Asked, wide-reads.Learnt, quantified-below t, quantified.Post, coll-below t, coll.Post)
+  calls = (node-word-reads.Asked, node-word-reads.Learnt, conditional-below t, conditional.Post, let-in-below t, let-in.Post, iter-below t, iter.Post, leaf-reads.Asked, leaf-reads.Learnt, binary-below t, binary.Post, connective-below t, connective.Post, wide-reads.Asked, wide-reads.Learnt, quantified-below t, quantified.Post, coll-below t, coll.Post, unary-below t, unary.Post)
 
   add-s : lts.Need-add-s calls (node-at t) node.Post
   add-s c = search needs
@@ -33,29 +34,20 @@ module _ (t : ℕ) where
   node-word-requires : lts.Need-node-word-requires calls (node-at t) node.Post
   node-word-requires c κs = search needs
 
-  unary-requires : lts.Need-unary-requires calls (node-at t) node.Post
-  unary-requires c κs = omega (arith, c .before .match .keys1, c .before .before .before .before .before .before .pre, some-level (treeAt (c .before .before .before .before .before .before .args .nodes .now) (c .before .before .before .before .before .before .args .n)), isUndef-levels (c .before .before .before .before .before .before .args .nodes .now) (c .before .before .before .before .before .before .args .n) (c .before .before .node-word .result) (c .before .before .node-word .ensures) (c .before .match .keys1))
-
   conditional-requires : lts.Need-conditional-requires calls (node-at t) node.Post
   conditional-requires c κs = omega (arith, c .before .before .before .before .before .before .pre, some-level (treeAt (c .before .before .before .before .before .before .args .nodes .now) (c .before .before .before .before .before .before .args .n)), conditional-levels (c .before .before .before .before .before .before .args .nodes .now) (c .before .before .before .before .before .before .args .n) (c .before .before .node-word .result) (c .before .before .node-word .ensures) (c .before .match .keys2))
 
   let-in-requires : lts.Need-let-in-requires calls (node-at t) node.Post
   let-in-requires c κs = omega (arith, c .before .before .before .before .before .before .pre, some-level (treeAt (c .before .before .before .before .before .before .args .nodes .now) (c .before .before .before .before .before .before .args .n)), let-levels (c .before .before .before .before .before .before .args .nodes .now) (c .before .before .before .before .before .before .args .n) (c .before .before .node-word .result) (c .before .before .node-word .ensures) (c .before .match .keys3))
 
-  unary-requires-2 : lts.Need-unary-requires-2 calls (node-at t) node.Post
-  unary-requires-2 c κs = omega (arith, c .before .match .keys4, c .before .before .before .before .before .before .pre, some-level (treeAt (c .before .before .before .before .before .before .args .nodes .now) (c .before .before .before .before .before .before .args .n)), attribute-levels (c .before .before .before .before .before .before .args .nodes .now) (c .before .before .before .before .before .before .args .n) (c .before .before .node-word .result) (c .before .before .node-word .ensures) (c .before .match .keys4))
-
   iter-requires : lts.Need-iter-requires calls (node-at t) node.Post
-  iter-requires c κs = omega (arith, c .before .before .before .before .before .before .pre, some-level (treeAt (c .before .before .before .before .before .before .args .nodes .now) (c .before .before .before .before .before .before .args .n)), iterate-levels (c .before .before .before .before .before .before .args .nodes .now) (c .before .before .before .before .before .before .args .n) (c .before .before .node-word .result) (c .before .before .node-word .ensures) (c .before .match .keys5))
+  iter-requires c κs = omega (arith, c .before .before .before .before .before .before .pre, some-level (treeAt (c .before .before .before .before .before .before .args .nodes .now) (c .before .before .before .before .before .before .args .n)), iterate-levels (c .before .before .before .before .before .before .args .nodes .now) (c .before .before .before .before .before .before .args .n) (c .before .before .node-word .result) (c .before .before .node-word .ensures) (c .before .match .keys4))
 
   node-word-requires-2 : lts.Need-node-word-requires-2 calls (node-at t) node.Post
   node-word-requires-2 c κs = search needs
 
   leaf-requires : lts.Need-leaf-requires calls (node-at t) node.Post
   leaf-requires c κs = search needs
-
-  unary-requires-3 : lts.Need-unary-requires-3 calls (node-at t) node.Post
-  unary-requires-3 c κs = omega (arith, c .before .before .before .before .before .before .before .before .pre, some-level (treeAt (c .before .before .before .before .before .before .before .before .args .nodes .now) (c .before .before .before .before .before .before .before .before .args .n)), c .before .before .if1 .left, c .before .if2 .taken, unary-levels (c .before .before .before .before .before .before .before .before .args .nodes .now) (c .before .before .before .before .before .before .before .before .args .n) (c .before .before .before .before .node-word .result) (c .before .before .before .before .node-word .ensures) (c .before .before .if1 .left) (omega (arith, c .before .if2 .taken)))
 
   binary-requires : lts.Need-binary-requires calls (node-at t) node.Post
   binary-requires c κs = omega (arith, c .before .before .before .before .before .before .before .before .before .pre, some-level (treeAt (c .before .before .before .before .before .before .before .before .before .args .nodes .now) (c .before .before .before .before .before .before .before .before .before .args .n)), c .before .before .if2 .left, c .before .if3 .taken, binary-levels (c .before .before .before .before .before .before .before .before .before .args .nodes .now) (c .before .before .before .before .before .before .before .before .before .args .n) (c .before .before .before .before .before .node-word .result) (c .before .before .before .before .before .node-word .ensures) (c .before .before .if2 .left) (omega (arith, c .before .if3 .taken)))
@@ -75,74 +67,65 @@ module _ (t : ℕ) where
   coll-requires : lts.Need-coll-requires calls (node-at t) node.Post
   coll-requires c κs = (omega (arith, c .before .before .before .before .before .before .before .before .before .before .before .before .pre), (omega (arith, c .before .before .before .before .before .before .before .before .before .before .before .before .pre, some-level (treeAt (c .before .before .before .before .before .before .before .before .before .before .before .before .args .nodes .now) (c .before .before .before .before .before .before .before .before .before .before .before .before .args .n))), (c .before .before .if5 .left, omega (arith, c .before .if6 .taken), shallow (c .before .before .before .before .before .before .before .before .before .before .before .before .args .nodes .now) (c .before .before .before .before .before .before .before .before .before .before .before .before .args .n) (c .before .before .before .before .before .before .before .before .node-word .result) (c .before .before .before .before .before .before .before .before .before .before .before .before .args .left - 1) (c .before .before .before .before .before .before .before .before .node-word .ensures) (c .before .before .if5 .left) (omega (arith, c .before .if6 .taken)) (omega (arith, c .before .before .before .before .before .before .before .before .before .before .before .before .pre, some-level (treeAt (c .before .before .before .before .before .before .before .before .before .before .before .before .args .nodes .now) (c .before .before .before .before .before .before .before .before .before .before .before .before .args .n)))))))
 
+  unary-requires : lts.Need-unary-requires calls (node-at t) node.Post
+  unary-requires c κs = omega (arith, c .before .before .before .before .before .before .pre, some-level (treeAt (c .before .before .before .before .before .before .args .nodes .now) (c .before .before .before .before .before .before .args .n)), single-codes (⊎-elim (λ m. lone-code (m .keys1)) (λ m. low-code (m .1 .left) (m .2 .taken)) (c .before .match .came)), single-levels (c .before .before .before .before .before .before .args .nodes .now) (c .before .before .before .before .before .before .args .n) (c .before .before .node-word .result) (c .before .before .node-word .ensures) (⊎-elim (λ m. lone-code (m .keys1)) (λ m. low-code (m .1 .left) (m .2 .taken)) (c .before .match .came)))
+
   same-length : lts.Need-same-length calls (node-at t) node.Post
   same-length c = search needs
 
   returns : lts.Need-returns calls (node-at t) node.Post
-  returns c = search node-isUndef
+  returns c = search node-conditional
 
   same-length-2 : lts.Need-same-length-2 calls (node-at t) node.Post
   same-length-2 c = search needs
 
   returns-2 : lts.Need-returns-2 calls (node-at t) node.Post
-  returns-2 c = search node-conditional
+  returns-2 c = search node-let
 
   same-length-3 : lts.Need-same-length-3 calls (node-at t) node.Post
   same-length-3 c = search needs
 
   returns-3 : lts.Need-returns-3 calls (node-at t) node.Post
-  returns-3 c = search node-let
+  returns-3 c = search node-iterate
 
   same-length-4 : lts.Need-same-length-4 calls (node-at t) node.Post
   same-length-4 c = search needs
 
   returns-4 : lts.Need-returns-4 calls (node-at t) node.Post
-  returns-4 c = search node-attribute
+  returns-4 c = search node-leaf
 
   same-length-5 : lts.Need-same-length-5 calls (node-at t) node.Post
   same-length-5 c = search needs
 
   returns-5 : lts.Need-returns-5 calls (node-at t) node.Post
-  returns-5 c = search node-iterate
+  returns-5 c = search node-binary
 
   same-length-6 : lts.Need-same-length-6 calls (node-at t) node.Post
   same-length-6 c = search needs
 
   returns-6 : lts.Need-returns-6 calls (node-at t) node.Post
-  returns-6 c = search node-leaf
+  returns-6 c = search node-connective
 
   same-length-7 : lts.Need-same-length-7 calls (node-at t) node.Post
   same-length-7 c = search needs
 
   returns-7 : lts.Need-returns-7 calls (node-at t) node.Post
-  returns-7 c = search node-unary
+  returns-7 c = search node-quantified
 
   same-length-8 : lts.Need-same-length-8 calls (node-at t) node.Post
   same-length-8 c = search needs
 
   returns-8 : lts.Need-returns-8 calls (node-at t) node.Post
-  returns-8 c = search node-binary
+  returns-8 c = search node-assemble
+
+  returns-9 : lts.Need-returns-9 calls (node-at t) node.Post
+  returns-9 c = node-none _ _ _ (c .before .before .before .before .before .before .before .node-word .ensures) (c .before .before .before .before .before .before .before .before .before .before .before .pre .1 .1 .1) (over-34 _ (c .if6 .left) (c .before .before .before .before .before .before .match .rest .0 .0 .0 .1) (c .before .before .before .before .before .before .match .rest .0 .0 .1) (c .before .before .before .before .before .before .match .rest .0 .1) (c .before .before .before .before .before .before .match .rest .1))
 
   same-length-9 : lts.Need-same-length-9 calls (node-at t) node.Post
   same-length-9 c = search needs
 
-  returns-9 : lts.Need-returns-9 calls (node-at t) node.Post
-  returns-9 c = search node-connective
-
-  same-length-10 : lts.Need-same-length-10 calls (node-at t) node.Post
-  same-length-10 c = search needs
-
   returns-10 : lts.Need-returns-10 calls (node-at t) node.Post
-  returns-10 c = search node-quantified
-
-  same-length-11 : lts.Need-same-length-11 calls (node-at t) node.Post
-  same-length-11 c = search needs
-
-  returns-11 : lts.Need-returns-11 calls (node-at t) node.Post
-  returns-11 c = search node-assemble
-
-  returns-12 : lts.Need-returns-12 calls (node-at t) node.Post
-  returns-12 c = node-none _ _ _ (c .before .before .before .before .before .before .before .node-word .ensures) (c .before .before .before .before .before .before .before .before .before .before .before .pre .1 .1 .1) (over-34 _ (c .if6 .left) (c .before .before .before .before .before .before .match .rest .0 .0 .0 .0 .1) (c .before .before .before .before .before .before .match .rest .0 .0 .0 .1) (c .before .before .before .before .before .before .match .rest .0 .0 .1) (c .before .before .before .before .before .before .match .rest .0 .1) (c .before .before .before .before .before .before .match .rest .1))
+  returns-10 c = node-unary _ _ _ (c .before .before .before .before .before .node-word .ensures) (c .before .before .before .before .before .before .before .before .before .pre .1 .1 .1) (⊎-elim (λ m. lone-code (m .keys1)) (λ m. low-code (m .1 .left) (m .2 .taken)) (c .before .before .before .before .match .came)) (c .before .before .unary .ensures)
 
   pub closed : {M : Type 1} → lts.Closed calls (node-at t) node.Post M
-  closed = lts.spec calls (node-at t) node.Post add-s sub-deeper node-word-requires unary-requires conditional-requires let-in-requires unary-requires-2 iter-requires node-word-requires-2 leaf-requires unary-requires-3 binary-requires connective-requires node-word-requires-3 wide-requires quantified-requires coll-requires same-length returns same-length-2 returns-2 same-length-3 returns-3 same-length-4 returns-4 same-length-5 returns-5 same-length-6 returns-6 same-length-7 returns-7 same-length-8 returns-8 same-length-9 returns-9 same-length-10 returns-10 same-length-11 returns-11 returns-12
+  closed = lts.spec calls (node-at t) node.Post add-s sub-deeper node-word-requires conditional-requires let-in-requires iter-requires node-word-requires-2 leaf-requires binary-requires connective-requires node-word-requires-3 wide-requires quantified-requires coll-requires unary-requires same-length returns same-length-2 returns-2 same-length-3 returns-3 same-length-4 returns-4 same-length-5 returns-5 same-length-6 returns-6 same-length-7 returns-7 same-length-8 returns-8 returns-9 same-length-9 returns-10
