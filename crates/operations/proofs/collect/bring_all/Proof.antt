@@ -4,7 +4,7 @@ use Prim.Native.Nat.{_-_}
 use native.Mathlib.Omega.{arith}
 use Rattle.operations.proofs.Words.{bounds}
 use Rattle.operations.proofs.Lookups.{slot-within}
-use Rattle.operations.proofs.CollectLaws.{Bringing, bring-start, bring-none, bring-ended, bring-over, bring-again, bring-end}
+use Rattle.operations.proofs.BringLaws.{Bringing, bring-start, bring-none, bring-ended, bring-over, bring-again, bring-end}
 use Rattle.operations.proofs.collect.bring_all.Statement.{statement}
 use Rattle.operations.proofs.collect.bring_all.Tie as tie
 

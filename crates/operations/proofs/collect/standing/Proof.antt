@@ -1,5 +1,5 @@
 -- `standing` meets its contract. Assumes nothing.
-use Rattle.operations.proofs.CollectLaws.{standing-other, standing-some, standing-none}
+use Rattle.operations.proofs.StandingLaws.{standing-other, standing-some, standing-none}
 use borrow.Author.Needs.{needs}
 use Rattle.operations.proofs.collect.standing.Statement.{statement}
 use Rattle.operations.proofs.collect.standing.Tie as tie

@@ -2,7 +2,7 @@
 use borrow.Author.Needs.{needs}
 use Prim.Native.Nat.{_-_}
 use native.Mathlib.Omega.{arith}
-use Rattle.operations.proofs.CollectLaws.{Worsening, worst-start, worst-again, worst-end}
+use Rattle.operations.proofs.StandingLaws.{Worsening, worst-start, worst-again, worst-end}
 use Rattle.operations.proofs.collect.worst.Statement.{statement}
 use Rattle.operations.proofs.collect.worst.Tie as tie
 
