@@ -107,7 +107,23 @@ impl Evaluation<'_> {
             Form::Times => self.arithmetic(operands, |a, b| Some(a * b)),
             Form::Div => self.arithmetic(operands, i64::checked_div),
             Form::Mod => self.arithmetic(operands, i64::checked_rem),
-            Form::Attr { row, .. } => self.attribute(&operands[0], *row),
+            Form::Attr { row, .. } => {
+                let row = row.expect("typing marks the row of every attr");
+                let value = self.node(&operands[0])?;
+                self.in_row(row, &value)?.ok_or(End::Undefined)
+            }
+            Form::Collect { mark, .. } => {
+                let (row, kind) = mark.expect("typing marks every collect");
+                let source = self.collection(&operands[0])?;
+                // All members are looked at first: a wrong kind goes before a missing value.
+                let values: Result<Vec<Option<Value>>, End> = source
+                    .members
+                    .iter()
+                    .map(|member| self.in_row(row, member))
+                    .collect();
+                let values: Option<Vec<Value>> = values?.into_iter().collect();
+                formed(Collection::formed(kind, values.ok_or(End::Undefined)?))
+            }
             Form::All(class) => {
                 let objects = self.model.objects_of(*class).map(Value::Object);
                 formed(Collection::as_given(Kind::Set, objects.collect()))
@@ -221,13 +237,12 @@ impl Evaluation<'_> {
         Ok(Value::Int(within))
     }
 
-    fn attribute(&mut self, operand: &Node, row: Option<u8>) -> Outcome {
-        let row = row.expect("typing marks the row of every attr");
+    /// The value of a row for an object of the row's class or below.
+    fn in_row(&self, row: u8, value: &Value) -> Result<Option<Value>, End> {
         let class = self.model.rows[usize::from(row)].class;
-        match self.node(operand)? {
-            Value::Object(object) if self.model.is_of(object, class) => {
-                let value = self.model.value(object, row);
-                value.cloned().ok_or(End::Undefined)
+        match value {
+            Value::Object(object) if self.model.is_of(*object, class) => {
+                Ok(self.model.value(*object, row).cloned())
             }
             _ => Err(STUCK),
         }

@@ -12,7 +12,7 @@ use crate::values::Value;
 use std::collections::BTreeMap;
 use std::fmt;
 
-const FORMS: [&str; 33] = [
+const FORMS: [&str; 34] = [
     "true",
     "false",
     "undef",
@@ -34,6 +34,7 @@ const FORMS: [&str; 33] = [
     "div",
     "mod",
     "attr",
+    "collect",
     "all",
     "as",
     "size",

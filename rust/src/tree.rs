@@ -33,6 +33,11 @@ pub enum Form {
         name: u8,
         row: Option<u8>,
     },
+    /// Typing marks the row that is read and the kind of the result.
+    Collect {
+        name: u8,
+        mark: Option<(u8, Kind)>,
+    },
     All(u8),
     As(u8),
     Size,
@@ -75,6 +80,7 @@ impl Form {
             Form::Div => "div",
             Form::Mod => "mod",
             Form::Attr { .. } => "attr",
+            Form::Collect { .. } => "collect",
             Form::All(_) => "all",
             Form::As(_) => "as",
             Form::Size => "size",

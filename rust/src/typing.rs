@@ -1,4 +1,4 @@
-//! The type of a rule, and the row each `attr` reads.
+//! The type of a rule, and the row each `attr` and `collect` reads.
 
 use crate::model::{Model, Rule};
 use crate::refusal::{Refusal, Refused};
@@ -114,12 +114,18 @@ impl Typing<'_> {
                 Ok(Type::Int)
             }
             Form::Attr { name, row } => {
-                let Type::Class(class) = types[0] else {
-                    return Err(Refusal::WrongOperandType);
-                };
-                let found = self.model.row(class, *name).ok_or(Refusal::NoAttribute)?;
+                let (found, ty) = self.row(&types[0], *name)?;
                 *row = Some(found);
-                Ok(self.model.rows[usize::from(found)].ty.clone())
+                Ok(ty)
+            }
+            Form::Collect { name, mark } => {
+                let (found, ty) = self.row(&member_type(&types[0])?, *name)?;
+                let kind = match types[0] {
+                    Type::Of(Kind::Sequence, _) => Kind::Sequence,
+                    _ => Kind::Bag,
+                };
+                *mark = Some((found, kind));
+                layered(kind, ty)
             }
             Form::All(class) => Ok(Type::of(Kind::Set, Type::Class(*class))),
             Form::As(class) => {
@@ -157,6 +163,15 @@ impl Typing<'_> {
                 unreachable!("a form that binds a variable")
             }
         }
+    }
+
+    /// The row that the name has for a class, and its type.
+    fn row(&self, class: &Type, name: u8) -> Result<(u8, Type), Refusal> {
+        let Type::Class(class) = class else {
+            return Err(Refusal::WrongOperandType);
+        };
+        let row = self.model.row(*class, name).ok_or(Refusal::NoAttribute)?;
+        Ok((row, self.model.rows[usize::from(row)].ty.clone()))
     }
 
     fn below(&self, low: &Type, high: &Type) -> Result<(), Refusal> {

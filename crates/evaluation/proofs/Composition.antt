@@ -23,6 +23,7 @@ use Rattle.operations.specs.declared.Ended.the-variants as ended
 use Rattle.operations.specs.Answers.{Lies, Ends, ends-value, ends-undefined, ends-stuck, ends-stop, Under, Ran, SmallAnswer}
 use Rattle.operations.specs.Runs.{World, Held, free, held, Rel, Meaning, Evals}
 use Rattle.operations.proofs.Words.{under-refl, under-then, under-down, lies-kept}
+pub use Rattle.operations.proofs.Words.{Other, bounds}
 
 -- ---- environments
 
@@ -49,11 +50,7 @@ rel-bind {env} {S} {sp} {ρ} {i} {at} v n h r = record {
 
 -- ---- outcomes
 
--- no value
-abbrev pub Other : Ended → Type 0
-Other r = OneOf (1 ∷ 2 ∷ 3 ∷ []) (tagOf the-type r)
-
--- and not undefined
+-- no value, and not undefined
 abbrev pub Fatal : Ended → Type 0
 Fatal r = OneOf (0 ∷ 2 ∷ 3 ∷ []) (tagOf the-type r) × Other r
 
@@ -126,9 +123,6 @@ bind-value (value v s) = refl
 bind-value (undefined s) = refl
 bind-value stuck = refl
 bind-value (stop c s) = refl
-
-pub bounds : {r : Ended} {la sa : ℕ} → SmallAnswer r → r ≡ ended.Value la sa → (1 ≤ la) × (la ≤ 128)
-bounds h q = rw q at h
 
 -- ---- meanings
 

@@ -21,9 +21,8 @@ use Rattle.tables.specs.declared.Counts.{Counts}
 use Rattle.operations.specs.declared.Ended.{Ended}
 use Rattle.operations.specs.declared.Ended.the-variants as ended
 use Rattle.operations.specs.Answers.{Lies, ends-stop, Under, Truth}
-use Rattle.operations.specs.Tables.{ReadsRow}
-use Rattle.operations.specs.Operations.{OfOne, OfTwo, FitsLeft}
-use Rattle.operations.specs.Operand.{markIn, ofValue, FromUndefined}
+use Rattle.operations.specs.Operations.{OfTwo, FitsLeft}
+use Rattle.operations.specs.Operand.{markIn, FromValue, FromUndefined}
 use Rattle.operations.specs.Runs.{World, held, Rel, Evals}
 use Rattle.evaluation.specs.Evaluating.{ReadsWorld, operandFor, unaryNode, binaryNode, conditionalNode, letNode, quantifiedNode, iterateNode, Seeks, Folds}
 use Rattle.operations.proofs.Words.{under-then, under-down, lies-kept, head-at, slid}
@@ -34,13 +33,13 @@ use Rattle.evaluation.proofs.ConnectiveLaws.{bool-at, not-bool-at}
 -- ---- one operand
 
 module _ {st : Counts} {w0 : List ℕ} (t : List ℕ) (n k : ℕ) {env B A : List ℕ} {sp s : ℕ} {r : Ended} (x : Evals (ReadsWorld st w0 t) (operandFor t n 1) env sp s B A r) where
-  pub unary-value : {la sa : ℕ} {C : List ℕ} {r' : Ended} → r ≡ ended.Value la sa → n < 768 → OfOne (ReadsRow st w0 (markIn t n)) (λ m. ofValue m k (word t n) (markIn t n)) sp la sa A C r' → Evals (ReadsWorld st w0 t) (unaryNode t n k) env sp s B C r'
+  pub unary-value : {la sa : ℕ} {C : List ℕ} {r' : Ended} → r ≡ ended.Value la sa → n < 768 → FromValue st w0 k (word t n) (markIn t n) sp la sa A C r' → Evals (ReadsWorld st w0 t) (unaryNode t n k) env sp s B C r'
   unfolding unaryNode
   unary-value q h z = record {
     small = z .small;
     ran = λ w ok ρ rel.
         let d = valued (x .ran w ok ρ rel) q in
-        rw (d .is, ok .mark n h) (ran-from (d .kept) (z .ran (w .model) (record { holds = ok .holds; plain = ok .plain; row = rw (ok .mark n h) at (ok .row n h) }) (d .v) (d .lies)));
+        rw (d .is) (ran-from (d .kept) (z .ran (w .model) (ok .holds) (ok .plain) (w .mark n) (ok .mark n h) (d .v) (d .lies)));
   }
 
   pub unary-undefined : {sa : ℕ} {C : List ℕ} {r' : Ended} → r ≡ ended.Undef sa → FromUndefined k sp sa A C r' → Evals (ReadsWorld st w0 t) (unaryNode t n k) env sp s B C r'

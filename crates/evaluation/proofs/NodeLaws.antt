@@ -2,24 +2,22 @@
 use mathlib.Core.Path.{_≡_, refl, ap, _∙_}
 use mathlib.Core.Bool.{Bool, true, false}
 use mathlib.Core.Option.{none}
-use mathlib.Core.Logic.{inl, inr}
-use mathlib.Core.List.{List, [], _∷_}
+use mathlib.Core.List.{List}
 use Prim.Native.Nat.{ℕ, zero, suc, _+_, _<_, _≤_}
 use native.Mathlib.Omega.{arith}
 use lib.ListN.{length, getD, set, replicate}
-use lib.Dec.{ltb}
-use borrow.Author.Tests.{ltb-true, ltb-false, lt-ltb, ne-eqb}
-use types.Run.{OneOf}
+use lib.Dec.{eqb, ltb}
+use borrow.Author.Tests.{ltb-true, ltb-false, lt-ltb, le-ltb, ne-eqb}
 use Rattle.laws.specs.Choice.{if_then_else_}
 use Rattle.ocl.specs.Values.{Value, obj, size}
 use Rattle.ocl.specs.Environment.{Env, extend, start}
 use Rattle.ocl.specs.Forms.{Expr, node, undef, levels}
-use Rattle.ocl.specs.Evaluation.{Outcome, value, undefined, stuck, stop, resume, bind, tick, leafRun, unaryApply, unaryRun, isUndefRun, attributeRun, evaluation, formRun, evaluateRule}
+use Rattle.ocl.specs.Evaluation.{Outcome, value, undefined, stuck, stop, resume, bind, tick, leafRun, unaryApply, unaryRun, isUndefRun, access, attributeRun, evaluation, formRun, evaluateRule}
 use Rattle.ocl.proofs.Steps.{run-limited}
 use Rattle.values.specs.Cells.{fits-obj}
 use Rattle.values.specs.Contracts.{means-obj, Pushes}
 use Rattle.values.specs.declared.Simple.the-variants as simple
-use Rattle.nodes.specs.Nodes.{word, leafOf, unaryOf, treeAt}
+use Rattle.nodes.specs.Nodes.{word, leafOf, unaryOf, accessOf, treeAt}
 use Rattle.nodes.proofs.Nodes.{below-law}
 use Rattle.nodes.proofs.Levels.{unary-levels, assemble-levels, isUndef-levels, attribute-levels}
 use Rattle.nodes.proofs.Evaluation.{operandRun, leaf-run, unary-run, binary-run, connective-run, quantified-run, assemble-run, over-run, isUndef-run, conditional-run, let-run, attribute-run, iterate-run, none-run, operand-run, late-run}
@@ -27,7 +25,6 @@ use Rattle.tables.specs.declared.Counts.{Counts}
 use Rattle.operations.specs.declared.Ended.{Ended}
 use Rattle.operations.specs.declared.Ended.the-variants as ended
 use Rattle.operations.specs.Answers.{answerIn, Packs}
-use Rattle.operations.specs.Tables.{attributeIn}
 use Rattle.operations.specs.Operand.{ofValue, ofUndefined}
 use Rattle.operations.specs.Runs.{World, ModelIn, free, held, Rel, Meaning, Evals, leafFor}
 use Rattle.evaluation.specs.Evaluating.{ReadsWorld, Rules, nodeFor, operandFor, unaryNode, binaryNode, connectiveNode, conditionalNode, letNode, quantifiedNode, iterateNode, membersRun, assembleNode, operandTree, Shallow}
@@ -54,17 +51,18 @@ assemble-by t n k e a b w false f = assemble-run (w .model) (w .mark) t n k e a 
 -- the codes of the forms with one operand
 pub data Single (k : ℕ) : Type 0 where
   low-code : 7 ≤ k → k < 13 → Single k
-  lone-code : OneOf (30 ∷ 33 ∷ []) k → Single k
+  lone-code : k ≡ 30 → Single k
+  high-code : 33 ≤ k → k < 35 → Single k
 
 pub single-codes : {k : ℕ} → Single k → 7 ≤ k
 single-codes (low-code a b) = a
-single-codes (lone-code (inl a)) = omega arith
-single-codes (lone-code (inr a)) = omega arith
+single-codes (lone-code a) = omega arith
+single-codes (high-code a b) = omega arith
 
 pub single-levels : (t : List ℕ) (n k : ℕ) → k ≡ word t n 0 → Single k → levels (operandTree t n 1) < levels (treeAt t n)
 single-levels t n k e (low-code a b) = unary-levels t n k e a b
-single-levels t n k e (lone-code (inl a)) = isUndef-levels t n k e a
-single-levels t n k e (lone-code (inr a)) = attribute-levels t n k e a
+single-levels t n k e (lone-code a) = isUndef-levels t n k e a
+single-levels t n k e (high-code a b) = attribute-levels t n k e a b
 
 -- a strict form is undefined where its operand is
 strict : (o : Outcome) (f g : Value → ℕ → Outcome) (u : ℕ → Outcome) → ((v : Value) (s : ℕ) → f v s ≡ g v s) → ((s : ℕ) → u s ≡ undefined s) → resume o f u ≡ bind o g
@@ -82,9 +80,11 @@ module _ (t : List ℕ) (n k : ℕ) (w : World) (ρ : Env Value) (s : ℕ) where
   unfolding unaryNode isUndefRun ofValue ofUndefined
   isUndef-as e = rw e refl
 
-  attribute-as : k ≡ 33 → unaryNode t n k w ρ s ≡ attributeRun (w .model) (w .mark n) (operandFor t n 1 w) ρ s
+  attribute-as : 33 ≤ k → unaryNode t n k w ρ s ≡ attributeRun (w .model) (accessOf k) (w .mark n) (operandFor t n 1 w) ρ s
   unfolding unaryNode attributeRun ofValue ofUndefined
-  attribute-as e = rw e (strict (operandFor t n 1 w ρ s) (ofValue (w .model) 33 (word t n) (w .mark n)) (λ v m. attributeIn (w .model) (w .mark n) v m) (ofUndefined 33) (λ v m. refl) (λ m. refl))
+  attribute-as h =
+      let no : eqb k 30 ≡ false = ne-eqb k 30 (λ e. omega arith) in
+      strict (operandFor t n 1 w ρ s) (ofValue (w .model) k (word t n) (w .mark n)) (λ v m. access (w .model) (accessOf k) (w .mark n) v m) (ofUndefined k) (λ v m. rw (le-ltb k 13 (omega arith), no)) (λ m. rw no)
 
 runs-as : {Ok : World → Type 0} {f g : Meaning} {env B A : List ℕ} {sp s : ℕ} {r : Ended} → ((w : World) (ρ : Env Value) → f w ρ s ≡ g w ρ s) → Evals Ok f env sp s B A r → Evals Ok g env sp s B A r
 runs-as e x = record { small = x .small; ran = λ w ok ρ rel. rw (e w ρ) at (x .ran w ok ρ rel) }
@@ -96,8 +96,8 @@ module _ {Ok : World → Type 0} (t : List ℕ) (n k : ℕ) {env B A : List ℕ}
   pub node-unary : Single k → Evals Ok (unaryNode t n k) env sp (s + 1) B A r → Evals Ok (nodeFor t n) env sp s B A r
   unfolding nodeFor operandFor operandRun
   node-unary (low-code a b) x = tick-on _ (λ w. unary-run (w .model) (w .mark) t n k e a b) h (runs-as (λ w ρ. unary-as t n k w ρ (s + 1) b) x)
-  node-unary (lone-code (inl a)) x = tick-on _ (λ w. isUndef-run (w .model) (w .mark) t n k e a) h (runs-as (λ w ρ. isUndef-as t n k w ρ (s + 1) a) x)
-  node-unary (lone-code (inr a)) x = tick-on _ (λ w. attribute-run (w .model) (w .mark) t n k e a) h (runs-as (λ w ρ. attribute-as t n k w ρ (s + 1) a) x)
+  node-unary (lone-code a) x = tick-on _ (λ w. isUndef-run (w .model) (w .mark) t n k e a) h (runs-as (λ w ρ. isUndef-as t n k w ρ (s + 1) a) x)
+  node-unary (high-code a b) x = tick-on _ (λ w. attribute-run (w .model) (w .mark) t n k e a b) h (runs-as (λ w ρ. attribute-as t n k w ρ (s + 1) a) x)
 
   pub node-binary : 13 ≤ k → k < 23 → Evals Ok (binaryNode t n k) env sp (s + 1) B A r → Evals Ok (nodeFor t n) env sp s B A r
   unfolding nodeFor binaryNode operandFor operandRun
@@ -123,11 +123,11 @@ module _ {Ok : World → Type 0} (t : List ℕ) (n k : ℕ) {env B A : List ℕ}
   unfolding nodeFor letNode operandFor operandRun
   node-let a x = tick-on (letNode t n) (λ w. let-run (w .model) (w .mark) t n k e a) h x
 
-  pub node-iterate : k ≡ 34 → Evals Ok (iterateNode t n) env sp (s + 1) B A r → Evals Ok (nodeFor t n) env sp s B A r
+  pub node-iterate : k ≡ 35 → Evals Ok (iterateNode t n) env sp (s + 1) B A r → Evals Ok (nodeFor t n) env sp s B A r
   unfolding nodeFor iterateNode operandFor operandRun
   node-iterate a x = tick-on (iterateNode t n) (λ w. iterate-run (w .model) (w .mark) t n k e a) h x
 
-pub node-none : {Ok : World → Type 0} (t : List ℕ) (n k : ℕ) {env B : List ℕ} {sp s : ℕ} → k ≡ word t n 0 → s < 1000000 → 34 < k → Evals Ok (nodeFor t n) env sp s B B (ended.Undef (s + 1))
+pub node-none : {Ok : World → Type 0} (t : List ℕ) (n k : ℕ) {env B : List ℕ} {sp s : ℕ} → k ≡ word t n 0 → s < 1000000 → 35 < k → Evals Ok (nodeFor t n) env sp s B B (ended.Undef (s + 1))
 unfolding nodeFor undefNode
 node-none t n k e h a = tick-on undefNode (λ w. none-run (w .model) (w .mark) t n k e a) h undef-done
 
@@ -206,5 +206,9 @@ shallow t n k left e a b h = record { members = λ c i m. let l = assemble-level
 
 -- ---- codes of no form
 
-pub over-34 : (k : ℕ) → 30 ≤ k → (OneOf (30 ∷ 33 ∷ []) k → ⊥) → (k ≡ 31 → ⊥) → (k ≡ 32 → ⊥) → (k ≡ 34 → ⊥) → 34 < k
-over-34 k h a b c d = let e : k ≡ 30 → ⊥ = λ q. a (inl q) in let f : k ≡ 33 → ⊥ = λ q. a (inr q) in omega arith
+pub over-35 : (k : ℕ) → 35 ≤ k → (k ≡ 35 → ⊥) → 35 < k
+over-35 k h a = omega arith
+
+-- those of `attr` and `collect` come after that of `let`
+pub from-33 : (k : ℕ) → 30 ≤ k → (k ≡ 30 → ⊥) → (k ≡ 31 → ⊥) → (k ≡ 32 → ⊥) → 33 ≤ k
+from-33 k h a b c = omega arith

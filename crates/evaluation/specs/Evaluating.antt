@@ -13,6 +13,7 @@ use Rattle.ocl.specs.Forms.{Expr, levels, Connective, Quantifier, undef}
 use Rattle.ocl.specs.Evaluation.{value, undefined, resume, bind, onBool, leafRun, binaryRun, decides, connectiveRun, conditionalRun, letRun, quantifiedRun, iterateRun, assembleRun, evaluation, evaluateRule, operandsRun, seek, fold}
 use Rattle.values.specs.Cells.{encs, AllFit}
 use Rattle.nodes.specs.Nodes.{word, variable, binaryOf, connectiveOf, quantifierOf, kindOf, operandsIn, treesBelow, treeAt}
+use Rattle.nodes.specs.Marks.{Marked}
 use Rattle.tables.specs.declared.Counts.{Counts}
 use Rattle.tables.specs.Layout.{Fine}
 use Rattle.tables.specs.Stored.{HoldsModel}
@@ -28,8 +29,7 @@ use Rattle.operations.specs.Operand.{markIn, ofValue, ofUndefined}
 pub record ReadsWorld (st : Counts) (w0 w1 : List ℕ) (w : World) : Type 0 where
   pub holds : HoldsModel st w0 (w .model)
   pub plain : Plain st (w .model)
-  pub mark : (p : ℕ) → p < 768 → w .mark p ≡ markIn w1 p
-  pub row : (p : ℕ) → p < 768 → w .mark p < 64
+  pub mark : (p : ℕ) → p < 768 → Marked (markIn w1 p) (w .mark p)
 
 -- a rule's outcome, its value at 1
 pub record Rules (Ok : World → Type 0) (e : Expr) (o : ℕ) (A : List ℕ) (r : Ended) : Type 0 where

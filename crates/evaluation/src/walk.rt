@@ -99,7 +99,7 @@ fn node(
     let form = node_word(nodes, n, 0);
     match form {
         0..=6 => leaf(tables, st, form, node_word(nodes, n, 1), env, stack, sp, s),
-        7..=12 | 30 | 33 => unary(tables, st, nodes, n, form, env, stack, sp, deeper, s),
+        7..=12 | 30 | 33..=34 => unary(tables, st, nodes, n, form, env, stack, sp, deeper, s),
         13..=22 => binary(tables, st, nodes, n, form, env, stack, sp, deeper, s),
         23..=24 => connective(tables, st, nodes, n, form, env, stack, sp, deeper, s),
         25..=26 => {
@@ -109,7 +109,7 @@ fn node(
         27..=29 => coll(tables, st, nodes, n, form, env, stack, sp, deeper, s),
         31 => conditional(tables, st, nodes, n, env, stack, sp, deeper, s),
         32 => let_in(tables, st, nodes, n, env, stack, sp, deeper, s),
-        34 => iter(tables, st, nodes, n, env, stack, sp, deeper, s),
+        35 => iter(tables, st, nodes, n, env, stack, sp, deeper, s),
         _ => Ended::Undef { steps: s },
     }
 }

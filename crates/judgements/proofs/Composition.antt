@@ -10,12 +10,13 @@ use Rattle.types.specs.declared.FlatType.{FlatType}
 use Rattle.types.specs.Flat.{tyOf}
 use Rattle.judgements.specs.declared.Reply.{Reply}
 use Rattle.judgements.specs.declared.Reply.the-variants as reply
+use Rattle.nodes.specs.Marks.{markWord}
 use Rattle.judgements.specs.Replies.{meaning, writeMarks, Tells}
 
 write-append : (l : List ℕ) (a c : Marks) → writeMarks l (a ++ c) ≡ writeMarks (writeMarks l a) c
 unfolding writeMarks
 write-append l [] c = refl
-write-append l (x ∷ a) c = write-append (set l (x .0) (x .1)) a c
+write-append l (x ∷ a) c = write-append (set l (x .0) (markWord (x .1))) a c
 
 -- what follows a typing that follows another
 split-for : (a : Answer) (b c : Marks) (k : Ty → Typed) → thenFor a (b ++ c) k ≡ record { answer = thenFor a c k .answer; marks = b ++ thenFor a c k .marks }

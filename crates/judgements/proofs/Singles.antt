@@ -4,6 +4,7 @@ use mathlib.Core.List.{List}
 use Prim.Native.Nat.{ℕ}
 use borrow.Author.Tests.{ne-eqb}
 use Rattle.ocl.specs.Types.{Ty, Boolean}
+use Rattle.ocl.specs.Forms.{ofObject, ofMembers}
 use Rattle.ocl.specs.Model.{Model}
 use Rattle.ocl.specs.Typing.{typed, unaryType, attributeType}
 use Rattle.types.specs.declared.FlatType.{FlatType}
@@ -20,10 +21,14 @@ module _ (m : Model) (n k : ℕ) (w : ℕ → ℕ) (t : Ty) where
   unfolding singleType
   undef-single h e = rw h (done (ap typed e))
 
-  pub attribute-single : {B A : List ℕ} {r : Reply} {name : ℕ} → k ≡ 33 → name ≡ w 2 → Tells (attributeType m n name t) B A r → Tells (singleType m n k w t) B A r
+  pub attribute-single : {B A : List ℕ} {r : Reply} {name : ℕ} → k ≡ 33 → name ≡ w 2 → Tells (attributeType m n ofObject name t) B A r → Tells (singleType m n k w t) B A r
   unfolding singleType
   attribute-single h e d = rw (h, ← e) d
 
-  pub unary-single : {B : List ℕ} {r : Reply} → (k ≡ 30 → ⊥) → (k ≡ 33 → ⊥) → meaning r ≡ unaryType m n (unaryOf k w) t → Tells (singleType m n k w t) B B r
+  pub collect-single : {B A : List ℕ} {r : Reply} {name : ℕ} → k ≡ 34 → name ≡ w 2 → Tells (attributeType m n ofMembers name t) B A r → Tells (singleType m n k w t) B A r
   unfolding singleType
-  unary-single a b e = rw (ne-eqb k 30 a, ne-eqb k 33 b) (done e)
+  collect-single h e d = rw (h, ← e) d
+
+  pub unary-single : {B : List ℕ} {r : Reply} → (k ≡ 30 → ⊥) → (k ≡ 33 → ⊥) → (k ≡ 34 → ⊥) → meaning r ≡ unaryType m n (unaryOf k w) t → Tells (singleType m n k w t) B B r
+  unfolding singleType
+  unary-single a b c e = rw (ne-eqb k 30 a, ne-eqb k 33 b, ne-eqb k 34 c) (done e)

@@ -15,6 +15,7 @@ use Rattle.types.specs.declared.Base.the-variants as b
 use Rattle.types.specs.declared.FlatType.{FlatType}
 use Rattle.types.specs.Flat.{tyOf}
 use Rattle.nodes.specs.Classes.{HoldsClasses}
+use Rattle.nodes.specs.Marks.{markWord}
 use Rattle.judgements.specs.declared.Slot.{Slot}
 use Rattle.judgements.specs.declared.Reply.{Reply}
 use Rattle.judgements.specs.declared.Reply.the-variants as reply
@@ -51,12 +52,12 @@ slotType s = if s .bound then some (tyOf (flatOf s)) else none
 unfoldable pub envOf : List Slot → Env Ty
 envOf env j = slotType (getD env j freeSlot)
 
--- ---- the marks: word p of a table is the row that node p is marked with
+-- ---- the marks: word p of a table is that of node p's mark
 
 -- in the order made
 unfoldable pub writeMarks : List ℕ → Marks → List ℕ
 writeMarks l [] = l
-writeMarks l (x ∷ m) = writeMarks (set l (x .0) (x .1)) m
+writeMarks l (x ∷ m) = writeMarks (set l (x .0) (markWord (x .1))) m
 
 -- the answer is the definition's, and so are the marks that were written
 pub record Tells (x : Typed) (before after : List ℕ) (r : Reply) : Type 0 where

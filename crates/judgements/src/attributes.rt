@@ -1,20 +1,51 @@
-// The type of `attr`, given its operand's type: the row that it reads also marks the node.
-ghost use Prim.Native.Nat.{_<_, _≤_};
+// The types of `attr` and `collect`, given the operand's type: the row that is read also marks the node.
+ghost use mathlib.Core.Path.{_≡_};
+ghost use Prim.Native.Nat.{ℕ, _+_, _<_, _≤_};
 ghost use lib.ListN.{length};
-ghost use Rattle.ocl.specs.Model.{Model};
-ghost use Rattle.ocl.specs.Typing.{attributeType};
+ghost use Rattle.ocl.specs.Forms.{ofObject, ofMembers};
+ghost use Rattle.ocl.specs.Model.{Model, rowRead};
+ghost use Rattle.ocl.specs.Typing.{Mark, typed, rowType, attributeType};
 ghost use Rattle.types.specs.Flat.{tyOf};
+ghost use Rattle.nodes.specs.Marks.{markWord};
 ghost use Rattle.judgements.specs.Replies.{Tells, ReadsRows};
+ghost use Rattle.judgements.specs.Single.{collectCode};
 use super::Reply;
+use super::forms::wrapped;
 use types::ClassNumber;
 use types::FlatType;
 use types::Found;
 use types::classes::wide;
 use types::parts::is_class;
+use types::parts::member_type;
+use types::parts::outer_code;
 use types::rows::row_read;
 use types::word::unpack;
 
-// `attr`: of a class type, else 11; the row is the nearest declaration from that class upward, else 12, and marks the node.
+// The type of the row with the name, the nearest declaration from class c upward, else 12. The row, and `more`, marks node n.
+fn row_type(
+    parents: &[u64],
+    tables: &[u64],
+    rows: usize,
+    n: usize,
+    name: u64,
+    c: u64,
+    more: u64,
+    marks: &mut [u64],
+) -> Reply
+    requires { ⌜ (rows ≤ 64) × (256 ≤ length (now tables)) × (n < 768) × (768 ≤ length (now marks)) × (more ≤ 64) ⌝ }
+    ensures { λ r. ⌜ ((m : Model) → ReadsRows (now (parents .entry)) (now (tables .entry)) rows m → (mark : ℕ → Mark) → ((i : ℕ) → markWord (mark i) ≡ more + i) → Tells (rowType m n mark typed (rowRead m c name)) (now (marks .entry)) (now (marks .exit)) r) ⌝ }
+{
+    let owners = &tables[64..128];
+    let names = &tables[128..192];
+    let Found::At(i) = row_read(parents, owners, names, rows, c, name) else {
+        return Reply::No(12, n as u64);
+    };
+    marks[n] = more + i;
+    let at = wide(i);
+    Reply::Is(unpack(tables[192 + at]))
+}
+
+// `attr`: of a class type, else 11.
 pub fn attribute_type(
     parents: &[u64],
     tables: &[u64],
@@ -25,17 +56,46 @@ pub fn attribute_type(
     marks: &mut [u64],
 ) -> Reply
     requires { ⌜ (rows ≤ 64) × (256 ≤ length (now tables)) × (n < 768) × (768 ≤ length (now marks)) ⌝ }
-    ensures { λ r. ⌜ ((m : Model) → ReadsRows (now (parents .entry)) (now (tables .entry)) rows m → Tells (attributeType m n name (tyOf t)) (now (marks .entry)) (now (marks .exit)) r) ⌝ }
+    ensures { λ r. ⌜ ((m : Model) → ReadsRows (now (parents .entry)) (now (tables .entry)) rows m → Tells (attributeType m n ofObject name (tyOf t)) (now (marks .entry)) (now (marks .exit)) r) ⌝ }
 {
     let ClassNumber::Is(c) = is_class(t) else {
+        return Reply::No(11, n as u64); // Void too is none
+    };
+    row_type(parents, tables, rows, n, name, c, 0, marks)
+}
+
+// The code of the letter that `collect` gives: a Sequence (3) gives a Sequence, any other collection a Bag (4).
+fn collect_code(code: u64) -> u64
+    ensures { λ r. ⌜ r ≡ collectCode code ⌝ }
+{
+    if code == 3 { 3 } else { 4 }
+}
+
+// `collect`: of a collection whose member type is a class, else 11; the kind around the row's type, unless that is over three deep
+// (13). In the mark, 64 more say that it gives a Sequence.
+pub fn collect_type(
+    parents: &[u64],
+    tables: &[u64],
+    rows: usize,
+    n: usize,
+    name: u64,
+    t: FlatType,
+    marks: &mut [u64],
+) -> Reply
+    requires { ⌜ (rows ≤ 64) × (256 ≤ length (now tables)) × (n < 768) × (768 ≤ length (now marks)) ⌝ }
+    ensures { λ r. ⌜ ((m : Model) → ReadsRows (now (parents .entry)) (now (tables .entry)) rows m → Tells (attributeType m n ofMembers name (tyOf t)) (now (marks .entry)) (now (marks .exit)) r) ⌝ }
+{
+    let code = outer_code(t);
+    if code == 0 {
+        return Reply::No(11, n as u64);
+    }
+    let ClassNumber::Is(c) = is_class(member_type(t)) else {
         return Reply::No(11, n as u64);
     };
-    let owners = &tables[64..128];
-    let names = &tables[128..192];
-    let Found::At(i) = row_read(parents, owners, names, rows, c, name) else {
-        return Reply::No(12, n as u64);
+    let kind = collect_code(code);
+    let found = row_type(parents, tables, rows, n, name, c, 64 * (4 - kind), marks);
+    let Reply::Is(u) = found else {
+        return found;
     };
-    marks[n] = i;
-    let at = wide(i);
-    Reply::Is(unpack(tables[192 + at]))
+    wrapped(n as u64, kind, u)
 }

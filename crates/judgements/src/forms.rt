@@ -83,7 +83,7 @@ fn comparable(parents: &[u64], n: u64, t: FlatType, u: FlatType) -> Reply
 }
 
 // The letter of the code around t, unless that is over three deep (13).
-fn wrapped(n: u64, code: u64, t: FlatType) -> Reply
+pub fn wrapped(n: u64, code: u64, t: FlatType) -> Reply
     requires { ⌜ 0 < code ⌝ }
     ensures { λ r. ⌜ meaning r ≡ wrapType n (letterOf code) (tyOf t) ⌝ }
 {

@@ -3,7 +3,7 @@
 
 pub mod environment; // the types of the variables, sixteen slots by value
 pub mod forms; // forms with no operand or strict operands, and `if`
-pub mod attributes; // `attr`
+pub mod attributes; // `attr` and `collect`
 pub mod single; // all forms with a single operand, by code
 
 use types::FlatType;

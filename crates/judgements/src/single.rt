@@ -8,6 +8,7 @@ ghost use Rattle.judgements.specs.Replies.{Tells, ReadsRows};
 ghost use Rattle.judgements.specs.Single.{singleType};
 use super::Reply;
 use super::attributes::attribute_type;
+use super::attributes::collect_type;
 use super::forms::unary_type;
 use nodes::node_word;
 use types::Base;
@@ -31,6 +32,7 @@ pub fn single_type(
     match form {
         30 => Reply::Is(plain(Base::Bool)),
         33 => attribute_type(parents, tables, rows, n, node_word(nodes, n, 2), t, marks),
+        34 => collect_type(parents, tables, rows, n, node_word(nodes, n, 2), t, marks),
         _ => unary_type(parents, nodes, form, n, t),
     }
 }

@@ -4,15 +4,16 @@ use mathlib.Core.List.{List}
 use Prim.Native.Nat.{ℕ, _<_, _≤_}
 use Rattle.ocl.specs.Model.{Model}
 use Rattle.ocl.specs.Forms.{Form, undef}
+use Rattle.ocl.specs.Typing.{Mark}
 use Rattle.ocl.specs.Evaluation.{Run, tick, leafRun, unaryRun, binaryRun, connectiveRun, isUndefRun, conditionalRun, letRun, attributeRun, quantifiedRun, iterateRun, assembleRun, evaluation, formRun, operandsRun}
-use Rattle.nodes.specs.Nodes.{word, variable, leafOf, unaryOf, binaryOf, connectiveOf, quantifierOf, kindOf, operandsIn, formOf, treesBelow, treeAt}
-use Rattle.nodes.proofs.Nodes.{tree-law, below-law, late-law, no-form, leaf-range, unary-range, binary-range, connective-range, quantified-range, assemble-range, assemble-over, isUndef-code, conditional-code, let-code, attribute-code, iterate-code}
+use Rattle.nodes.specs.Nodes.{word, variable, leafOf, unaryOf, binaryOf, connectiveOf, quantifierOf, kindOf, accessOf, operandsIn, formOf, treesBelow, treeAt}
+use Rattle.nodes.proofs.Nodes.{tree-law, below-law, late-law, no-form, leaf-range, unary-range, binary-range, connective-range, quantified-range, assemble-range, attribute-range, assemble-over, isUndef-code, conditional-code, let-code, iterate-code}
 
 -- the evaluation of operand k of node n
-unfoldable pub operandRun : Model → (ℕ → ℕ) → List ℕ → ℕ → ℕ → Run
+unfoldable pub operandRun : Model → (ℕ → Mark) → List ℕ → ℕ → ℕ → Run
 operandRun s mark t n k = evaluation s mark (treesBelow t n (word t n k))
 
-module _ (s : Model) (mark : ℕ → ℕ) (t : List ℕ) (n : ℕ) where
+module _ (s : Model) (mark : ℕ → Mark) (t : List ℕ) (n : ℕ) where
   by-form : (k : ℕ) {f : Form} → k ≡ word t n 0 → formOf (treesBelow t n) (word t n) k ≡ f → evaluation s mark (treeAt t n) ≡ tick (formRun s mark n f)
   unfolding evaluation
   by-form k e h = ap (evaluation s mark) (tree-law t n) ∙ ap (λ (x : Form). tick (formRun s mark n x)) (ap (formOf (treesBelow t n) (word t n)) (sym e) ∙ h)
@@ -54,11 +55,11 @@ module _ (s : Model) (mark : ℕ → ℕ) (t : List ℕ) (n : ℕ) where
     unfolding evaluation operandRun
     let-run h = by-form k e (ap (formOf (treesBelow t n) (word t n)) h ∙ let-code (treesBelow t n) (word t n))
 
-    pub attribute-run : (h : k ≡ 33) → evaluation s mark (treeAt t n) ≡ tick (attributeRun s (mark n) (operandRun s mark t n 1))
+    pub attribute-run : (l : 33 ≤ k) → (h : k < 35) → evaluation s mark (treeAt t n) ≡ tick (attributeRun s (accessOf k) (mark n) (operandRun s mark t n 1))
     unfolding evaluation operandRun
-    attribute-run h = by-form k e (ap (formOf (treesBelow t n) (word t n)) h ∙ attribute-code (treesBelow t n) (word t n))
+    attribute-run l h = by-form k e (attribute-range (treesBelow t n) (word t n) k l h)
 
-    pub iterate-run : (h : k ≡ 34) → evaluation s mark (treeAt t n) ≡ tick (iterateRun (variable (word t n 4)) (variable (word t n 5)) (operandRun s mark t n 1) (operandRun s mark t n 2) (operandRun s mark t n 3))
+    pub iterate-run : (h : k ≡ 35) → evaluation s mark (treeAt t n) ≡ tick (iterateRun (variable (word t n 4)) (variable (word t n 5)) (operandRun s mark t n 1) (operandRun s mark t n 2) (operandRun s mark t n 3))
     unfolding evaluation operandRun
     iterate-run h = by-form k e (ap (formOf (treesBelow t n) (word t n)) h ∙ iterate-code (treesBelow t n) (word t n))
 
@@ -66,7 +67,7 @@ module _ (s : Model) (mark : ℕ → ℕ) (t : List ℕ) (n : ℕ) where
     unfolding evaluation operandRun
     over-run l h c = by-form k e (assemble-over (treesBelow t n) (word t n) k l h c)
 
-    pub none-run : (h : 34 < k) → evaluation s mark (treeAt t n) ≡ tick (leafRun s undef)
+    pub none-run : (h : 35 < k) → evaluation s mark (treeAt t n) ≡ tick (leafRun s undef)
     unfolding evaluation operandRun
     none-run h = by-form k e (no-form (treesBelow t n) (word t n) k h)
 

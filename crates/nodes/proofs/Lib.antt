@@ -4,3 +4,4 @@ pub mod Evaluation
 pub mod Levels
 pub mod Keep
 pub mod Shapes
+pub mod Marks

@@ -13,13 +13,13 @@ use Rattle.laws.specs.Lists.{Each, each-nil, each-cons}
 use Rattle.laws.proofs.Tests.{and-true}
 use Rattle.ocl.specs.Types.{Kind, set, sequence, bag, Ty}
 use Rattle.ocl.specs.Evaluation.{inRange}
-use Rattle.ocl.specs.Forms.{plus, minus, times, div, modulo, Connective, and, or, Quantifier, forAll, exists, Leaf, truth, undef, number, self, var, all, Unary, negation, sizeOf, convert, castTo, Binary, equal, less, arith as calculation, includes, including, union, Expr, node, Form}
+use Rattle.ocl.specs.Forms.{plus, minus, times, div, modulo, Connective, and, or, Quantifier, forAll, exists, Access, ofObject, ofMembers, Leaf, truth, undef, number, self, var, all, Unary, negation, sizeOf, convert, castTo, Binary, equal, less, arith as calculation, includes, including, union, Expr, node, Form}
 use Rattle.sheet.specs.Lines.{Shape, leaf, unary, binary, connective, isUndef, conditional, letIn, attribute, quantified, iterate, assemble}
 use Rattle.sheet.specs.Sheet.{operandsOf, growAll, grow}
 use Rattle.sheet.specs.Refusals.{isVariable, typeWithin, leafWithin, formWithin}
 use Rattle.types.specs.Word.{typeIn}
 use Rattle.ocl.proofs.Ranges.{unbias-bias, bias-small}
-use Rattle.nodes.specs.Nodes.{TypeSaid, word, variable, leafOf, unaryOf, arithByCode, binaryOf, connectiveOf, quantifierOf, kindOf, operandsIn, formOf, treesBelow, treeAt, leafWords, unaryWords, arithCode, binaryCode, connectiveCode, quantifierCode, assembleCode, operandWord, shapeWords}
+use Rattle.nodes.specs.Nodes.{TypeSaid, word, variable, leafOf, unaryOf, arithByCode, binaryOf, connectiveOf, quantifierOf, kindOf, accessOf, operandsIn, formOf, treesBelow, treeAt, leafWords, unaryWords, arithCode, binaryCode, connectiveCode, quantifierCode, accessCode, assembleCode, operandWord, shapeWords}
 use Rattle.nodes.proofs.Nodes.{tree-law, below-law, assemble-range}
 
 -- ---- numbers that the words hold
@@ -117,6 +117,11 @@ module _ (f g : ℕ → Expr) (w : ℕ → ℕ) (first n type line : ℕ) (near 
   quantified-grow forAll i a b h l m ws = rw (ws 0 (omega arith), ws 1 (omega arith), ws 2 (omega arith), ws 3 (omega arith), variable-back i h, near a l, near b m)
   quantified-grow exists i a b h l m ws = rw (ws 0 (omega arith), ws 1 (omega arith), ws 2 (omega arith), ws 3 (omega arith), variable-back i h, near a l, near b m)
 
+  attribute-grow : (x : Access) (name a : ℕ) → a < n → Words (attribute x name a) → formOf f w (w 0) ≡ Form.attribute x name (g a)
+  unfolding Words shapeWords accessCode formOf accessOf
+  attribute-grow ofObject name a l ws = rw (ws 0 (omega arith), ws 1 (omega arith), ws 2 (omega arith), near a l)
+  attribute-grow ofMembers name a l ws = rw (ws 0 (omega arith), ws 1 (omega arith), ws 2 (omega arith), near a l)
+
   iterate-grow : (i j : ℕ) (t : Ty) (a e b : ℕ) → (isVariable i && isVariable j && typeWithin t) ≡ true → typeIn type ≡ t → a < n → e < n → b < n
       → Words (iterate i j t a e b) → formOf f w (w 0) ≡ Form.iterate i j t (g a) (g e) (g b)
   unfolding Words shapeWords formOf
@@ -138,7 +143,7 @@ module _ (f g : ℕ → Expr) (w : ℕ → ℕ) (first n type line : ℕ) (near 
       rw (ws 0 (omega arith), ws 1 (omega arith), ws 2 (omega arith), ws 3 (omega arith), near d l, near a m, near b o)
   form-grow (letIn i a b) h s (each-cons l (each-cons m each-nil)) c ws =
       rw (ws 0 (omega arith), ws 1 (omega arith), ws 2 (omega arith), ws 3 (omega arith), variable-back i h, near a l, near b m)
-  form-grow (attribute name a) h s (each-cons l each-nil) c ws = rw (ws 0 (omega arith), ws 1 (omega arith), ws 2 (omega arith), near a l)
+  form-grow (attribute x name a) h s (each-cons l each-nil) c ws = attribute-grow x name a l ws
   form-grow (quantified q i a b) h s (each-cons l (each-cons m each-nil)) c ws = quantified-grow q i a b h l m ws
   form-grow (iterate i j t a e b) h s (each-cons l (each-cons m (each-cons o each-nil))) c ws =
       iterate-grow i j t a e b h (s .said i j t a e b refl) l m o ws

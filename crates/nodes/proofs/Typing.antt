@@ -6,8 +6,8 @@ use Rattle.ocl.specs.Model.{Model}
 use Rattle.ocl.specs.Forms.{Form, undef}
 use Rattle.ocl.specs.Typing.{Typing, leafTyping, unaryTyping, binaryTyping, connectiveTyping, isUndefTyping, conditionalTyping, letTyping, attributeTyping, quantifiedTyping, iterateTyping, assembleTyping, typing, formTyping, operandsTyping as membersTyping}
 use Rattle.types.specs.Word.{typeIn}
-use Rattle.nodes.specs.Nodes.{word, variable, leafOf, unaryOf, binaryOf, kindOf, operandsIn, formOf, treesBelow, treeAt}
-use Rattle.nodes.proofs.Nodes.{tree-law, below-law, late-law, no-form, leaf-range, unary-range, binary-range, connective-range, quantified-range, assemble-range, assemble-over, isUndef-code, conditional-code, let-code, attribute-code, iterate-code}
+use Rattle.nodes.specs.Nodes.{word, variable, leafOf, unaryOf, binaryOf, kindOf, accessOf, operandsIn, formOf, treesBelow, treeAt}
+use Rattle.nodes.proofs.Nodes.{tree-law, below-law, late-law, no-form, leaf-range, unary-range, binary-range, connective-range, quantified-range, assemble-range, attribute-range, assemble-over, isUndef-code, conditional-code, let-code, iterate-code}
 
 -- the typing of operand k of node n
 unfoldable pub operandTyping : Model → List ℕ → ℕ → ℕ → Typing
@@ -55,11 +55,11 @@ module _ (s : Model) (t : List ℕ) (n : ℕ) where
     unfolding typing operandTyping
     let-typing h = by-form k e (ap (formOf (treesBelow t n) (word t n)) h ∙ let-code (treesBelow t n) (word t n))
 
-    pub attribute-typing : (h : k ≡ 33) → typing s (treeAt t n) ≡ attributeTyping s n (word t n 2) (operandTyping s t n 1)
+    pub attribute-typing : (l : 33 ≤ k) → (h : k < 35) → typing s (treeAt t n) ≡ attributeTyping s n (accessOf k) (word t n 2) (operandTyping s t n 1)
     unfolding typing operandTyping
-    attribute-typing h = by-form k e (ap (formOf (treesBelow t n) (word t n)) h ∙ attribute-code (treesBelow t n) (word t n))
+    attribute-typing l h = by-form k e (attribute-range (treesBelow t n) (word t n) k l h)
 
-    pub iterate-typing : (h : k ≡ 34) → typing s (treeAt t n) ≡ iterateTyping s n (variable (word t n 4)) (variable (word t n 5)) (typeIn (word t n 6)) (operandTyping s t n 1) (operandTyping s t n 2) (operandTyping s t n 3)
+    pub iterate-typing : (h : k ≡ 35) → typing s (treeAt t n) ≡ iterateTyping s n (variable (word t n 4)) (variable (word t n 5)) (typeIn (word t n 6)) (operandTyping s t n 1) (operandTyping s t n 2) (operandTyping s t n 3)
     unfolding typing operandTyping
     iterate-typing h = by-form k e (ap (formOf (treesBelow t n) (word t n)) h ∙ iterate-code (treesBelow t n) (word t n))
 
@@ -67,7 +67,7 @@ module _ (s : Model) (t : List ℕ) (n : ℕ) where
     unfolding typing operandTyping
     over-typing l h c = by-form k e (assemble-over (treesBelow t n) (word t n) k l h c)
 
-    pub none-typing : (h : 34 < k) → typing s (treeAt t n) ≡ leafTyping n undef
+    pub none-typing : (h : 35 < k) → typing s (treeAt t n) ≡ leafTyping n undef
     unfolding typing operandTyping
     none-typing h = by-form k e (no-form (treesBelow t n) (word t n) k h)
 

@@ -9,7 +9,7 @@ use lib.Dec.{eqb, ltb}
 use Rattle.laws.specs.Choice.{if_then_else_}
 use Rattle.laws.specs.Integers.{bias, unbias}
 use Rattle.ocl.specs.Types.{Kind, set, sequence, bag, Ty}
-use Rattle.ocl.specs.Forms.{Arith, plus, minus, times, div, modulo, Connective, and, or, Quantifier, forAll, exists, Leaf, truth, undef, number, self, var, all, Unary, negation, sizeOf, convert, castTo, Binary, equal, less, arith, includes, including, union, Expr, node, Form, leaf, unary, binary, connective, isUndef, conditional, letIn, attribute, quantified, iterate, assemble, Operands, noOperand, operand}
+use Rattle.ocl.specs.Forms.{Arith, plus, minus, times, div, modulo, Connective, and, or, Quantifier, forAll, exists, Access, ofObject, ofMembers, Leaf, truth, undef, number, self, var, all, Unary, negation, sizeOf, convert, castTo, Binary, equal, less, arith, includes, including, union, Expr, node, Form, leaf, unary, binary, connective, isUndef, conditional, letIn, attribute, quantified, iterate, assemble, Operands, noOperand, operand}
 use Rattle.sheet.specs.Lines.{Shape}
 use Rattle.types.specs.Word.{typeIn}
 
@@ -71,6 +71,10 @@ quantifierOf k = if eqb k 25 then forAll else exists
 unfoldable pub kindOf : ℕ → Kind
 kindOf k = if eqb k 27 then set else if eqb k 28 then sequence else bag
 
+-- codes 33 and 34
+unfoldable pub accessOf : ℕ → Access
+accessOf k = if eqb k 33 then ofObject else ofMembers
+
 -- the first c operands, from word k on
 unfoldable pub operandsIn : (ℕ → Expr) → (ℕ → ℕ) → ℕ → ℕ → Operands
 operandsIn f w zero k = noOperand
@@ -79,7 +83,7 @@ operandsIn f w (suc c) k = operand (f (w k)) (operandsIn f w c (k + 1))
 -- over the trees f of the nodes before it; what no accepted sheet has counts as `undef`
 unfoldable pub formOf : (ℕ → Expr) → (ℕ → ℕ) → ℕ → Form
 formOf f w k =
-    if ltb 34 k then leaf undef
+    if ltb 35 k then leaf undef
     else if ltb k 7 then leaf (leafOf k w)
     else if ltb k 13 then unary (unaryOf k w) (f (w 1))
     else if ltb k 23 then binary (binaryOf k) (f (w 1)) (f (w 2))
@@ -89,7 +93,7 @@ formOf f w k =
     else if eqb k 30 then isUndef (f (w 1))
     else if eqb k 31 then conditional (f (w 1)) (f (w 2)) (f (w 3))
     else if eqb k 32 then letIn (variable (w 3)) (f (w 1)) (f (w 2))
-    else if eqb k 33 then attribute (w 2) (f (w 1))
+    else if ltb k 35 then attribute (accessOf k) (w 2) (f (w 1))
     else iterate (variable (w 4)) (variable (w 5)) (typeIn (w 6)) (f (w 1)) (f (w 2)) (f (w 3))
 
 -- the trees of the nodes below n; an operand that is not smaller, which no accepted sheet has, counts as `undef`
@@ -144,6 +148,10 @@ unfoldable pub quantifierCode : Quantifier → ℕ
 quantifierCode forAll = 25
 quantifierCode exists = 26
 
+unfoldable pub accessCode : Access → ℕ
+accessCode ofObject = 33
+accessCode ofMembers = 34
+
 unfoldable pub assembleCode : Kind → ℕ
 assembleCode set = 27
 assembleCode sequence = 28
@@ -161,9 +169,9 @@ shapeWords first type line (Shape.connective c a b) = connectiveCode c ∷ (firs
 shapeWords first type line (Shape.isUndef a) = 30 ∷ (first + a) ∷ 0 ∷ 0 ∷ 0 ∷ 0 ∷ 0 ∷ line ∷ []
 shapeWords first type line (Shape.conditional c a b) = 31 ∷ (first + c) ∷ (first + a) ∷ (first + b) ∷ 0 ∷ 0 ∷ 0 ∷ line ∷ []
 shapeWords first type line (Shape.letIn i a b) = 32 ∷ (first + a) ∷ (first + b) ∷ i ∷ 0 ∷ 0 ∷ 0 ∷ line ∷ []
-shapeWords first type line (Shape.attribute name a) = 33 ∷ (first + a) ∷ name ∷ 0 ∷ 0 ∷ 0 ∷ 0 ∷ line ∷ []
+shapeWords first type line (Shape.attribute x name a) = accessCode x ∷ (first + a) ∷ name ∷ 0 ∷ 0 ∷ 0 ∷ 0 ∷ line ∷ []
 shapeWords first type line (Shape.quantified q i a b) = quantifierCode q ∷ (first + a) ∷ (first + b) ∷ i ∷ 0 ∷ 0 ∷ 0 ∷ line ∷ []
-shapeWords first type line (Shape.iterate i j t a e b) = 34 ∷ (first + a) ∷ (first + e) ∷ (first + b) ∷ i ∷ j ∷ type ∷ line ∷ []
+shapeWords first type line (Shape.iterate i j t a e b) = 35 ∷ (first + a) ∷ (first + e) ∷ (first + b) ∷ i ∷ j ∷ type ∷ line ∷ []
 shapeWords first type line (Shape.assemble k es) =
     assembleCode k ∷ operandWord first es 0 ∷ operandWord first es 1 ∷ operandWord first es 2 ∷ operandWord first es 3 ∷ length es ∷ 0 ∷ line ∷ []
 

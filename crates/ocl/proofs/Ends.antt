@@ -9,10 +9,10 @@ use lib.IntN.{ℤ, pos, negsuc}
 use lib.Dec.{T, leb, ltb, leb→le}
 use Rattle.laws.specs.Choice.{if_then_else_}
 use Rattle.ocl.specs.Types.{Kind}
-use Rattle.ocl.specs.Values.{Value, bool, int, obj, coll, Values, size}
+use Rattle.ocl.specs.Values.{Value, bool, int, obj, coll, Values, nil, addAll, size}
 use Rattle.ocl.specs.Environment.{Env}
 use Rattle.ocl.specs.Forms.{Arith, plus, minus, times, div, modulo, Quantifier}
-use Rattle.ocl.specs.Evaluation.{Outcome, value, undefined, stuck, stop, Run, resume, bind, tick, form, given, bound, onBool, onInt, onObj, onColl, inRange, Result, result, noResult, overRange, resulting, ranged, unlessZero, arithmetic, endsAt, seek, fold}
+use Rattle.ocl.specs.Evaluation.{Outcome, value, undefined, stuck, stop, Run, resume, bind, tick, form, given, formAll, bound, onBool, onInt, onColl, inRange, Result, result, noResult, overRange, resulting, ranged, unlessZero, arithmetic, endsAt, seek, fold}
 use Rattle.laws.proofs.Tests.{by-if, All?, all-none, all-some}
 use Rattle.ocl.proofs.Values.{Every, every-nil, every-cons}
 
@@ -57,6 +57,11 @@ pub ends-given : {P : Value → Type 0} {o : Option Value} (n : ℕ) → All? P 
 ends-given n all-none = ends-undefined
 ends-given n (all-some p) = ends-value p
 
+pub ends-all : {P : Value → Type 0} {Q : Values → Type 0} (k : Kind) {o : Option Values} (n : ℕ) → All? Q o
+    → ((ws : Values) → Q ws → size (coll k (addAll k ws nil)) ≤ 128 → P (coll k (addAll k ws nil))) → Ends P (formAll k o n)
+ends-all k n all-none h = ends-undefined
+ends-all k n (all-some {x = ws} q) h = ends-form (coll k (addAll k ws nil)) n (h ws q)
+
 pub ends-bound : {P : Value → Type 0} {o : Option Value} (n : ℕ) → All? P o → Ends P (bound o n)
 ends-bound n all-none = ends-stuck
 ends-bound n (all-some p) = ends-value p
@@ -72,12 +77,6 @@ ends-int (bool b) h = ends-stuck
 ends-int (int z) h = h z
 ends-int (obj o) h = ends-stuck
 ends-int (coll c vs) h = ends-stuck
-
-pub ends-obj : {P : Value → Type 0} {k : ℕ → Outcome} (v : Value) → ((o : ℕ) → Ends P (k o)) → Ends P (onObj v k)
-ends-obj (bool b) h = ends-stuck
-ends-obj (int z) h = ends-stuck
-ends-obj (obj o) h = h o
-ends-obj (coll c vs) h = ends-stuck
 
 -- what is known of the operand is known of the collection
 pub ends-coll : (P : Value → Type 0) {Q : Value → Type 0} {k : Kind → Values → Outcome} (v : Value) → P v → ((c : Kind) (vs : Values) → P (coll c vs) → Ends Q (k c vs)) → Ends Q (onColl v k)

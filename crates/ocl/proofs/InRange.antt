@@ -14,6 +14,7 @@ use Rattle.ocl.specs.Values.{Value, int, obj, coll, Values, nil, cons, c
 use Rattle.ocl.specs.Model.{Model, isA}
 use Rattle.ocl.specs.Forms.{Expr}
 use Rattle.ocl.specs.Laws.{literals, integerInRange, integersInRange}
+use Rattle.ocl.specs.Typing.{Mark}
 use Rattle.ocl.specs.Evaluation.{value, inRange, instances, evaluateRule}
 use Rattle.ocl.specs.Soundness.{AcceptedModel}
 use Rattle.ocl.proofs.Values.{Every, every-nil, every-cons, append-every, add-every, count-sizes}
@@ -79,7 +80,7 @@ in-range-kept s ok = record {
 }
 
 -- of whatever a rule ends in, typed or not, with any marks
-pub ends-in-range : (s : Model) → AcceptedModel s → (mark : ℕ → ℕ) (e : Expr) → Each (λ z. T (inRange z)) (literals e)
+pub ends-in-range : (s : Model) → AcceptedModel s → (mark : ℕ → Mark) (e : Expr) → Each (λ z. T (inRange z)) (literals e)
     → (o n : ℕ) (v : Value) → evaluateRule s mark e o ≡ value v n → T (integersInRange v)
 unfolding AllInRange
 ends-in-range s ok mark e h o n v q =

@@ -7,19 +7,20 @@ use mathlib.Core.List.{_++_}
 use Prim.Native.Nat.{ℕ, _≤_}
 use lib.IntN.{ℤ, pos}
 use lib.Dec.{T, eqb}
-use Rattle.laws.specs.Choice.{if_then_else_}
+use Rattle.laws.specs.Choice.{if_then_else_, onSome, mapSome}
 use Rattle.laws.specs.Lists.{Each}
 use Rattle.ocl.specs.Types.{class, Kind, set, sameKind}
-use Rattle.ocl.specs.Values.{Value, bool, int, obj, coll, Values, nil, count, size, orderInt, same, has, add, addAll}
-use Rattle.ocl.specs.Model.{Model, isA}
+use Rattle.ocl.specs.Values.{Value, bool, int, obj, coll, Values, nil, cons, count, size, orderInt, same, has, add, addAll}
+use Rattle.ocl.specs.Model.{Model, isA, every}
 use Rattle.ocl.specs.Environment.{Env, extend, start}
-use Rattle.ocl.specs.Forms.{Connective, Quantifier, Leaf, truth, undef, number, self, var, all, Unary, negation, sizeOf, convert, castTo, Binary, equal, less, arith, includes, including, union, Expr, node, Form, leaf, unary, binary, connective, isUndef, conditional, letIn, attribute, quantified, iterate, assemble, Operands, noOperand, operand}
+use Rattle.ocl.specs.Forms.{Connective, Quantifier, Access, ofObject, ofMembers, Leaf, truth, undef, number, self, var, all, Unary, negation, sizeOf, convert, castTo, Binary, equal, less, arith, includes, including, union, Expr, node, Form, leaf, unary, binary, connective, isUndef, conditional, letIn, attribute, quantified, iterate, assemble, Operands, noOperand, operand}
 use Rattle.ocl.specs.Laws.{leafLiterals, literals, literalsIn, literalsOf}
-use Rattle.ocl.specs.Evaluation.{value, Run, isLess, inRange, instances, leafRun, cast, unaryApply, unaryRun, leftFits, binaryApply, binaryRun, decides, connectiveRun, isUndefRun, conditionalRun, letRun, attributeRun, quantifiedRun, iterateRun, Gather, noOperandRun, operandRun, assembleRun, evaluation, formRun, operandsRun, evaluateRule}
+use Rattle.ocl.specs.Typing.{Mark, rowMarked, kindMarked}
+use Rattle.ocl.specs.Evaluation.{value, Run, isLess, inRange, instances, leafRun, cast, unaryApply, unaryRun, leftFits, binaryApply, binaryRun, decides, connectiveRun, isUndefRun, conditionalRun, letRun, hasRow, valueInRow, valuesInRow, access, attributeRun, quantifiedRun, iterateRun, Gather, noOperandRun, operandRun, assembleRun, evaluation, formRun, operandsRun, evaluateRule}
 use Rattle.laws.proofs.Tests.{All?, all-none, all-some, all-imp, all-self}
 use Rattle.laws.proofs.Lists.{each-head, each-left, each-right}
-use Rattle.ocl.proofs.Values.{Every, every-nil, every-cons}
-use Rattle.ocl.proofs.Ends.{Ends, ends-value, ends-undefined, ends-stuck, ends-at, ends-resume, ends-bind, ends-if, ends-tick, ends-form, ends-given, ends-bound, ends-bool, ends-int, ends-obj, ends-coll, ends-seek, ends-fold, ends-result, arithmetic-all}
+use Rattle.ocl.proofs.Values.{Every, every-nil, every-cons, all-each}
+use Rattle.ocl.proofs.Ends.{Ends, ends-value, ends-undefined, ends-stuck, ends-at, ends-resume, ends-bind, ends-if, ends-tick, ends-form, ends-given, ends-bound, ends-bool, ends-int, ends-coll, ends-seek, ends-fold, ends-all, ends-result, arithmetic-all}
 
 -- P of a value, and Held of the members of a collection that is being gathered
 pub record Keeps (s : Model) (P : Value → Type 0) (Held : Kind → Values → Type 0) : Type 0 where
@@ -137,12 +138,27 @@ module _ {s : Model} {P : Value → Type 0} {Held : Kind → Values → Type 0} 
   unfolding letRun
   let-kept i hf hg = record { run = λ ρ r n. ends-bind (hf .run ρ r n) (λ v m p. hg .run (extend ρ i v) (extend-bound i r p) m) }
 
-  attribute-kept : (i : ℕ) {f : Run} → Kept f → Kept (attributeRun s i f)
+  row-kept : (i : ℕ) (v : Value) → All? P (valueInRow s i v)
+  unfolding valueInRow
+  row-kept i (bool b) = all-none
+  row-kept i (int z) = all-none
+  row-kept i (obj o) = value-kept o i
+  row-kept i (coll k vs) = all-none
+
+  rows-kept : (i : ℕ) (vs : Values) → All? (Every P) (valuesInRow s i vs)
+  unfolding valuesInRow onSome mapSome
+  rows-kept i nil = all-some every-nil
+  rows-kept i (cons v vs) = all-each (row-kept i v) (rows-kept i vs)
+
+  access-ends : (x : Access) (m : Mark) (v : Value) (n : ℕ) → P v → Ends P (access s x m v n)
+  unfolding access
+  access-ends ofObject m v n p = ends-if (hasRow s (rowMarked m) v) (ends-given n (row-kept (rowMarked m) v)) ends-stuck
+  access-ends ofMembers m v n p = ends-coll P v p (λ k vs h. ends-if (every (hasRow s (rowMarked m)) vs)
+      (ends-all (kindMarked m) n (rows-kept (rowMarked m) vs) (λ ws e. ok .formed (all-held (kindMarked m) e (ok .of-none)))) ends-stuck)
+
+  attribute-kept : (x : Access) (m : Mark) {f : Run} → Kept f → Kept (attributeRun s x m f)
   unfolding attributeRun
-  attribute-kept i h = record {
-    run = λ ρ r n. ends-bind (h .run ρ r n)
-        (λ v m p. ends-obj v (λ o. ends-if (isA s o (class (s .row i .owner))) (ends-given m (value-kept o i)) ends-stuck));
-  }
+  attribute-kept x m h = record { run = λ ρ r n. ends-bind (h .run ρ r n) (access-ends x m) }
 
   quantified-kept : (q : Quantifier) (i : ℕ) {f g : Run} → Kept f → Kept g → Kept (quantifiedRun q i f g)
   unfolding quantifiedRun
@@ -174,7 +190,7 @@ module _ {s : Model} {P : Value → Type 0} {Held : Kind → Values → Type 0} 
 
   -- ---- the induction
 
-  module _ (mark : ℕ → ℕ) where
+  module _ (mark : ℕ → Mark) where
     mutual
       unfolding evaluation literals
 
@@ -190,7 +206,7 @@ module _ {s : Model} {P : Value → Type 0} {Held : Kind → Values → Type 0} 
       form-kept p (conditional c a b) h = let l = each-right (literals c) h in
           conditional-kept (all-kept c (each-left (literals c) (literals a ++ literals b) h)) (all-kept a (each-left (literals a) (literals b) l)) (all-kept b (each-right (literals a) l))
       form-kept p (letIn i a b) h = let-kept i (all-kept a (each-left (literals a) (literals b) h)) (all-kept b (each-right (literals a) h))
-      form-kept p (attribute name a) h = attribute-kept (mark p) (all-kept a h)
+      form-kept p (attribute x name a) h = attribute-kept x (mark p) (all-kept a h)
       form-kept p (quantified q i a b) h = quantified-kept q i (all-kept a (each-left (literals a) (literals b) h)) (all-kept b (each-right (literals a) h))
       form-kept p (iterate i j t a e b) h = let l = each-right (literals a) h in
           iterate-kept i j (all-kept a (each-left (literals a) (literals e ++ literals b) h)) (all-kept e (each-left (literals e) (literals b) l)) (all-kept b (each-right (literals e) l))

@@ -19,3 +19,4 @@ pub mod Soundness
 pub mod Stops
 pub mod Worked
 pub mod Mistakes
+pub mod Collect

@@ -11,25 +11,25 @@ use Rattle.laws.specs.Choice.{if_then_else_}
 use Rattle.ocl.specs.Environment.{Env, extend}
 use Rattle.ocl.specs.Types.{any, boolean, integer, class, Letter, Ty, void, simple, around, subtype}
 use Rattle.ocl.specs.Model.{Model, rowRead}
-use Rattle.ocl.specs.Forms.{Expr, node, Form, leaf, unary, binary, connective, isUndef, conditional, letIn, attribute, quantified, iterate, assemble, Operands, noOperand, operand}
+use Rattle.ocl.specs.Forms.{Access, ofObject, ofMembers, Expr, node, Form, leaf, unary, binary, connective, isUndef, conditional, letIn, attribute, quantified, iterate, assemble, Operands, noOperand, operand}
 use Rattle.ocl.specs.Laws.{numbers, numbersIn, numbersOf}
-use Rattle.ocl.specs.Typing.{Answer, typed, refused, Marks, Typed, pure, thenFor, andThen, onCollection, rowType, attributeType, leafTyping, unaryTyping, binaryTyping, connectiveTyping, isUndefTyping, conditionalTyping, letTyping, attributeTyping, quantifiedTyping, iterateTyping, noOperandTyping, operandTyping, assembleTyping, typing, formTyping, operandsTyping, markOr}
+use Rattle.ocl.specs.Typing.{Answer, typed, refused, Mark, Marks, Typed, pure, thenFor, andThen, onCollection, onClass, rowType, attributeType, leafTyping, unaryTyping, binaryTyping, connectiveTyping, isUndefTyping, conditionalTyping, letTyping, attributeTyping, quantifiedTyping, iterateTyping, noOperandTyping, operandTyping, assembleTyping, typing, formTyping, operandsTyping, markOr}
 use Rattle.laws.specs.Lists.{Each, each-nil, each-cons, Distinct, distinct-nil, distinct-cons}
 
 -- the marks are those that typing made
-pub data Agree (mark : ℕ → ℕ) : Marks → Type 0 where
+pub data Agree (mark : ℕ → Mark) : Marks → Type 0 where
   agree-nil : Agree mark []
-  agree-cons : {p i : ℕ} {m : Marks} → mark p ≡ i → Agree mark m → Agree mark ((p, i) ∷ m)
+  agree-cons : {p : ℕ} {x : Mark} {m : Marks} → mark p ≡ x → Agree mark m → Agree mark ((p, x) ∷ m)
 
-pub agree-left : {mark : ℕ → ℕ} (m n : Marks) → Agree mark (m ++ n) → Agree mark m
+pub agree-left : {mark : ℕ → Mark} (m n : Marks) → Agree mark (m ++ n) → Agree mark m
 agree-left [] n g = agree-nil
 agree-left (x ∷ m) n (agree-cons e g) = agree-cons e (agree-left m n g)
 
-pub agree-right : {mark : ℕ → ℕ} (m : Marks) {n : Marks} → Agree mark (m ++ n) → Agree mark n
+pub agree-right : {mark : ℕ → Mark} (m : Marks) {n : Marks} → Agree mark (m ++ n) → Agree mark n
 agree-right [] g = g
 agree-right (x ∷ m) (agree-cons e g) = agree-right m g
 
-pub agree-one : {mark : ℕ → ℕ} {p i : ℕ} {m : Marks} → Agree mark ((p, i) ∷ m) → mark p ≡ i
+pub agree-one : {mark : ℕ → Mark} {p : ℕ} {x : Mark} {m : Marks} → Agree mark ((p, x) ∷ m) → mark p ≡ x
 agree-one (agree-cons e g) = e
 
 -- ---- marks at some of the nodes, in their order
@@ -37,7 +37,7 @@ agree-one (agree-cons e g) = e
 pub data Part : List ℕ → Marks → Type 0 where
   part-nil : Part [] []
   part-skip : {n : ℕ} {ns : List ℕ} {m : Marks} → Part ns m → Part (n ∷ ns) m
-  part-take : {n i : ℕ} {ns : List ℕ} {m : Marks} → Part ns m → Part (n ∷ ns) ((n, i) ∷ m)
+  part-take : {n : ℕ} {x : Mark} {ns : List ℕ} {m : Marks} → Part ns m → Part (n ∷ ns) ((n, x) ∷ m)
 
 part-none : (ns : List ℕ) → Part ns []
 part-none [] = part-nil
@@ -78,24 +78,29 @@ marked-collection void p h = p
 marked-collection (simple b) p h = p
 marked-collection (around l m) p h = h l m
 
+marked-class : {ns : List ℕ} {x : Typed} {k : ℕ → Typed} (t : Ty) → Marked ns x → ((c : ℕ) → Marked ns (k c)) → Marked ns (onClass t x k)
+unfolding onClass
+marked-class void p h = p
+marked-class (simple any) p h = p
+marked-class (simple boolean) p h = p
+marked-class (simple integer) p h = p
+marked-class (simple (class c)) p h = h c
+marked-class (around l m) p h = p
+
 marked-if : {ns : List ℕ} {x y : Typed} (b : Bool) → Marked ns x → Marked ns y → Marked ns (if b then x else y)
 marked-if true p q = p
 marked-if false p q = q
 
 module _ (s : Model) where
-  row-part : (p : ℕ) (o : Option ℕ) → Marked (p ∷ []) (rowType s p o)
+  row-part : (p : ℕ) (mark : ℕ → Mark) (k : Ty → Answer) (o : Option ℕ) → Marked (p ∷ []) (rowType s p mark k o)
   unfolding rowType
-  row-part p none = marked-pure
-  row-part p (some i) = record { part = part-take part-nil }
+  row-part p mark k none = marked-pure
+  row-part p mark k (some i) = record { part = part-take part-nil }
 
-  attribute-part : (p name : ℕ) (t : Ty) → Marked (p ∷ []) (attributeType s p name t)
+  attribute-part : (p : ℕ) (x : Access) (name : ℕ) (t : Ty) → Marked (p ∷ []) (attributeType s p x name t)
   unfolding attributeType
-  attribute-part p name void = marked-pure
-  attribute-part p name (simple any) = marked-pure
-  attribute-part p name (simple boolean) = marked-pure
-  attribute-part p name (simple integer) = marked-pure
-  attribute-part p name (simple (class c)) = row-part p (rowRead s c name)
-  attribute-part p name (around l t) = marked-pure
+  attribute-part p ofObject name t = marked-class t marked-pure (λ c. row-part p _ _ (rowRead s c name))
+  attribute-part p ofMembers name t = marked-collection t marked-pure (λ l m. marked-class m marked-pure (λ c. row-part p _ _ (rowRead s c name)))
 
   own : {ns : List ℕ} {x : Typed} (p : ℕ) → Marked ns x → Marked (ns ++ (p ∷ [])) x
   own p h = record { part = part-left (p ∷ []) (h .part) }
@@ -114,7 +119,7 @@ module _ (s : Model) where
     marked-form p (isUndef a) Γ = own p (marked-last (marked a Γ) (λ z. marked-pure))
     marked-form p (conditional c a b) Γ = own p (marked-then (marked c Γ) (λ t. marked-then (marked a Γ) (λ u. marked-last (marked b Γ) (λ z. marked-pure))))
     marked-form p (letIn i a b) Γ = own p (marked-then (marked a Γ) (λ t. marked b (extend Γ i t)))
-    marked-form p (attribute name a) Γ = marked-then (marked a Γ) (attribute-part p name)
+    marked-form p (attribute x name a) Γ = marked-then (marked a Γ) (attribute-part p x name)
     marked-form p (quantified q i a b) Γ = own p (marked-then (marked a Γ) (λ t. marked-collection t marked-pure (λ l m. marked-last (marked b (extend Γ i m)) (λ z. marked-pure))))
     marked-form p (iterate i j t a e b) Γ =
         own p (marked-then (marked a Γ) (λ c. marked-then (marked e Γ) (λ u. marked-collection c marked-pure (λ l m.
@@ -127,16 +132,16 @@ module _ (s : Model) where
 
 -- ---- no mark replaces another
 
-keep : (d : ℕ) {p : ℕ} {ns : List ℕ} {m : Marks} → Part ns m → Each (λ n. n ≢ p) ns → markOr d m p ≡ d
+keep : (d : Mark) {p : ℕ} {ns : List ℕ} {m : Marks} → Part ns m → Each (λ n. n ≢ p) ns → markOr d m p ≡ d
 unfolding markOr
 keep d part-nil each-nil = refl
 keep d (part-skip q) (each-cons z h) = keep d q h
-keep d {p} (part-take {n} {i} q) (each-cons z h) = keep _ q h ∙ rw (ne-eqb p n (λ e. z (sym e)))
+keep d {p} (part-take {n} {x} q) (each-cons z h) = keep _ q h ∙ rw (ne-eqb p n (λ e. z (sym e)))
 
 -- whatever stood there before the marks were made
-pub agree-marks : (d : ℕ → ℕ) {ns : List ℕ} {m : Marks} → Part ns m → Distinct ns → Agree (λ p. markOr (d p) m p) m
+pub agree-marks : (d : ℕ → Mark) {ns : List ℕ} {m : Marks} → Part ns m → Distinct ns → Agree (λ p. markOr (d p) m p) m
 unfolding markOr
 agree-marks d part-nil distinct-nil = agree-nil
 agree-marks d (part-skip q) (distinct-cons z e) = agree-marks d q e
-agree-marks d (part-take {n} {i} q) (distinct-cons z e) =
-    agree-cons {i = i} (keep _ q z ∙ rw (eq-eqb n n refl)) (agree-marks (λ p. if eqb p n then i else d p) q e)
+agree-marks d (part-take {n} {x} q) (distinct-cons z e) =
+    agree-cons {x = x} (keep _ q z ∙ rw (eq-eqb n n refl)) (agree-marks (λ p. if eqb p n then x else d p) q e)

@@ -8,8 +8,8 @@ use native.Mathlib.Omega.{arith as linear}
 use lib.Dec.{T, leb}
 use Rattle.laws.specs.Choice.{if_then_else_}
 use Rattle.laws.proofs.Tests.{All?, all-none, all-some}
-use Rattle.ocl.specs.Types.{Kind, Letter, collection, exactly, Ty, void, simple, around, depth}
-use Rattle.ocl.specs.Typing.{Answer, typed, refused, Marks, Typed, pure, thenFor, andThen, common, wrap, onCollection, onKind}
+use Rattle.ocl.specs.Types.{any, boolean, integer, class, Kind, Letter, collection, exactly, Ty, void, simple, around, Class, depth}
+use Rattle.ocl.specs.Typing.{Answer, typed, refused, Mark, Marks, Typed, pure, thenFor, andThen, common, wrap, onCollection, onClass, onKind}
 use Rattle.ocl.proofs.Marks.{Agree, agree-left, agree-right}
 
 -- G of an answer's type
@@ -17,26 +17,26 @@ pub data Gives (G : Ty → Type 0) : Answer → Type 0 where
   no-type : {n p : ℕ} → Gives G (refused n p)
   gives : {t : Ty} → G t → Gives G (typed t)
 
-pub record Means (mark : ℕ → ℕ) (G : Ty → Type 0) (x : Typed) : Type 0 where
+pub record Means (mark : ℕ → Mark) (G : Ty → Type 0) (x : Typed) : Type 0 where
   pub means : (t : Ty) → x .answer ≡ typed t → Agree mark (x .marks) → G t
 
-gives-type : {G : Ty → Type 0} {a : Answer} {t : Ty} → Gives G a → a ≡ typed t → G t
+pub gives-type : {G : Ty → Type 0} {a : Answer} {t : Ty} → Gives G a → a ≡ typed t → G t
 gives-type {G} {t = w} (gives {t = u} g) e = let f : u ≡ w = cc in subst G f g
 gives-type no-type e = absurd (let z : _≡_ {A = ℕ} 0 1 = cc in omega linear)
 
-pub means-pure : {mark : ℕ → ℕ} {G : Ty → Type 0} {a : Answer} → Gives G a → Means mark G (pure a)
+pub means-pure : {mark : ℕ → Mark} {G : Ty → Type 0} {a : Answer} → Gives G a → Means mark G (pure a)
 means-pure h = record { means = λ t e g. gives-type h e }
 
-then-means : {mark : ℕ → ℕ} {F G : Ty → Type 0} {k : Ty → Typed} {m : Marks} (a : Answer) → ((t : Ty) → a ≡ typed t → Agree mark m → F t) → ((t : Ty) → F t → Means mark G (k t)) → Means mark G (thenFor a m k)
+then-means : {mark : ℕ → Mark} {F G : Ty → Type 0} {k : Ty → Typed} {m : Marks} (a : Answer) → ((t : Ty) → a ≡ typed t → Agree mark m → F t) → ((t : Ty) → F t → Means mark G (k t)) → Means mark G (thenFor a m k)
 unfolding thenFor
 then-means {m} (typed t) h g = record { means = λ u e z. g t (h t refl (agree-left m _ z)) .means u e (agree-right m z) }
 then-means (refused n p) h g = record { means = λ u e z. absurd (let y : _≡_ {A = ℕ} 0 1 = cc in omega linear) }
 
-pub means-then : {mark : ℕ → ℕ} {F G : Ty → Type 0} {x : Typed} {k : Ty → Typed} → Means mark F x → ((t : Ty) → F t → Means mark G (k t)) → Means mark G (andThen x k)
+pub means-then : {mark : ℕ → Mark} {F G : Ty → Type 0} {x : Typed} {k : Ty → Typed} → Means mark F x → ((t : Ty) → F t → Means mark G (k t)) → Means mark G (andThen x k)
 unfolding andThen
 means-then {x} h g = then-means (x .answer) (h .means) g
 
-pub means-imp : {mark : ℕ → ℕ} {F G : Ty → Type 0} {x : Typed} → ((t : Ty) → F t → G t) → Means mark F x → Means mark G x
+pub means-imp : {mark : ℕ → Mark} {F G : Ty → Type 0} {x : Typed} → ((t : Ty) → F t → G t) → Means mark F x → Means mark G x
 means-imp f h = record { means = λ t e g. f t (h .means t e g) }
 
 pub gives-if : {G : Ty → Type 0} {x y : Answer} (b : Bool) → (T b → Gives G x) → Gives G y → Gives G (if b then x else y)
@@ -58,13 +58,22 @@ gives-collection H p void h g = no-type
 gives-collection H p (simple b) h g = no-type
 gives-collection H p (around l m) h g = g l m h
 
-pub means-collection : {mark : ℕ → ℕ} (H : Ty → Type 0) {G : Ty → Type 0} {k : Letter → Ty → Typed} (p : ℕ) (t : Ty) → H t → ((l : Letter) (m : Ty) → H (around l m) → Means mark G (k l m)) → Means mark G (onCollection t (pure (refused 11 p)) k)
+pub means-collection : {mark : ℕ → Mark} (H : Ty → Type 0) {G : Ty → Type 0} {k : Letter → Ty → Typed} (p : ℕ) (t : Ty) → H t → ((l : Letter) (m : Ty) → H (around l m) → Means mark G (k l m)) → Means mark G (onCollection t (pure (refused 11 p)) k)
 unfolding onCollection
 means-collection H p void h g = means-pure no-type
 means-collection H p (simple b) h g = means-pure no-type
 means-collection H p (around l m) h g = g l m h
 
-pub means-if : {mark : ℕ → ℕ} {G : Ty → Type 0} {x y : Typed} (b : Bool) → (T b → Means mark G x) → Means mark G y → Means mark G (if b then x else y)
+pub means-class : {mark : ℕ → Mark} (H : Ty → Type 0) {G : Ty → Type 0} {k : ℕ → Typed} (p : ℕ) (t : Ty) → H t → ((c : ℕ) → H (Class c) → Means mark G (k c)) → Means mark G (onClass t (pure (refused 11 p)) k)
+unfolding onClass
+means-class H p void h g = means-pure no-type
+means-class H p (simple any) h g = means-pure no-type
+means-class H p (simple boolean) h g = means-pure no-type
+means-class H p (simple integer) h g = means-pure no-type
+means-class H p (simple (class c)) h g = g c h
+means-class H p (around l m) h g = means-pure no-type
+
+pub means-if : {mark : ℕ → Mark} {G : Ty → Type 0} {x y : Typed} (b : Bool) → (T b → Means mark G x) → Means mark G y → Means mark G (if b then x else y)
 means-if true g h = g tt
 means-if false g h = h
 

@@ -1,5 +1,5 @@
 -- Where typing refuses and marks: one induction over the forms, with a law for each piece that typing is written in. Assumes nothing.
-use mathlib.Core.Path.{_≡_, subst}
+use mathlib.Core.Path.{_≡_, refl, subst}
 use mathlib.Core.Bool.{Bool, true, false, _&&_, _||_}
 use mathlib.Core.Option.{Option, none, some}
 use mathlib.Core.List.{List, _++_}
@@ -9,22 +9,22 @@ use lib.Dec.{T, eqb, leb, leb→le}
 use Rattle.laws.specs.Choice.{if_then_else_}
 use Rattle.laws.specs.Lists.{member, Each}
 use Rattle.ocl.specs.Environment.{Env, extend}
-use Rattle.ocl.specs.Types.{any, boolean, integer, class, Kind, Letter, collection, exactly, Ty, void, simple, around, Class, Boolean, Integer, depth, sameKind, subtype, join}
+use Rattle.ocl.specs.Types.{any, boolean, integer, class, Kind, set, sequence, bag, Letter, collection, exactly, Ty, void, simple, around, Class, Boolean, Integer, depth, sameKind, subtype, join}
 use Rattle.ocl.specs.Model.{Model}
-use Rattle.ocl.specs.Forms.{Leaf, truth, undef, number, self, var, all, Unary, negation, sizeOf, convert, castTo, Binary, equal, less, arith, includes, including, union, Expr, node, Form, leaf, unary, binary, connective, isUndef, conditional, letIn, attribute, quantified, iterate, assemble, Operands, noOperand, operand}
-use Rattle.ocl.specs.Typing.{Answer, typed, refused, Marks, Typed, pure, thenFor, andThen, below, common, wrap, onCollection, onKind, boundType, leafType, castType, unaryType, bothBelow, binaryType, conditionalType, rowType, attributeType, leafTyping, unaryTyping, binaryTyping, connectiveTyping, isUndefTyping, conditionalTyping, letTyping, attributeTyping, quantifiedTyping, iterateTyping, noOperandTyping, operandTyping, assembleTyping, typing, formTyping, operandsTyping, markOr, markOf}
+use Rattle.ocl.specs.Forms.{Access, ofObject, ofMembers, Leaf, truth, undef, number, self, var, all, Unary, negation, sizeOf, convert, castTo, Binary, equal, less, arith, includes, including, union, Expr, node, Form, leaf, unary, binary, connective, isUndef, conditional, letIn, attribute, quantified, iterate, assemble, Operands, noOperand, operand}
+use Rattle.ocl.specs.Typing.{Answer, typed, refused, Mark, ofRow, ofRows, rowMarked, kindMarked, Marks, Typed, pure, thenFor, andThen, below, common, wrap, onCollection, onClass, onKind, boundType, leafType, castType, unaryType, bothBelow, binaryType, conditionalType, collectKind, rowType, attributeType, leafTyping, unaryTyping, binaryTyping, connectiveTyping, isUndefTyping, conditionalTyping, letTyping, attributeTyping, quantifiedTyping, iterateTyping, noOperandTyping, operandTyping, assembleTyping, typing, formTyping, operandsTyping, markOr, markOf}
 use Rattle.ocl.specs.Laws.{Refusal, EachMark, no-mark, mark-then, TypingPlacesLaw, numbers, numbersIn, numbersOf}
 use Rattle.laws.proofs.Tests.{and-l, and-r, by-if, All?, all-none, all-some}
 use Rattle.laws.proofs.Lists.{each-left, each-right, each-head, each-member}
 use Rattle.ocl.proofs.Values.{rowRead-row}
 
-each-mark-append : {P : ℕ → ℕ → Type 0} {m n : Marks} → EachMark P m → EachMark P n → EachMark P (m ++ n)
+each-mark-append : {P : ℕ → Mark → Type 0} {m n : Marks} → EachMark P m → EachMark P n → EachMark P (m ++ n)
 each-mark-append no-mark k = k
 each-mark-append (mark-then p h) k = mark-then p (each-mark-append h k)
 
-each-mark-imp : {P Q : ℕ → ℕ → Type 0} {m : Marks} → ((p i : ℕ) → P p i → Q p i) → EachMark P m → EachMark Q m
+each-mark-imp : {P Q : ℕ → Mark → Type 0} {m : Marks} → ((p : ℕ) (x : Mark) → P p x → Q p x) → EachMark P m → EachMark Q m
 each-mark-imp f no-mark = no-mark
-each-mark-imp f (mark-then {p} {i} h k) = mark-then (f p i h) (each-mark-imp f k)
+each-mark-imp f (mark-then {p} {x} h k) = mark-then (f p x h) (each-mark-imp f k)
 
 -- P of the nodes that may be named
 module _ (s : Model) (P : ℕ → Type 0) where
@@ -32,16 +32,20 @@ module _ (s : Model) (P : ℕ → Type 0) where
     yes-type : {t : Ty} → Says (typed t)
     no-type : {n p : ℕ} → T (leb 9 n && leb n 13) → P p → Says (refused n p)
 
+  record Plain (m : Mark) : Type 0 where
+    row : rowMarked m < s .rowCount
+    no-set : kindMarked m ≡ set → ⊥
+
   record Known (x : Typed) : Type 0 where
     says : Says (x .answer)
-    marks : EachMark (λ p i. P p × (i < s .rowCount)) (x .marks)
+    marks : EachMark (λ p m. P p × Plain m) (x .marks)
 
   -- ---- the pieces of typing
 
   known-pure : {a : Answer} → Says a → Known (pure a)
   known-pure h = record { says = h; marks = no-mark }
 
-  then-known : {k : Ty → Typed} {m : Marks} (a : Answer) → Says a → EachMark (λ p i. P p × (i < s .rowCount)) m → ((t : Ty) → Known (k t)) → Known (thenFor a m k)
+  then-known : {k : Ty → Typed} {m : Marks} (a : Answer) → Says a → EachMark (λ p m. P p × Plain m) m → ((t : Ty) → Known (k t)) → Known (thenFor a m k)
   unfolding thenFor
   then-known (typed t) h e g = record { says = g t .says; marks = each-mark-append e (g t .marks) }
   then-known (refused n p) h e g = record { says = h; marks = e }
@@ -63,6 +67,15 @@ module _ (s : Model) (P : ℕ → Type 0) where
   known-collection void h g = h
   known-collection (simple b) h g = h
   known-collection (around l m) h g = g l m
+
+  known-class : {x : Typed} {k : ℕ → Typed} (t : Ty) → Known x → ((c : ℕ) → Known (k c)) → Known (onClass t x k)
+  unfolding onClass
+  known-class void h g = h
+  known-class (simple any) h g = h
+  known-class (simple boolean) h g = h
+  known-class (simple integer) h g = h
+  known-class (simple (class c)) h g = g c
+  known-class (around l m) h g = h
 
   says-if : {x y : Answer} (b : Bool) → Says x → Says y → Says (if b then x else y)
   says-if true h k = h
@@ -141,19 +154,30 @@ module _ (s : Model) (P : ℕ → Type 0) where
   unfolding conditionalType
   conditional-says c t u q = says-below c Boolean q (says-common (join (s .parent) t u) q (λ w. yes-type))
 
-  row-known : {p : ℕ} {o : Option ℕ} → P p → All? (λ i. i < s .rowCount) o → Known (rowType s p o)
+  row-known : {p : ℕ} (mark : ℕ → Mark) (k : Ty → Answer) {o : Option ℕ} → P p → ((t : Ty) → Says (k t)) → All? (λ i. Plain (mark i)) o → Known (rowType s p mark k o)
   unfolding rowType
-  row-known q all-none = known-pure (no-type tt q)
-  row-known q (all-some h) = record { says = yes-type; marks = mark-then (q, h) no-mark }
+  row-known mark k q g all-none = known-pure (no-type tt q)
+  row-known mark k q g (all-some {x = i} h) = record { says = g (s .row i .type); marks = mark-then (q, h) no-mark }
 
-  attribute-known : {p : ℕ} (name : ℕ) (t : Ty) → P p → Known (attributeType s p name t)
-  unfolding attributeType
-  attribute-known name void q = known-pure (no-type tt q)
-  attribute-known name (simple any) q = known-pure (no-type tt q)
-  attribute-known name (simple boolean) q = known-pure (no-type tt q)
-  attribute-known name (simple integer) q = known-pure (no-type tt q)
-  attribute-known name (simple (class c)) q = row-known q (rowRead-row s c name)
-  attribute-known name (around l t) q = known-pure (no-type tt q)
+  collect-no-set : (l : Letter) → collectKind l ≡ set → ⊥
+  unfolding collectKind
+  collect-no-set collection e = absurd (let z : _≡_ {A = ℕ} 0 1 = cc in omega linear)
+  collect-no-set (exactly set) e = absurd (let z : _≡_ {A = ℕ} 0 1 = cc in omega linear)
+  collect-no-set (exactly sequence) e = absurd (let z : _≡_ {A = ℕ} 0 1 = cc in omega linear)
+  collect-no-set (exactly bag) e = absurd (let z : _≡_ {A = ℕ} 0 1 = cc in omega linear)
+
+  -- the row that is found, with what it is marked with
+  plain-row : (mark : ℕ → Mark) {o : Option ℕ} → ((i : ℕ) → rowMarked (mark i) ≡ i) → ((i : ℕ) → kindMarked (mark i) ≡ set → ⊥) → All? (λ i. i < s .rowCount) o → All? (λ i. Plain (mark i)) o
+  plain-row mark e g all-none = all-none
+  plain-row mark e g (all-some {x = i} h) = all-some {x = i} (record { row = rw (e i) h; no-set = g i })
+
+  attribute-known : {p : ℕ} (x : Access) (name : ℕ) (t : Ty) → P p → Known (attributeType s p x name t)
+  unfolding attributeType rowMarked kindMarked
+  attribute-known ofObject name t q = known-class t (known-pure (no-type tt q)) (λ c. row-known ofRow typed q (λ t. yes-type)
+      (plain-row ofRow (λ i. refl) (λ i e. absurd (let z : _≡_ {A = ℕ} 0 1 = cc in omega linear)) (rowRead-row s c name)))
+  attribute-known {p} ofMembers name t q = known-collection t (known-pure (no-type tt q)) (λ l m. known-class m (known-pure (no-type tt q)) (λ c.
+      row-known (ofRows (collectKind l)) (wrap p (exactly (collectKind l))) q (λ t. says-wrap (exactly (collectKind l)) t q)
+      (plain-row (ofRows (collectKind l)) (λ i. refl) (λ i. collect-no-set l) (rowRead-row s c name))))
 
   -- ---- the induction
 
@@ -173,7 +197,7 @@ module _ (s : Model) (P : ℕ → Type 0) where
     known-form (conditional c a b) p h q Γ = let r = each-right (numbers c) h in
         known-then (known c (each-left (numbers c) _ h) Γ) (λ x. known-then (known a (each-left (numbers a) _ r) Γ) (λ t. known-last (known b (each-right (numbers a) r) Γ) (λ u. conditional-says x t u q)))
     known-form (letIn i a b) p h q Γ = known-then (known a (each-left (numbers a) _ h) Γ) (λ t. known b (each-right (numbers a) h) (extend Γ i t))
-    known-form (attribute name a) p h q Γ = known-then (known a h Γ) (λ t. attribute-known name t q)
+    known-form (attribute x name a) p h q Γ = known-then (known a h Γ) (λ t. attribute-known x name t q)
     known-form (quantified z i a b) p h q Γ = known-then (known a (each-left (numbers a) _ h) Γ) (λ t. known-collection t (known-pure (no-type tt q))
         (λ l m. known-last (known b (each-right (numbers a) h) (extend Γ i m)) (λ u. says-below u Boolean q yes-type)))
     known-form (iterate i j t a e b) p h q Γ = let r = each-right (numbers a) h in
@@ -204,16 +228,23 @@ typing-places s e Γ =
     let h = known s (λ m. T (member m (numbers e))) e (each-member (numbers e)) Γ in
     record {
       refusals = λ n p r. refusal-of (h .says) r;
-      marked = each-mark-imp (λ p i q. record { placed = q .0; is-row = q .1 }) (h .marks);
+      marked = each-mark-imp (λ p i q. record { placed = q .0; is-row = q .1 .row; no-set = q .1 .no-set }) (h .marks);
     }
 
--- ---- the marks as evaluation reads them: each node's is below n, if the rows are
+-- ---- the marks as evaluation reads them
 
-below-or : {n : ℕ} (d : ℕ) {m : Marks} (p : ℕ) → d < n → EachMark (λ q i. i < n) m → markOr d m p < n
+each-or : (P : Mark → Type 0) (d : Mark) {m : Marks} (p : ℕ) → P d → EachMark (λ q x. P x) m → P (markOr d m p)
 unfolding markOr
-below-or d p h no-mark = h
-below-or {n} d p h (mark-then {p = q} {i} l k) = below-or (if eqb p q then i else d) p (by-if (λ x. x < n) (eqb p q) i d (λ t. l) (λ t. h)) k
+each-or P d p h no-mark = h
+each-or P d p h (mark-then {p = q} {x} l k) = each-or P (if eqb p q then x else d) p (by-if P (eqb p q) x d (λ t. l) (λ t. h)) k
 
-pub mark-below : (s : Model) (e : Expr) (Γ : Env Ty) (n p : ℕ) → 0 < n → s .rowCount ≤ n → markOf (typing s e Γ) p < n
-unfolding markOf
-mark-below s e Γ n p h l = below-or 0 p h (each-mark-imp (λ q i k. let r = k .is-row in omega linear) (typing-places s e Γ .marked))
+-- each node's row is below n, if the rows are
+pub mark-below : (s : Model) (e : Expr) (Γ : Env Ty) (n p : ℕ) → 0 < n → s .rowCount ≤ n → rowMarked (markOf (typing s e Γ) p) < n
+unfolding markOf rowMarked
+mark-below s e Γ n p h l = each-or (λ m. rowMarked m < n) (ofRow 0) p h (each-mark-imp (λ q x k. let r = k .is-row in omega linear) (typing-places s e Γ .marked))
+
+-- and its kind is no Set
+pub mark-no-set : (s : Model) (e : Expr) (Γ : Env Ty) (p : ℕ) → kindMarked (markOf (typing s e Γ) p) ≡ set → ⊥
+unfolding markOf kindMarked
+mark-no-set s e Γ p =
+    each-or (λ m. kindMarked m ≡ set → ⊥) (ofRow 0) p (λ e. absurd (let z : _≡_ {A = ℕ} 0 1 = cc in omega linear)) (each-mark-imp (λ q x k. k .no-set) (typing-places s e Γ .marked))

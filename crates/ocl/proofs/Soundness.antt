@@ -1,5 +1,5 @@
 -- Demand 3: one induction over the forms, with a law for each piece that typing and evaluation are written in. Assumes nothing.
-use mathlib.Core.Path.{_≡_, sym, _∙_, subst}
+use mathlib.Core.Path.{_≡_, refl, sym, _∙_, subst}
 use mathlib.Core.Bool.{true, false, not, _||_, Bool·beq}
 use mathlib.Core.Option.{Option, none, some}
 use Prim.Native.Nat.{ℕ, zero, suc, _+_, _*_}
@@ -7,29 +7,30 @@ use native.Mathlib.Nat.{mul-le-mul-right}
 use native.Mathlib.Omega.{arith as linear}
 use lib.IntN.{pos}
 use lib.Dec.{T, T-not}
+use Rattle.laws.specs.Choice.{onSome, mapSome}
 use Rattle.laws.specs.Lists.{Each}
 use Rattle.ocl.specs.Environment.{Env, extend, start}
 use Rattle.ocl.specs.Types.{Simple, any, boolean, integer, class, Kind, set, Letter, exactly, Ty, void, simple, around, Boolean, Integer, Class, letterSubtype, sameKind, subtype}
-use Rattle.ocl.specs.Values.{Value, bool, int, obj, coll, nil, count, size, orderInt, same, has, add}
-use Rattle.ocl.specs.Model.{Model, isA}
-use Rattle.ocl.specs.Forms.{Connective, Quantifier, Leaf, truth, undef, number, self, var, all, Unary, negation, sizeOf, convert, castTo, Binary, equal, less, arith, includes, including, union, Expr, node, Form, leaf, unary, binary, connective, isUndef, conditional, letIn, attribute, quantified, iterate, assemble, Operands, noOperand, operand, reach, inside, reaches}
+use Rattle.ocl.specs.Values.{Value, bool, int, obj, coll, Values, nil, cons, count, size, orderInt, same, has, add}
+use Rattle.ocl.specs.Model.{Model, isA, every}
+use Rattle.ocl.specs.Forms.{Connective, Quantifier, Access, ofObject, ofMembers, Leaf, truth, undef, number, self, var, all, Unary, negation, sizeOf, convert, castTo, Binary, equal, less, arith, includes, including, union, Expr, node, Form, leaf, unary, binary, connective, isUndef, conditional, letIn, attribute, quantified, iterate, assemble, Operands, noOperand, operand, reach, inside, reaches}
 use Rattle.ocl.specs.Laws.{literals}
-use Rattle.ocl.specs.Typing.{typed, boundType, leafType, castType, unaryType, bothBelow, binaryType, conditionalType, rowType, attributeType, leafTyping, unaryTyping, binaryTyping, connectiveTyping, isUndefTyping, conditionalTyping, letTyping, attributeTyping, quantifiedTyping, iterateTyping, noOperandTyping, operandTyping, assembleTyping, typing, formTyping, operandsTyping, typeRule, markOf}
-use Rattle.ocl.specs.Evaluation.{Run, isLess, inRange, instances, leafRun, cast, unaryApply, unaryRun, leftFits, binaryApply, binaryRun, decides, connectiveRun, isUndefRun, conditionalRun, letRun, attributeRun, quantifiedRun, iterateRun, Gather, noOperandRun, operandRun, assembleRun, evaluation, formRun, operandsRun, evaluateRule, bound as boundRun}
+use Rattle.ocl.specs.Typing.{Answer, typed, Mark, ofRow, ofRows, rowMarked, kindMarked, wrap, collectKind, boundType, leafType, castType, unaryType, bothBelow, binaryType, conditionalType, rowType, attributeType, leafTyping, unaryTyping, binaryTyping, connectiveTyping, isUndefTyping, conditionalTyping, letTyping, attributeTyping, quantifiedTyping, iterateTyping, noOperandTyping, operandTyping, assembleTyping, typing, formTyping, operandsTyping, typeRule, markOf}
+use Rattle.ocl.specs.Evaluation.{Run, isLess, inRange, instances, leafRun, cast, unaryApply, unaryRun, leftFits, binaryApply, binaryRun, decides, connectiveRun, isUndefRun, conditionalRun, letRun, hasRow, valueInRow, valuesInRow, formAll, access, attributeRun, quantifiedRun, iterateRun, Gather, noOperandRun, operandRun, assembleRun, evaluation, formRun, operandsRun, evaluateRule, bound as boundRun}
 use Rattle.ocl.specs.Soundness.{AcceptedModel, Sound, Soundness}
 use Rattle.laws.proofs.Tests.{by-if, All?, all-none, all-some, Any?, any-some, all-imp, all-self, at-some}
-use Rattle.ocl.proofs.SimpleTypes.{climb→simpleSubtype}
+use Rattle.ocl.proofs.SimpleTypes.{climb→simpleSubtype, boolean-not-class, integer-not-class}
 use Rattle.ocl.proofs.Types.{sameKind→eq, sameKind-refl}
-use Rattle.ocl.proofs.Values.{Every, every-nil, append-every, add-every, addAll-every, Belongs, belongs-by, belongs-test, isA-up, Above, rowRead-above}
+use Rattle.ocl.proofs.Values.{Every, every-nil, every-test, all-each, append-every, add-every, addAll-every, Belongs, belongs-by, belongs-test, isA-up, Above, rowRead-above}
 use Rattle.ocl.proofs.Runs.{Safe, safe-weak, safe-le, safe-value, safe-undefined, safe-resume, safe-bind, safe-tick, safe-if, safe-fold, safe-seek, Fits, fine-sound, safe-zero}
-use Rattle.ocl.proofs.Means.{Gives, no-type, gives, Means, means-pure, means-then, means-imp, means-collection, means-if, gives-if, gives-common, gives-wrap, gives-collection, gives-kind}
-use Rattle.ocl.proofs.ByType.{Ok, Below, EnvOk, Sem, SemAll, below-by, gives-below, joined, below-same, below-then, extend-ok, ok-up, is-bool, bool-sem, int-of, int-sem, int-fits, obj-sem, coll-of, coll-sem, coll-fits, bool-ok, int-ok, give-bool, give-int, given-sem, result-sem, form-sem, bels}
+use Rattle.ocl.proofs.Means.{Gives, no-type, gives, gives-type, Means, means-pure, means-then, means-imp, means-collection, means-class, means-if, gives-if, gives-common, gives-wrap, gives-collection, gives-kind}
+use Rattle.ocl.proofs.ByType.{Ok, Below, EnvOk, Sem, SemAll, below-by, gives-below, joined, below-same, below-then, extend-ok, ok-up, is-bool, bool-sem, int-of, int-sem, int-fits, coll-of, coll-sem, coll-fits, bool-ok, int-ok, give-bool, give-int, given-sem, result-sem, form-sem, bels}
 use Rattle.ocl.proofs.Ends.{arithmetic-all}
 use Rattle.ocl.proofs.InRange.{ends-in-range}
 use Rattle.ocl.proofs.Formed.{formed-ends}
 use Rattle.ocl.proofs.Marks.{Agree, agree-one, marked, agree-marks}
 
-module _ (s : Model) (ok : AcceptedModel s) (mark : ℕ → ℕ) where
+module _ (s : Model) (ok : AcceptedModel s) (mark : ℕ → Mark) where
   -- ---- forms with no operand
 
   bound-sem : {k : ℕ} {t : Ty} {x : Option Value} → Any? (Ok s t) x → Safe (Ok s t) k (λ n. boundRun x n)
@@ -154,32 +155,63 @@ module _ (s : Model) (ok : AcceptedModel s) (mark : ℕ → ℕ) where
   value-ok : (o i : ℕ) → All? (Ok s (s .row i .type)) (s .valueOf o i)
   value-ok o i = all-imp (λ v e. record { bel = belongs-by s (s .row i .type) v (ok .values-belong o i v e); fits = ok .values-small o i v e }) (all-self (s .valueOf o i))
 
-  attribute-run : {Γ : Env Ty} {k c : ℕ} {f : Run} (i : ℕ) → Above s c i → Sem s Γ k (Class c) f → Sem s Γ k (s .row i .type) (attributeRun s i f)
-  unfolding attributeRun
-  attribute-run {c = c} i a h = record {
-    run = λ ρ r. safe-le (omega linear) (safe-bind {j = 0} (h .run ρ r) (λ v j. obj-sem v j (λ o g.
-        safe-if (isA s o (class (s .row i .owner))) (λ t. given-sem (value-ok o i))
-        (λ t. absurd (T-not (isA s o (class (s .row i .owner))) t (isA-up s (ok .parents-smaller) o (class c) (class (s .row i .owner)) g (climb→simpleSubtype (s .parent) (ok .parents-smaller) _ _ (a .climb))))))));
+  -- an object of class c has the row
+  has-row : {c : ℕ} (i : ℕ) → Above s c i → (v : Value) → Ok s (Class c) v → T (hasRow s i v)
+  unfolding hasRow Belongs
+  has-row {c} i a (bool b) h = absurd (boolean-not-class (s .parent) c (h .bel))
+  has-row {c} i a (int z) h = absurd (integer-not-class (s .parent) c (h .bel))
+  has-row {c} i a (obj o) h = isA-up s (ok .parents-smaller) o (class c) (class (s .row i .owner)) (h .bel) (climb→simpleSubtype (s .parent) (ok .parents-smaller) _ _ (a .climb))
+  has-row i a (coll k vs) h = absurd (h .bel)
+
+  in-row : (i : ℕ) (v : Value) → All? (Ok s (s .row i .type)) (valueInRow s i v)
+  unfolding valueInRow
+  in-row i (bool b) = all-none
+  in-row i (int z) = all-none
+  in-row i (obj o) = value-ok o i
+  in-row i (coll k vs) = all-none
+
+  all-in-row : (i : ℕ) (vs : Values) → All? (Every (Ok s (s .row i .type))) (valuesInRow s i vs)
+  unfolding valuesInRow onSome mapSome
+  all-in-row i nil = all-some every-nil
+  all-in-row i (cons v vs) = all-each (in-row i v) (all-in-row i vs)
+
+  all-sem : {k : ℕ} {t : Ty} {o : Option Values} (j : Kind) → All? (Every (Ok s t)) o → Safe (Ok s (around (exactly j) t)) k (formAll j o)
+  unfolding letterSubtype
+  all-sem j all-none = safe-undefined
+  all-sem j (all-some h) = form-sem j _ (sameKind-refl j) (addAll-every j (bels below-same h) every-nil)
+
+  object-sem : {Γ : Env Ty} {k c : ℕ} {f : Run} (i : ℕ) → Above s c i → Sem s Γ k (Class c) f → Sem s Γ k (s .row i .type) (attributeRun s ofObject (ofRow i) f)
+  unfolding attributeRun access rowMarked
+  object-sem i a h = record {
+    run = λ ρ r. safe-le (omega linear) (safe-bind {j = 0} (h .run ρ r) (λ v j.
+        safe-if (hasRow s i v) (λ t. given-sem (in-row i v)) (λ t. absurd (T-not (hasRow s i v) t (has-row i a v j)))));
   }
 
-  row-means : {Γ : Env Ty} {k c : ℕ} {f : Run} {o : Option ℕ} (p : ℕ) → All? (Above s c) o → Sem s Γ k (Class c) f → Means mark (λ u. Sem s Γ k u (attributeRun s (mark p) f)) (rowType s p o)
+  members-sem : {Γ : Env Ty} {k c : ℕ} {l : Letter} {f : Run} (j : Kind) (i : ℕ) → Above s c i → Sem s Γ k (around l (Class c)) f
+      → Sem s Γ k (around (exactly j) (s .row i .type)) (attributeRun s ofMembers (ofRows j i) f)
+  unfolding attributeRun access rowMarked kindMarked
+  members-sem j i a h = record {
+    run = λ ρ r. safe-le (omega linear) (safe-bind {j = 0} (h .run ρ r) (λ v o. coll-sem (coll-of v o) (λ k vs x e z.
+        safe-if (every (hasRow s i) vs) (λ t. all-sem j (all-in-row i vs)) (λ t. absurd (T-not (every (hasRow s i) vs) t (every-test (hasRow s i) (has-row i a) e))))));
+  }
+
+  row-means : {Γ : Env Ty} {k c : ℕ} (f : Run) {o : Option ℕ} (p : ℕ) (x : Access) (m : ℕ → Mark) (ty : Ty → Ty) (g : Ty → Answer) → ((t : Ty) → Gives (λ u. u ≡ ty t) (g t)) → All? (Above s c) o
+      → ((i : ℕ) → Above s c i → Sem s Γ k (ty (s .row i .type)) (attributeRun s x (m i) f)) → Means mark (λ u. Sem s Γ k u (attributeRun s x (mark p) f)) (rowType s p m g o)
   unfolding rowType
-  row-means p all-none h = means-pure no-type
-  row-means {Γ} {k} {f = f} p (all-some {x = i} a) h = record {
-    means = λ t e g.
-        let z : s .row i .type ≡ t = cc in
-        let m : i ≡ mark p = sym (agree-one g) in
-        subst (λ t. Sem s Γ k t (attributeRun s (mark p) f)) z (subst (λ j. Sem s Γ k (s .row i .type) (attributeRun s j f)) m (attribute-run i a h));
+  row-means f p x m ty g q all-none h = means-pure no-type
+  row-means {Γ} {k} f p x m ty g q (all-some {x = i} a) h = record {
+    means = λ t e z.
+        let y : t ≡ ty (s .row i .type) = gives-type (q (s .row i .type)) e in
+        subst (λ t. Sem s Γ k t (attributeRun s x (mark p) f)) (sym y) (subst (λ j. Sem s Γ k (ty (s .row i .type)) (attributeRun s x j f)) (sym (agree-one z)) (h i a));
   }
 
-  attribute-sem : {Γ : Env Ty} {k : ℕ} {f : Run} (p name : ℕ) (t : Ty) → Sem s Γ k t f → Means mark (λ u. Sem s Γ k u (attributeRun s (mark p) f)) (attributeType s p name t)
+  attribute-sem : {Γ : Env Ty} {k : ℕ} {f : Run} (p : ℕ) (x : Access) (name : ℕ) (t : Ty) → Sem s Γ k t f → Means mark (λ u. Sem s Γ k u (attributeRun s x (mark p) f)) (attributeType s p x name t)
   unfolding attributeType
-  attribute-sem p name void h = means-pure no-type
-  attribute-sem p name (simple any) h = means-pure no-type
-  attribute-sem p name (simple boolean) h = means-pure no-type
-  attribute-sem p name (simple integer) h = means-pure no-type
-  attribute-sem p name (simple (class c)) h = row-means p (rowRead-above s (ok .parents-smaller) c name) h
-  attribute-sem p name (around l t) h = means-pure no-type
+  attribute-sem {Γ} {k} {f} p ofObject name t h = means-class (λ t. Sem s Γ k t f) p t h (λ c h.
+      row-means f p ofObject ofRow (λ t. t) typed (λ t. gives refl) (rowRead-above s (ok .parents-smaller) c name) (λ i a. object-sem i a h))
+  attribute-sem {Γ} {k} {f} p ofMembers name t h = means-collection (λ t. Sem s Γ k t f) p t h (λ l m h. means-class (λ m. Sem s Γ k (around l m) f) p m h (λ c h.
+      row-means f p ofMembers (ofRows (collectKind l)) (around (exactly (collectKind l))) (wrap p (exactly (collectKind l))) (λ t. gives-wrap p _ t refl) (rowRead-above s (ok .parents-smaller) c name)
+      (λ i a. members-sem (collectKind l) i a h)))
 
   quantified-sem : {Γ : Env Ty} {k n : ℕ} {l : Letter} {m b : Ty} {f g : Run} (q : Quantifier) (i : ℕ) → Below s b Boolean → Sem s Γ k (around l m) f → Sem s (extend Γ i m) n b g → Sem s Γ (k + 127 * n) Boolean (quantifiedRun q i f g)
   unfolding quantifiedRun
@@ -230,7 +262,7 @@ module _ (s : Model) (ok : AcceptedModel s) (mark : ℕ → ℕ) where
     sound-form p (conditional c a b) Γ = means-then (sound c Γ) (λ t hc. means-then (sound a Γ) (λ u ha. means-then (sound b Γ) (λ w hb.
         means-pure (gives-below ok p t Boolean (λ l. gives-common p (joined ok u w) (λ x q. gives (conditional-sem l (q .0) (q .1) hc ha hb)))))))
     sound-form p (letIn i a b) Γ = means-then (sound a Γ) (λ t ha. means-imp (λ u hb. let-sem i ha hb) (sound b (extend Γ i t)))
-    sound-form p (attribute name a) Γ = means-then (sound a Γ) (λ t ha. attribute-sem p name t ha)
+    sound-form p (attribute x name a) Γ = means-then (sound a Γ) (λ t ha. attribute-sem p x name t ha)
     sound-form p (quantified q i a b) Γ = means-then (sound a Γ) (λ t ha. means-collection (λ t. Sem s Γ (reach a) t (evaluation s mark a)) p t ha (λ l m ha.
         means-then (sound b (extend Γ i m)) (λ u hb. means-pure (gives-below ok p u Boolean (λ x. gives (quantified-sem q i x ha hb))))))
     sound-form p (iterate i j t a e b) Γ = means-then (sound a Γ) (λ c ha. means-then (sound e Γ) (λ u he.
@@ -257,4 +289,4 @@ module _ (s : Model) (ok : AcceptedModel s) (mark : ℕ → ℕ) where
 pub soundness : Soundness
 unfolding markOf typeRule
 soundness s ok e d l c o t h a =
-    sound-with s ok (markOf (typeRule s c e)) e l c o t h (agree-marks (λ p. 0) (marked s e (start (Class c)) .part) d) a
+    sound-with s ok (markOf (typeRule s c e)) e l c o t h (agree-marks (λ p. ofRow 0) (marked s e (start (Class c)) .part) d) a

@@ -10,10 +10,11 @@ use Rattle.laws.specs.Choice.{if_then_else_}
 use Rattle.laws.proofs.Tests.{by-if}
 use Rattle.ocl.specs.Types.{class, Kind, sameKind}
 use Rattle.ocl.specs.Values.{Value, bool, int, obj, coll, Values, nil, cons, size, add}
-use Rattle.ocl.specs.Model.{Model, isA}
+use Rattle.ocl.specs.Model.{Model, isA, every}
 use Rattle.ocl.specs.Environment.{Env, extend, start}
-use Rattle.ocl.specs.Forms.{Connective, Quantifier, Leaf, truth, undef, number, self, var, all, Unary, negation, sizeOf, convert, castTo, Binary, equal, less, arith, includes, including, union, Expr, node, Form, leaf, unary, binary, connective, isUndef, conditional, letIn, attribute, quantified, iterate, assemble, Operands, noOperand, operand}
-use Rattle.ocl.specs.Evaluation.{Outcome, value, undefined, stuck, stop, Stop, step-stop, size-stop, range-stop, stepsOf, Run, resume, bind, tick, form, given, bound, onBool, onInt, onObj, onColl, Result, result, noResult, overRange, resulting, arithmetic, leafRun, cast, unaryApply, unaryRun, leftFits, binaryApply, binaryRun, decides, connectiveRun, isUndefRun, conditionalRun, letRun, attributeRun, endsAt, seek, quantifiedRun, fold, iterateRun, Gather, noOperandRun, operandRun, assembleRun, evaluation, formRun, operandsRun, evaluateRule}
+use Rattle.ocl.specs.Forms.{Connective, Quantifier, Access, ofObject, ofMembers, Leaf, truth, undef, number, self, var, all, Unary, negation, sizeOf, convert, castTo, Binary, equal, less, arith, includes, including, union, Expr, node, Form, leaf, unary, binary, connective, isUndef, conditional, letIn, attribute, quantified, iterate, assemble, Operands, noOperand, operand}
+use Rattle.ocl.specs.Typing.{Mark, rowMarked, kindMarked}
+use Rattle.ocl.specs.Evaluation.{Outcome, value, undefined, stuck, stop, Stop, step-stop, size-stop, range-stop, stepsOf, Run, resume, bind, tick, form, given, bound, onBool, onInt, onColl, Result, result, noResult, overRange, resulting, arithmetic, leafRun, cast, unaryApply, unaryRun, leftFits, binaryApply, binaryRun, decides, connectiveRun, isUndefRun, conditionalRun, letRun, hasRow, valueInRow, valuesInRow, formAll, access, attributeRun, endsAt, seek, quantifiedRun, fold, iterateRun, Gather, noOperandRun, operandRun, assembleRun, evaluation, formRun, operandsRun, evaluateRule}
 
 pub data Limited : Outcome → Type 0 where
   limited-value : {v : Value} {n : ℕ} → n ≤ 1000000 → Limited (value v n)
@@ -56,6 +57,10 @@ limited-result (result v) l = limited-value l
 limited-result noResult l = limited-undefined l
 limited-result overRange l = limited-stop range-stop l
 
+limited-all : (k : Kind) (o : Option Values) {n : ℕ} → n ≤ 1000000 → Limited (formAll k o n)
+limited-all k none l = limited-undefined l
+limited-all k (some ws) l = limited-form _ l
+
 limited-bound : (o : Option Value) {n : ℕ} → n ≤ 1000000 → Limited (bound o n)
 limited-bound none l = limited-stuck
 limited-bound (some v) l = limited-value l
@@ -71,12 +76,6 @@ limited-int (bool b) h = limited-stuck
 limited-int (int z) h = h z
 limited-int (obj o) h = limited-stuck
 limited-int (coll c vs) h = limited-stuck
-
-limited-obj : {k : ℕ → Outcome} (v : Value) → ((o : ℕ) → Limited (k o)) → Limited (onObj v k)
-limited-obj (bool b) h = limited-stuck
-limited-obj (int z) h = limited-stuck
-limited-obj (obj o) h = h o
-limited-obj (coll c vs) h = limited-stuck
 
 limited-coll : {k : Kind → Values → Outcome} (v : Value) → ((c : Kind) (vs : Values) → Limited (k c vs)) → Limited (onColl v k)
 limited-coll (bool b) h = limited-stuck
@@ -176,11 +175,14 @@ module _ (s : Model) where
   unfolding letRun
   let-stays i hf hg = record { run = λ ρ n l. limited-bind (hf .run ρ n l) (λ v m k. hg .run (extend ρ i v) m k) }
 
-  attribute-stays : (i : ℕ) {f : Run} → Stays f → Stays (attributeRun s i f)
+  access-limited : (x : Access) (m : Mark) → After (access s x m)
+  unfolding access
+  access-limited ofObject m v n l = limited-if (hasRow s (rowMarked m) v) (limited-given (valueInRow s (rowMarked m) v) l) limited-stuck
+  access-limited ofMembers m v n l = limited-coll v (λ k vs. limited-if (every (hasRow s (rowMarked m)) vs) (limited-all (kindMarked m) (valuesInRow s (rowMarked m) vs) l) limited-stuck)
+
+  attribute-stays : (x : Access) (m : Mark) {f : Run} → Stays f → Stays (attributeRun s x m f)
   unfolding attributeRun
-  attribute-stays i h = record {
-    run = λ ρ n l. limited-bind (h .run ρ n l) (λ v m k. limited-obj v (λ o. limited-if (isA s o (class (s .row i .owner))) (limited-given (s .valueOf o i) k) limited-stuck));
-  }
+  attribute-stays x m h = record { run = λ ρ n l. limited-bind (h .run ρ n l) (access-limited x m) }
 
   quantified-stays : (q : Quantifier) (i : ℕ) {f g : Run} → Stays f → Stays g → Stays (quantifiedRun q i f g)
   unfolding quantifiedRun
@@ -209,7 +211,7 @@ module _ (s : Model) where
 
   -- ---- the induction
 
-  module _ (mark : ℕ → ℕ) where
+  module _ (mark : ℕ → Mark) where
     mutual
       unfolding evaluation
 
@@ -224,7 +226,7 @@ module _ (s : Model) where
       form-stays p (isUndef a) = isUndef-stays (all-stay a)
       form-stays p (conditional c a b) = conditional-stays (all-stay c) (all-stay a) (all-stay b)
       form-stays p (letIn i a b) = let-stays i (all-stay a) (all-stay b)
-      form-stays p (attribute name a) = attribute-stays (mark p) (all-stay a)
+      form-stays p (attribute x name a) = attribute-stays x (mark p) (all-stay a)
       form-stays p (quantified q i a b) = quantified-stays q i (all-stay a) (all-stay b)
       form-stays p (iterate i j t a e b) = iterate-stays i j (all-stay a) (all-stay e) (all-stay b)
       form-stays p (assemble k es) = assemble-stays k (operands-gather es)
@@ -242,9 +244,9 @@ limited-steps (limited-undefined l) = l
 limited-steps limited-stuck = omega linear
 limited-steps (limited-stop b l) = l
 
-pub run-limited : (s : Model) (mark : ℕ → ℕ) (e : Expr) (ρ : Env Value) {n : ℕ} → n ≤ 1000000 → Limited (evaluation s mark e ρ n)
+pub run-limited : (s : Model) (mark : ℕ → Mark) (e : Expr) (ρ : Env Value) {n : ℕ} → n ≤ 1000000 → Limited (evaluation s mark e ρ n)
 run-limited s mark e ρ {n} l = all-stay s mark e .run ρ n l
 
-pub steps-limited : (s : Model) (mark : ℕ → ℕ) (e : Expr) (o : ℕ) → stepsOf (evaluateRule s mark e o) ≤ 1000000
+pub steps-limited : (s : Model) (mark : ℕ → Mark) (e : Expr) (o : ℕ) → stepsOf (evaluateRule s mark e o) ≤ 1000000
 unfolding evaluateRule
 steps-limited s mark e o = limited-steps (run-limited s mark e (start (obj o)) (omega linear))

@@ -5,6 +5,7 @@ use mathlib.Core.Option.{Option, none, some}
 use Prim.Native.Nat.{ℕ, zero, suc, _≤_, _<_, Ordering, Ordering·lt, Ordering·eq, Ordering·gt}
 use native.Mathlib.Omega.{arith}
 use lib.Dec.{T, eqb, eqb→eq}
+use Rattle.laws.specs.Choice.{onSome, mapSome}
 use Rattle.ocl.specs.Types.{Simple, boolean, integer, class, Kind, set, sequence, bag, exactly, Ty, void, simple, around, simpleSubtype, letterSubtype, subtype, up, parentOr}
 use Rattle.ocl.specs.Values.{Value, bool, int, obj, coll, Values, nil, cons, count, size, sizes, order, put, insert, append, add, addAll}
 use Rattle.ocl.specs.Model.{Model, classIsA, isA, every, belongs, declared, nearest, rowRead}
@@ -29,10 +30,17 @@ unfolding every
 every-by f nil g h = every-nil
 every-by f (cons v vs) g h = every-cons (g v (and-l (f v) _ h)) (every-by f vs g (and-r (f v) _ h))
 
-every-test : {P : Value → Type 0} (f : Value → Bool) {vs : Values} → ((v : Value) → P v → T (f v)) → Every P vs → T (every f vs)
+pub every-test : {P : Value → Type 0} (f : Value → Bool) {vs : Values} → ((v : Value) → P v → T (f v)) → Every P vs → T (every f vs)
 unfolding every
 every-test f g every-nil = tt
 every-test f g (every-cons {v} {vs} p h) = and-i (f v) (every f vs) (g v p) (every-test f g h)
+
+-- one member more, if each is there
+pub all-each : {P : Value → Type 0} {o : Option Value} {os : Option Values} → All? P o → All? (Every P) os → All? (Every P) (onSome o (λ w. mapSome (cons w) os))
+unfolding onSome mapSome
+all-each all-none h = all-none
+all-each (all-some p) all-none = all-none
+all-each (all-some p) (all-some h) = all-some (every-cons p h)
 
 -- ---- what is added
 

@@ -4,12 +4,13 @@ use mathlib.Core.Option.{Option, none, some}
 use Prim.Native.Nat.{ℕ, zero, suc, _+_, _/_, _%_, Ordering, Ordering·lt, Ordering·eq, Ordering·gt}
 use lib.IntN.{ℤ, pos, negsuc, negℤ, natAbs, _+ℤ_, _-ℤ_, _*ℤ_}
 use lib.Dec.{leb, ltb}
-use Rattle.laws.specs.Choice.{if_then_else_}
+use Rattle.laws.specs.Choice.{if_then_else_, onSome, mapSome}
 use Rattle.ocl.specs.Types.{class, Kind, set, sameKind}
 use Rattle.ocl.specs.Values.{Value, bool, int, obj, coll, Values, nil, cons, count, size, orderInt, same, has, append, add, addAll}
-use Rattle.ocl.specs.Model.{Model, isA}
+use Rattle.ocl.specs.Model.{Model, isA, every}
 use Rattle.ocl.specs.Environment.{Env, extend, start}
-use Rattle.ocl.specs.Forms.{Arith, plus, minus, times, div, modulo, Connective, and, or, Quantifier, forAll, exists, Leaf, truth, undef, number, self, var, all, Unary, negation, sizeOf, convert, castTo, Binary, equal, less, arith, includes, including, union, Expr, node, Form, leaf, unary, binary, connective, isUndef, conditional, letIn, attribute, quantified, iterate, assemble, Operands, noOperand, operand}
+use Rattle.ocl.specs.Typing.{Mark, rowMarked, kindMarked}
+use Rattle.ocl.specs.Forms.{Arith, plus, minus, times, div, modulo, Connective, and, or, Quantifier, forAll, exists, Access, ofObject, ofMembers, Leaf, truth, undef, number, self, var, all, Unary, negation, sizeOf, convert, castTo, Binary, equal, less, arith, includes, including, union, Expr, node, Form, leaf, unary, binary, connective, isUndef, conditional, letIn, attribute, quantified, iterate, assemble, Operands, noOperand, operand}
 
 -- a value, or undefined, with the steps begun; stuck (document 01's word): an operand of a kind that the form does not take, or an
 -- unbound variable; or a stop with its number and the steps begun
@@ -76,12 +77,6 @@ onInt (bool b) k = stuck
 onInt (int z) k = k z
 onInt (obj o) k = stuck
 onInt (coll c vs) k = stuck
-
-abbrev pub onObj : Value → (ℕ → Outcome) → Outcome
-onObj (bool b) k = stuck
-onObj (int z) k = stuck
-onObj (obj o) k = k o
-onObj (coll c vs) k = stuck
 
 abbrev pub onColl : Value → (Kind → Values → Outcome) → Outcome
 onColl (bool b) k = stuck
@@ -239,10 +234,37 @@ conditionalRun f g h ρ n = bind (f ρ n) (λ v n. onBool v (λ b. if b then g �
 unfoldable pub letRun : ℕ → Run → Run → Run
 letRun i f g ρ n = bind (f ρ n) (λ v n. g (extend ρ i v) n)
 
--- `attr` takes an object of the class of the row it is marked with, or below it
-unfoldable pub attributeRun : Model → ℕ → Run → Run
-attributeRun s i f ρ n =
-    bind (f ρ n) (λ v n. onObj v (λ o. if isA s o (class (s .row i .owner)) then given (s .valueOf o i) n else stuck))
+-- is the value an object of the row's class or below
+unfoldable pub hasRow : Model → ℕ → Value → Bool
+hasRow s i (bool b) = false
+hasRow s i (int z) = false
+hasRow s i (obj o) = isA s o (class (s .row i .owner))
+hasRow s i (coll k vs) = false
+
+-- its value in the row; `hasRow` is asked first, so that only objects come here
+unfoldable pub valueInRow : Model → ℕ → Value → Option Value
+valueInRow s i (bool b) = none
+valueInRow s i (int z) = none
+valueInRow s i (obj o) = s .valueOf o i
+valueInRow s i (coll k vs) = none
+
+-- each member's value in the row, in the stored order; none where one member's is undefined
+unfoldable pub valuesInRow : Model → ℕ → Values → Option Values
+valuesInRow s i nil = some nil
+valuesInRow s i (cons v vs) = onSome (valueInRow s i v) (λ w. mapSome (cons w) (valuesInRow s i vs))
+
+-- document 02, F-4: an undefined member makes the whole undefined, before 17; nothing is flattened
+abbrev pub formAll : Kind → Option Values → ℕ → Outcome
+formAll k none n = undefined n
+formAll k (some ws) n = form (coll k (addAll k ws nil)) n
+
+-- `attr` takes an object of the class of its mark's row, or below it; `collect` a collection of such objects
+unfoldable pub access : Model → Access → Mark → Value → ℕ → Outcome
+access s ofObject m v n = if hasRow s (rowMarked m) v then given (valueInRow s (rowMarked m) v) n else stuck
+access s ofMembers m v n = onColl v (λ k vs. if every (hasRow s (rowMarked m)) vs then formAll (kindMarked m) (valuesInRow s (rowMarked m) vs) n else stuck)
+
+unfoldable pub attributeRun : Model → Access → Mark → Run → Run
+attributeRun s x m f ρ n = bind (f ρ n) (λ v n. access s x m v n)
 
 -- the body that ends it: false for `forAll`, true for `exists`
 unfoldable pub endsAt : Quantifier → Bool
@@ -284,12 +306,12 @@ operandRun f g k vs ρ n = bind (f ρ n) (λ v n. g k (add k v vs) ρ n)
 unfoldable pub assembleRun : Kind → Gather → Run
 assembleRun k g ρ n = g k nil ρ n
 
--- evaluation reads the marks of `attr` nodes and no types
+-- evaluation reads the marks of `attr` and `collect` nodes and no types
 unfoldable mutual
-  pub evaluation : Model → (ℕ → ℕ) → Expr → Run
+  pub evaluation : Model → (ℕ → Mark) → Expr → Run
   evaluation s mark (node p f) = tick (formRun s mark p f)
 
-  pub formRun : Model → (ℕ → ℕ) → ℕ → Form → Run
+  pub formRun : Model → (ℕ → Mark) → ℕ → Form → Run
   formRun s mark p (leaf l) = leafRun s l
   formRun s mark p (unary op a) = unaryRun s op (evaluation s mark a)
   formRun s mark p (binary op a b) = binaryRun op (evaluation s mark a) (evaluation s mark b)
@@ -297,15 +319,15 @@ unfoldable mutual
   formRun s mark p (isUndef a) = isUndefRun (evaluation s mark a)
   formRun s mark p (conditional c a b) = conditionalRun (evaluation s mark c) (evaluation s mark a) (evaluation s mark b)
   formRun s mark p (letIn i a b) = letRun i (evaluation s mark a) (evaluation s mark b)
-  formRun s mark p (attribute name a) = attributeRun s (mark p) (evaluation s mark a)
+  formRun s mark p (attribute x name a) = attributeRun s x (mark p) (evaluation s mark a)
   formRun s mark p (quantified q i a b) = quantifiedRun q i (evaluation s mark a) (evaluation s mark b)
   formRun s mark p (iterate i j t a e b) = iterateRun i j (evaluation s mark a) (evaluation s mark e) (evaluation s mark b)
   formRun s mark p (assemble k es) = assembleRun k (operandsRun s mark es)
 
-  pub operandsRun : Model → (ℕ → ℕ) → Operands → Gather
+  pub operandsRun : Model → (ℕ → Mark) → Operands → Gather
   operandsRun s mark noOperand = noOperandRun
   operandsRun s mark (operand e es) = operandRun (evaluation s mark e) (operandsRun s mark es)
 
 -- a rule for an object, which is `self`, from no step
-unfoldable pub evaluateRule : Model → (ℕ → ℕ) → Expr → ℕ → Outcome
+unfoldable pub evaluateRule : Model → (ℕ → Mark) → Expr → ℕ → Outcome
 evaluateRule s mark e o = evaluation s mark e (start (obj o)) 0

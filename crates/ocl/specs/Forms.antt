@@ -16,6 +16,10 @@ pub data Connective : Type 0 where
 pub data Quantifier : Type 0 where
   forAll exists : Quantifier
 
+-- an attribute of one object (`attr`), or of each member of a collection (`collect`: document 02, F-4)
+pub data Access : Type 0 where
+  ofObject ofMembers : Access
+
 -- forms with no operand: `true` and `false`, `undef`, `int n`, `self`, `var i`, `all c`
 pub data Leaf : Type 0 where
   truth : Bool → Leaf
@@ -56,8 +60,8 @@ mutual
     conditional : Expr → Expr → Expr → Form
     -- `let i e b`
     letIn : ℕ → Expr → Expr → Form
-    -- `attr e name`, name first
-    attribute : ℕ → Expr → Form
+    -- `attr e name`, `collect s name`, name first
+    attribute : Access → ℕ → Expr → Form
     -- `forAll s i b`, `exists s i b`, the variable first
     quantified : Quantifier → ℕ → Expr → Expr → Form
     -- `iter s i j T e b`: the member, the accumulator, its type, then s, e, b
@@ -82,7 +86,7 @@ unfoldable mutual
   inside (isUndef a) = reach a
   inside (conditional c a b) = reach c + (reach a + reach b)
   inside (letIn i a b) = reach a + reach b
-  inside (attribute name a) = reach a
+  inside (attribute x name a) = reach a
   inside (quantified q i a b) = reach a + 127 * reach b
   inside (iterate i j t a e b) = reach a + (reach e + 127 * reach b)
   inside (assemble k es) = reaches es
@@ -104,7 +108,7 @@ unfoldable mutual
   levelsIn (isUndef a) = levels a
   levelsIn (conditional c a b) = max (levels c) (max (levels a) (levels b))
   levelsIn (letIn i a b) = max (levels a) (levels b)
-  levelsIn (attribute name a) = levels a
+  levelsIn (attribute x name a) = levels a
   levelsIn (quantified q i a b) = max (levels a) (levels b)
   levelsIn (iterate i j t a e b) = max (levels a) (max (levels e) (levels b))
   levelsIn (assemble k es) = levelsOf es

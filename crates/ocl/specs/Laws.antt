@@ -14,7 +14,7 @@ use Rattle.ocl.specs.Values.{Value, bool, int, obj, coll, Values, nil, c
 use Rattle.ocl.specs.Model.{Model, belongs}
 use Rattle.ocl.specs.Environment.{Env}
 use Rattle.ocl.specs.Forms.{Leaf, truth, undef, number, self, var, all, Expr, node, Form, leaf, unary, binary, connective, isUndef, conditional, letIn, attribute, quantified, iterate, assemble, Operands, noOperand, operand}
-use Rattle.ocl.specs.Typing.{refused, Marks, typing}
+use Rattle.ocl.specs.Typing.{refused, Mark, rowMarked, kindMarked, Marks, typing}
 use Rattle.ocl.specs.Evaluation.{value, inRange, instances, evaluation, evaluateRule}
 
 -- ---- what the statements speak of: the nodes and literals of a tree, the Integers of a value
@@ -32,7 +32,7 @@ unfoldable mutual
   numbersIn (isUndef a) = numbers a
   numbersIn (conditional c a b) = numbers c ++ (numbers a ++ numbers b)
   numbersIn (letIn i a b) = numbers a ++ numbers b
-  numbersIn (attribute name a) = numbers a
+  numbersIn (attribute x name a) = numbers a
   numbersIn (quantified q i a b) = numbers a ++ numbers b
   numbersIn (iterate i j t a e b) = numbers a ++ (numbers e ++ numbers b)
   numbersIn (assemble k es) = numbersOf es
@@ -62,7 +62,7 @@ unfoldable mutual
   literalsIn (isUndef a) = literals a
   literalsIn (conditional c a b) = literals c ++ (literals a ++ literals b)
   literalsIn (letIn i a b) = literals a ++ literals b
-  literalsIn (attribute name a) = literals a
+  literalsIn (attribute x name a) = literals a
   literalsIn (quantified q i a b) = literals a ++ literals b
   literalsIn (iterate i j t a e b) = literals a ++ (literals e ++ literals b)
   literalsIn (assemble k es) = literalsOf es
@@ -172,13 +172,13 @@ pub record FormedModel (s : Model) : Type 0 where
   pub stored-formed : (o i : ℕ) (v : Value) → s .valueOf o i ≡ some v → Formed v
 
 -- every value that evaluation ends in is formed: typed or not, with any marks, from any number of steps
-pub record FormedEnds (s : Model) (mark : ℕ → ℕ) (e : Expr) : Type 0 where
+pub record FormedEnds (s : Model) (mark : ℕ → Mark) (e : Expr) : Type 0 where
   pub from : (ρ : Env Value) → FormedEnv ρ → (n m : ℕ) (v : Value) → evaluation s mark e ρ n ≡ value v m → Formed v
   -- so a rule's is
   pub of-rule : (o m : ℕ) (v : Value) → evaluateRule s mark e o ≡ value v m → Formed v
 
 abbrev pub FormedEndsLaw : Type 0
-FormedEndsLaw = (s : Model) → FormedModel s → (mark : ℕ → ℕ) (e : Expr) → FormedEnds s mark e
+FormedEndsLaw = (s : Model) → FormedModel s → (mark : ℕ → Mark) (e : Expr) → FormedEnds s mark e
 
 -- ---- typing: what it refuses, and what it marks
 
@@ -188,20 +188,21 @@ pub record Refusal (nodes : List ℕ) (n p : ℕ) : Type 0 where
   pub high : n ≤ 13
   pub placed : T (member p nodes)
 
--- a mark is at a node, and is a row of the model
-pub record Mark (s : Model) (nodes : List ℕ) (p i : ℕ) : Type 0 where
+-- a mark is at a node, its row is one of the model, and its kind is none that drops repeats
+pub record MarkAt (s : Model) (nodes : List ℕ) (p : ℕ) (m : Mark) : Type 0 where
   pub placed : T (member p nodes)
-  pub is-row : i < s .rowCount
+  pub is-row : rowMarked m < s .rowCount
+  pub no-set : kindMarked m ≡ set → ⊥
 
 -- of each mark, its node first
-pub data EachMark (P : ℕ → ℕ → Type 0) : Marks → Type 0 where
+pub data EachMark (P : ℕ → Mark → Type 0) : Marks → Type 0 where
   no-mark : EachMark P []
-  mark-then : {p i : ℕ} {m : Marks} → P p i → EachMark P m → EachMark P ((p, i) ∷ m)
+  mark-then : {p : ℕ} {x : Mark} {m : Marks} → P p x → EachMark P m → EachMark P ((p, x) ∷ m)
 
 -- refusals and marks are at nodes of the tree that is typed; a refusal leaves the marks made before it
 pub record TypingPlaces (s : Model) (e : Expr) (Γ : Env Ty) : Type 0 where
   pub refusals : (n p : ℕ) → typing s e Γ .answer ≡ refused n p → Refusal (numbers e) n p
-  pub marked : EachMark (Mark s (numbers e)) (typing s e Γ .marks)
+  pub marked : EachMark (MarkAt s (numbers e)) (typing s e Γ .marks)
 
 abbrev pub TypingPlacesLaw : Type 0
 TypingPlacesLaw = (s : Model) (e : Expr) (Γ : Env Ty) → TypingPlaces s e Γ

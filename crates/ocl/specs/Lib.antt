@@ -10,3 +10,4 @@ pub mod Laws
 pub mod Soundness
 pub mod Worked
 pub mod Mistakes
+pub mod Collect

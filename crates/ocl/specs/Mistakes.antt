@@ -9,8 +9,8 @@ use lib.IntN.{pos, negsuc}
 use Rattle.ocl.specs.Types.{Boolean, Integer, sequence}
 use Rattle.ocl.specs.Values.{Value, bool, int, obj}
 use Rattle.ocl.specs.Model.{Row, Model}
-use Rattle.ocl.specs.Forms.{plus, Quantifier, forAll, exists, truth, self, var, less, arith, sizeOf, castTo, Expr, node, leaf, unary, binary, conditional, letIn, attribute, quantified, iterate, assemble, noOperand, operand}
-use Rattle.ocl.specs.Typing.{typed, refused, Typed, typeRule, markOf}
+use Rattle.ocl.specs.Forms.{plus, Quantifier, forAll, exists, ofObject, truth, self, var, less, arith, sizeOf, castTo, Expr, node, leaf, unary, binary, conditional, letIn, attribute, quantified, iterate, assemble, noOperand, operand}
+use Rattle.ocl.specs.Typing.{typed, refused, ofRow, Typed, typeRule, markOf}
 use Rattle.ocl.specs.Environment.{start}
 use Rattle.ocl.specs.Evaluation.{Outcome, value, undefined, stop, evaluation, evaluateRule}
 use Rattle.ocl.specs.Worked.{parents, undef₀, int₀}
@@ -42,7 +42,7 @@ outcomeIn e = evaluateRule model (markOf (ruleTyping e)) e 0
 
 -- `attr self 5`
 unfoldable pub attribute₅ : Expr
-attribute₅ = node 1 (attribute 5 (node 0 (leaf self)))
+attribute₅ = node 1 (attribute ofObject 5 (node 0 (leaf self)))
 
 -- let 1 = 2 in if (let 1 = true in var 1) then var 1 else 0
 unfoldable pub hidden : Expr
@@ -76,11 +76,11 @@ outerSeen = node 4 (letIn 1 (int₀ 0 (pos 2)) (node 3 (letIn 2 (int₀ 1 (pos 3
 
 -- `true`, where n steps have begun
 unfoldable pub trueAfter : ℕ → Outcome
-trueAfter n = evaluation model (λ p. 0) (node 0 (leaf (truth true))) (start (obj 0)) n
+trueAfter n = evaluation model (λ p. ofRow 0) (node 0 (leaf (truth true))) (start (obj 0)) n
 
 pub record Mistakes : Type 0 where
   -- the attribute is found by the static class, not by the object's own
-  pub static-type : ruleTyping attribute₅ ≡ record { answer = typed Integer; marks = (1, 0) ∷ [] }
+  pub static-type : ruleTyping attribute₅ ≡ record { answer = typed Integer; marks = (1, ofRow 0) ∷ [] }
   pub static-row : outcomeIn attribute₅ ≡ value (int (pos 9)) 2
   -- `let` does not pass undefined on
   pub let-strict : outcomeIn (node 2 (letIn 1 (undef₀ 0) (int₀ 1 (pos 3)))) ≡ undefined 2
@@ -90,7 +90,7 @@ pub record Mistakes : Type 0 where
   -- a branch that is not run is not counted
   pub branch-steps : outcomeIn oneBranch ≡ value (int (pos 1)) 3
   -- Void is no class and no collection
-  pub void-no-class : ruleTyping (node 1 (attribute 5 (undef₀ 0))) .answer ≡ refused 11 1
+  pub void-no-class : ruleTyping (node 1 (attribute ofObject 5 (undef₀ 0))) .answer ≡ refused 11 1
   pub void-no-cast : ruleTyping (node 1 (unary (castTo 0) (undef₀ 0))) .answer ≡ refused 11 1
   pub void-no-collection : ruleTyping (node 1 (unary sizeOf (undef₀ 0))) .answer ≡ refused 11 1
   -- a loop goes on after its first body

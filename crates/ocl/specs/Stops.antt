@@ -7,7 +7,8 @@ use Rattle.ocl.specs.Types.{Kind}
 use Rattle.ocl.specs.Values.{Value, bool, int, coll, Values, cons}
 use Rattle.ocl.specs.Model.{Model}
 use Rattle.ocl.specs.Environment.{Env, extend}
-use Rattle.ocl.specs.Forms.{plus, minus, times, div, modulo, Connective, Quantifier, Unary, Binary}
+use Rattle.ocl.specs.Forms.{plus, minus, times, div, modulo, Connective, Quantifier, Access, Unary, Binary}
+use Rattle.ocl.specs.Typing.{Mark}
 use Rattle.ocl.specs.Evaluation.{Outcome, value, undefined, stop, Run, result, noResult, overRange, arithmetic, unaryRun, leftFits, binaryRun, decides, connectiveRun, isUndefRun, conditionalRun, letRun, attributeRun, seek, quantifiedRun, fold, iterateRun, Gather, operandRun}
 
 -- where f stops, so does g, with the same number and the same steps
@@ -22,7 +23,7 @@ pub record Upward : Type 0 where
   pub of-isUndef : (f : Run) → Passes f (isUndefRun f)
   pub of-condition : (f g h : Run) → Passes f (conditionalRun f g h)
   pub of-bound : (i : ℕ) (f g : Run) → Passes f (letRun i f g)
-  pub of-object : (s : Model) (i : ℕ) (f : Run) → Passes f (attributeRun s i f)
+  pub of-attribute : (s : Model) (x : Access) (k : Mark) (f : Run) → Passes f (attributeRun s x k f)
   pub of-source : (q : Quantifier) (i : ℕ) (f g : Run) → Passes f (quantifiedRun q i f g)
   pub of-iterated : (i j : ℕ) (f g h : Run) → Passes f (iterateRun i j f g h)
   pub of-member : (k : Kind) (vs : Values) (f : Run) (g : Gather) → Passes f (operandRun f g k vs)

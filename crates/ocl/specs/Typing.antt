@@ -5,19 +5,35 @@ use mathlib.Core.List.{List, [], _∷_, _++_}
 use Prim.Native.Nat.{ℕ}
 use lib.Dec.{eqb, leb}
 use Rattle.laws.specs.Choice.{if_then_else_}
-use Rattle.ocl.specs.Types.{any, boolean, integer, class, Kind, set, Letter, collection, exactly, Ty, void, simple, around, Boolean, Integer, Class, depth, sameKind, subtype, join}
+use Rattle.ocl.specs.Types.{any, boolean, integer, class, Kind, set, sequence, bag, Letter, collection, exactly, Ty, void, simple, around, Boolean, Integer, Class, depth, sameKind, subtype, join}
 use Rattle.ocl.specs.Model.{Model, rowRead}
 use Rattle.ocl.specs.Environment.{Env, extend, start}
-use Rattle.ocl.specs.Forms.{Leaf, truth, undef, number, self, var, all, Unary, negation, sizeOf, convert, castTo, Binary, equal, less, arith, includes, including, union, Expr, node, Form, leaf, unary, binary, connective, isUndef, conditional, letIn, attribute, quantified, iterate, assemble, Operands, noOperand, operand}
+use Rattle.ocl.specs.Forms.{Access, ofObject, ofMembers, Leaf, truth, undef, number, self, var, all, Unary, negation, sizeOf, convert, castTo, Binary, equal, less, arith, includes, including, union, Expr, node, Form, leaf, unary, binary, connective, isUndef, conditional, letIn, attribute, quantified, iterate, assemble, Operands, noOperand, operand}
 
 -- a type, or a refusal's number and its node
 pub data Answer : Type 0 where
   typed : Ty → Answer
   refused : ℕ → ℕ → Answer
 
--- marks (document 01's word): `attr` nodes with the row that each reads, in the order made
+-- a mark (document 01's word): what evaluation reads of a node's typing
+pub data Mark : Type 0 where
+  -- of `attr`: its row
+  ofRow : ℕ → Mark
+  -- of `collect`: the resulting kind and its row (document 02, F-4)
+  ofRows : Kind → ℕ → Mark
+
+-- the row; the kind, which is asked of `collect` alone
+unfoldable pub rowMarked : Mark → ℕ
+rowMarked (ofRow i) = i
+rowMarked (ofRows k i) = i
+
+unfoldable pub kindMarked : Mark → Kind
+kindMarked (ofRow i) = bag
+kindMarked (ofRows k i) = k
+
+-- nodes with their marks, in the order made
 abbrev pub Marks : Type 0
-Marks = List (ℕ × ℕ)
+Marks = List (ℕ × Mark)
 
 -- an answer, and the marks made before it, which a refusal has too
 pub record Typed : Type 0 where
@@ -61,6 +77,15 @@ unfoldable pub onCollection : {A : Type 0} → Ty → A → (Letter → Ty → A
 onCollection void no11 k = no11
 onCollection (simple b) no11 k = no11
 onCollection (around l t) no11 k = k l t
+
+-- t is a class, which Void is not
+unfoldable pub onClass : {A : Type 0} → Ty → A → (ℕ → A) → A
+onClass void no11 k = no11
+onClass (simple any) no11 k = no11
+onClass (simple boolean) no11 k = no11
+onClass (simple integer) no11 k = no11
+onClass (simple (class c)) no11 k = k c
+onClass (around l t) no11 k = no11
 
 -- the letter is S, Q or B
 unfoldable pub onKind : Letter → Answer → (Kind → Answer) → Answer
@@ -127,18 +152,24 @@ unfoldable pub conditionalType : Model → ℕ → Ty → Ty → Ty → Answer
 conditionalType s p c t u = below s p c Boolean (common p (join (s .parent) t u) typed)
 
 -- the row found, which is marked; none is 12
-unfoldable pub rowType : Model → ℕ → Option ℕ → Typed
-rowType s p none = pure (refused 12 p)
-rowType s p (some i) = record { answer = typed (s .row i .type); marks = (p, i) ∷ [] }
+unfoldable pub rowType : Model → ℕ → (ℕ → Mark) → (Ty → Answer) → Option ℕ → Typed
+rowType s p mark k none = pure (refused 12 p)
+rowType s p mark k (some i) = record { answer = k (s .row i .type); marks = (p, mark i) ∷ [] }
 
--- `attr`: of a class type, which Void is not; the row is the nearest declaration from that static class upward
-unfoldable pub attributeType : Model → ℕ → ℕ → Ty → Typed
-attributeType s p name void = pure (refused 11 p)
-attributeType s p name (simple any) = pure (refused 11 p)
-attributeType s p name (simple boolean) = pure (refused 11 p)
-attributeType s p name (simple integer) = pure (refused 11 p)
-attributeType s p name (simple (class c)) = rowType s p (rowRead s c name)
-attributeType s p name (around l t) = pure (refused 11 p)
+-- document 02, F-4: a Sequence if s is typed `Q(..)`, otherwise a Bag
+unfoldable pub collectKind : Letter → Kind
+collectKind collection = bag
+collectKind (exactly set) = bag
+collectKind (exactly sequence) = sequence
+collectKind (exactly bag) = bag
+
+-- `attr`: of a class; `collect`: of a collection whose member type is a class (11). The row is the nearest declaration from that static
+-- class upward (12); what `collect` puts around its type is at most three deep (13)
+unfoldable pub attributeType : Model → ℕ → Access → ℕ → Ty → Typed
+attributeType s p ofObject name t = onClass t (pure (refused 11 p)) (λ c. rowType s p ofRow typed (rowRead s c name))
+attributeType s p ofMembers name t =
+    onCollection t (pure (refused 11 p)) (λ l m. onClass m (pure (refused 11 p)) (λ c.
+    rowType s p (ofRows (collectKind l)) (wrap p (exactly (collectKind l))) (rowRead s c name)))
 
 -- ---- each form over its operands' typings
 
@@ -166,8 +197,8 @@ conditionalTyping s p f g h Γ =
 unfoldable pub letTyping : ℕ → Typing → Typing → Typing
 letTyping i f g Γ = andThen (f Γ) (λ t. g (extend Γ i t))
 
-unfoldable pub attributeTyping : Model → ℕ → ℕ → Typing → Typing
-attributeTyping s p name f Γ = andThen (f Γ) (attributeType s p name)
+unfoldable pub attributeTyping : Model → ℕ → Access → ℕ → Typing → Typing
+attributeTyping s p x name f Γ = andThen (f Γ) (attributeType s p x name)
 
 -- `forAll`, `exists`: the source is checked (11) before the body is typed; the body is below Bool
 unfoldable pub quantifiedTyping : Model → ℕ → ℕ → Typing → Typing → Typing
@@ -207,7 +238,7 @@ unfoldable mutual
   formTyping s p (isUndef a) = isUndefTyping (typing s a)
   formTyping s p (conditional c a b) = conditionalTyping s p (typing s c) (typing s a) (typing s b)
   formTyping s p (letIn i a b) = letTyping i (typing s a) (typing s b)
-  formTyping s p (attribute name a) = attributeTyping s p name (typing s a)
+  formTyping s p (attribute x name a) = attributeTyping s p x name (typing s a)
   formTyping s p (quantified q i a b) = quantifiedTyping s p i (typing s a) (typing s b)
   formTyping s p (iterate i j t a e b) = iterateTyping s p i j t (typing s a) (typing s e) (typing s b)
   formTyping s p (assemble k es) = assembleTyping p k (operandsTyping s p es)
@@ -220,11 +251,11 @@ unfoldable mutual
 unfoldable pub typeRule : Model → ℕ → Expr → Typed
 typeRule s c e = typing s e (start (Class c))
 
--- the row that node p is marked with, and d where it is not; no node of a rule is marked twice
-unfoldable pub markOr : ℕ → Marks → ℕ → ℕ
+-- what node p is marked with, and d where it is not; no node of a rule is marked twice
+unfoldable pub markOr : Mark → Marks → ℕ → Mark
 markOr d [] p = d
 markOr d (x ∷ m) p = markOr (if eqb p (x .0) then x .1 else d) m p
 
--- the marks as evaluation reads them; it reads them at `attr` nodes, and typing marks each of those
-unfoldable pub markOf : Typed → ℕ → ℕ
-markOf x p = markOr 0 (x .marks) p
+-- the marks as evaluation reads them; it reads them at `attr` and `collect` nodes, and typing marks each of those
+unfoldable pub markOf : Typed → ℕ → Mark
+markOf x p = markOr (ofRow 0) (x .marks) p

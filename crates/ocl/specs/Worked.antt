@@ -8,6 +8,7 @@ use Rattle.ocl.specs.Types.{set, sequence, collection, exactly, void, ar
 use Rattle.ocl.specs.Values.{bool, int, coll, nil, cons}
 use Rattle.ocl.specs.Model.{Model}
 use Rattle.ocl.specs.Forms.{Arith, plus, div, modulo, and, forAll, truth, undef, number, arith, Expr, node, leaf, binary, connective, isUndef, letIn, quantified, assemble, noOperand, operand}
+use Rattle.ocl.specs.Typing.{ofRow}
 use Rattle.ocl.specs.Evaluation.{Outcome, value, undefined, stop, evaluation}
 
 -- class 1 below class 0, and nothing else
@@ -29,7 +30,7 @@ bareModel = record {
 
 -- with no mark, no variable and no step so far
 unfoldable pub outcome : Expr → Outcome
-outcome e = evaluation bareModel (λ p. 0) e (λ i. none) 0
+outcome e = evaluation bareModel (λ p. ofRow 0) e (λ i. none) 0
 
 unfoldable pub false₀ : ℕ → Expr
 false₀ n = node n (leaf (truth false))

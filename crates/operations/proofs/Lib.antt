@@ -2,6 +2,9 @@ pub mod Words
 pub mod Lookups
 pub mod Sorts
 pub mod OperationLaws
+pub mod StandingLaws
+pub mod BringLaws
+pub mod CollectLaws
 pub mod OperandLaws
 pub mod BinaryLaws
 pub mod LeafLaws

@@ -3,7 +3,7 @@ use mathlib.Core.Path.{_≡_, refl, sym, ap, _∙_}
 use mathlib.Core.Bool.{Bool, true, false}
 use mathlib.Core.Option.{Option, none, some}
 use mathlib.Core.List.{List}
-use Prim.Native.Nat.{ℕ, suc, _+_, _-_, _*_, _<_, _≤_}
+use Prim.Native.Nat.{ℕ, suc, _+_, _-_, _*_, _%_, _<_, _≤_}
 use native.Mathlib.Omega.{arith}
 use lib.ListN.{length, getD}
 use lib.Seq.{slice}
@@ -12,26 +12,27 @@ use borrow.Author.Tests.{lt-ltb, le-ltb, eq-eqb, ne-eqb, eqb-true, eqb-false}
 use Rattle.laws.specs.Choice.{if_then_else_}
 use Rattle.laws.proofs.Orders.{Three, less, same, over, three}
 use Rattle.ocl.specs.Types.{class, simpleSubtype}
-use Rattle.ocl.specs.Values.{Value, obj, size}
+use Rattle.ocl.specs.Values.{Value, bool, int, obj, coll, size}
 use Rattle.ocl.specs.Model.{Row, Model, isA, classIsA}
-use Rattle.ocl.specs.Evaluation.{Outcome, stuck, onObj, given}
+use Rattle.ocl.specs.Forms.{ofObject}
+use Rattle.ocl.specs.Evaluation.{given, hasRow, valueInRow, access}
 use Rattle.ocl.proofs.Values.{size-pos}
 use Rattle.types.specs.Flat.{parentsIn}
-use Rattle.values.specs.Cells.{enc}
+use Rattle.values.specs.Cells.{payload, head, enc, Fits}
 use Rattle.values.specs.Contracts.{SortOf, PayloadOf, Brings}
 use Rattle.values.specs.declared.Formed.{Formed}
 use Rattle.values.proofs.Heads.{shape, Shape, shape-bool, shape-int, shape-obj, shape-coll}
 use Rattle.values.proofs.Forming.{part-size}
 use Rattle.tables.specs.declared.Counts.{Counts}
 use Rattle.tables.specs.Layout.{tab}
-use Rattle.tables.specs.Stored.{keyAt, startAt, endAt, Stored, no-slot, slot, HoldsModel}
+use Rattle.tables.specs.Stored.{keyAt, startAt, Stored, no-slot, slot, HoldsModel}
 use Rattle.tables.proofs.Tables.{tab-at}
 use Rattle.operations.specs.declared.Ended.{Ended}
 use Rattle.operations.specs.declared.Ended.the-variants as ended
 use Rattle.operations.specs.declared.Place.{Place}
 use Rattle.operations.specs.declared.Place.the-variants as place
-use Rattle.operations.specs.Answers.{Ends, ends-undefined, ends-stuck, Ran, SmallAnswer, formedAs}
-use Rattle.operations.specs.Tables.{Plain, IsA, Owner, FindsSlot, cellsStart, SlotStands, Attribute}
+use Rattle.operations.specs.Answers.{ends-undefined, ends-stuck, Ran, SmallAnswer, formedAs}
+use Rattle.operations.specs.Tables.{Plain, IsA, Owner, FindsSlot, cellsStart, SlotHolds, SlotStands, HasRow, RowSlot, Accesses}
 use Rattle.operations.proofs.Words.{under-refl, head-at, formed-small, formed-value}
 
 -- ---- classes and rows
@@ -130,32 +131,34 @@ module _ (st : Counts) (w0 : List ℕ) (j a e : ℕ) (p : a ≡ cellsStart st w0
       let k : 1376 + (j + 1) ≡ 1376 + suc j = omega arith in
       rw (← k) (omega arith)
 
-  part : (v : Value) → j < st .slots → slice (startAt w0 j) (endAt st w0 j) w0 ≡ enc v → slice (2400 + a) (2400 + e) w0 ≡ enc v
-  part v h x = rw (begins h, ends-at (eqb (suc j) (st .slots)) refl) x
+  part : {v : Value} → SlotHolds st w0 j v → slice (2400 + a) (2400 + e) w0 ≡ enc v
+  part x = rw (begins (x .there), ends-at (eqb (suc j) (st .slots)) refl) (x .cells)
 
-  size-is : (v : Value) → 4448 ≤ length w0 → j < st .slots → endAt st w0 j ≤ 4448 → slice (startAt w0 j) (endAt st w0 j) w0 ≡ enc v → (size v ≡ e - a) × (e ≤ 2048)
-  size-is v room h l x =
+  size-is : {v : Value} → 4448 ≤ length w0 → SlotHolds st w0 j v → (size v ≡ e - a) × (e ≤ 2048)
+  size-is {v} room x =
       let z = ends-at (eqb (suc j) (st .slots)) refl in
-      let y = part-size w0 (2400 + a) (2400 + e) v (omega arith) (part v h x) in
+      let l = x .within in
+      let y = part-size w0 (2400 + a) (2400 + e) v (omega arith) (part x) in
       (omega arith, omega arith)
 
   module _ (sp s : ℕ) {B : List ℕ} (room : 8192 ≤ length w0) where
     pub stands-empty : e ≤ a → SlotStands st w0 j sp s B B ended.Stuck
-    stands-empty k = record { small = tt; is = λ v f m h l x. absurd (let z = size-is v (omega arith) h l x in let y = size-pos v in omega arith) }
+    stands-empty k = record { small = tt; is = λ v x m. absurd (let z = size-is (omega arith) x in let y = size-pos v in omega arith) }
 
     pub stands-far : 2048 < e → SlotStands st w0 j sp s B B ended.Stuck
-    stands-far k = record { small = tt; is = λ v f m h l x. absurd (let z = size-is v (omega arith) h l x in omega arith) }
+    stands-far k = record { small = tt; is = λ v x m. absurd (let z = size-is (omega arith) x in omega arith) }
 
     pub stands : {A : List ℕ} {x y : ℕ} (f : Formed) {r : Ended} → sp ≤ length B → x ≡ 2400 + a → y ≡ 2400 + e → Brings w0 x y sp B A f → r ≡ formedAs f s → SlotStands st w0 j sp s B A r
-    stands {A} {x} {y} f {r} k g h b q = rw q (record { small = formed-small f s (b .small); is = λ v t m i l z. formed-value B s k (b .is v t (rw (g, h) (part v i z))) m })
+    stands {A} {x} {y} f {r} k g h b q = rw q (record { small = formed-small f s (b .small); is = λ v z m. formed-value B s k (b .is v (z .fits) (rw (g, h) (part z))) m })
 
--- ---- the value of a row for the object at sp
+-- ---- whether a value has a row
 
-not-object : {t p : ℕ} {v : Value} → Shape t p v → (t ≡ 2 → ⊥) → (k : ℕ → Outcome) → onObj v k ≡ stuck
-not-object (shape-bool i j) n k = refl
-not-object (shape-int i j l) n k = refl
-not-object (shape-obj i j l) n k = absurd (n i)
-not-object (shape-coll i j l) n k = refl
+not-object : {t p : ℕ} {v : Value} → Shape t p v → (t ≡ 2 → ⊥) → (m : Model) (i : ℕ) → false ≡ hasRow m i v
+unfolding hasRow
+not-object (shape-bool i j) n m r = refl
+not-object (shape-int i j l) n m r = refl
+not-object (shape-obj i j l) n m r = absurd (n i)
+not-object (shape-coll i j l) n m r = refl
 
 pub is-object : {t p : ℕ} {v : Value} → Shape t p v → t ≡ 2 → v ≡ obj p
 is-object (shape-bool i j) e = absurd (omega arith)
@@ -163,46 +166,79 @@ is-object (shape-int i j l) e = absurd (omega arith)
 is-object (shape-obj i j l) e = ap obj (sym j)
 is-object (shape-coll i j l) e = absurd (omega arith)
 
-module _ {st : Counts} {w0 : List ℕ} {i sp s t : ℕ} {B : List ℕ} (S : SortOf (getD B sp 0) t) where
-  pub attribute-kind : (t ≡ 2 → ⊥) → Attribute st w0 i sp s B B ended.Stuck
-  attribute-kind n = record {
-    small = tt;
-    is = λ m H P h v len l.
-        let k = shape (l .fits) (S .is v (l .fits) (head-at l)) refl in
-        rw (not-object k n (λ o. if isA m o (class (m .row i .owner)) then given (m .valueOf o i) s else stuck)) (record { kept = under-refl; ends = ends-stuck });
+module _ {st : Counts} {w0 : List ℕ} {i cell t : ℕ} (S : SortOf cell t) where
+  pub row-other : (t ≡ 2 → ⊥) → HasRow st w0 i cell false
+  row-other n = record { is = λ m H P v f e. not-object (shape f (S .is v f e) refl) n m i }
+
+  pub row-of : {o c : ℕ} {b : Bool} → t ≡ 2 → PayloadOf cell o → Owner st w0 i c → IsA st w0 o c b → HasRow st w0 i cell b
+  unfolding hasRow
+  row-of {o} {c} d Q C I = record {
+    is = λ m H P v f e. rw (is-object (shape f (S .is v f e) (Q .is v f e)) d) (I .is m H ∙ ap (λ (x : ℕ). isA m o (class x)) (C .is m H P));
   }
 
-  pub attribute-row : 64 ≤ i → Attribute st w0 i sp s B B ended.Stuck
-  attribute-row n = record { small = tt; is = λ m H P h v len l. absurd (omega arith) }
+-- a value that has the row is an object
+pub record Object (v : Value) : Type 0 where
+  pub o : ℕ
+  pub is : v ≡ obj o
 
-  module _ {o c : ℕ} {b : Bool} (e : t ≡ 2) (Q : PayloadOf (getD B sp 0) o) (C : Owner st w0 i c) (I : IsA st w0 o c b) where
-    on-object : {A : List ℕ} {r : Ended} → SmallAnswer r → ((m : Model) → HoldsModel st w0 m → Plain st m → i < 64 → Ran (if b then given (m .valueOf o i) s else stuck) sp B A r) → Attribute st w0 i sp s B A r
-    on-object sm k = record {
+pub has-object : (m : Model) (i : ℕ) (v : Value) → hasRow m i v ≡ true → Object v
+unfolding hasRow
+has-object m i (bool b) e = absurd (let z : _≡_ {A = ℕ} 0 1 = cc in omega arith)
+has-object m i (int z) e = absurd (let z : _≡_ {A = ℕ} 0 1 = cc in omega arith)
+has-object m i (obj o) e = record { o = o; is = refl }
+has-object m i (coll k vs) e = absurd (let z : _≡_ {A = ℕ} 0 1 = cc in omega arith)
+
+-- ---- the slot of a row for an object
+
+pub slot-of : (st : Counts) (w0 : List ℕ) {i cell slots o : ℕ} (x : Place) → i < 64 → slots ≡ st .slots → PayloadOf cell o → FindsSlot w0 slots (o * 64 + i) x → RowSlot st w0 i cell x
+unfolding payload
+slot-of st w0 {i} {cell} {slots} {o} (place.At j) h n Q F = (let l = F .0 in omega arith, λ m H p f e. by m H p (Q .is (obj p) f e) (m .valueOf p i) refl (H .stored p i h))
+  where
+    by : (m : Model) → HoldsModel st w0 m → (p : ℕ) → o ≡ p → (x : Option Value) → m .valueOf p i ≡ x → Stored st w0 p i x → (v : Value) × ((m .valueOf p i ≡ some v) × SlotHolds st w0 j v)
+    by m H p e none u (no-slot f) = absurd (f j (let l = F .0 in omega arith) (F .1 ∙ ap (λ (k : ℕ). k * 64 + i) e))
+    by m H p e (some v) u (slot k l q x y z f) =
+        let d = same-slot w0 (st .slots) (H .ascending) k j l (let l = F .0 in omega arith) (q ∙ ap (λ (k : ℕ). k * 64 + i) (sym e) ∙ sym (F .1)) in
+        let c : SlotHolds st w0 k v = record { there = l; within = y; cells = z; fits = f } in
+        (v, (u, rw d at c))
+slot-of st w0 {i} {cell} {slots} {o} place.Nowhere h n Q F = λ m H p f e. by m H p (Q .is (obj p) f e) (m .valueOf p i) refl (H .stored p i h)
+  where
+    by : (m : Model) → HoldsModel st w0 m → (p : ℕ) → o ≡ p → (x : Option Value) → m .valueOf p i ≡ x → Stored st w0 p i x → m .valueOf p i ≡ none
+    by m H p e none u q = u
+    by m H p e (some v) u (slot k l q x y z f) = absurd (F (rw n (H .ascending)) k (omega arith) (q ∙ ap (λ (k : ℕ). k * 64 + i) (sym e)))
+
+pub slot-within : (st : Counts) (w0 : List ℕ) (i cell : ℕ) {j : ℕ} {x : Place} → RowSlot st w0 i cell x → x ≡ place.At j → j < st .slots
+slot-within st w0 i cell {j} F e = let a : RowSlot st w0 i cell (place.At j) = rw e at F in a .0
+
+-- ---- `attr`
+
+module _ {st : Counts} {w0 : List ℕ} {mark sp len s : ℕ} {B : List ℕ} {b : Bool} (h : HasRow st w0 (mark % 64) (getD B sp 0) b) where
+  pub attribute-other : b ≡ false → Accesses ofObject st w0 mark sp len s B B ended.Stuck
+  unfolding access
+  attribute-other e = record {
+    small = tt;
+    ran = λ m H P k K v l. rw (K .row, ← h .is m H P v (l .fits) (head-at l), e) (record { kept = under-refl; ends = ends-stuck });
+  }
+
+  module _ (e : b ≡ true) where
+    on-object : {A : List ℕ} {r : Ended} → SmallAnswer r
+        → ((m : Model) → HoldsModel st w0 m → Plain st m → (o : ℕ) → Fits (obj o) → getD B sp 0 ≡ head (obj o) → Ran (given (m .valueOf o (mark % 64)) s) sp B A r) → Accesses ofObject st w0 mark sp len s B A r
+    unfolding access valueInRow
+    on-object {A} {r} sm g = record {
       small = sm;
-      is = λ m H P h v len l.
-          let z = is-object (shape (l .fits) (S .is v (l .fits) (head-at l)) (Q .is v (l .fits) (head-at l))) e in
-          rw (z, ← C .is m H P, ← I .is m H) (k m H P h);
+      ran = λ m H P k K v l.
+          let q = sym (h .is m H P v (l .fits) (head-at l)) ∙ e in
+          let x = has-object m (mark % 64) v q in
+          let f : Fits (obj (x .o)) = rw (x .is) at (l .fits) in
+          let d : getD B sp 0 ≡ head (obj (x .o)) = rw (x .is) at (head-at l) in
+          rw (K .row, q, x .is) (g m H P (x .o) f d);
     }
 
-    pub attribute-other : b ≡ false → Attribute st w0 i sp s B B ended.Stuck
-    attribute-other f = on-object tt (λ m H P h. rw f (record { kept = under-refl; ends = ends-stuck }))
+    pub attribute-none : {x : Place} → RowSlot st w0 (mark % 64) (getD B sp 0) x → x ≡ place.Nowhere → Accesses ofObject st w0 mark sp len s B B (ended.Undef s)
+    attribute-none F y =
+        let a : RowSlot st w0 (mark % 64) (getD B sp 0) place.Nowhere = rw y at F in
+        on-object tt (λ m H P o f d. rw (a m H o f d) (record { kept = under-refl; ends = ends-undefined }))
 
-    module _ (g : b ≡ true) {key slots : ℕ} (k : key ≡ o * 64 + i) (n : slots ≡ st .slots) where
-      pub attribute-none : {x : Place} → FindsSlot w0 slots key x → x ≡ place.Nowhere → Attribute st w0 i sp s B B (ended.Undef s)
-      attribute-none F y = on-object tt (λ m H P h. rw g (record { kept = under-refl; ends = by m H (m .valueOf o i) (H .stored o i h) }))
-        where
-          by : (m : Model) → HoldsModel st w0 m → (x : Option Value) → Stored st w0 o i x → Ends sp B (given x s) (ended.Undef s)
-          by m H none q = ends-undefined
-          by m H (some v) (slot j l q x y' z f) = absurd (let a : FindsSlot w0 slots key place.Nowhere = rw y at F in a (rw n (H .ascending)) j (omega arith) (q ∙ sym k))
-
-      pub attribute-some : {x : Place} {j : ℕ} {A : List ℕ} {r : Ended} → FindsSlot w0 slots key x → x ≡ place.At j → SlotStands st w0 j sp s B A r → Attribute st w0 i sp s B A r
-      attribute-some {x} {j} {A} {r} F y d = on-object (d .small) (λ m H P h. rw g (by m H P (m .valueOf o i) refl (H .stored o i h)))
-        where
-          a : (j < slots) × (keyAt w0 j ≡ key)
-          a = rw y at F
-
-          by : (m : Model) → HoldsModel st w0 m → Plain st m → (x : Option Value) → m .valueOf o i ≡ x → Stored st w0 o i x → Ran (given x s) sp B A r
-          by m H P none u (no-slot f) = absurd (f j (let l = a .0 in omega arith) (a .1 ∙ k))
-          by m H P (some v) u (slot j' l q x' y' z f) =
-              let e = same-slot w0 (st .slots) (H .ascending) j' j l (let l = a .0 in omega arith) (q ∙ sym k ∙ sym (a .1)) in
-              d .is v f (P .small o i v u) (rw e at l) (rw e at y') (rw e at z)
+    pub attribute-some : {x : Place} {j : ℕ} {A : List ℕ} {r : Ended} → RowSlot st w0 (mark % 64) (getD B sp 0) x → x ≡ place.At j → SlotStands st w0 j sp s B A r → Accesses ofObject st w0 mark sp len s B A r
+    attribute-some {x} {j} F y d =
+        let a : RowSlot st w0 (mark % 64) (getD B sp 0) (place.At j) = rw y at F in
+        on-object (d .small) (λ m H P o f e. let t = a .1 m H o f e in rw (t .1 .0) (d .is (t .0) (t .1 .1) (P .small o (mark % 64) (t .0) (t .1 .0))))

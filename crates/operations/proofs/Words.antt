@@ -1,7 +1,7 @@
 -- Words on the stack: what lies below a place stays, a value that lies there is read back, one is formed or moved. Assumes nothing.
 use mathlib.Core.Path.{_≡_, refl, sym, ap, _∙_}
 use mathlib.Core.Bool.{Bool, true, false}
-use mathlib.Core.List.{List, _++_}
+use mathlib.Core.List.{List, [], _∷_, _++_}
 use Prim.Native.Nat.{ℕ, _+_, _<_, _≤_}
 use native.Mathlib.Omega.{arith}
 use native.Mathlib.Nat.{add-zero}
@@ -9,6 +9,8 @@ use lib.ListN.{length, getD, take, drop}
 use lib.Seq.{take-take, drop-at, length-take-le, getD-take, getD-drop}
 use lib.Dec.{leb}
 use borrow.Author.Tests.{le-leb, leb-true}
+use types.Run.{OneOf}
+use denote.Enum.Declared.{tagOf}
 use Rattle.laws.specs.Choice.{if_then_else_}
 use Rattle.laws.proofs.Slices.{cut-part, trim, under-top}
 use Rattle.ocl.specs.Values.{Value, size}
@@ -20,6 +22,8 @@ use Rattle.values.specs.declared.Simple.{Simple}
 use Rattle.values.specs.declared.Formed.{Formed}
 use Rattle.values.specs.declared.Formed.the-variants as formed
 use Rattle.values.proofs.Heads.{enc-parts, shape, Shape, shape-bool, shape-int, shape-obj, shape-coll}
+use Rattle.operations.proofs.Ended.{the-type}
+use Rattle.operations.specs.declared.Ended.{Ended}
 use Rattle.operations.specs.declared.Ended.the-variants as ended
 use Rattle.operations.specs.Answers.{Lies, Ends, ends-value, ends-stop, Under, Ran, SmallAnswer, Gives, formedAs, truthOf, Truth}
 
@@ -106,6 +110,15 @@ truth-other {cell} {s} S e = record { is = λ v f h. by (shape f (S .is v f h) r
     by (shape-int i j k) = refl
     by (shape-obj i j k) = refl
     by (shape-coll i j k) = refl
+
+-- ---- which answer it is
+
+-- no value
+abbrev pub Other : Ended → Type 0
+Other r = OneOf (1 ∷ 2 ∷ 3 ∷ []) (tagOf the-type r)
+
+pub bounds : {r : Ended} {la sa : ℕ} → SmallAnswer r → r ≡ ended.Value la sa → (1 ≤ la) × (la ≤ 128)
+bounds h q = rw q at h
 
 -- ---- what was formed
 

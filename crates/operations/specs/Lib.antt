@@ -2,4 +2,5 @@ pub mod Answers
 pub mod Tables
 pub mod Runs
 pub mod Operations
+pub mod Collect
 pub mod Operand

@@ -1,4 +1,4 @@
--- What follows the one operand of a form, by the form's code: 7 to 12, `isUndef` (30), `attr` (33).
+-- What follows the one operand of a form, by the form's code: 7 to 12, `isUndef` (30), `attr` (33), `collect` (34).
 use mathlib.Core.Bool.{true, false}
 use mathlib.Core.List.{List}
 use Prim.Native.Nat.{ℕ, _+_}
@@ -7,26 +7,35 @@ use lib.Dec.{eqb, ltb}
 use Rattle.laws.specs.Choice.{if_then_else_}
 use Rattle.ocl.specs.Values.{Value, bool}
 use Rattle.ocl.specs.Model.{Model}
-use Rattle.ocl.specs.Evaluation.{Outcome, value, undefined, unaryApply}
-use Rattle.nodes.specs.Nodes.{unaryOf}
+use Rattle.ocl.specs.Typing.{Mark}
+use Rattle.ocl.specs.Evaluation.{Outcome, value, undefined, unaryApply, access}
+use Rattle.nodes.specs.Nodes.{unaryOf, accessOf}
+use Rattle.nodes.specs.Marks.{Marked}
+use Rattle.tables.specs.declared.Counts.{Counts}
+use Rattle.tables.specs.Stored.{HoldsModel}
 use Rattle.operations.specs.declared.Ended.{Ended}
-use Rattle.operations.specs.Answers.{Ran, SmallAnswer}
-use Rattle.operations.specs.Tables.{attributeIn}
+use Rattle.operations.specs.Answers.{Lies, Ran, SmallAnswer}
+use Rattle.operations.specs.Tables.{Plain}
 
--- the mark of node n
+-- the word of node n's mark
 abbrev pub markIn : List ℕ → ℕ → ℕ
 markIn t n = getD t (6144 + n) 0
 
--- what follows its value: w are the node's words, and i is the row that it is marked with
-unfoldable pub ofValue : Model → ℕ → (ℕ → ℕ) → ℕ → Value → ℕ → Outcome
-ofValue m k w i v s =
+-- what follows its value: w are the node's words, and x is its mark
+unfoldable pub ofValue : Model → ℕ → (ℕ → ℕ) → Mark → Value → ℕ → Outcome
+ofValue m k w x v s =
     if ltb k 13 then unaryApply m (unaryOf k w) v s
     else if eqb k 30 then value (bool false) s
-    else attributeIn m i v s
+    else access m (accessOf k) x v s
 
 -- what follows where it is undefined
 unfoldable pub ofUndefined : ℕ → ℕ → Outcome
 ofUndefined k s = if eqb k 30 then value (bool true) s else undefined s
+
+pub record FromValue (st : Counts) (w0 : List ℕ) (k : ℕ) (w : ℕ → ℕ) (mark sp len s : ℕ) (B A : List ℕ) (r : Ended) : Type 0 where
+  pub small : SmallAnswer r
+  pub ran : (m : Model) → HoldsModel st w0 m → Plain st m → (x : Mark) → Marked mark x → (v : Value) → Lies v sp len B
+      → Ran (ofValue m k w x v s) sp B A r
 
 pub record FromUndefined (k sp s : ℕ) (B A : List ℕ) (r : Ended) : Type 0 where
   pub small : SmallAnswer r

@@ -8,6 +8,7 @@ use lib.ListN.{length, getD}
 use Rattle.ocl.specs.Values.{Value}
 use Rattle.ocl.specs.Environment.{Env}
 use Rattle.ocl.specs.Model.{Model}
+use Rattle.ocl.specs.Typing.{Mark}
 use Rattle.ocl.specs.Evaluation.{Run, bound, leafRun}
 use Rattle.nodes.specs.Nodes.{leafOf}
 use Rattle.tables.specs.declared.Counts.{Counts}
@@ -17,10 +18,10 @@ use Rattle.operations.specs.Answers.{Lies, Ran, SmallAnswer}
 
 -- ---- what is evaluated over
 
--- a model, and the row that each `attr` node is marked with
+-- a model, and what each node is marked with
 pub record World : Type 0 where
   pub model : Model
-  pub mark : ℕ → ℕ
+  pub mark : ℕ → Mark
 
 pub record ModelIn (st : Counts) (w0 : List ℕ) (w : World) : Type 0 where
   pub holds : HoldsModel st w0 (w .model)

@@ -1,7 +1,7 @@
 -- What the contracts over the tables say: of every model that the words hold.
 use mathlib.Core.Path.{_≡_}
 use mathlib.Core.Bool.{Bool}
-use mathlib.Core.Option.{some}
+use mathlib.Core.Option.{none, some}
 use mathlib.Core.List.{List}
 use Prim.Native.Nat.{ℕ, suc, _+_, _≤_, _<_}
 use lib.ListN.{getD, take}
@@ -9,12 +9,15 @@ use lib.Seq.{slice}
 use lib.Dec.{eqb}
 use Rattle.laws.specs.Choice.{if_then_else_}
 use Rattle.ocl.specs.Types.{class, set}
-use Rattle.ocl.specs.Values.{Value, coll, size}
+use Rattle.ocl.specs.Values.{Value, obj, coll, size}
 use Rattle.ocl.specs.Model.{Model, isA}
-use Rattle.ocl.specs.Evaluation.{Outcome, value, stuck, onObj, given, instances}
-use Rattle.values.specs.Cells.{enc, Fits}
+use Rattle.ocl.specs.Forms.{Access}
+use Rattle.ocl.specs.Typing.{Mark}
+use Rattle.ocl.specs.Evaluation.{value, hasRow, access, instances}
+use Rattle.values.specs.Cells.{head, enc, Fits}
 use Rattle.values.specs.Contracts.{Forms, SmallForm}
 use Rattle.values.specs.declared.Formed.{Formed}
+use Rattle.nodes.specs.Marks.{Marked}
 use Rattle.tables.specs.declared.Counts.{Counts}
 use Rattle.tables.specs.Layout.{Fine}
 use Rattle.tables.specs.Stored.{keyAt, startAt, endAt, HoldsModel}
@@ -33,12 +36,6 @@ pub record Plain (st : Counts) (m : Model) : Type 0 where
   pub no-row : (i : ℕ) → st .rows ≤ i → m .row i .owner ≡ 0
   pub small : (o i : ℕ) (v : Value) → m .valueOf o i ≡ some v → size v ≤ 128
 
--- the words hold the model, and i is among the rows that there can be
-pub record ReadsRow (st : Counts) (w0 : List ℕ) (i : ℕ) (m : Model) : Type 0 where
-  pub holds : HoldsModel st w0 m
-  pub plain : Plain st m
-  pub row : i < 64
-
 pub record IsA (st : Counts) (w0 : List ℕ) (o c : ℕ) (r : Bool) : Type 0 where
   pub is : (m : Model) → HoldsModel st w0 m → r ≡ isA m o (class c)
 
@@ -55,19 +52,33 @@ FindsSlot w0 slots key place.Nowhere =
 abbrev pub cellsStart : Counts → List ℕ → ℕ → ℕ
 cellsStart st w0 j = if eqb (st .slots) j then st .cells else getD w0 (1376 + j) 0
 
+-- slot j holds the value
+pub record SlotHolds (st : Counts) (w0 : List ℕ) (j : ℕ) (v : Value) : Type 0 where
+  pub there : j < st .slots
+  pub within : endAt st w0 j ≤ 4448
+  pub cells : slice (startAt w0 j) (endAt st w0 j) w0 ≡ enc v
+  pub fits : Fits v
+
 -- slot j's value stands at sp
 pub record SlotStands (st : Counts) (w0 : List ℕ) (j sp s : ℕ) (B A : List ℕ) (r : Ended) : Type 0 where
   pub small : SmallAnswer r
-  pub is : (v : Value) → Fits v → size v ≤ 128 → j < st .slots → endAt st w0 j ≤ 4448
-      → slice (startAt w0 j) (endAt st w0 j) w0 ≡ enc v → Ran (value v s) sp B A r
+  pub is : (v : Value) → SlotHolds st w0 j v → size v ≤ 128 → Ran (value v s) sp B A r
 
--- the value of row i for an object
-abbrev pub attributeIn : Model → ℕ → Value → ℕ → Outcome
-attributeIn m i v n = onObj v (λ o. if isA m o (class (m .row i .owner)) then given (m .valueOf o i) n else stuck)
+-- does the value with this first cell have row i
+pub record HasRow (st : Counts) (w0 : List ℕ) (i cell : ℕ) (r : Bool) : Type 0 where
+  pub is : (m : Model) → HoldsModel st w0 m → Plain st m → (v : Value) → Fits v → cell ≡ head v → r ≡ hasRow m i v
 
-pub record Attribute (st : Counts) (w0 : List ℕ) (i sp s : ℕ) (B A : List ℕ) (r : Ended) : Type 0 where
+-- the slot that holds the value of row i for the object with this cell; nowhere if there is none
+abbrev pub RowSlot : Counts → List ℕ → ℕ → ℕ → Place → Type 0
+RowSlot st w0 i cell (place.At j) =
+    (j < st .slots) × ((m : Model) → HoldsModel st w0 m → (o : ℕ) → Fits (obj o) → cell ≡ head (obj o) → (v : Value) × ((m .valueOf o i ≡ some v) × SlotHolds st w0 j v))
+RowSlot st w0 i cell place.Nowhere = (m : Model) → HoldsModel st w0 m → (o : ℕ) → Fits (obj o) → cell ≡ head (obj o) → m .valueOf o i ≡ none
+
+-- `attr` or `collect`, by the word that the node is marked with, over the value at sp
+pub record Accesses (x : Access) (st : Counts) (w0 : List ℕ) (mark sp len s : ℕ) (B A : List ℕ) (r : Ended) : Type 0 where
   pub small : SmallAnswer r
-  pub is : (m : Model) → HoldsModel st w0 m → Plain st m → i < 64 → (v : Value) (len : ℕ) → Lies v sp len B → Ran (attributeIn m i v s) sp B A r
+  pub ran : (m : Model) → HoldsModel st w0 m → Plain st m → (k : Mark) → Marked mark k → (v : Value) → Lies v sp len B
+      → Ran (access m x k v s) sp B A r
 
 -- the Set of a class's objects before o, with o
 pub record WithObject (st : Counts) (w0 : List ℕ) (c sp len o : ℕ) (B A : List ℕ) (r : Formed) : Type 0 where

@@ -4,6 +4,7 @@ pub mod answers; // answers with a value that was formed, and an answer as one w
 pub mod leaves; // forms without operands
 pub mod lookup; // objects, rows and values in the tables
 pub mod apply; // strict forms, given the values of their operands
+pub mod collect; // `collect`, given the value of its operand
 pub mod operand; // a form with one operand, once that has run
 
 // How evaluation ends: with a value of len cells, undefined, stuck, or with a stop's number; and the steps begun.

@@ -10,9 +10,13 @@ use values::cells::payload_of;
 use values::cells::push_cells;
 use values::cells::sort_of;
 ghost use mathlib.Core.Path.{_≡_};
-ghost use Prim.Native.Nat.{_+_, _≤_, _<_};
+ghost use Prim.Native.Nat.{ℕ, _+_, _≤_, _<_};
 ghost use lib.ListN.{length};
-ghost use Rattle.operations.specs.Tables.{Bounds, IsA, Owner, FindsSlot, cellsStart, SlotStands, Attribute};
+ghost use Rattle.ocl.specs.Forms.{ofObject};
+ghost use Rattle.operations.specs.Tables.{Bounds, IsA, Owner, FindsSlot, cellsStart, SlotStands, HasRow, RowSlot, Accesses};
+
+// A mark is its row and a multiple of this.
+pub const ROWS: u64 = 64;
 
 // Whether object o is of class c or below it.
 pub fn is_a(tables: &[u64], st: Counts, o: u64, c: u64) -> bool
@@ -72,7 +76,14 @@ fn start_of(tables: &[u64], st: Counts, j: usize) -> u64
 }
 
 // Copies the value in slot j to sp.
-fn bring(tables: &[u64], st: Counts, j: usize, stack: &mut [u64], sp: usize, steps: u64) -> Ended
+pub fn bring(
+    tables: &[u64],
+    st: Counts,
+    j: usize,
+    stack: &mut [u64],
+    sp: usize,
+    steps: u64,
+) -> Ended
     requires { ⌜ (j < 1024) × (8192 ≤ length (now tables)) × (sp + 128 ≤ length (now stack)) ⌝ }
     ensures { λ r. ⌜ SlotStands st (now (tables .entry)) j sp steps (now (stack .entry)) (now (stack .exit)) r ⌝ }
 {
@@ -90,29 +101,42 @@ fn bring(tables: &[u64], st: Counts, j: usize, stack: &mut [u64], sp: usize, ste
     )
 }
 
-// Replaces the object at sp by its value in row i.
+// Whether the value with this first cell is an object that has row i: one of the class that declares the row, or below it.
+pub fn has_row(tables: &[u64], st: Counts, i: u64, cell: u64) -> bool
+    requires { ⌜ Bounds st (length (now tables)) ⌝ }
+    ensures { λ r. ⌜ HasRow st (now (tables .entry)) i cell r ⌝ }
+{
+    if sort_of(cell) != OBJECT {
+        return false;
+    }
+    let c = owner(tables, st, i);
+    is_a(tables, st, payload_of(cell), c)
+}
+
+// The slot of row i for the object with this cell.
+pub fn row_slot(tables: &[u64], st: Counts, i: u64, cell: u64) -> Place
+    requires { ⌜ Bounds st (length (now tables)) × (i < 64) ⌝ }
+    ensures { λ r. ⌜ RowSlot st (now (tables .entry)) i cell r ⌝ }
+{
+    find_slot(tables, wide(st.slots), payload_of(cell) * 64 + i)
+}
+
+// `attr`: replaces the object at sp by its value in the row that the node is marked with.
 pub fn attribute_of(
     tables: &[u64],
     st: Counts,
-    i: u64,
+    mark: u64,
     stack: &mut [u64],
     sp: usize,
     steps: u64,
 ) -> Ended
     requires { ⌜ Bounds st (length (now tables)) × (sp + 128 ≤ length (now stack)) ⌝ }
-    ensures { λ r. ⌜ Attribute st (now (tables .entry)) i sp steps (now (stack .entry)) (now (stack .exit)) r ⌝ }
+    ensures { λ r. ⌜ ((len : ℕ) → Accesses ofObject st (now (tables .entry)) mark sp len steps (now (stack .entry)) (now (stack .exit)) r) ⌝ }
 {
+    let i = mark % ROWS;
     let cell = stack[sp];
-    if sort_of(cell) != OBJECT {
-        return Ended::Stuck;
-    }
-    let o = payload_of(cell);
-    if 64 <= i {
-        return Ended::Stuck;
-    }
-    let c = owner(tables, st, i);
-    if is_a(tables, st, o, c) {
-        let Place::At { j } = find_slot(tables, wide(st.slots), o * 64 + i) else {
+    if has_row(tables, st, i, cell) {
+        let Place::At { j } = row_slot(tables, st, i, cell) else {
             return Ended::Undef { steps };
         };
         bring(tables, st, j, stack, sp, steps)

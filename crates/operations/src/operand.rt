@@ -1,7 +1,9 @@
-// What a form with one operand does once the operand has run: the strict forms 7 to 12, `isUndef` (30) and `attr` (33).
+// What a form with one operand does once the operand has run: the strict forms 7 to 12, `isUndef` (30), `attr` (33) and
+// `collect` (34).
 use crate::Ended;
 use crate::answers::put;
 use crate::apply::unary_apply;
+use crate::collect::collect;
 use crate::lookup::attribute_of;
 use nodes::node_word;
 use tables::Counts;
@@ -9,9 +11,8 @@ use values::Simple;
 ghost use Prim.Native.Nat.{_+_, _≤_, _<_};
 ghost use lib.ListN.{length};
 ghost use Rattle.nodes.specs.Nodes.{word};
-ghost use Rattle.operations.specs.Tables.{Bounds, ReadsRow};
-ghost use Rattle.operations.specs.Operations.{OfOne};
-ghost use Rattle.operations.specs.Operand.{markIn, ofValue, FromUndefined};
+ghost use Rattle.operations.specs.Tables.{Bounds};
+ghost use Rattle.operations.specs.Operand.{markIn, FromValue, FromUndefined};
 
 // Where the marks start.
 const MARKS: usize = 6144;
@@ -29,8 +30,8 @@ pub fn of_value(
     steps: u64,
 ) -> Ended
     requires { ⌜ Bounds st (length (now tables)) × (8192 ≤ length (now nodes)) × (n < 768) × (7 ≤ form) ⌝ }
-    requires { ⌜ (1 ≤ len) × (len ≤ 128) × (sp + 384 ≤ length (now stack)) ⌝ }
-    ensures { λ r. ⌜ OfOne (ReadsRow st (now (tables .entry)) (markIn (now (nodes .entry)) n)) (λ m. ofValue m form (word (now (nodes .entry)) n) (markIn (now (nodes .entry)) n)) sp len steps (now (stack .entry)) (now (stack .exit)) r ⌝ }
+    requires { ⌜ (1 ≤ len) × (len ≤ 128) × (sp + 512 ≤ length (now stack)) ⌝ }
+    ensures { λ r. ⌜ FromValue st (now (tables .entry)) form (word (now (nodes .entry)) n) (markIn (now (nodes .entry)) n) sp len steps (now (stack .entry)) (now (stack .exit)) r ⌝ }
 {
     match form {
         7..=12 => unary_apply(
@@ -44,7 +45,8 @@ pub fn of_value(
             steps,
         ),
         30 => put(stack, sp, Simple::Bool { b: false }, steps),
-        _ => attribute_of(tables, st, nodes[MARKS + n], stack, sp, steps),
+        33 => attribute_of(tables, st, nodes[MARKS + n], stack, sp, steps),
+        _ => collect(tables, st, nodes[MARKS + n], stack, sp, len, steps),
     }
 }
 

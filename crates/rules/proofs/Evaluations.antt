@@ -44,7 +44,7 @@ module _ {st : Counts} {w0 w1 : List ℕ} where
       → ReadsWorld st w0 w1 (record { model = modelOf s; mark = markOf (typingOf s x) })
   world-in r s g x q m =
       let a = ready g in
-      record { holds = a .model; plain = a .plain; mark = m .at; row = λ p h. a .mark r x q p }
+      record { holds = a .model; plain = a .plain; mark = λ p h. rw (m .at p h) (a .mark r x q p) }
 
   pub evaluates-numbered : {r o root : ℕ} {before part : List ℕ} {e : Ended} → 8192 ≤ length before → length part ≡ length (take 8192 before)
       → root ≡ getD w0 (4512 + r) 0 → Rules (ReadsWorld st w0 w1) (treeAt w1 root) o part e

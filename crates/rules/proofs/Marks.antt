@@ -115,4 +115,4 @@ marks-kept {w2} {w1} {v1} k = record { size = k .size; rest = sym (drop-drop 128
 
 pub marks-in : {st : Counts} {w0 w1 v1 before w2 : List ℕ} {r : ℕ} {a : Reply} → TypesNumbered st w0 w1 r before w2 a → KeepsMarks w2 w1 v1
     → (s : Sheet) → Accepted st w0 w1 s → (x : Rule) → getElem? (s .rules) r ≡ some x → MarksIn v1 (typingOf s x)
-marks-in t k s g x q = record { at = λ p h. sym (k .at p h ∙ t .marked s g x q p h) }
+marks-in t k s g x q = record { at = λ p h. k .at p h ∙ t .marked s g x q p h }

@@ -24,7 +24,7 @@ use Rattle.operations.specs.Tables.{Plain}
 use Rattle.rules.specs.Accepted.{Accepted, Ready}
 use Rattle.rules.proofs.Classes.{classes-held}
 use Rattle.rules.proofs.Slots.{LowRows, slots-ascend, slots-stored}
-use Rattle.rules.proofs.RulesIn.{node-line, rule-in, rule-there, rule-past, mark-row}
+use Rattle.rules.proofs.RulesIn.{node-line, rule-in, rule-there, rule-past, mark-told}
 
 module _ {st : Counts} {w0 w1 : List ℕ} {s : Sheet} (fine : Fine st) (holds : Holds st w0 w1 s) (good : Good s) where
   low-rows : LowRows (s .slots)
@@ -69,5 +69,5 @@ ready {st} {s = s} a =
       some-rule = rule-there (a .fine) (a .holds);
       no-rule = rule-past (a .fine) (a .holds);
       place = λ r x n p e h. node-line (a .fine) (a .holds) p (type-refusals (a .text) s (a .was) r x e n p h .on-sheet);
-      mark = λ r x e p. mark-row (a .fine) (a .holds) x p;
+      mark = λ r x e p. mark-told (a .fine) (a .holds) x p;
     }

@@ -11,8 +11,10 @@ use Rattle.laws.proofs.Elements.{elem-some, elem-none, elem-at, each-elem}
 use Rattle.ocl.specs.Types.{Class}
 use Rattle.ocl.specs.Environment.{start}
 use Rattle.ocl.specs.Forms.{undef, node, Form}
-use Rattle.ocl.specs.Typing.{typeRule, markOf}
-use Rattle.ocl.proofs.Places.{mark-below}
+use Rattle.ocl.specs.Typing.{typing, typeRule, markOf}
+use Rattle.ocl.proofs.Places.{mark-below, mark-no-set}
+use Rattle.nodes.specs.Marks.{markWord, Marked}
+use Rattle.nodes.proofs.Marks.{marked}
 use Rattle.sheet.specs.Sheet.{Rule, Sheet, modelOf}
 use Rattle.sheet.specs.Calls.{typingOf}
 use Rattle.sheet.proofs.Good.{Good}
@@ -79,9 +81,10 @@ module _ {st : Counts} {w0 w1 : List ℕ} {s : Sheet} (fine : Fine st) (holds : 
 
   -- ---- a rule's marks
 
-  pub mark-row : (x : Rule) (p : ℕ) → markOf (typingOf s x) p < 64
+  pub mark-told : (x : Rule) (p : ℕ) → Marked (markWord (markOf (typingOf s x) p)) (markOf (typingOf s x) p)
   unfolding typingOf typeRule modelOf
-  mark-row x p =
+  mark-told x p =
       let c = holds .counted .rows in
       let f = fine .rows in
-      mark-below (modelOf s) (x .body) (start (Class (x .context))) 64 p (omega arith) (omega arith)
+      let Γ = start (Class (x .context)) in
+      marked (markOf (typing (modelOf s) (x .body) Γ) p) (mark-below (modelOf s) (x .body) Γ 64 p (omega arith) (omega arith)) (mark-no-set (modelOf s) (x .body) Γ p)

@@ -5,6 +5,7 @@ use Prim.Native.Nat.{ℕ, _+_, _<_}
 use lib.ListN.{getD, drop}
 use lib.Seq.{drop-drop}
 use Rattle.ocl.specs.Typing.{typeRule, Typed, markOf}
+use Rattle.nodes.specs.Marks.{markWord}
 use Rattle.sheet.specs.Sheet.{Rule, Sheet, modelOf}
 use Rattle.sheet.specs.Calls.{typingOf}
 use Rattle.nodes.specs.Nodes.{treeAt}
@@ -38,6 +39,6 @@ module _ {st : Counts} {w0 w1 : List ℕ} {r : ℕ} where
   types-numbered c n e t =
       record {
         is = λ s g x q. t .is (modelOf s) (rw (c, n) (ready g .classes)) ∙ ap (λ (y : Typed). y .answer) (rule-typing s x (ready g .rule r x q) e);
-        marked = λ s g x q p l. t .marked (modelOf s) (rw (c, n) (ready g .classes)) p l ∙ ap (λ (y : Typed). markOf y p) (rule-typing s x (ready g .rule r x q) e);
+        marked = λ s g x q p l. t .marked (modelOf s) (rw (c, n) (ready g .classes)) p l ∙ ap (λ (y : Typed). markWord (markOf y p)) (rule-typing s x (ready g .rule r x q) e);
         kept = kept-words (t .kept);
       }

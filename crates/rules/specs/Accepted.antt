@@ -12,6 +12,7 @@ use Rattle.sheet.specs.Sheet.{Rule, Sheet, modelOf, mostLevels}
 use Rattle.sheet.specs.Reading.{accepted, readText}
 use Rattle.sheet.specs.Calls.{typingOf}
 use Rattle.nodes.specs.Nodes.{word, treeAt}
+use Rattle.nodes.specs.Marks.{markWord, Marked}
 use Rattle.tables.specs.declared.Counts.{Counts}
 use Rattle.tables.specs.Layout.{Holds, Fine}
 use Rattle.tables.specs.Stored.{HoldsModel}
@@ -52,9 +53,9 @@ pub record Ready (st : Counts) (w0 w1 : List ℕ) (s : Sheet) : Type 0 where
   -- a refusal of typing is at a node, whose line is its word 7
   pub place : (r : ℕ) (x : Rule) (n p : ℕ) → getElem? (s .rules) r ≡ some x → typingOf s x .answer ≡ untyped n p
       → (p < 768) × (getD (s .lines) p 0 ≡ word w1 p 7)
-  -- each mark is a row
-  pub mark : (r : ℕ) (x : Rule) → getElem? (s .rules) r ≡ some x → (p : ℕ) → markOf (typingOf s x) p < 64
+  -- the word of each mark tells what evaluation reads
+  pub mark : (r : ℕ) (x : Rule) → getElem? (s .rules) r ≡ some x → (p : ℕ) → Marked (markWord (markOf (typingOf s x) p)) (markOf (typingOf s x) p)
 
 -- the marks of a rule's typing in w1, from 6144 on
 pub record MarksIn (w1 : List ℕ) (t : Typed) : Type 0 where
-  pub at : (p : ℕ) → p < 768 → markOf t p ≡ getD w1 (6144 + p) 0
+  pub at : (p : ℕ) → p < 768 → getD w1 (6144 + p) 0 ≡ markWord (markOf t p)

@@ -7,6 +7,7 @@ use lib.ListN.{length, getD, getElem?, take, drop}
 use Rattle.ocl.specs.Typing.{markOf}
 use Rattle.sheet.specs.Sheet.{Rule, Sheet}
 use Rattle.sheet.specs.Calls.{typingOf, outcomeOf}
+use Rattle.nodes.specs.Marks.{markWord}
 use Rattle.tables.specs.declared.Counts.{Counts}
 use Rattle.tables.specs.Layout.{Kept}
 use Rattle.judgements.specs.declared.Reply.{Reply}
@@ -19,7 +20,7 @@ use Rattle.rules.specs.Accepted.{Accepted, MarksIn}
 pub record TypesNumbered (st : Counts) (w0 w1 : List ℕ) (r : ℕ) (before after : List ℕ) (reply : Reply) : Type 0 where
   pub is : (s : Sheet) → Accepted st w0 w1 s → (x : Rule) → getElem? (s .rules) r ≡ some x → meaning reply ≡ typingOf s x .answer
   pub marked : (s : Sheet) → Accepted st w0 w1 s → (x : Rule) → getElem? (s .rules) r ≡ some x
-      → (p : ℕ) → p < 768 → getD after p 0 ≡ markOf (typingOf s x) p
+      → (p : ℕ) → p < 768 → getD after p 0 ≡ markWord (markOf (typingOf s x) p)
   pub kept : Kept before after
 
 -- the first 768 words of w2 are put into w1 from 6144 on

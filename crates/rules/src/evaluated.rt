@@ -1,5 +1,5 @@
-// The evaluation of the rule with a number for an object. Typing leaves its marks, the row of each `attr` node, in w2, which
-// evaluation needs for its values: so they are copied to w1 first.
+// The evaluation of the rule with a number for an object. Typing leaves its marks, of `attr` and `collect` nodes, in w2,
+// which evaluation needs for its values: so they are copied to w1 first.
 ghost use Prim.Native.Nat.{_≤_, _<_};
 ghost use lib.ListN.{length};
 ghost use Rattle.rules.specs.Accepted.{Known};

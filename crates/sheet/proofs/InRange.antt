@@ -71,7 +71,7 @@ module _ (f : ℕ → Expr) (h : (a : ℕ) → InRange (literals (f a))) where
   grown-in-range (isUndef a) t = h a
   grown-in-range (conditional c a b) t = each-append (h c) (each-append (h a) (h b))
   grown-in-range (letIn i a b) t = each-append (h a) (h b)
-  grown-in-range (attribute name a) t = h a
+  grown-in-range (attribute x name a) t = h a
   grown-in-range (quantified q i a b) t = each-append (h a) (h b)
   grown-in-range (iterate i j u a e b) t = each-append (h a) (each-append (h e) (h b))
   grown-in-range (assemble k es) t = all-grown es

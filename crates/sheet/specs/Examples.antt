@@ -72,6 +72,12 @@ pub record Examples : Type 0 where
   -- the static class decides the row; two rules, and objects of the class or below it alone
   pub static-row : prints ("C 0 -" ∷ "C 1 0" ∷ "A 0 0 5 Int" ∷ "A 1 1 5 Bool" ∷ "O 0 0" ∷ "O 1 1" ∷ "V 1 0 7" ∷ "V 1 1 t"
       ∷ "R 0 0" ∷ "N 0 self" ∷ "N 1 attr 0 5" ∷ "R 1 1" ∷ "N 0 self" ∷ "N 1 attr 0 5" ∷ []) ≡ bytes "0 0 u 2\n0 1 7 2\n1 1 t 2\n"
+  -- `collect`: a Bag of a Set's members' values, repeats and all; undefined where one has none; 11 where the members are of no class
+  pub collect : prints ("C 0 -" ∷ "A 0 0 5 Int" ∷ "O 0 0" ∷ "O 1 0" ∷ "O 2 0" ∷ "V 0 0 7" ∷ "V 1 0 7" ∷ "V 2 0 -1" ∷ "R 0 0" ∷ "N 0 all 0" ∷ "N 1 collect 0 5" ∷ [])
+      ≡ bytes "0 0 B(-1,7,7) 2\n0 1 B(-1,7,7) 2\n0 2 B(-1,7,7) 2\n"
+  pub collect-undefined : prints ("C 0 -" ∷ "A 0 0 5 Int" ∷ "O 0 0" ∷ "O 1 0" ∷ "V 0 0 7" ∷ "R 0 0" ∷ "N 0 all 0" ∷ "N 1 collect 0 5" ∷ []) ≡ bytes "0 0 u 2\n0 1 u 2\n"
+  pub collect-sequence : prints ("C 0 -" ∷ "A 0 0 5 Int" ∷ "O 0 0" ∷ "V 0 0 7" ∷ "R 0 0" ∷ "N 0 self" ∷ "N 1 coll Q 0" ∷ "N 2 collect 1 5" ∷ []) ≡ bytes "0 0 Q(7) 3\n"
+  pub collect-no-class : prints ("C 0 -" ∷ "R 0 0" ∷ "N 0 coll S" ∷ "N 1 collect 0 5" ∷ []) ≡ bytes "! 11 4\n"
   -- the sum of a Sequence's members, and each body counted
   pub sum : prints ("C 0 -" ∷ "O 0 0" ∷ "R 0 0" ∷ "N 0 int 3" ∷ "N 1 int 1" ∷ "N 2 int -9" ∷ "N 3 coll Q 0 1 2" ∷ "N 4 int 0"
       ∷ "N 5 var 1" ∷ "N 6 var 2" ∷ "N 7 plus 5 6" ∷ "N 8 iter 3 1 2 Int 4 7" ∷ []) ≡ bytes "0 0 -5 15\n"

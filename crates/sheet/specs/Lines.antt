@@ -10,7 +10,7 @@ use lib.Dec.{eqb, leb}
 use Rattle.laws.specs.Choice.{if_then_else_, onSome, mapSome}
 use Rattle.ocl.specs.Types.{Kind, set, sequence, bag, Ty}
 use Rattle.ocl.specs.Values.{Value}
-use Rattle.ocl.specs.Forms.{plus, minus, times, div, modulo, Connective, and, or, Quantifier, forAll, exists, Leaf, truth, undef, number, self, var, all, Unary, negation, sizeOf, convert, castTo, Binary, equal, less, arith, includes, including, union}
+use Rattle.ocl.specs.Forms.{plus, minus, times, div, modulo, Connective, and, or, Quantifier, forAll, exists, Access, ofObject, ofMembers, Leaf, truth, undef, number, self, var, all, Unary, negation, sizeOf, convert, castTo, Binary, equal, less, arith, includes, including, union}
 use Rattle.sheet.specs.Text.{Bytes, bytes, literal, whole, numberParser, integerParser, _or_ as either}
 use Rattle.sheet.specs.Spelling.{readType, readValue}
 
@@ -23,7 +23,7 @@ pub data Shape : Type 0 where
   isUndef : ℕ → Shape
   conditional : ℕ → ℕ → ℕ → Shape
   letIn : ℕ → ℕ → ℕ → Shape
-  attribute : ℕ → ℕ → Shape
+  attribute : Access → ℕ → ℕ → Shape
   quantified : Quantifier → ℕ → ℕ → ℕ → Shape
   iterate : ℕ → ℕ → Ty → ℕ → ℕ → ℕ → Shape
   assemble : Kind → List ℕ → Shape
@@ -122,7 +122,8 @@ shapeOf w fs =
     else if is w (bytes "times") then twoOperands (binary (arith times)) fs
     else if is w (bytes "div") then twoOperands (binary (arith div)) fs
     else if is w (bytes "mod") then twoOperands (binary (arith modulo)) fs
-    else if is w (bytes "attr") then twoOperands (λ e name. attribute name e) fs
+    else if is w (bytes "attr") then twoOperands (λ e name. attribute ofObject name e) fs
+    else if is w (bytes "collect") then twoOperands (λ s name. attribute ofMembers name s) fs
     else if is w (bytes "all") then next aNumber (λ c. done (leaf (all c))) fs
     else if is w (bytes "as") then twoOperands (λ e c. unary (castTo c) e) fs
     else if is w (bytes "size") then oneOperand (unary sizeOf) fs

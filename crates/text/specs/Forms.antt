@@ -7,7 +7,7 @@ use mathlib.Core.List.{List}
 use lib.Dec.{eqb}
 use Rattle.laws.specs.Choice.{if_then_else_}
 use Rattle.ocl.specs.Types.{set, sequence, bag}
-use Rattle.ocl.specs.Forms.{plus, minus, times, div, modulo, and, or, forAll, exists, truth, undef, self, var, all, number, negation, sizeOf, convert, castTo, equal, less, arith, includes, including, union}
+use Rattle.ocl.specs.Forms.{plus, minus, times, div, modulo, and, or, forAll, exists, ofObject, ofMembers, truth, undef, self, var, all, number, negation, sizeOf, convert, castTo, equal, less, arith, includes, including, union}
 use Rattle.sheet.specs.Text.{Bytes}
 use Rattle.sheet.specs.Lines.{Shape, leaf, unary, binary, connective, isUndef, conditional, letIn, attribute, quantified, next, done, aNumber, anInteger, oneOperand, twoOperands, threeNumbers, iterateFields, assembleFields}
 
@@ -33,7 +33,8 @@ shapeBy k fs =
     else if eqb k 17 then twoOperands (binary (arith times)) fs
     else if eqb k 18 then twoOperands (binary (arith div)) fs
     else if eqb k 19 then twoOperands (binary (arith modulo)) fs
-    else if eqb k 33 then twoOperands (λ e name. attribute name e) fs
+    else if eqb k 33 then twoOperands (λ e name. attribute ofObject name e) fs
+    else if eqb k 34 then twoOperands (λ s name. attribute ofMembers name s) fs
     else if eqb k 6 then next aNumber (λ c. done (leaf (all c))) fs
     else if eqb k 12 then twoOperands (λ e c. unary (castTo c) e) fs
     else if eqb k 8 then oneOperand (unary sizeOf) fs
@@ -43,7 +44,7 @@ shapeBy k fs =
     else if eqb k 10 then oneOperand (unary (convert sequence)) fs
     else if eqb k 21 then twoOperands (binary including) fs
     else if eqb k 22 then twoOperands (binary union) fs
-    else if eqb k 34 then iterateFields fs
+    else if eqb k 35 then iterateFields fs
     else if eqb k 25 then threeNumbers (λ s i b. quantified forAll i s b) fs
     else if eqb k 26 then threeNumbers (λ s i b. quantified exists i s b) fs
     else none

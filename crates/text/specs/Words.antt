@@ -55,6 +55,7 @@ formCode w =
     else if is w (bytes "div") then 18
     else if is w (bytes "mod") then 19
     else if is w (bytes "attr") then 33
+    else if is w (bytes "collect") then 34
     else if is w (bytes "all") then 6
     else if is w (bytes "as") then 12
     else if is w (bytes "size") then 8
@@ -64,7 +65,7 @@ formCode w =
     else if is w (bytes "asSequence") then 10
     else if is w (bytes "including") then 21
     else if is w (bytes "union") then 22
-    else if is w (bytes "iter") then 34
+    else if is w (bytes "iter") then 35
     else if is w (bytes "forAll") then 25
     else if is w (bytes "exists") then 26
     else 99

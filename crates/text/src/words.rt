@@ -88,7 +88,7 @@ pub fn form_code(f: &[u8]) -> u64
         4 => among(
             f,
             b"true self coll less plus attr size iter",
-            &[1, 4, 27, 14, 15, 33, 8, 34],
+            &[1, 4, 27, 14, 15, 33, 8, 35],
         ),
         5 => among(
             f,
@@ -96,7 +96,7 @@ pub fn form_code(f: &[u8]) -> u64
             &[0, 2, 16, 17, 9, 11, 22],
         ),
         6 => among(f, b"forAll exists", &[25, 26]),
-        7 => among(f, b"isUndef", &[30]),
+        7 => among(f, b"isUndef collect", &[30, 34]),
         8 => among(f, b"includes", &[20]),
         9 => among(f, b"including", &[21]),
         10 => among(f, b"asSequence", &[10]),

@@ -10,16 +10,16 @@ use lib.ListN.{getD, List·getD-map}
 use Rattle.laws.specs.Lists.{allOf}
 use Rattle.laws.proofs.Bounds.{cut-lt}
 use Rattle.laws.proofs.Cases.{AllBelow, from-below, zero-least}
-use Rattle.ocl.specs.Forms.{Quantifier, forAll, exists, var, all, castTo}
+use Rattle.ocl.specs.Forms.{Quantifier, forAll, exists, Access, ofObject, ofMembers, var, all, castTo}
 use Rattle.sheet.specs.Text.{Bytes}
 use Rattle.sheet.specs.Lines.{leaf, unary, letIn, attribute, quantified, twoOperands, threeNumbers}
 use Rattle.sheet.specs.Sheet.{operandsOf}
 use Rattle.sheet.specs.Refusals.{isNode, isClass, isVariable, leafWithin, unaryWithin, formWithin, twoVariables, leafKnown, unaryKnown, formKnown}
 use Rattle.text.specs.Forms.{shapeBy}
-use Rattle.nodes.specs.Nodes.{leafWords, unaryWords, quantifierCode, shapeWords}
+use Rattle.nodes.specs.Nodes.{leafWords, unaryWords, quantifierCode, accessCode, shapeWords}
 use Rattle.trees.specs.declared.numbers.Numbers.{Numbers}
 use Rattle.trees.specs.Fields.{cut, four, exact, NumbersRead}
-use Rattle.trees.specs.Forms.{StandsFor, FormRead, QuantifierCode}
+use Rattle.trees.specs.Forms.{StandsFor, FormRead, QuantifierCode, AccessCode}
 use Rattle.trees.proofs.ExactLaws.{chain}
 use Rattle.trees.proofs.FormLaws.{cut-variable, variable-small, below-small, cut-class, nodes-small, numbers-form, isIterate, no-type}
 
@@ -85,17 +85,17 @@ module _ (at l : List ℕ) (e : at ≡ four (map cut l)) where
     words = λ h k. rw (first, second, node-small (getD l 0 0) [] k, below-small (getD l 1 0) 64 (omega arith) h, zero-add);
   }
 
-  attribute-stands : {line : ℕ} {g : Bool} → StandsFor line (attribute (getD l 1 0) (getD l 0 0)) (record { spelled = g; words = 33 ∷ getD at 0 0 ∷ getD at 1 0 ∷ 0 ∷ 0 ∷ 0 ∷ 0 ∷ line ∷ []; count = 1; within = ltb (getD at 1 0) 256; apart = true; classes = 0 })
+  attribute-stands : {line code : ℕ} {g : Bool} (x : Access) → accessCode x ≡ code → StandsFor line (attribute x (getD l 1 0) (getD l 0 0)) (record { spelled = g; words = code ∷ getD at 0 0 ∷ getD at 1 0 ∷ 0 ∷ 0 ∷ 0 ∷ 0 ∷ line ∷ []; count = 1; within = ltb (getD at 1 0) 256; apart = true; classes = 0 })
   unfolding formWithin twoVariables formKnown operandsOf shapeWords isIterate
-  attribute-stands = record {
+  attribute-stands x c = record {
     within = ap (λ (c : ℕ). ltb c 256) second ∙ cut-lt (getD l 1 0) 1000000 256 (omega arith);
     apart = λ h. refl;
     known = λ h n q. zero-least n;
     counted = refl;
     operands = rw first;
     type = 0;
-    said = λ h. no-type (attribute (getD l 1 0) (getD l 0 0)) refl;
-    words = λ h k. rw (first, second, node-small (getD l 0 0) [] k, below-small (getD l 1 0) 256 (omega arith) h, zero-add);
+    said = λ h. no-type (attribute x (getD l 1 0) (getD l 0 0)) refl;
+    words = λ h k. rw (c, first, second, node-small (getD l 0 0) [] k, below-small (getD l 1 0) 256 (omega arith) h, zero-add);
   }
 
   let-stands : {line : ℕ} {g w : Bool} → w ≡ isVariable (getD at 0 0)
@@ -140,6 +140,18 @@ quantifier-form {code} c =
     ((tt, record { which = forAll; says = refl; reads = λ fs. refl }), record { which = exists; says = refl; reads = λ fs. refl })
     code (c .low) (c .high)
 
+record AccessForm (code : ℕ) : Type 0 where
+  which : Access
+  says : accessCode which ≡ code
+  reads : (fs : List Bytes) → shapeBy code fs ≡ twoOperands (λ e name. attribute which name e) fs
+
+access-form : {code : ℕ} → AccessCode code → AccessForm code
+unfolding shapeBy accessCode AllBelow
+access-form {code} c =
+    from-below AccessForm 33 2
+    ((tt, record { which = ofObject; says = refl; reads = λ fs. refl }), record { which = ofMembers; says = refl; reads = λ fs. refl })
+    code (c .low) (c .high)
+
 module _ (line : ℕ) (r : Numbers) (fs : List Bytes) where
   pub variable-read : {w : Bool} → NumbersRead (exact 1 fs) r → w ≡ isVariable (getD (r .at) 0 0)
       → FormRead line (shapeBy 5 fs) (record { spelled = r .good; words = 5 ∷ getD (r .at) 0 0 ∷ 0 ∷ 0 ∷ 0 ∷ 0 ∷ 0 ∷ line ∷ []; count = 0; within = w; apart = true; classes = 0 })
@@ -156,10 +168,12 @@ module _ (line : ℕ) (r : Numbers) (fs : List Bytes) where
   unfolding shapeBy chain twoOperands
   cast-read n = record { is = numbers-form 2 fs (λ l. unary (castTo (getD l 1 0)) (getD l 0 0)) n refl refl (λ l h e. cast-stands (r .at) l e); few = omega arith; size = refl }
 
-  pub attribute-read : NumbersRead (exact 2 fs) r
-      → FormRead line (shapeBy 33 fs) (record { spelled = r .good; words = 33 ∷ getD (r .at) 0 0 ∷ getD (r .at) 1 0 ∷ 0 ∷ 0 ∷ 0 ∷ 0 ∷ line ∷ []; count = 1; within = ltb (getD (r .at) 1 0) 256; apart = true; classes = 0 })
-  unfolding shapeBy chain twoOperands
-  attribute-read n = record { is = numbers-form 2 fs (λ l. attribute (getD l 1 0) (getD l 0 0)) n refl refl (λ l h e. attribute-stands (r .at) l e); few = omega arith; size = refl }
+  pub attribute-read : {code : ℕ} → AccessCode code → NumbersRead (exact 2 fs) r
+      → FormRead line (shapeBy code fs) (record { spelled = r .good; words = code ∷ getD (r .at) 0 0 ∷ getD (r .at) 1 0 ∷ 0 ∷ 0 ∷ 0 ∷ 0 ∷ line ∷ []; count = 1; within = ltb (getD (r .at) 1 0) 256; apart = true; classes = 0 })
+  unfolding chain twoOperands
+  attribute-read c n =
+      let q = access-form c in
+      record { is = numbers-form 2 fs (λ l. attribute (q .which) (getD l 1 0) (getD l 0 0)) n (q .reads fs) refl (λ l h e. attribute-stands (r .at) l e (q .which) (q .says)); few = omega arith; size = refl }
 
   pub let-read : {w : Bool} → NumbersRead (exact 3 fs) r → w ≡ isVariable (getD (r .at) 0 0)
       → FormRead line (shapeBy 32 fs) (record { spelled = r .good; words = 32 ∷ getD (r .at) 1 0 ∷ getD (r .at) 2 0 ∷ getD (r .at) 0 0 ∷ 0 ∷ 0 ∷ 0 ∷ line ∷ []; count = 2; within = w; apart = true; classes = 0 })

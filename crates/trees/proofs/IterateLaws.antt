@@ -79,7 +79,7 @@ module _ {r : GotType} (o : Option Ty) (told : typeField r ≡ held o) where
 
 -- ---- the six fields
 
-pub iterate-not : (fs : List Bytes) → (length fs ≡ 6 → ⊥) → shapeBy 34 fs ≡ none
+pub iterate-not : (fs : List Bytes) → (length fs ≡ 6 → ⊥) → shapeBy 35 fs ≡ none
 unfolding shapeBy iterateFields next done
 iterate-not [] h = refl
 iterate-not (a ∷ []) h = nowhere _ _ (λ s. refl)
@@ -95,7 +95,7 @@ iterate-not (a ∷ b ∷ c ∷ d ∷ e ∷ f ∷ g ∷ fs) h =
 abbrev pub parsed : Bool → Bool → Bool → Numbers → Numbers → TypeRead → ℕ → Parsed
 parsed good within apart h t y line = record {
   spelled = good;
-  words = 34 ∷ getD (h .at) 0 0 ∷ getD (t .at) 0 0 ∷ getD (t .at) 1 0 ∷ getD (h .at) 1 0 ∷ getD (h .at) 2 0 ∷ y .word ∷ line ∷ [];
+  words = 35 ∷ getD (h .at) 0 0 ∷ getD (t .at) 0 0 ∷ getD (t .at) 1 0 ∷ getD (h .at) 1 0 ∷ getD (h .at) 2 0 ∷ y .word ∷ line ∷ [];
   count = 3;
   within = within;
   apart = apart;
@@ -161,7 +161,7 @@ module _ (h t : Numbers) (y : TypeRead) {good within apart : Bool} (line : ℕ)
         spelled {p = parsed good within apart h t y line} (on-all f k g) (iterate-stands s i j e b u p q of)
 
     six-read : (fs : List Bytes) → length fs ≡ 6 → NumbersRead (each aNumber (take 3 fs)) h → TypeSpelled (readType (getD fs 3 [])) y → NumbersRead (each aNumber (take 2 (drop 4 fs))) t
-        → FormRead line (shapeBy 34 fs) (parsed good within apart h t y line)
+        → FormRead line (shapeBy 35 fs) (parsed good within apart h t y line)
     unfolding shapeBy iterateFields next done each
     six-read [] n hd ty tl = absurd (omega arith)
     six-read (p ∷ []) n hd ty tl = absurd (omega arith)
@@ -174,7 +174,7 @@ module _ (h t : Numbers) (y : TypeRead) {good within apart : Bool} (line : ℕ)
     six-read (p ∷ q ∷ r ∷ s ∷ u ∷ v ∷ x ∷ fs) n hd ty tl = absurd (omega arith)
 
     pub iterate-read : {text : Bytes} {f : Fields} → Cut text f → f .count ≡ 9 → NumbersRead (each aNumber (take (6 - 3) (drop 3 (fieldsOf text)))) h → TypeSpelled (readType (getD (fieldsOf text) 6 [])) y
-        → NumbersRead (each aNumber (take (9 - 7) (drop 7 (fieldsOf text)))) t → FormRead line (shapeBy 34 (drop 3 (fieldsOf text))) (parsed good within apart h t y line)
+        → NumbersRead (each aNumber (take (9 - 7) (drop 7 (fieldsOf text)))) t → FormRead line (shapeBy 35 (drop 3 (fieldsOf text))) (parsed good within apart h t y line)
     iterate-read {text} cut-up n hd ty tl =
         six-read (drop 3 (fieldsOf text)) (rest-exact cut-up 6 (omega arith) n) hd (rw (getD-drop 3 (fieldsOf text) 3 []) ty) (rw (drop-drop 4 3 (fieldsOf text)) tl)
 

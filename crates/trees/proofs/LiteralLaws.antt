@@ -28,7 +28,6 @@ use Rattle.text.specs.Words.{onlyByte}
 use Rattle.text.specs.declared.numbers.Whole.the-variants as integer
 use Rattle.text.proofs.IntegerLaws.{whole-bad, whole-out, whole-is}
 use Rattle.nodes.specs.Nodes.{leafWords, assembleCode, operandWord, shapeWords}
-use Rattle.text.proofs.FormLaws.{above}
 use Rattle.trees.specs.declared.Parsed.{Parsed}
 use Rattle.trees.specs.declared.numbers.Numbers.{Numbers}
 use Rattle.trees.specs.Fields.{cut, four, Read, unread, read, NumbersRead}
@@ -242,17 +241,14 @@ assemble-read {line} {m} {code} {r} f gs c z n few is = record { is = go (kind-s
 
 -- ---- codes of no form
 
-pub no-code : (k : ℕ) (fs : List Bytes) → 34 < k → shapeBy k fs ≡ none
+pub no-code : (k : ℕ) (fs : List Bytes) → 35 < k → shapeBy k fs ≡ none
 unfolding shapeBy
 no-code k fs h =
-    rw (off 1 (omega arith), off 0 (omega arith), off 2 (omega arith), off 3 (omega arith), off 4 (omega arith), off 5 (omega arith), off 27 (omega arith), off 32 (omega arith), off 31 (omega arith), off 23 (omega arith), off 24 (omega arith), off 7 (omega arith), off 30 (omega arith), off 13 (omega arith), off 14 (omega arith), off 15 (omega arith), off 16 (omega arith), off 17 (omega arith), off 18 (omega arith), off 19 (omega arith), off 33 (omega arith), off 6 (omega arith), off 12 (omega arith), off 8 (omega arith), off 20 (omega arith), off 9 (omega arith), off 11 (omega arith), off 10 (omega arith), off 21 (omega arith), off 22 (omega arith), off 34 (omega arith), off 25 (omega arith), off 26 (omega arith))
+    rw (off 1 (omega arith), off 0 (omega arith), off 2 (omega arith), off 3 (omega arith), off 4 (omega arith), off 5 (omega arith), off 27 (omega arith), off 32 (omega arith), off 31 (omega arith), off 23 (omega arith), off 24 (omega arith), off 7 (omega arith), off 30 (omega arith), off 13 (omega arith), off 14 (omega arith), off 15 (omega arith), off 16 (omega arith), off 17 (omega arith), off 18 (omega arith), off 19 (omega arith), off 33 (omega arith), off 34 (omega arith), off 6 (omega arith), off 12 (omega arith), off 8 (omega arith), off 20 (omega arith), off 9 (omega arith), off 11 (omega arith), off 10 (omega arith), off 21 (omega arith), off 22 (omega arith), off 35 (omega arith), off 25 (omega arith), off 26 (omega arith))
   where
-    off : (j : ℕ) → j < 35 → eqb k j ≡ false
+    off : (j : ℕ) → j < 36 → eqb k j ≡ false
     off j l = ne-eqb k j (λ e. omega arith)
 
 pub gap-code : (k : ℕ) (fs : List Bytes) → 28 ≤ k → k < 30 → shapeBy k fs ≡ none
 unfolding shapeBy AllBelow
 gap-code k fs = from-below (λ k. shapeBy k fs ≡ none) 28 2 ((tt, refl), refl) k
-
-pub last-code : (k : ℕ) (fs : List Bytes) → 30 ≤ k → (k ≡ 30 → ⊥) → (k ≡ 31 → ⊥) → (k ≡ 32 → ⊥) → (k ≡ 33 → ⊥) → (k ≡ 34 → ⊥) → shapeBy k fs ≡ none
-last-code k fs h a b c d e = no-code k fs (above (above (above (above (above h a) b) c) d) e)

@@ -32,7 +32,7 @@ module _ (f g : ℕ → Expr) where
   grow-same (isUndef a) (each-cons p h) = rw p
   grow-same (conditional c a b) (each-cons p (each-cons q (each-cons r h))) = rw (p, q, r)
   grow-same (letIn i a b) (each-cons p (each-cons q h)) = rw (p, q)
-  grow-same (attribute name a) (each-cons p h) = rw p
+  grow-same (attribute x name a) (each-cons p h) = rw p
   grow-same (quantified k i a b) (each-cons p (each-cons q h)) = rw (p, q)
   grow-same (iterate i j t a e b) (each-cons p (each-cons q (each-cons r h))) = rw (p, q, r)
   grow-same (assemble k es) h = rw (all-same es h)
@@ -54,7 +54,7 @@ module _ (f : ℕ → Expr) where
   grow-depth (isUndef a) = omega arith
   grow-depth (conditional c a b) = omega arith
   grow-depth (letIn i a b) = omega arith
-  grow-depth (attribute name a) = omega arith
+  grow-depth (attribute x name a) = omega arith
   grow-depth (quantified q i a b) = omega arith
   grow-depth (iterate i j t a e b) = omega arith
   grow-depth (assemble k es) = all-depth es
@@ -88,7 +88,7 @@ module _ (first type line : ℕ) where
   shape-eight (isUndef a) h = simp zero-add
   shape-eight (conditional c a b) h = simp zero-add
   shape-eight (letIn i a b) h = simp zero-add
-  shape-eight (attribute name a) h = simp zero-add
+  shape-eight (attribute x name a) h = simp zero-add
   shape-eight (quantified q i a b) h = simp zero-add
   shape-eight (iterate i j t a e b) h = simp zero-add
   shape-eight (assemble k es) h = assemble-eight k es h
@@ -105,7 +105,7 @@ module _ (first type line : ℕ) where
   shape-line (isUndef a) = refl
   shape-line (conditional c a b) = refl
   shape-line (letIn i a b) = refl
-  shape-line (attribute name a) = refl
+  shape-line (attribute x name a) = refl
   shape-line (quantified q i a b) = refl
   shape-line (iterate i j t a e b) = refl
   shape-line (assemble k es) = refl

@@ -56,6 +56,11 @@ pub record QuantifierCode (k : ℕ) : Type 0 where
   pub low : 25 ≤ k
   pub high : k < 27
 
+-- of `attr` and `collect`
+pub record AccessCode (k : ℕ) : Type 0 where
+  pub low : 33 ≤ k
+  pub high : k < 35
+
 -- of `coll` by the letter of its kind, 0 for another
 unfoldable pub kindByteCode : ℕ → ℕ
 kindByteCode b = if eqb b (byte "S") then 27 else if eqb b (byte "Q") then 28 else if eqb b (byte "B") then 29 else 0

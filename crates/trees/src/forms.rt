@@ -11,7 +11,7 @@ ghost use Rattle.text.specs.Parts.{Cut};
 ghost use Rattle.text.specs.Forms.{shapeBy};
 ghost use Rattle.text.specs.Numbers.{wholeOf};
 ghost use Rattle.text.specs.Words.{onlyByte};
-ghost use Rattle.trees.specs.Forms.{PlainCode, QuantifierCode, FormRead, kindByteCode};
+ghost use Rattle.trees.specs.Forms.{PlainCode, QuantifierCode, AccessCode, FormRead, kindByteCode};
 use super::Parsed;
 use super::iterate::iterate_form;
 use super::numbers::exactly;
@@ -112,16 +112,16 @@ fn cast_form(line: &[u8], f: Fields, k: u64) -> Parsed
     }
 }
 
-// `attr e name`
-fn attribute_form(line: &[u8], f: Fields, k: u64) -> Parsed
-    requires { ⌜ Cut (now line) f × (3 ≤ f .count) ⌝ }
-    ensures { λ r. ⌜ FormRead k (shapeBy 33 (drop 3 (fieldsOf (now (line .entry))))) r ⌝ }
+// `attr e name` and `collect s name`
+fn attribute_form(line: &[u8], f: Fields, code: u64, k: u64) -> Parsed
+    requires { ⌜ Cut (now line) f × (3 ≤ f .count) × AccessCode code ⌝ }
+    ensures { λ r. ⌜ FormRead k (shapeBy code (drop 3 (fieldsOf (now (line .entry))))) r ⌝ }
 {
     let n = exactly(line, f, 2);
     let at = n.at;
     Parsed {
         spelled: n.good,
-        words: [33, at[0], at[1], 0, 0, 0, 0, k],
+        words: [code, at[0], at[1], 0, 0, 0, 0, k],
         count: 1,
         within: at[1] < 256,
         apart: true,
@@ -260,8 +260,8 @@ pub(crate) fn read_form(line: &[u8], f: Fields, code: u64, k: u64) -> Parsed
         30 => plain_form(line, f, 30, 1, k),
         31 => plain_form(line, f, 31, 3, k),
         32 => let_form(line, f, k),
-        33 => attribute_form(line, f, k),
-        34 => iterate_form(line, f, k),
+        33..=34 => attribute_form(line, f, code, k),
+        35 => iterate_form(line, f, k),
         _ => misspelled(),
     }
 }

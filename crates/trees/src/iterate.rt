@@ -85,7 +85,7 @@ fn all_three(a: bool, b: bool, c: bool) -> bool
 
 pub fn iterate_form(line: &[u8], f: Fields, k: u64) -> Parsed
     requires { ⌜ Cut (now line) f × (3 ≤ f .count) ⌝ }
-    ensures { λ r. ⌜ FormRead k (shapeBy 34 (drop 3 (fieldsOf (now (line .entry))))) r ⌝ }
+    ensures { λ r. ⌜ FormRead k (shapeBy 35 (drop 3 (fieldsOf (now (line .entry))))) r ⌝ }
 {
     if f.count != 9 {
         return misspelled();
@@ -97,7 +97,7 @@ pub fn iterate_form(line: &[u8], f: Fields, k: u64) -> Parsed
     let t = tail.at;
     Parsed {
         spelled: all_three(head.good, of.spelled, tail.good),
-        words: [34, h[0], t[0], t[1], h[1], h[2], of.word, k],
+        words: [35, h[0], t[0], t[1], h[1], h[2], of.word, k],
         count: 3,
         within: all_three(is_variable(h[1]), is_variable(h[2]), of.within),
         apart: h[1] != h[2],

@@ -6,8 +6,8 @@ use mathlib.Core.Logic.{_⊎_, inl, inr}
 use mathlib.Core.List.{List}
 use Prim.Native.Nat.{ℕ, _<_, _≤_}
 use native.Mathlib.Omega.{arith}
-use lib.Dec.{ltb}
-use borrow.Author.Tests.{ltb-true, ltb-false, ne-eqb}
+use lib.Dec.{eqb, ltb}
+use borrow.Author.Tests.{ltb-true, ltb-false, eqb-true, eqb-false, ne-eqb}
 use Rattle.laws.specs.Choice.{if_then_else_}
 use Rattle.ocl.specs.Types.{Letter, Ty, void, Parents, subtype}
 use Rattle.ocl.specs.Environment.{Env, extend}
@@ -19,7 +19,7 @@ use Rattle.types.specs.Flat.{parentsIn, letterOf, tyOf}
 use Rattle.types.specs.Parts.{outerCode, memberType}
 use Rattle.types.specs.Word.{typeIn}
 use Rattle.types.proofs.Members.{no-collection, is-collection}
-use Rattle.nodes.specs.Nodes.{word, variable, leafOf}
+use Rattle.nodes.specs.Nodes.{word, variable, leafOf, accessOf}
 use Rattle.nodes.proofs.Typing.{operandTyping, leaf-typing, unary-typing, binary-typing, connective-typing, quantified-typing, assemble-typing, isUndef-typing, conditional-typing, let-typing, attribute-typing, iterate-typing, over-typing, none-typing, operand-typing, late-typing}
 use Rattle.judgements.specs.declared.Reply.{Reply}
 use Rattle.judgements.specs.declared.Reply.the-variants as reply
@@ -36,7 +36,7 @@ module _ (m : Model) (t : List ℕ) (n k : ℕ) (e : k ≡ word t n 0) where
 
   unary-node : 7 ≤ k → k < 13 → nodeAt t n m ≡ singleAt t n k m
   unfolding operandAt operandTyping singleAt singleType unaryTyping
-  unary-node l h = unary-typing m t n k e l h ∙ fun-ext (λ Γ. ap (andThen (operandAt t n 1 m Γ)) (fun-ext (λ u. rw (ne-eqb k 30 (λ q. omega arith), ne-eqb k 33 (λ q. omega arith)))))
+  unary-node l h = unary-typing m t n k e l h ∙ fun-ext (λ Γ. ap (andThen (operandAt t n 1 m Γ)) (fun-ext (λ u. rw (ne-eqb k 30 (λ q. omega arith), ne-eqb k 33 (λ q. omega arith), ne-eqb k 34 (λ q. omega arith)))))
 
   pub binary-node : 13 ≤ k → k < 23 → nodeAt t n m ≡ binaryAt t n k m
   unfolding operandAt operandTyping
@@ -71,23 +71,32 @@ module _ (m : Model) (t : List ℕ) (n k : ℕ) (e : k ≡ word t n 0) where
   let-node h = let-typing m t n k e h
 
   attribute-node : k ≡ 33 → nodeAt t n m ≡ singleAt t n k m
-  unfolding operandAt operandTyping singleAt singleType attributeTyping
-  attribute-node h = attribute-typing m t n k e h ∙ fun-ext (λ Γ. rw h)
+  unfolding operandAt operandTyping singleAt singleType attributeTyping accessOf
+  attribute-node h = attribute-typing m t n k e (omega arith) (omega arith) ∙ fun-ext (λ Γ. rw h)
 
-  pub iterate-node : k ≡ 34 → nodeAt t n m ≡ iterateAt t n m
+  collect-node : k ≡ 34 → nodeAt t n m ≡ singleAt t n k m
+  unfolding operandAt operandTyping singleAt singleType attributeTyping accessOf
+  collect-node h = attribute-typing m t n k e (omega arith) (omega arith) ∙ fun-ext (λ Γ. rw h)
+
+  pub iterate-node : k ≡ 35 → nodeAt t n m ≡ iterateAt t n m
   unfolding operandAt operandTyping
   iterate-node h = iterate-typing m t n k e h
 
-  pub single-node : ((k ≡ 30) ⊎ (k ≡ 33)) ⊎ ((7 ≤ k) × (k < 13)) → nodeAt t n m ≡ singleAt t n k m
-  single-node (inl (inl h)) = isUndef-node h
-  single-node (inl (inr h)) = attribute-node h
-  single-node (inr (l, h)) = unary-node l h
+  by-access : (b : Bool) → eqb k 33 ≡ b → 33 ≤ k → k < 35 → nodeAt t n m ≡ singleAt t n k m
+  by-access true q l h = attribute-node (eqb-true k 33 q)
+  by-access false q l h = collect-node (let d = eqb-false k 33 q in omega arith)
 
-  none-by : 30 ≤ k → (k ≡ 30 → ⊥) → (k ≡ 33 → ⊥) → (k ≡ 31 → ⊥) → (k ≡ 32 → ⊥) → (k ≡ 34 → ⊥) → nodeAt t n m ≡ leafTyping n undef
-  none-by l a b c d f = none-typing m t n k e (omega arith)
+  pub single-node : (k ≡ 30) ⊎ (((7 ≤ k) × (k < 13)) ⊎ ((33 ≤ k) × (k < 35))) → nodeAt t n m ≡ singleAt t n k m
+  single-node (inl h) = isUndef-node h
+  single-node (inr (inl (l, h))) = unary-node l h
+  single-node (inr (inr (l, h))) = by-access (eqb k 33) refl l h
 
-  pub none-node : 30 ≤ k → ((k ≡ 30) ⊎ (k ≡ 33) → ⊥) → (k ≡ 31 → ⊥) → (k ≡ 32 → ⊥) → (k ≡ 34 → ⊥) → nodeAt t n m ≡ leafTyping n undef
-  none-node l a = none-by l (λ q. a (inl q)) (λ q. a (inr q))
+  pub none-node : 35 ≤ k → (k ≡ 35 → ⊥) → nodeAt t n m ≡ leafTyping n undef
+  none-node l a = none-typing m t n k e (omega arith)
+
+-- the codes of `attr` and `collect` come after that of `let`
+pub from-33 : (k : ℕ) → 30 ≤ k → (k ≡ 30 → ⊥) → (k ≡ 31 → ⊥) → (k ≡ 32 → ⊥) → 33 ≤ k
+from-33 k h a b c = omega arith
 
 -- ---- operands
 

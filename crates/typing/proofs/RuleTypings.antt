@@ -9,11 +9,12 @@ use lib.Seq.{getD-set-same, getD-set-other, length-take-le, drop-at}
 use lib.Dec.{eqb}
 use borrow.Author.Tests.{eqb-true, eqb-false}
 use Rattle.laws.specs.Choice.{if_then_else_}
-use Rattle.ocl.specs.Types.{Ty, Class}
+use Rattle.ocl.specs.Types.{kindCode, sameKind, Ty, Class}
 use Rattle.ocl.specs.Environment.{Env, start}
 use Rattle.ocl.specs.Model.{Model}
-use Rattle.ocl.specs.Typing.{Marks, typeRule, markOr, markOf}
+use Rattle.ocl.specs.Typing.{Mark, ofRow, rowMarked, kindMarked, Marks, typeRule, markOr, markOf}
 use Rattle.nodes.specs.Nodes.{treeAt}
+use Rattle.nodes.specs.Marks.{markWord}
 use Rattle.judgements.specs.declared.Reply.{Reply}
 use Rattle.judgements.specs.Replies.{writeMarks, Tells, ReadsRows}
 use Rattle.typing.specs.Tables.{nodeAt}
@@ -30,12 +31,16 @@ set-at : (l : List ℕ) (i p v : ℕ) → p < length l → (b : Bool) → eqb p 
 set-at l i p v h true e = let q = eqb-true p i e in rw q (getD-set-same l i v 0 (omega arith))
 set-at l i p v h false e = getD-set-other l i p v 0 (eqb-false p i e)
 
-mark-at : (m : Marks) (l : List ℕ) (p : ℕ) → p < length l → getD (writeMarks l m) p 0 ≡ markOr (getD l p 0) m p
+word-of : (b : Bool) (x d : Mark) → (if b then markWord x else markWord d) ≡ markWord (if b then x else d)
+word-of true x d = refl
+word-of false x d = refl
+
+mark-at : (m : Marks) (l : List ℕ) (p : ℕ) (d : Mark) → p < length l → getD l p 0 ≡ markWord d → getD (writeMarks l m) p 0 ≡ markWord (markOr d m p)
 unfolding writeMarks markOr
-mark-at [] l p h = refl
-mark-at (x ∷ m) l p h =
-    mark-at m (set l (x .0) (x .1)) p (simp length-set (omega arith))
-    ∙ ap (λ (d : ℕ). markOr d m p) (set-at l (x .0) p (x .1) h (eqb p (x .0)) refl)
+mark-at [] l p d h e = e
+mark-at (x ∷ m) l p d h e =
+    mark-at m (set l (x .0) (markWord (x .1))) p (if eqb p (x .0) then x .1 else d) (simp length-set (omega arith))
+    (set-at l (x .0) p (markWord (x .1)) h (eqb p (x .0)) refl ∙ ap (λ (n : ℕ). if eqb p (x .0) then markWord (x .1) else n) e ∙ word-of (eqb p (x .0)) (x .1) d)
 
 -- ---- a rule
 
@@ -48,7 +53,7 @@ module _ (tables : List ℕ) (classes rows : ℕ) (nodes : List ℕ) (context ro
   pub rule-done : 768 ≤ length before → length part ≡ length (take 768 before)
       → ((m : Model) → ReadsRows (take classes tables) tables rows m → Tells (typeRule m context (treeAt nodes root)) (replicate (length (take 768 before)) 0) part r)
       → TypesRule tables classes rows nodes context root before (part ++ drop 768 before) r
-  unfolding markOf
+  unfolding markOf markWord kindMarked rowMarked sameKind kindCode
   rule-done room size d =
       let k : length (take 768 before) ≡ 768 = length-take-le 768 before room in
       record {
@@ -56,7 +61,6 @@ module _ (tables : List ℕ) (classes rows : ℕ) (nodes : List ℕ) (context ro
         marked = λ m h p l.
             List·getD-append part (drop 768 before) 0 p (omega arith)
             ∙ ap (λ (t : List ℕ). getD t p 0) (d m h .wrote)
-            ∙ mark-at (typeRule m context (treeAt nodes root) .marks) (replicate (length (take 768 before)) 0) p (simp length-replicate (omega arith))
-            ∙ ap (λ (z : ℕ). markOr z (typeRule m context (treeAt nodes root) .marks) p) (getD-replicate (length (take 768 before)) p 0 0 (omega arith));
+            ∙ mark-at (typeRule m context (treeAt nodes root) .marks) (replicate (length (take 768 before)) 0) p (ofRow 0) (simp length-replicate (omega arith)) (getD-replicate (length (take 768 before)) p 0 0 (omega arith));
         kept = record { rest = drop-at part (drop 768 before) 768 (size ∙ k); size = simp (length-append, length-drop) (omega arith) };
       }

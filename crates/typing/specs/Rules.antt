@@ -6,6 +6,7 @@ use lib.ListN.{length, getD, take, drop}
 use Rattle.ocl.specs.Model.{Model}
 use Rattle.ocl.specs.Typing.{typeRule, markOf}
 use Rattle.nodes.specs.Nodes.{treeAt}
+use Rattle.nodes.specs.Marks.{markWord}
 use Rattle.judgements.specs.declared.Reply.{Reply}
 use Rattle.judgements.specs.Replies.{meaning, ReadsRows}
 
@@ -25,5 +26,5 @@ pub record KeptMarks (before after : List ℕ) : Type 0 where
 -- the rule with its context class and its root: for every model that the tables hold, the answer and each node's mark
 pub record TypesRule (tables : List ℕ) (classes rows : ℕ) (nodes : List ℕ) (context root : ℕ) (before after : List ℕ) (r : Reply) : Type 0 where
   pub is : (m : Model) → ReadsRows (take classes tables) tables rows m → meaning r ≡ typeRule m context (treeAt nodes root) .answer
-  pub marked : (m : Model) → ReadsRows (take classes tables) tables rows m → (p : ℕ) → p < 768 → getD after p 0 ≡ markOf (typeRule m context (treeAt nodes root)) p
+  pub marked : (m : Model) → ReadsRows (take classes tables) tables rows m → (p : ℕ) → p < 768 → getD after p 0 ≡ markWord (markOf (typeRule m context (treeAt nodes root)) p)
   pub kept : KeptMarks before after

@@ -37,14 +37,14 @@ pub fn node(
     let form = node_word(nodes, n, 0);
     match form {
         0..=6 => leaf_type(nodes, form, n, env),
-        7..=12 | 30 | 33 => single(nodes, parents, tables, rows, n, form, env, marks),
+        7..=12 | 30 | 33..=34 => single(nodes, parents, tables, rows, n, form, env, marks),
         13..=22 => binary(nodes, parents, tables, rows, n, form, env, marks),
         23..=24 => connective(nodes, parents, tables, rows, n, env, marks),
         25..=26 => quantified(nodes, parents, tables, rows, n, env, marks),
         27..=29 => coll(nodes, parents, tables, rows, n, form, env, marks),
         31 => conditional(nodes, parents, tables, rows, n, env, marks),
         32 => let_in(nodes, parents, tables, rows, n, env, marks),
-        34 => iterate(nodes, parents, tables, rows, n, env, marks),
+        35 => iterate(nodes, parents, tables, rows, n, env, marks),
         _ => Reply::Is(plain(Base::Void)),
     }
 }

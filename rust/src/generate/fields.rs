@@ -176,7 +176,7 @@ const LIKE_FORMS: [&[&str]; 6] = [
         "union",
     ],
     &["forAll", "exists"],
-    &["attr", "as"],
+    &["attr", "as", "collect"],
     &["all", "var", "int"],
 ];
 

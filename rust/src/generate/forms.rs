@@ -106,6 +106,11 @@ impl Growth<'_> {
 
     fn collection(&mut self, kind: Kind, member: &Type, depth: usize) -> Grown {
         let ty = Type::of(kind, member.clone());
+        if self.random.one_in(3) {
+            if let Some(grown) = self.collected(kind, member, depth) {
+                return grown;
+            }
+        }
         let (node, member) = match self.random.below(8) {
             0 | 1 => {
                 let (left, low) = self.members(&ty, depth);
@@ -149,6 +154,37 @@ impl Growth<'_> {
             _ => self.listed(kind, member, depth),
         };
         (node, Type::of(kind, member))
+    }
+
+    /// A `collect` of the kind, from a class that has a row below the member type.
+    fn collected(&mut self, kind: Kind, member: &Type, depth: usize) -> Option<Grown> {
+        let rows = &self.model.rows;
+        let suited = rows.iter().filter(|row| self.below(&row.ty, member));
+        let classes: Vec<u8> = suited.map(|row| row.class).collect();
+        if classes.is_empty() {
+            return None;
+        }
+        let class = Type::Class(*self.random.pick(&classes));
+        let from = match (kind, self.random.below(3)) {
+            (Kind::Set, _) => return None,
+            (Kind::Sequence, _) => Type::of(Kind::Sequence, class),
+            (Kind::Bag, 0) => Type::Collection(Box::new(class)),
+            (Kind::Bag, 1) => Type::of(Kind::Bag, class),
+            (Kind::Bag, _) => Type::of(Kind::Set, class),
+        };
+        let mark = self.draft.lines.len();
+        let (source, found) = self.solid(&from, depth - 1)?;
+        let class = found.member().cloned().unwrap_or(Type::Void);
+        let Some((name, row)) = self.named(&class, member) else {
+            self.draft.lines.truncate(mark);
+            return None;
+        };
+        let kind = match found {
+            Type::Of(Kind::Sequence, _) => Kind::Sequence,
+            _ => Kind::Bag,
+        };
+        let node = self.draft.line(&format!("collect % {name}"), &[source]);
+        Some((node, Type::of(kind, row)))
     }
 
     /// A `coll` and its member type.

@@ -5,7 +5,7 @@ use super::full::full;
 use super::random::Random;
 use crate::tree::DEEPEST_RULE;
 
-pub const KINDS: usize = 16;
+pub const KINDS: usize = 17;
 
 /// A sheet at the limit of the kind, or one over it.
 pub fn limit(random: &mut Random, kind: usize) -> Vec<u8> {
@@ -29,6 +29,7 @@ pub fn limit(random: &mut Random, kind: usize) -> Vec<u8> {
         12 => nested(random, 3 + over),
         13 => long_report(random),
         14 => range_end(random, over == 1),
+        15 => collected_size(random, over),
         _ => {
             let operands = (0..4 + over).map(|n| format!("\t{n}")).collect::<String>();
             let ints = lines(4 + over, |n| format!("N\t{n}\tint\t{n}"));
@@ -38,6 +39,20 @@ pub fn limit(random: &mut Random, kind: usize) -> Vec<u8> {
         }
     };
     text.into_bytes()
+}
+
+/// Two values that `collect` makes a collection of 128 cells of, or 129; a
+/// third object may have none, which goes before the size.
+fn collected_size(random: &mut Random, over: usize) -> String {
+    let first = random.between(1, 126);
+    let second = 125 + over - (first - 1);
+    let third = if random.one_in(3) { "O\t2\t0\n" } else { "" };
+    let change = random.pick(&["asBag", "asSequence"]);
+    "C\t0\t-\nA\t0\t0\t0\tQ(Int)\nO\t0\t0\nO\t1\t0\n".to_string()
+        + third
+        + &format!("V\t0\t0\t{}\n", sequence(first - 1))
+        + &format!("V\t1\t0\t{}\n", sequence(second))
+        + &format!("R\t0\t0\nN\t0\tall\t0\nN\t1\t{change}\t0\nN\t2\tcollect\t1\t0\n")
 }
 
 fn lines(count: usize, line: impl Fn(usize) -> String) -> String {

@@ -271,23 +271,27 @@ impl Growth<'_> {
         let class = *self.random.pick(&upward);
         let mark = self.draft.lines.len();
         let (operand, found) = self.solid(&Type::Class(class), depth - 1)?;
-        let mut names = Vec::new();
-        if let Type::Class(class) = found {
-            names = (0..=255u8)
-                .filter_map(|name| Some((name, self.model.row(class, name)?)))
-                .map(|(name, row)| (name, self.model.rows[usize::from(row)].ty.clone()))
-                .filter(|(_, row)| self.below(row, ty))
-                .collect();
-        }
-        if self.faulty && self.random.one_in(10) {
-            names = vec![(self.random.below(256) as u8, ty.clone())];
-        }
-        if names.is_empty() {
+        let Some((name, ty)) = self.named(&found, ty) else {
             self.draft.lines.truncate(mark);
             return None;
-        }
-        let (name, ty) = self.random.pick(&names).clone();
+        };
         Some((self.draft.line(&format!("attr % {name}"), &[operand]), ty))
+    }
+
+    /// A name that a class has with a type below the one given, and that type.
+    pub fn named(&mut self, class: &Type, ty: &Type) -> Option<(u8, Type)> {
+        if self.faulty && self.random.one_in(10) {
+            return Some((self.random.below(256) as u8, ty.clone()));
+        }
+        let Type::Class(class) = *class else {
+            return None;
+        };
+        let names: Vec<(u8, Type)> = (0..=255u8)
+            .filter_map(|name| Some((name, self.model.row(class, name)?)))
+            .map(|(name, row)| (name, self.model.rows[usize::from(row)].ty.clone()))
+            .filter(|(_, row)| self.below(row, ty))
+            .collect();
+        (!names.is_empty()).then(|| self.random.pick(&names).clone())
     }
 }
 

@@ -59,6 +59,11 @@ impl Parts<'_, '_> {
                 let name = self.fields.name();
                 Form::Attr { name, row: None }
             }
+            b"collect" => {
+                self.operands(1);
+                let name = self.fields.name();
+                Form::Collect { name, mark: None }
+            }
             b"all" => Form::All(self.fields.class()),
             b"as" => {
                 self.operands(1);

@@ -1,7 +1,7 @@
 -- The needs of `node`.
 use mathlib.Core.Logic.{⊎-elim}
 use Prim.Native.Nat.{_-_, ℕ}
-use Rattle.evaluation.proofs.NodeLaws.{low-code, lone-code, single-codes, single-levels, over-34, node-leaf, node-unary, node-binary, node-connective, node-quantified, node-assemble, node-conditional, node-let, node-iterate, node-none, shallow}
+use Rattle.evaluation.proofs.NodeLaws.{low-code, lone-code, high-code, from-33, single-codes, single-levels, over-35, node-leaf, node-unary, node-binary, node-connective, node-quantified, node-assemble, node-conditional, node-let, node-iterate, node-none, shallow}
 use Rattle.nodes.specs.Nodes.{treeAt}
 use Rattle.nodes.proofs.Levels.{some-level, binary-levels, connective-levels, quantified-levels, conditional-levels, let-levels, iterate-levels}
 use borrow.Author.Needs.{needs}
@@ -68,7 +68,7 @@ module _ (t : ℕ) where
   coll-requires c κs = (omega (arith, c .before .before .before .before .before .before .before .before .before .before .before .before .pre), (omega (arith, c .before .before .before .before .before .before .before .before .before .before .before .before .pre, some-level (treeAt (c .before .before .before .before .before .before .before .before .before .before .before .before .args .nodes .now) (c .before .before .before .before .before .before .before .before .before .before .before .before .args .n))), (c .before .before .if5 .left, omega (arith, c .before .if6 .taken), shallow (c .before .before .before .before .before .before .before .before .before .before .before .before .args .nodes .now) (c .before .before .before .before .before .before .before .before .before .before .before .before .args .n) (c .before .before .before .before .before .before .before .before .node-word .result) (c .before .before .before .before .before .before .before .before .before .before .before .before .args .left - 1) (c .before .before .before .before .before .before .before .before .node-word .ensures) (c .before .before .if5 .left) (omega (arith, c .before .if6 .taken)) (omega (arith, c .before .before .before .before .before .before .before .before .before .before .before .before .pre, some-level (treeAt (c .before .before .before .before .before .before .before .before .before .before .before .before .args .nodes .now) (c .before .before .before .before .before .before .before .before .before .before .before .before .args .n)))))))
 
   unary-requires : lts.Need-unary-requires calls (node-at t) node.Post
-  unary-requires c κs = omega (arith, c .before .before .before .before .before .before .pre, some-level (treeAt (c .before .before .before .before .before .before .args .nodes .now) (c .before .before .before .before .before .before .args .n)), single-codes (⊎-elim (λ m. lone-code (m .keys1)) (λ m. low-code (m .1 .left) (m .2 .taken)) (c .before .match .came)), single-levels (c .before .before .before .before .before .before .args .nodes .now) (c .before .before .before .before .before .before .args .n) (c .before .before .node-word .result) (c .before .before .node-word .ensures) (⊎-elim (λ m. lone-code (m .keys1)) (λ m. low-code (m .1 .left) (m .2 .taken)) (c .before .match .came)))
+  unary-requires c κs = omega (arith, c .before .before .before .before .before .before .pre, some-level (treeAt (c .before .before .before .before .before .before .args .nodes .now) (c .before .before .before .before .before .before .args .n)), single-codes (⊎-elim (λ m. lone-code (m .keys1)) (⊎-elim (λ m. low-code (m .1 .left) (m .2 .taken)) (λ m. high-code (from-33 _ (m .6 .left) (m .0 .rest .0 .0 .0 .1) (m .0 .rest .0 .0 .1) (m .0 .rest .0 .1)) (m .7 .taken))) (c .before .match .came)), single-levels (c .before .before .before .before .before .before .args .nodes .now) (c .before .before .before .before .before .before .args .n) (c .before .before .node-word .result) (c .before .before .node-word .ensures) (⊎-elim (λ m. lone-code (m .keys1)) (⊎-elim (λ m. low-code (m .1 .left) (m .2 .taken)) (λ m. high-code (from-33 _ (m .6 .left) (m .0 .rest .0 .0 .0 .1) (m .0 .rest .0 .0 .1) (m .0 .rest .0 .1)) (m .7 .taken))) (c .before .match .came)))
 
   same-length : lts.Need-same-length calls (node-at t) node.Post
   same-length c = search needs
@@ -119,13 +119,13 @@ module _ (t : ℕ) where
   returns-8 c = search node-assemble
 
   returns-9 : lts.Need-returns-9 calls (node-at t) node.Post
-  returns-9 c = node-none _ _ _ (c .before .before .before .before .before .before .before .node-word .ensures) (c .before .before .before .before .before .before .before .before .before .before .before .pre .1 .1 .1) (over-34 _ (c .if6 .left) (c .before .before .before .before .before .before .match .rest .0 .0 .0 .1) (c .before .before .before .before .before .before .match .rest .0 .0 .1) (c .before .before .before .before .before .before .match .rest .0 .1) (c .before .before .before .before .before .before .match .rest .1))
+  returns-9 c = node-none _ _ _ (c .before .before .before .before .before .before .before .before .node-word .ensures) (c .before .before .before .before .before .before .before .before .before .before .before .before .pre .1 .1 .1) (over-35 _ (c .if7 .left) (c .before .before .before .before .before .before .before .match .rest .1))
 
   same-length-9 : lts.Need-same-length-9 calls (node-at t) node.Post
   same-length-9 c = search needs
 
   returns-10 : lts.Need-returns-10 calls (node-at t) node.Post
-  returns-10 c = node-unary _ _ _ (c .before .before .before .before .before .node-word .ensures) (c .before .before .before .before .before .before .before .before .before .pre .1 .1 .1) (⊎-elim (λ m. lone-code (m .keys1)) (λ m. low-code (m .1 .left) (m .2 .taken)) (c .before .before .before .before .match .came)) (c .before .before .unary .ensures)
+  returns-10 c = node-unary _ _ _ (c .before .before .before .before .before .node-word .ensures) (c .before .before .before .before .before .before .before .before .before .pre .1 .1 .1) (⊎-elim (λ m. lone-code (m .keys1)) (⊎-elim (λ m. low-code (m .1 .left) (m .2 .taken)) (λ m. high-code (from-33 _ (m .6 .left) (m .0 .rest .0 .0 .0 .1) (m .0 .rest .0 .0 .1) (m .0 .rest .0 .1)) (m .7 .taken))) (c .before .before .before .before .match .came)) (c .before .before .unary .ensures)
 
   pub closed : {M : Type 1} → lts.Closed calls (node-at t) node.Post M
   closed = lts.spec calls (node-at t) node.Post add-s sub-deeper node-word-requires conditional-requires let-in-requires iter-requires node-word-requires-2 leaf-requires binary-requires connective-requires node-word-requires-3 wide-requires quantified-requires coll-requires unary-requires same-length returns same-length-2 returns-2 same-length-3 returns-3 same-length-4 returns-4 same-length-5 returns-5 same-length-6 returns-6 same-length-7 returns-7 same-length-8 returns-8 returns-9 same-length-9 returns-10

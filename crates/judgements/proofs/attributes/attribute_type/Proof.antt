@@ -1,7 +1,6 @@
 -- `attribute_type` meets its contract. Assumes nothing.
-use Prim.Native.Nat.{_<_}
-use native.Mathlib.Omega.{arith}
-use Rattle.judgements.proofs.AttributeRows.{row-small, no-class, no-row, row-at}
+use Rattle.ocl.specs.Typing.{ofRow}
+use Rattle.judgements.proofs.AttributeRows.{attribute-not, attribute-row, row-word}
 use borrow.Author.Needs.{needs}
 use Rattle.judgements.proofs.attributes.attribute_type.Statement.{statement}
 use Rattle.judgements.proofs.attributes.attribute_type.Tie as tie
@@ -16,64 +15,16 @@ enum-told : tie.Need-enum-told
 enum-told c = search needs
 
 returns : tie.Need-returns
-returns c = λ m h. no-class m _ _ _ _ (c .before .before .is-class .ensures) (c .enum-told .given .1)
+returns c = λ m h. attribute-not m _ _ _ _ (c .before .before .is-class .ensures) (c .enum-told .given .1)
 
-sub-owners : tie.Need-sub-owners
-sub-owners c = search needs
-
-part-owners-start : tie.Need-part-owners-start
-part-owners-start c = search needs
-
-part-owners-end : tie.Need-part-owners-end
-part-owners-end c = search needs
-
-sub-names : tie.Need-sub-names
-sub-names c = search needs
-
-part-names-start : tie.Need-part-names-start
-part-names-start c = search needs
-
-part-names-end : tie.Need-part-names-end
-part-names-end c = search needs
-
-row-read-requires : tie.Need-row-read-requires
-row-read-requires c κs = search needs
-
-enum-known-i : tie.Need-enum-known-i
-enum-known-i c = search needs
-
-enum-told-2 : tie.Need-enum-told-2
-enum-told-2 c = search needs
-
-returns-2 : tie.Need-returns-2
-returns-2 c = λ m h. no-row m h _ _ _ _ _ (c .before .before .before .before .before .before .before .before .is-class .ensures) (c .before .before .before .before .before .before .c .given .1) _ (c .before .before .row-read .ensures) (c .enum-told2 .given .1)
-
-mul-marks : tie.Need-mul-marks
-mul-marks c = search needs
-
-slice-write-marks : tie.Need-slice-write-marks
-slice-write-marks c = search needs
-
-wide-requires : tie.Need-wide-requires
-wide-requires c κs = search needs
-
-add-unpack : tie.Need-add-unpack
-add-unpack c = let h : c .before .before .i .given .0 .0 < c .before .before .before .before .before .before .before .before .before .before .before .before .before .before .args .rows = row-small _ _ _ _ _ _ _ (c .before .before .before .before .row-read .ensures) (c .before .before .i .given .1) in omega arith
-
-mul-unpack : tie.Need-mul-unpack
-mul-unpack c = let h : c .before .before .i .given .0 .0 < c .before .before .before .before .before .before .before .before .before .before .before .before .before .before .args .rows = row-small _ _ _ _ _ _ _ (c .before .before .before .before .row-read .ensures) (c .before .before .i .given .1) in omega arith
-
-shared-slice-read-unpack : tie.Need-shared-slice-read-unpack
-shared-slice-read-unpack c = let h : c .before .before .before .i .given .0 .0 < c .before .before .before .before .before .before .before .before .before .before .before .before .before .before .before .args .rows = row-small _ _ _ _ _ _ _ (c .before .before .before .before .before .row-read .ensures) (c .before .before .before .i .given .1) in omega arith
-
-unpack-requires : tie.Need-unpack-requires
-unpack-requires c κs = search needs
+row-type-requires : tie.Need-row-type-requires
+row-type-requires c κs = search needs
 
 same-length : tie.Need-same-length
 same-length c = search needs
 
-returns-3 : tie.Need-returns-3
-returns-3 c = λ m h. row-at m h _ _ _ _ _ (c .before .before .before .before .before .before .before .before .before .before .before .before .is-class .ensures) (c .before .before .before .before .before .before .before .before .before .before .c .given .1) _ (c .before .before .before .before .before .before .row-read .ensures) (omega arith) (c .before .before .before .before .i .given .1) (c .before .before .wide .ensures) (c .unpack .ensures)
+returns-2 : tie.Need-returns-2
+returns-2 c = λ m h. attribute-row m _ _ _ _ (c .before .before .before .before .before .before .before .is-class .ensures) _ (c .before .before .before .before .before .c .given .1) (c .before .before .row-type .ensures m h ofRow row-word)
 
 pub attribute-type-spec : {M : Type 1} → statement M
 attribute-type-spec =
@@ -83,22 +34,6 @@ attribute-type-spec =
     enum-known-c
     enum-told
     returns
-    sub-owners
-    part-owners-start
-    part-owners-end
-    sub-names
-    part-names-start
-    part-names-end
-    row-read-requires
-    enum-known-i
-    enum-told-2
-    returns-2
-    mul-marks
-    slice-write-marks
-    wide-requires
-    add-unpack
-    mul-unpack
-    shared-slice-read-unpack
-    unpack-requires
+    row-type-requires
     same-length
-    returns-3)
+    returns-2)

@@ -1,5 +1,5 @@
 -- `single_type` meets its contract. Assumes nothing.
-use Rattle.judgements.proofs.Singles.{undef-single, attribute-single, unary-single}
+use Rattle.judgements.proofs.Singles.{undef-single, attribute-single, collect-single, unary-single}
 use borrow.Author.Needs.{needs}
 use Rattle.judgements.proofs.single.single_type.Statement.{statement}
 use Rattle.judgements.proofs.single.single_type.Tie as tie
@@ -13,6 +13,12 @@ node-word-requires c κs = search needs
 attribute-type-requires : tie.Need-attribute-type-requires
 attribute-type-requires c κs = search needs
 
+node-word-requires-2 : tie.Need-node-word-requires-2
+node-word-requires-2 c κs = search needs
+
+collect-type-requires : tie.Need-collect-type-requires
+collect-type-requires c κs = search needs
+
 unary-type-requires : tie.Need-unary-type-requires
 unary-type-requires c κs = search needs
 
@@ -25,8 +31,14 @@ same-length c = search needs
 returns-2 : tie.Need-returns-2
 returns-2 c = λ m h. attribute-single m _ _ _ _ (c .before .before .before .before .before .match .keys2) (c .before .before .before .before .node-word .ensures) (c .before .before .attribute-type .ensures m h)
 
+same-length-2 : tie.Need-same-length-2
+same-length-2 c = search needs
+
 returns-3 : tie.Need-returns-3
-returns-3 c = λ m h. unary-single m _ _ _ _ (c .before .match .rest .0 .1) (c .before .match .rest .1) (c .unary-type .ensures m (h .classes .parent))
+returns-3 c = λ m h. collect-single m _ _ _ _ (c .before .before .before .before .before .match .keys3) (c .before .before .before .before .node-word2 .ensures) (c .before .before .collect-type .ensures m h)
+
+returns-4 : tie.Need-returns-4
+returns-4 c = λ m h. unary-single m _ _ _ _ (c .before .match .rest .0 .0 .1) (c .before .match .rest .0 .1) (c .before .match .rest .1) (c .unary-type .ensures m (h .classes .parent))
 
 pub single-type-spec : {M : Type 1} → statement M
 single-type-spec =
@@ -35,8 +47,12 @@ single-type-spec =
     plain-requires
     node-word-requires
     attribute-type-requires
+    node-word-requires-2
+    collect-type-requires
     unary-type-requires
     returns
     same-length
     returns-2
-    returns-3)
+    same-length-2
+    returns-3
+    returns-4)

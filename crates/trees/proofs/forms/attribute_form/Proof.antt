@@ -7,18 +7,18 @@ use Rattle.trees.proofs.forms.attribute_form.Tie as tie
 exactly-requires : tie.Need-exactly-requires
 exactly-requires c κs = search needs
 
-array-read-t8 : tie.Need-array-read-t8
-array-read-t8 c = search needs
+array-read-t9 : tie.Need-array-read-t9
+array-read-t9 c = search needs
 
-array-read-t11 : tie.Need-array-read-t11
-array-read-t11 c = search needs
+array-read-t12 : tie.Need-array-read-t12
+array-read-t12 c = search needs
 
-array-read-t15 : tie.Need-array-read-t15
-array-read-t15 c = search needs
+array-read-t16 : tie.Need-array-read-t16
+array-read-t16 c = search needs
 
 returns : tie.Need-returns
-returns c = attribute-read _ _ _ (c .before .exactly .ensures)
+returns c = attribute-read _ _ _ (c .before .before .before .pre .2) (c .before .exactly .ensures)
 
 pub attribute-form-spec : {M : Type 1} → statement M
 attribute-form-spec =
-    tie.close (tie.spec exactly-requires array-read-t8 array-read-t11 array-read-t15 returns)
+    tie.close (tie.spec exactly-requires array-read-t9 array-read-t12 array-read-t16 returns)

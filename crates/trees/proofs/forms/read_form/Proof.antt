@@ -1,6 +1,6 @@
 -- `read_form` meets its contract.
 use Rattle.text.proofs.FormLaws.{above}
-use Rattle.trees.proofs.LiteralLaws.{gap-code, last-code}
+use Rattle.trees.proofs.LiteralLaws.{gap-code, no-code}
 use Rattle.trees.specs.Forms.{constant, itself, one, two, undefTest, conditional}
 use borrow.Author.Needs.{needs}
 use Rattle.trees.proofs.forms.read_form.Statement.{statement}
@@ -33,9 +33,6 @@ plain-form-requires-3 c κs = (c .before .before .pre .0, c .before .before .pre
 let-form-requires : tie.Need-let-form-requires
 let-form-requires c κs = search needs
 
-attribute-form-requires : tie.Need-attribute-form-requires
-attribute-form-requires c κs = search needs
-
 iterate-form-requires : tie.Need-iterate-form-requires
 iterate-form-requires c κs = search needs
 
@@ -43,16 +40,19 @@ plain-form-requires-4 : tie.Need-plain-form-requires-4
 plain-form-requires-4 c κs = (c .before .before .before .pre .0, c .before .before .before .pre .1, constant {k = c .before .before .before .args .code} (c .if1 .taken))
 
 plain-form-requires-5 : tie.Need-plain-form-requires-5
-plain-form-requires-5 c κs = (c .before .before .before .before .pre .0, c .before .before .before .before .pre .1, one {k = c .before .before .before .before .args .code} (above (above (above (above (c .before .if1 .left) (c .before .before .match .rest .0 .0 .0 .0 .0 .0 .0 .0 .0 .0 .1)) (c .before .before .match .rest .0 .0 .0 .0 .0 .0 .0 .0 .0 .1)) (c .before .before .match .rest .0 .0 .0 .0 .0 .0 .0 .0 .1)) (c .before .before .match .rest .0 .0 .0 .0 .0 .0 .0 .1)) (c .if2 .taken))
+plain-form-requires-5 c κs = (c .before .before .before .before .pre .0, c .before .before .before .before .pre .1, one {k = c .before .before .before .before .args .code} (above (above (above (above (c .before .if1 .left) (c .before .before .match .rest .0 .0 .0 .0 .0 .0 .0 .0 .0 .1)) (c .before .before .match .rest .0 .0 .0 .0 .0 .0 .0 .0 .1)) (c .before .before .match .rest .0 .0 .0 .0 .0 .0 .0 .1)) (c .before .before .match .rest .0 .0 .0 .0 .0 .0 .1)) (c .if2 .taken))
 
 plain-form-requires-6 : tie.Need-plain-form-requires-6
-plain-form-requires-6 c κs = (c .before .before .before .before .before .pre .0, c .before .before .before .before .before .pre .1, two {k = c .before .before .before .before .before .args .code} (above (c .before .if2 .left) (c .before .before .before .match .rest .0 .0 .0 .0 .0 .0 .1)) (c .if3 .taken))
+plain-form-requires-6 c κs = (c .before .before .before .before .before .pre .0, c .before .before .before .before .before .pre .1, two {k = c .before .before .before .before .before .args .code} (above (c .before .if2 .left) (c .before .before .before .match .rest .0 .0 .0 .0 .0 .1)) (c .if3 .taken))
 
 quantifier-form-requires : tie.Need-quantifier-form-requires
 quantifier-form-requires c κs = search needs
 
 misspelled-requires : tie.Need-misspelled-requires
 misspelled-requires c κs = search needs
+
+attribute-form-requires : tie.Need-attribute-form-requires
+attribute-form-requires c κs = (c .before .before .before .before .before .before .before .before .pre .0, c .before .before .before .before .before .before .before .before .pre .1, record { low = above (above (above (c .before .if5 .left) (c .before .before .before .before .before .before .match .rest .0 .0 .0 .1)) (c .before .before .before .before .before .before .match .rest .0 .0 .1)) (c .before .before .before .before .before .before .match .rest .0 .1); high = c .if6 .taken })
 
 misspelled-requires-2 : tie.Need-misspelled-requires-2
 misspelled-requires-2 c κs = search needs
@@ -85,10 +85,10 @@ returns-9 : tie.Need-returns-9
 returns-9 c = rw (c .before .match .keys9) (c .let-form .ensures)
 
 returns-10 : tie.Need-returns-10
-returns-10 c = rw (c .before .match .keys10) (c .attribute-form .ensures)
+returns-10 c = rw (c .before .match .keys10) (c .iterate-form .ensures)
 
 returns-11 : tie.Need-returns-11
-returns-11 c = rw (c .before .match .keys11) (c .iterate-form .ensures)
+returns-11 c = search needs
 
 returns-12 : tie.Need-returns-12
 returns-12 c = search needs
@@ -100,13 +100,13 @@ returns-14 : tie.Need-returns-14
 returns-14 c = search needs
 
 returns-15 : tie.Need-returns-15
-returns-15 c = search needs
+returns-15 c = rw (gap-code _ _ (above (c .before .before .if4 .left) (c .before .before .before .before .before .before .match .rest .0 .0 .0 .0 .1)) (c .before .if5 .taken)) (c .misspelled .ensures _)
 
 returns-16 : tie.Need-returns-16
-returns-16 c = rw (gap-code _ _ (above (c .before .before .if4 .left) (c .before .before .before .before .before .before .match .rest .0 .0 .0 .0 .0 .1)) (c .before .if5 .taken)) (c .misspelled .ensures _)
+returns-16 c = search needs
 
 returns-17 : tie.Need-returns-17
-returns-17 c = rw (last-code _ _ (c .before .if5 .left) (c .before .before .before .before .before .before .match .rest .0 .0 .0 .0 .1) (c .before .before .before .before .before .before .match .rest .0 .0 .0 .1) (c .before .before .before .before .before .before .match .rest .0 .0 .1) (c .before .before .before .before .before .before .match .rest .0 .1) (c .before .before .before .before .before .before .match .rest .1)) (c .misspelled2 .ensures _)
+returns-17 c = rw (no-code _ _ (above (c .before .if6 .left) (c .before .before .before .before .before .before .before .match .rest .1))) (c .misspelled2 .ensures _)
 
 pub read-form-spec : {M : Type 1} → statement M
 read-form-spec =
@@ -121,13 +121,13 @@ read-form-spec =
     plain-form-requires-2
     plain-form-requires-3
     let-form-requires
-    attribute-form-requires
     iterate-form-requires
     plain-form-requires-4
     plain-form-requires-5
     plain-form-requires-6
     quantifier-form-requires
     misspelled-requires
+    attribute-form-requires
     misspelled-requires-2
     returns
     returns-2

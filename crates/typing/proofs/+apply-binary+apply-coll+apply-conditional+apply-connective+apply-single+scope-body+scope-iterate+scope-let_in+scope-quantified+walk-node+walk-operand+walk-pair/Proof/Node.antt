@@ -3,7 +3,7 @@ use mathlib.Core.Logic.{inl, inr, ⊎-elim}
 use Prim.Native.Nat.{ℕ}
 use borrow.Author.Needs.{needs}
 use Rattle.judgements.proofs.Composition.{done, as-form}
-use Rattle.typing.proofs.NodeTypings.{undef-done, leaf-node, single-node, binary-node, connective-node, quantified-node, assemble-node, conditional-node, let-node, iterate-node, none-node}
+use Rattle.typing.proofs.NodeTypings.{undef-done, leaf-node, single-node, binary-node, connective-node, quantified-node, assemble-node, conditional-node, let-node, iterate-node, none-node, from-33}
 use Rattle.ocl.specs.Typing.{leafTyping}
 use Rattle.judgements.proofs.forms.leaf_type.Reads as leaf-type-reads
 use Rattle.nodes.proofs.node_word.Reads as node-word-reads
@@ -104,13 +104,13 @@ module _ (t : ℕ) where
   returns-8 c = λ m h. as-form (assemble-node m _ _ _ (c .before .before .before .before .before .before .before .before .before .before .before .node-word .ensures) (c .before .before .before .before .before .if5 .left) (c .before .before .before .before .if6 .taken)) (c .before .before .coll .ensures m h)
 
   returns-9 : lts.Need-returns-9 calls (node-at t) node.Post
-  returns-9 c = λ m h. as-form (none-node m _ _ _ (c .before .before .before .before .before .before .before .before .node-word .ensures) (c .before .if6 .left) (c .before .before .before .before .before .before .before .match .rest .0 .0 .0 .1) (c .before .before .before .before .before .before .before .match .rest .0 .0 .1) (c .before .before .before .before .before .before .before .match .rest .0 .1) (c .before .before .before .before .before .before .before .match .rest .1)) (undef-done _ _ (c .plain .ensures))
+  returns-9 c = λ m h. as-form (none-node m _ _ _ (c .before .before .before .before .before .before .before .before .before .node-word .ensures) (c .before .if7 .left) (c .before .before .before .before .before .before .before .before .match .rest .1)) (undef-done _ _ (c .plain .ensures))
 
   same-length-8 : lts.Need-same-length-8 calls (node-at t) node.Post
   same-length-8 c = search needs
 
   returns-10 : lts.Need-returns-10 calls (node-at t) node.Post
-  returns-10 c = λ m h. as-form (single-node m _ _ _ (c .before .before .before .before .before .node-word .ensures) (⊎-elim (λ x. inl (x .keys1)) (λ x. inr (x .1 .left, x .2 .taken)) (c .before .before .before .before .match .came))) (c .before .before .single .ensures m h)
+  returns-10 c = λ m h. as-form (single-node m _ _ _ (c .before .before .before .before .before .node-word .ensures) (⊎-elim (λ x. inl (x .keys1)) (⊎-elim (λ x. inr (inl (x .1 .left, x .2 .taken))) (λ x. inr (inr (from-33 _ (x .6 .left) (x .0 .rest .0 .0 .0 .1) (x .0 .rest .0 .0 .1) (x .0 .rest .0 .1), x .7 .taken)))) (c .before .before .before .before .match .came))) (c .before .before .single .ensures m h)
 
   pub closed : {M : Type 1} → lts.Closed calls (node-at t) node.Post M
   closed = lts.spec calls (node-at t) node.Post node-word-requires conditional-requires let-in-requires iterate-requires leaf-type-requires binary-requires connective-requires quantified-requires coll-requires plain-requires single-requires same-length returns same-length-2 returns-2 same-length-3 returns-3 returns-4 same-length-4 returns-5 same-length-5 returns-6 same-length-6 returns-7 same-length-7 returns-8 returns-9 same-length-8 returns-10
