@@ -7,7 +7,7 @@ use crate::calls::Answer;
 use crate::generate::full::full;
 use crate::generate::Call;
 use cap::cap;
-use sheets::{bags, iterations, nodes, nodes_of, quantifiers, sets, types, values};
+use sheets::{bags, collected, iterations, nodes, nodes_of, quantifiers, sets, types, values};
 
 /// What a workload's time is divided by.
 #[derive(Clone, Copy, PartialEq, Eq, Debug)]
@@ -117,6 +117,12 @@ pub fn workloads() -> Vec<Workload> {
             Unit::Member,
             EVALUATE,
             one(bags(6), bags(60)),
+        ),
+        workload(
+            "values, collect",
+            Unit::Member,
+            EVALUATE,
+            one(collected(12), collected(120)),
         ),
     ]
 }

@@ -103,6 +103,17 @@ pub fn bags(members: usize) -> Vec<u8> {
     )
 }
 
+/// A hundred times a hundred times, the attribute of all members of a Sequence of this many objects.
+pub fn collected(members: usize) -> Vec<u8> {
+    let nodes = "N 0 self|N 1 attr 0 1|N 2 self|N 3 attr 2 1|N 4 int 0|N 5 self|N 6 attr 5 2|\
+        N 7 collect 6 0|N 8 size 7|N 9 less 4 8|N 10 forAll 3 1 9|N 11 forAll 1 2 10|";
+    sheet(format!(
+        "C 0 -|A 0 0 0 Int|A 1 0 1 Q(Int)|A 2 0 2 Q(#0)|O 0 0|V 0 0 7|V 0 1 Q({})|V 0 2 Q({})|R 0 0|{nodes}",
+        ["1"; 100].join(","),
+        vec!["@0"; members].join(",")
+    ))
+}
+
 /// A body, its root node 9, run in an iteration inside a quantifier.
 fn repeated(letter: &str, full: &str, body: &str) -> Vec<u8> {
     let times: Vec<String> = (0..100).map(|n| (n % 10).to_string()).collect();
