@@ -30,7 +30,7 @@ use Rattle.judgements.specs.declared.Reply.the-variants as reply
 use Rattle.operations.specs.declared.Ended.{Ended}
 use Rattle.operations.specs.Answers.{Ends}
 use Rattle.operations.specs.Tables.{IsA}
-use Rattle.rules.specs.Accepted.{Accepted, Known}
+use Rattle.rules.specs.Accepted.{InWords, Known}
 use Rattle.rules.specs.Numbered.{TypesNumbered, KeepsMarks, EvaluatesNumbered}
 use Rattle.rules.proofs.Ready.{ready}
 use Rattle.rules.proofs.Lengths.{value-length}
@@ -70,13 +70,13 @@ module _ {st : Counts} {w0 w1 : List ℕ} where
       (λ s g x i. rw (absent (modelOf s) o (x .context) _ (ready g .model .classOf o ∙ rw (le-ltb o (st .objects) k))) (gives-refusal 14 0 out e))
 
   -- an object that is there, of the rule's context class or not
-  object-is : {b : Bool} {o : ℕ} (r : ℕ) → o < st .objects → IsA st w0 o (getD w0 (4448 + r) 0) b → (s : Sheet) → Accepted st w0 w1 s → (x : Rule) → getElem? (s .rules) r ≡ some x
+  object-is : {b : Bool} {o : ℕ} (r : ℕ) → o < st .objects → IsA st w0 o (getD w0 (4448 + r) 0) b → (s : Sheet) → InWords st w0 w1 s → (x : Rule) → getElem? (s .rules) r ≡ some x
       → isA (modelOf s) o (class (x .context)) ≡ b
   object-is {o = o} r h i s g x q =
       let y = ready g in
       ap (λ (c : ℕ). isA (modelOf s) o (class c)) (sym (y .rule r x q .context)) ∙ sym (i .is (modelOf s) (y .model))
 
-  object-verdict : {b : Bool} {o : ℕ} (r : ℕ) → o < st .objects → IsA st w0 o (getD w0 (4448 + r) 0) b → (s : Sheet) → Accepted st w0 w1 s → (x : Rule) → getElem? (s .rules) r ≡ some x
+  object-verdict : {b : Bool} {o : ℕ} (r : ℕ) → o < st .objects → IsA st w0 o (getD w0 (4448 + r) 0) b → (s : Sheet) → InWords st w0 w1 s → (x : Rule) → getElem? (s .rules) r ≡ some x
       → (v : Verdict) → onObject (modelOf s) (modelOf s .classOf o) o (x .context) v ≡ (if b then v else refusal 15)
   object-verdict {o = o} r h i s g x q v =
       let e : modelOf s .classOf o ≡ some (getD w0 (256 + o) 0) = ready g .model .classOf o ∙ rw (lt-ltb o (st .objects) h) in
@@ -101,13 +101,13 @@ module _ {st : Counts} {w0 w1 : List ℕ} where
 
     module _ {v1 before marks after : List ℕ} {y : FlatType} {e : Ended} (t : TypesNumbered st w0 w1 r before marks (reply.Is y)) (m : KeepsMarks marks w1 v1)
         (d : EvaluatesNumbered st w0 v1 r o marks after e) where
-      ends : (s : Sheet) → Accepted st w0 w1 s → (x : Rule) → getElem? (s .rules) r ≡ some x → Ends 1 after (outcomeOf s x o) e
+      ends : (s : Sheet) → InWords st w0 w1 s → (x : Rule) → getElem? (s .rules) r ≡ some x → Ends 1 after (outcomeOf s x o) e
       ends s g x j = d .ends s (accepted-same m g) x j (marks-in t m s g x j)
 
       pub fitting : Known st w0 w1 → Fitting after e
       fitting u =
           let s = u .sheet in
-          let g = u .accepted in
+          let g = u .lies in
           let x = ready g .some-rule r h in
           record {
             outcome = outcomeOf s (x .0) o;

@@ -49,7 +49,7 @@ module _ {v0 v1 : List ℕ} where
   gives-stop {n} {k} h f out e = rw (refusal-on h f) (gives-refusal n k out e)
 
   pub known-on : {st : Counts} {x : Reading} → EndsAs v0 v1 (sheet.Sheet st) x → (text : Bytes) → readText text ≡ x → Known st v0 v1
-  known-on (a-sheet {st} {s} f g) text e = record { sheet = s; accepted = record { text = text; was = e; fine = f; holds = g } }
+  known-on (a-sheet {st} {s} f g) text e = record { sheet = s; lies = record { text = text; was = e; fine = f; holds = g } }
 
   pub gives-on : {st : Counts} {x : Reading} {a : Answer} {before after : Bytes} {f : Sheet → Verdict} → EndsAs v0 v1 (sheet.Sheet st) x
       → (text : Bytes) → readText text ≡ x → GivesFor st v0 v1 f a before after → GivesAnswer (onSheet x f) a before after

@@ -13,7 +13,7 @@ use Rattle.types.specs.declared.FlatType.{FlatType}
 use Rattle.types.specs.Flat.{tyOf}
 use Rattle.tables.specs.declared.Counts.{Counts}
 use Rattle.judgements.specs.declared.Reply.the-variants as reply
-use Rattle.rules.specs.Accepted.{Accepted, Known}
+use Rattle.rules.specs.Accepted.{InWords, Known}
 use Rattle.rules.specs.Numbered.{TypesNumbered}
 use Rattle.rules.proofs.Ready.{ready}
 use Rattle.checker.specs.declared.Answer.{Answer}
@@ -29,7 +29,7 @@ module _ {st : Counts} {w0 w1 : List ℕ} where
 
   module _ {r : ℕ} (h : r < st .rules) where
     pub for-rule : {a : Answer} {before after : Bytes} (f : Sheet → Rule → Verdict)
-        → ((s : Sheet) → Accepted st w0 w1 s → (x : Rule) → getElem? (s .rules) r ≡ some x → GivesAnswer (f s x) a before after)
+        → ((s : Sheet) → InWords st w0 w1 s → (x : Rule) → getElem? (s .rules) r ≡ some x → GivesAnswer (f s x) a before after)
         → GivesFor st w0 w1 (λ s. onRule (getElem? (s .rules) r) (f s)) a before after
     unfolding onRule
     for-rule f k = record { for = λ s g. let x = ready g .some-rule r h in rw (x .1) (k s g (x .0) (x .1)) }
@@ -37,12 +37,12 @@ module _ {st : Counts} {w0 w1 : List ℕ} where
     -- the node of a refusal is one of the table
     pub refusal-place : {n p : ℕ} {before after : List ℕ} → Known st w0 w1 → TypesNumbered st w0 w1 r before after (reply.No n p) → p < 768
     refusal-place {n} {p} k t =
-        let a = ready (k .accepted) in
+        let a = ready (k .lies) in
         let x = a .some-rule r h in
-        a .place r (x .0) n p (x .1) (sym (t .is (k .sheet) (k .accepted) (x .0) (x .1))) .0
+        a .place r (x .0) n p (x .1) (sym (t .is (k .sheet) (k .lies) (x .0) (x .1))) .0
 
   pub type-refused : {r n p k : ℕ} {before after : List ℕ} → TypesNumbered st w0 w1 r before after (reply.No n p) → k ≡ word w1 p 7
-      → (s : Sheet) → Accepted st w0 w1 s → (x : Rule) → getElem? (s .rules) r ≡ some x → (f : Ty → Verdict)
+      → (s : Sheet) → InWords st w0 w1 s → (x : Rule) → getElem? (s .rules) r ≡ some x → (f : Ty → Verdict)
       → onType s (typingOf s x .answer) f ≡ refusalAt n k
   unfolding onType
   type-refused {r} {n} {p} {k} t q s g x e f =
@@ -50,7 +50,7 @@ module _ {st : Counts} {w0 w1 : List ℕ} where
       rw u (ap (refusalAt n) (ready g .place r x n p e u .1 ∙ sym q))
 
 pub type-given : {st : Counts} {w0 w1 : List ℕ} {r : ℕ} {y : FlatType} {before after : List ℕ} → TypesNumbered st w0 w1 r before after (reply.Is y)
-    → (s : Sheet) → Accepted st w0 w1 s → (x : Rule) → getElem? (s .rules) r ≡ some x → (f : Ty → Verdict)
+    → (s : Sheet) → InWords st w0 w1 s → (x : Rule) → getElem? (s .rules) r ≡ some x → (f : Ty → Verdict)
     → onType s (typingOf s x .answer) f ≡ f (tyOf y)
 unfolding onType
 type-given t s g x e f = rw (sym (t .is s g x e))

@@ -11,7 +11,7 @@ use Rattle.tables.specs.declared.Counts.{Counts}
 use Rattle.tables.specs.Layout.{Kept}
 use Rattle.reader.specs.declared.SheetRead.{SheetRead}
 use Rattle.reader.specs.Contracts.{EndsAs}
-use Rattle.rules.specs.Accepted.{Accepted}
+use Rattle.rules.specs.Accepted.{InWords}
 use Rattle.checker.specs.declared.Answer.{Answer}
 use Rattle.checker.specs.Answers.{answerOf}
 
@@ -28,7 +28,7 @@ pub record GivesAnswer (v : Verdict) (a : Answer) (before after : Bytes) : Type 
 
 -- for each accepted sheet that lies in the words
 pub record GivesFor (st : Counts) (w0 w1 : List ℕ) (f : Sheet → Verdict) (a : Answer) (before after : Bytes) : Type 0 where
-  pub for : (s : Sheet) → Accepted st w0 w1 s → GivesAnswer (f s) a before after
+  pub for : (s : Sheet) → InWords st w0 w1 s → GivesAnswer (f s) a before after
 
 -- an answer, with words that are still to be wiped
 pub record Leaves (v : Verdict) (a : Answer) (w0 w1 w2 : List ℕ) (out : Bytes) (v0 v1 v2 : List ℕ) (after : Bytes) : Type 0 where

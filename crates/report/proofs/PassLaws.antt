@@ -55,15 +55,15 @@ adds-then {keep} {total} {r} {q} {v} {w} {a} {b} {c} p s room = record {
 
 module _ {st : Counts} {w0 w1 : List ℕ} {r : ℕ} {s : Sheet} {x : Rule} (m : Marked st w0 w1 r s x) where
   pub marked-rule : r < st .rules
-  marked-rule = omega (arith, elem-at (s .rules) r x (m .rule) .0, m .accepted .holds .counted .rules)
+  marked-rule = omega (arith, elem-at (s .rules) r x (m .rule) .0, m .lies .holds .counted .rules)
 
   pub marked-known : Known st w0 w1
-  marked-known = record { sheet = s; accepted = m .accepted }
+  marked-known = record { sheet = s; lies = m .lies }
 
   module _ {o : ℕ} {b : Bool} (a : IsA st w0 o (getD w0 (4448 + r) 0) b) where
     class-is : isA (modelOf s) o (class (x .context)) ≡ b
     class-is =
-        let all = ready (m .accepted) in
+        let all = ready (m .lies) in
         rw (all .rule r x (m .rule) .context) at (sym (a .is (modelOf s) (all .model)))
 
     line-none : b ≡ false → objectLine r o s x ≡ []
@@ -77,7 +77,7 @@ module _ {st : Counts} {w0 w1 : List ℕ} {r : ℕ} {s : Sheet} {x : Rule} (m : 
     -- a line takes no more than its bound
     module _ (yes : b ≡ true) (type : HasType s x) {A : List ℕ} {e : Ended} (ends : Ends 1 A (outcomeOf s x o) e) where
       line-length : length (reportLine r o (outcomeOf s x o)) ≤ 15 + width (type .type)
-      line-length = length-of-line (m .accepted) r o (m .rule) (type .is) (rw (class-is, yes) tt) ends
+      line-length = length-of-line (m .lies) r o (m .rule) (type .is) (rw (class-is, yes) tt) ends
 
       line-bounded : length (reportLine r o (outcomeOf s x o)) ≤ lineBound o s x
       unfolding lineBound lineWidth
@@ -99,7 +99,7 @@ module _ {st : Counts} {w0 w1 : List ℕ} {r o : ℕ} {keep : Bool} {total : ℕ
   module _ (yes : b ≡ true) {room : ℕ} (k : RoomFor (objectLine r o) (lineBound o) st w0 w1 r keep total room)
       {w2 v2 : List ℕ} {e : Ended} (ev : EvaluatesNumbered st w0 w1 r o w2 v2 e) where
     line-ends : (s : Sheet) (x : Rule) → Marked st w0 w1 r s x → Ends 1 v2 (outcomeOf s x o) e
-    line-ends s x m = ev .ends s (m .accepted) x (m .rule) (m .marks)
+    line-ends s x m = ev .ends s (m .lies) x (m .rule) (m .marks)
 
     bounded-line : (s : Sheet) (x : Rule) → Marked st w0 w1 r s x → HasType s x → length (objectLine r o s x) ≤ lineBound o s x
     bounded-line s x m t = rw (line-some m a yes) (line-bounded m a yes t (line-ends s x m))
@@ -220,7 +220,7 @@ module _ {st : Counts} {w0 w1 : List ℕ} {r : ℕ} {keep : Bool} {total : ℕ} 
         x = k .rule
 
         few : o < length (s .objects)
-        few = omega (arith, k .marked .accepted .holds .counted .objects)
+        few = omega (arith, k .marked .lies .holds .counted .objects)
 
         part : sum + length (objectLine r o s x) ≤ total + length (objectLines s r x (length (s .objects)))
         part = omega (arith, so .is s x (k .marked) .end, lines-before s r x o (length (s .objects)) few)
@@ -243,8 +243,8 @@ module _ {st : Counts} {w0 w1 : List ℕ} {r : ℕ} {keep : Bool} {total : ℕ} 
   pub lines-end : {w2 u2 : List ℕ} {out mid : Bytes} {o sum : ℕ} → LinesTo st w0 w1 r keep total w2 u2 out mid o sum → o ≡ st .objects
       → AddsLines (allObjects r) allBound st w0 w1 r keep total w2 u2 out mid sum
   lines-end so e = record {
-    is = λ s x m. rw (← m .accepted .holds .counted .objects, ← e) (so .is s x m);
-    bounded = λ s x m t. rw (← m .accepted .holds .counted .objects, ← e) (so .bounded s x m t);
+    is = λ s x m. rw (← m .lies .holds .counted .objects, ← e) (so .is s x m);
+    bounded = λ s x m t. rw (← m .lies .holds .counted .objects, ← e) (so .bounded s x m t);
     size = so .size;
     kept = so .kept;
   }

@@ -15,7 +15,7 @@ use Rattle.tables.specs.declared.Counts.{Counts}
 use Rattle.tables.specs.Layout.{Kept}
 use Rattle.tables.proofs.Tables.{kept-refl, kept-then}
 use Rattle.judgements.specs.declared.Reply.{Reply}
-use Rattle.rules.specs.Accepted.{Accepted}
+use Rattle.rules.specs.Accepted.{InWords}
 use Rattle.rules.specs.Numbered.{TypesNumbered, KeepsMarks}
 use Rattle.rules.proofs.Ready.{ready}
 use Rattle.rules.proofs.Marks.{accepted-same, marks-kept, marks-in}
@@ -33,10 +33,10 @@ rule-marked t k = record { still = λ s is. accepted-same k is; marks = λ s is 
 -- ---- the lines of the first r rules are added: w1 and w2 were u1 and u2
 
 pub record RulesTo (st : Counts) (w0 u1 w1 u2 w2 : List ℕ) (keep : Bool) (out now : Bytes) (r total : ℕ) : Type 0 where
-  pub is : (s : Sheet) → Accepted st w0 u1 s → AddsBytes keep 0 (linesTo s r) out now total
-  pub bounded : (s : Sheet) → Accepted st w0 u1 s → AllTyped s → total ≤ boundTo s r
+  pub is : (s : Sheet) → InWords st w0 u1 s → AddsBytes keep 0 (linesTo s r) out now total
+  pub bounded : (s : Sheet) → InWords st w0 u1 s → AllTyped s → total ≤ boundTo s r
   pub size : length now ≡ length out
-  pub still : (s : Sheet) → Accepted st w0 u1 s → Accepted st w0 w1 s
+  pub still : (s : Sheet) → InWords st w0 u1 s → InWords st w0 w1 s
   pub kept1 : Kept u1 w1
   pub kept2 : Kept u2 w2
   pub within : r ≤ st .rules
@@ -56,23 +56,23 @@ module _ {st : Counts} {w0 u1 : List ℕ} {keep : Bool} where
 
   module _ {w1 u2 w2 : List ℕ} {out now : Bytes} {r total : ℕ} (h : r < st .rules)
       (so : RulesTo st w0 u1 w1 u2 w2 keep out now r total) where
-    rule : (s : Sheet) → Accepted st w0 u1 s → (x : Rule) × (getElem? (s .rules) r ≡ some x)
+    rule : (s : Sheet) → InWords st w0 u1 s → (x : Rule) × (getElem? (s .rules) r ≡ some x)
     rule s is = ready is .some-rule r h
 
     module _ {v1 : List ℕ} (m : MarksRule st w0 w1 v1 r) where
-      marked : (s : Sheet) (is : Accepted st w0 u1 s) → Marked st w0 v1 r s (rule s is .0)
+      marked : (s : Sheet) (is : InWords st w0 u1 s) → Marked st w0 v1 r s (rule s is .0)
       marked s is =
           let a = so .still s is in
           let x = rule s is in
-          record { accepted = m .still s a; rule = x .1; marks = m .marks s a (x .0) (x .1) }
+          record { lies = m .still s a; rule = x .1; marks = m .marks s a (x .0) (x .1) }
 
       pub rule-room : {room left : ℕ} → RoomForAll st w0 u1 keep room → room ≡ length out → left ≡ length now
           → RoomFor (allObjects r) allBound st w0 v1 r keep total left
       rule-room {room} {left} k e l = record {
         sheet = s;
         rule = x;
-        marked = marked s (k .accepted);
-        type = k .types r x (rule s (k .accepted) .1);
+        marked = marked s (k .lies);
+        type = k .types r x (rule s (k .lies) .1);
         space = room-left (k .space) (omega (arith, so .size)) (omega (arith, part)) (omega (arith, bound));
       }
         where
@@ -80,13 +80,13 @@ module _ {st : Counts} {w0 u1 : List ℕ} {keep : Bool} where
           s = k .sheet
 
           x : Rule
-          x = rule s (k .accepted) .0
+          x = rule s (k .lies) .0
 
           part : total + length (objectLines s r x (length (s .objects))) ≤ length (ruleLines s 0 (s .rules))
-          part = omega (arith, so .is s (k .accepted) .end, rule-before s r x (rule s (k .accepted) .1))
+          part = omega (arith, so .is s (k .lies) .end, rule-before s r x (rule s (k .lies) .1))
 
           bound : total + linesBound s x (length (s .objects)) ≤ rulesBound s (s .rules)
-          bound = omega (arith, so .bounded s (k .accepted) (k .types), bound-rule-before s r x (rule s (k .accepted) .1))
+          bound = omega (arith, so .bounded s (k .lies) (k .types), bound-rule-before s r x (rule s (k .lies) .1))
 
       pub rules-next : {left n : ℕ} {v2 x2 : List ℕ} {after : Bytes} → RoomFor (allObjects r) allBound st w0 v1 r keep total left → left ≡ length now → Kept w2 v2
           → AddsLines (allObjects r) allBound st w0 v1 r keep total v2 x2 now after n → RulesTo st w0 u1 v1 u2 x2 keep out after (r + 1) n

@@ -17,7 +17,7 @@ use Rattle.sheet.specs.Report.{ruleLines, onTypes, fitting}
 use Rattle.text.specs.Written.{putBytes}
 use Rattle.tables.specs.declared.Counts.{Counts}
 use Rattle.tables.proofs.Tables.{kept-refl, kept-then}
-use Rattle.rules.specs.Accepted.{Accepted, Known}
+use Rattle.rules.specs.Accepted.{InWords, Known}
 use Rattle.report.specs.declared.Reported.the-variants as reported
 use Rattle.report.specs.declared.bound.RulesTyped.{RulesTyped}
 use Rattle.report.specs.declared.bound.RulesTyped.the-variants as code
@@ -31,7 +31,7 @@ module _ {st : Counts} {w0 u1 : List ℕ} where
   pub counted-room : {bound : ℕ} → Bounded st w0 u1 bound → RoomForAll st w0 u1 false 2048
   counted-room k = record {
     sheet = k .sheet;
-    accepted = k .accepted;
+    lies = k .lies;
     types = k .types;
     space = record { all = λ q. absurd (let z : _≡_ {A = ℕ} 0 1 = cc in omega arith); line = omega arith; few = omega (arith, k .is, k .few) };
   }
@@ -63,7 +63,7 @@ written-output b out e = e ∙ rw (zero-add (length b))
 
 module _ {st : Counts} {w0 u1 u2 v2 : List ℕ} {t : RulesTyped} (types : TypesRules st w0 u1 u2 v2 t) where
   module _ {n k : ℕ} (no : t ≡ code.No n k) where
-    refusal-on : (s : Sheet) → Accepted st w0 u1 s → (room : ℕ) → reportOn s room ≡ refusalAt n k
+    refusal-on : (s : Sheet) → InWords st w0 u1 s → (room : ℕ) → reportOn s room ≡ refusalAt n k
     unfolding reportOn
     refusal-on s is room = by (rw no at (types .is s is))
       where
@@ -80,12 +80,12 @@ module _ {st : Counts} {w0 u1 u2 v2 : List ℕ} {t : RulesTyped} (types : TypesR
 
   module _ {bound : ℕ} (yes : t ≡ code.Yes bound) where
     pub bounded-by : Known st w0 u1 → Bounded st w0 u1 bound
-    bounded-by k = by (rw yes at (types .is (k .sheet) (k .accepted)))
+    bounded-by k = by (rw yes at (types .is (k .sheet) (k .lies)))
       where
         by : TypesAs (k .sheet) (code.Yes bound) → Bounded st w0 u1 bound
-        by (all-typed f all e few) = record { sheet = k .sheet; accepted = k .accepted; types = all; is = e; few = few }
+        by (all-typed f all e few) = record { sheet = k .sheet; lies = k .lies; types = all; is = e; few = few }
 
-    verdict-on : (s : Sheet) → Accepted st w0 u1 s → (room : ℕ) → reportOn s room ≡ fitting room (ruleLines s 0 (s .rules))
+    verdict-on : (s : Sheet) → InWords st w0 u1 s → (room : ℕ) → reportOn s room ≡ fitting room (ruleLines s 0 (s .rules))
     unfolding reportOn
     verdict-on s is room = by (rw yes at (types .is s is))
       where
@@ -96,9 +96,9 @@ module _ {st : Counts} {w0 u1 u2 v2 : List ℕ} {t : RulesTyped} (types : TypesR
       pub report-room : r ≡ true → Bounded st w0 u1 bound → 2048 ≤ room → RoomForAll st w0 v1 true room
       report-room q k h = record {
         sheet = s;
-        accepted = tells .still s (k .accepted);
+        lies = tells .still s (k .lies);
         types = k .types;
-        space = record { all = λ _. by (rw q at (tells .is s (k .accepted))); line = h; few = omega (arith, k .is, k .few) };
+        space = record { all = λ _. by (rw q at (tells .is s (k .lies))); line = h; few = omega (arith, k .is, k .few) };
       }
         where
           s : Sheet
@@ -121,7 +121,7 @@ module _ {st : Counts} {w0 u1 u2 v2 : List ℕ} {t : RulesTyped} (types : TypesR
             longer : (n : ℕ) → Fit bound room n false → room < n
             longer n (no-fit h) = h
 
-            verdict : (s : Sheet) → Accepted st w0 u1 s → reportOn s (length out) ≡ refusal 18
+            verdict : (s : Sheet) → InWords st w0 u1 s → reportOn s (length out) ≡ refusal 18
             verdict s is =
                 let h = longer (length (ruleLines s 0 (s .rules))) (rw q at (tells .is s is)) in
                 verdict-on s is (length out) ∙ rw (lt-ltb (length out) (length (ruleLines s 0 (s .rules))) (omega arith))
@@ -136,15 +136,15 @@ module _ {st : Counts} {w0 u1 u2 v2 : List ℕ} {t : RulesTyped} (types : TypesR
           kept2 = kept-then (types .kept) (kept-then (tells .kept2) (a .kept2));
         }
           where
-            size : (s : Sheet) → Accepted st w0 u1 s → n ≡ length (ruleLines s 0 (s .rules))
+            size : (s : Sheet) → InWords st w0 u1 s → n ≡ length (ruleLines s 0 (s .rules))
             size s is = a .is s (tells .still s is) .end ∙ zero-add _
 
-            short : (s : Sheet) (is : Accepted st w0 u1 s) → TypesAs s (code.Yes bound) → Fit bound room (length (ruleLines s 0 (s .rules))) true
+            short : (s : Sheet) (is : InWords st w0 u1 s) → TypesAs s (code.Yes bound) → Fit bound room (length (ruleLines s 0 (s .rules))) true
                 → length (ruleLines s 0 (s .rules)) ≤ room
             short s is (all-typed f all e few) (by-bound h) = omega (arith, a .bounded s (tells .still s is) all, size s is)
             short s is t (by-length h) = h
 
-            verdict : (s : Sheet) → Accepted st w0 u1 s → reportOn s (length out) ≡ answer (ruleLines s 0 (s .rules))
+            verdict : (s : Sheet) → InWords st w0 u1 s → reportOn s (length out) ≡ answer (ruleLines s 0 (s .rules))
             verdict s is =
                 let h = short s is (rw yes at (types .is s is)) (rw q at (tells .is s is)) in
                 verdict-on s is (length out) ∙ rw (le-ltb (length out) (length (ruleLines s 0 (s .rules))) (omega arith))

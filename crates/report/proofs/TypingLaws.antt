@@ -23,7 +23,7 @@ use Rattle.tables.proofs.Tables.{kept-refl, kept-then}
 use Rattle.judgements.specs.declared.Reply.{Reply}
 use Rattle.judgements.specs.declared.Reply.the-variants as reply
 use Rattle.judgements.specs.Replies.{meaning}
-use Rattle.rules.specs.Accepted.{Accepted, Known}
+use Rattle.rules.specs.Accepted.{InWords, Known}
 use Rattle.rules.specs.Numbered.{TypesNumbered}
 use Rattle.report.specs.declared.bound.RulesTyped.the-variants as code
 use Rattle.report.specs.Bound.{lineWidth, linesBound, rulesBound, BoundsLines, HasType, a-refusal, all-typed, TypesRules}
@@ -31,15 +31,15 @@ use Rattle.rules.proofs.Ready.{ready}
 use Rattle.report.proofs.ReportLaws.{types-next, types-end, boundTo, bound-rule, bound-all}
 
 pub record TypedTo (st : Counts) (w0 w1 before now : List ℕ) (bound r : ℕ) : Type 0 where
-  pub on : (s : Sheet) → Accepted st w0 w1 s → (v : Verdict) → onTypes s (s .rules) v ≡ onTypes s (drop r (s .rules)) v
-  pub types : (s : Sheet) → Accepted st w0 w1 s → (i : ℕ) (x : Rule) → i < r → getElem? (s .rules) i ≡ some x → HasType s x
-  pub bounds : (s : Sheet) → Accepted st w0 w1 s → bound ≡ boundTo s r
+  pub on : (s : Sheet) → InWords st w0 w1 s → (v : Verdict) → onTypes s (s .rules) v ≡ onTypes s (drop r (s .rules)) v
+  pub types : (s : Sheet) → InWords st w0 w1 s → (i : ℕ) (x : Rule) → i < r → getElem? (s .rules) i ≡ some x → HasType s x
+  pub bounds : (s : Sheet) → InWords st w0 w1 s → bound ≡ boundTo s r
   pub few : bound ≤ r * 148896
   pub within : r ≤ st .rules
   pub kept : Kept before now
 
 -- the bound of rule r with type t
-rule-bound : {st : Counts} {w0 w1 : List ℕ} {s : Sheet} → Accepted st w0 w1 s → (r : ℕ) {n : ℕ} {x : Rule} (t : Ty) → getElem? (s .rules) r ≡ some x
+rule-bound : {st : Counts} {w0 w1 : List ℕ} {s : Sheet} → InWords st w0 w1 s → (r : ℕ) {n : ℕ} {x : Rule} (t : Ty) → getElem? (s .rules) r ≡ some x
     → typingOf s x .answer ≡ typed t → BoundsLines st w0 (getD w0 (4448 + r) 0) t n → n ≡ linesBound s x (length (s .objects))
 unfolding linesBound lineWidth
 rule-bound {s = s} is r {x = x} t at type b = b .is (modelOf s) (ready is .model) ∙ rw (ready is .rule r x at .context, is .holds .counted .objects, type)
@@ -71,13 +71,13 @@ module _ {st : Counts} {w0 w1 : List ℕ} where
     kept = kept-then (so .kept) (ty .kept);
   }
     where
-      rule : (s : Sheet) → Accepted st w0 w1 s → (x : Rule) × (getElem? (s .rules) r ≡ some x)
+      rule : (s : Sheet) → InWords st w0 w1 s → (x : Rule) × (getElem? (s .rules) r ≡ some x)
       rule s is = ready is .some-rule r h
 
-      type : (s : Sheet) (is : Accepted st w0 w1 s) → typingOf s (rule s is .0) .answer ≡ typed (tyOf t)
+      type : (s : Sheet) (is : InWords st w0 w1 s) → typingOf s (rule s is .0) .answer ≡ typed (tyOf t)
       type s is = sym (ty .is s is (rule s is .0) (rule s is .1)) ∙ ap meaning e
 
-      has : (s : Sheet) → Accepted st w0 w1 s → (i : ℕ) (x : Rule) → Dec (i < r) → i < r + 1 → getElem? (s .rules) i ≡ some x → HasType s x
+      has : (s : Sheet) → InWords st w0 w1 s → (i : ℕ) (x : Rule) → Dec (i < r) → i < r + 1 → getElem? (s .rules) i ≡ some x → HasType s x
       has s is i x (yes k) l at = so .types s is i x k at
       has s is i x (no k) l at = let q : i ≡ r = omega arith in
           record { type = tyOf t; is = sym (ty .is s is x (rw q at at)) ∙ ap meaning e }
@@ -96,9 +96,9 @@ module _ {st : Counts} {w0 w1 : List ℕ} where
   -- the node of a refusal
   pub refused-node : {u v : List ℕ} {r n p : ℕ} {a : Reply} → Known st w0 w1 → r < st .rules → TypesNumbered st w0 w1 r u v a → a ≡ reply.No n p → p < 768
   refused-node {u} {v} {r} {n} {p} k h ty e =
-      let all = ready (k .accepted) in
+      let all = ready (k .lies) in
       let x = all .some-rule r h in
-      all .place r (x .0) n p (x .1) (sym (ty .is (k .sheet) (k .accepted) (x .0) (x .1)) ∙ ap meaning e) .0
+      all .place r (x .0) n p (x .1) (sym (ty .is (k .sheet) (k .lies) (x .0) (x .1)) ∙ ap meaning e) .0
 
   pub typed-all : {w2 u : List ℕ} {bound r : ℕ} → TypedTo st w0 w1 w2 u bound r → r ≡ st .rules → st .rules ≤ 64 → TypesRules st w0 w1 w2 u (code.Yes bound)
   unfolding onTypes

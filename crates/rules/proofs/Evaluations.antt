@@ -16,7 +16,7 @@ use Rattle.tables.specs.declared.Counts.{Counts}
 use Rattle.operations.specs.declared.Ended.{Ended}
 use Rattle.operations.specs.Answers.{Ends, ends-value, ends-undefined, ends-stuck, ends-stop}
 use Rattle.evaluation.specs.Evaluating.{ReadsWorld, Rules}
-use Rattle.rules.specs.Accepted.{Accepted, RuleIn, MarksIn}
+use Rattle.rules.specs.Accepted.{InWords, RuleIn, MarksIn}
 use Rattle.rules.specs.Numbered.{EvaluatesNumbered}
 use Rattle.rules.proofs.Ready.{ready}
 
@@ -40,7 +40,7 @@ rule-shallow i e = rw (e, i .body) (omega (arith, i .shallow))
 
 module _ {st : Counts} {w0 w1 : List ℕ} where
   -- the sheet's model and the rule's marks, as evaluation reads them
-  world-in : (r : ℕ) (s : Sheet) → Accepted st w0 w1 s → (x : Rule) → getElem? (s .rules) r ≡ some x → MarksIn w1 (typingOf s x)
+  world-in : (r : ℕ) (s : Sheet) → InWords st w0 w1 s → (x : Rule) → getElem? (s .rules) r ≡ some x → MarksIn w1 (typingOf s x)
       → ReadsWorld st w0 w1 (record { model = modelOf s; mark = markOf (typingOf s x) })
   world-in r s g x q m =
       let a = ready g in

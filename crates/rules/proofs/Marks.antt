@@ -15,7 +15,7 @@ use Rattle.nodes.proofs.Keep.{tree-keep}
 use Rattle.tables.specs.declared.Counts.{Counts}
 use Rattle.tables.specs.Layout.{tab, linesIn, HoldsCurrent, HoldsOpen, closed, opened, Kept}
 use Rattle.judgements.specs.declared.Reply.{Reply}
-use Rattle.rules.specs.Accepted.{Accepted, Known, MarksIn}
+use Rattle.rules.specs.Accepted.{InWords, Known, MarksIn}
 use Rattle.rules.specs.Numbered.{TypesNumbered, KeepsMarks}
 
 -- ---- copying, of which i words are done
@@ -85,7 +85,7 @@ module _ {w2 w1 v1 : List ℕ} (k : KeepsMarks w2 w1 v1) where
     open-same (closed e) = closed e
     open-same (opened h) = opened (current-same h)
 
-  pub accepted-same : {st : Counts} {w0 : List ℕ} {s : Sheet} → Accepted st w0 w1 s → Accepted st w0 v1 s
+  pub accepted-same : {st : Counts} {w0 : List ℕ} {s : Sheet} → InWords st w0 w1 s → InWords st w0 v1 s
   accepted-same {st} {w0} {s} a =
       let small : length (s .lines) ≤ 768 = omega (arith, a .fine .nodes, a .holds .counted .nodes) in
       let h = a .holds .rules in
@@ -106,7 +106,7 @@ module _ {w2 w1 v1 : List ℕ} (k : KeepsMarks w2 w1 v1) where
       }
 
   pub known-same : {st : Counts} {w0 : List ℕ} → Known st w0 w1 → Known st w0 v1
-  known-same g = record { sheet = g .sheet; accepted = accepted-same (g .accepted) }
+  known-same g = record { sheet = g .sheet; lies = accepted-same (g .lies) }
 
 pub marks-kept : {w2 w1 v1 : List ℕ} → KeepsMarks w2 w1 v1 → Kept w1 v1
 marks-kept {w2} {w1} {v1} k = record { size = k .size; rest = sym (drop-drop 1280 6912 v1) ∙ ap (drop 1280) (k .above) ∙ drop-drop 1280 6912 w1 }
@@ -114,5 +114,5 @@ marks-kept {w2} {w1} {v1} k = record { size = k .size; rest = sym (drop-drop 128
 -- ---- the marks that typing left
 
 pub marks-in : {st : Counts} {w0 w1 v1 before w2 : List ℕ} {r : ℕ} {a : Reply} → TypesNumbered st w0 w1 r before w2 a → KeepsMarks w2 w1 v1
-    → (s : Sheet) → Accepted st w0 w1 s → (x : Rule) → getElem? (s .rules) r ≡ some x → MarksIn v1 (typingOf s x)
+    → (s : Sheet) → InWords st w0 w1 s → (x : Rule) → getElem? (s .rules) r ≡ some x → MarksIn v1 (typingOf s x)
 marks-in t k s g x q = record { at = λ p h. k .at p h ∙ t .marked s g x q p h }

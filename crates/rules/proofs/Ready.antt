@@ -21,7 +21,7 @@ use Rattle.tables.specs.Layout.{Holds, Fine}
 use Rattle.tables.specs.Stored.{HoldsModel}
 use Rattle.tables.proofs.Tables.{tab-at}
 use Rattle.operations.specs.Tables.{Plain}
-use Rattle.rules.specs.Accepted.{Accepted, Ready}
+use Rattle.rules.specs.Accepted.{InWords, Ready}
 use Rattle.rules.proofs.Classes.{classes-held}
 use Rattle.rules.proofs.Slots.{LowRows, slots-ascend, slots-stored}
 use Rattle.rules.proofs.RulesIn.{node-line, rule-in, rule-there, rule-past, mark-told}
@@ -55,7 +55,7 @@ module _ {st : Counts} {w0 w1 : List ℕ} {s : Sheet} (fine : Fine st) (holds : 
     small = good-model s good .values-small;
   }
 
-pub ready : {st : Counts} {w0 w1 : List ℕ} {s : Sheet} → Accepted st w0 w1 s → Ready st w0 w1 s
+pub ready : {st : Counts} {w0 w1 : List ℕ} {s : Sheet} → InWords st w0 w1 s → Ready st w0 w1 s
 unfolding modelOf
 ready {st} {s = s} a =
     let good = accepted-good (a .text) s (a .was) in

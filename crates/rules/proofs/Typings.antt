@@ -30,7 +30,7 @@ module _ {st : Counts} {w0 w1 : List ℕ} {r : ℕ} where
   -- some sheet is known, and rule r is one of its rules
   pub rule-known : Known st w0 w1 → r < st .rules → (x : Rule) × RuleIn w0 w1 r x
   rule-known k h =
-      let a = ready (k .accepted) in
+      let a = ready (k .lies) in
       let x = a .some-rule r h in
       (x .0, a .rule r (x .0) (x .1))
 

@@ -11,14 +11,10 @@ use Rattle.sheet.specs.Text.{Bytes}
 use Rattle.sheet.specs.Sheet.{Rule, Sheet, schemaIn}
 use Rattle.sheet.specs.Reading.{Reading, accepted, rejected, readText}
 use Rattle.sheet.specs.Calls.{Verdict, refusalAt, onSheet, typingOf, onType, onTypes, onAccepted}
-use Rattle.sheet.specs.Laws.{ReadRefusal, over-length, at-line}
+use Rattle.sheet.specs.Laws.{ReadRefusal, over-length, at-line, AllTyped, none-typed, one-typed}
 use Rattle.sheet.proofs.Listed.{read-refusals}
 
 -- ---- the types of the rules
-
-pub data AllTyped (s : Sheet) : List Rule → List Ty → Type 0 where
-  none-typed : AllTyped s [] []
-  one-typed : {x : Rule} {xs : List Rule} {t : Ty} {ts : List Ty} → typingOf s x .answer ≡ typed t → AllTyped s xs ts → AllTyped s (x ∷ xs) (t ∷ ts)
 
 pub record Types (s : Sheet) (xs : List Rule) : Type 0 where
   pub types : List Ty

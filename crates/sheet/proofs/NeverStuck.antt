@@ -28,13 +28,12 @@ use Rattle.sheet.specs.Sheet.{Rule, Sheet, schemaIn, modelOf}
 use Rattle.sheet.specs.Reading.{Reading, accepted, rejected, readText}
 use Rattle.sheet.specs.Calls.{Verdict, answer, refusalAt, refusal, shortWords, shortOutput, onSheet, typingOf, onType, onTypes, onAccepted, typeLines, readCall, onRule, onObject, outcomeOf, ended, evaluateOn, evaluateCall}
 use Rattle.sheet.specs.Report.{spellOutcome, reportLine, objectLines, ruleLines, fitting, reportOf, reportCall, printed, program}
-use Rattle.sheet.specs.Laws.{ReadRefusal, over-length, at-line}
+use Rattle.sheet.specs.Laws.{ReadRefusal, over-length, at-line, AllTyped, none-typed, one-typed}
 use Rattle.sheet.specs.Soundness.{NeverStuckLaw}
 use Rattle.sheet.proofs.Numbers.{digit-from, spell-digits}
 use Rattle.sheet.proofs.Listed.{read-refusals}
 use Rattle.sheet.proofs.Good.{Good}
 use Rattle.sheet.proofs.Acceptance.{accepted-good}
-use Rattle.sheet.proofs.Accepted.{AllTyped, none-typed, one-typed}
 use Rattle.sheet.proofs.Soundness.{sound-rule}
 
 -- ---- bytes in which `!` stands only before a space, or before 1 and another byte than 0

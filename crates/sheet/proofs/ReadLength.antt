@@ -19,13 +19,12 @@ use Rattle.sheet.specs.Sheet.{Rule, Sheet, noRow, schemaIn}
 use Rattle.sheet.specs.Reading.{Reading, accepted, rejected, readText}
 use Rattle.sheet.specs.Refusals.{classBelow}
 use Rattle.sheet.specs.Calls.{Verdict, answer, refusalAt, refusal, shortWords, shortOutput, onSheet, typingOf, onType, onTypes, onAccepted, typeLines, readCall, marksOf}
-use Rattle.sheet.specs.Laws.{ReadLength}
+use Rattle.sheet.specs.Laws.{ReadLength, AllTyped, none-typed, one-typed}
 use Rattle.sheet.proofs.Lengths.{type-length}
 use Rattle.sheet.proofs.TypeFits.{Fits, class-fits, fits-closed}
 use Rattle.sheet.proofs.Good.{Good}
 use Rattle.sheet.proofs.Acceptance.{accepted-good}
 use Rattle.sheet.proofs.Marks.{rule-agrees}
-use Rattle.sheet.proofs.Accepted.{AllTyped, none-typed, one-typed}
 
 -- a row that is not there has type Void
 row-fits : {rows : List Row} → Each (λ (x : Row). Fits 3 (x .type)) rows → (i : ℕ) → Fits 3 (getD rows i noRow .type)

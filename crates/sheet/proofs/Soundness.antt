@@ -28,13 +28,13 @@ use Rattle.sheet.specs.Sheet.{Rule, Sheet, schemaIn, modelOf}
 use Rattle.sheet.specs.Reading.{accepted, readText}
 use Rattle.sheet.specs.Calls.{Verdict, answer, refusalAt, refusal, shortWords, shortOutput, typingOf, onAccepted, typeLines, readCall, onRule, onObject, marksOf, outcomeOf, ended, evaluateOn, evaluateCall}
 use Rattle.sheet.specs.Soundness.{Lent, sheetFrom, sheetIn, ruleReach, reachOf, contextHas, ofContext, Ending, undefined-end, value-end, stop-end, Demand3}
-use Rattle.sheet.specs.Laws.{TypeRefusal, TypeRefusals}
+use Rattle.sheet.specs.Laws.{TypeRefusal, TypeRefusals, AllTyped, none-typed, one-typed}
 use Rattle.sheet.proofs.Spelling.{type-back}
 use Rattle.sheet.proofs.TypeLines.{type-line}
 use Rattle.sheet.proofs.Split.{first-part}
 use Rattle.sheet.proofs.Good.{Good}
 use Rattle.sheet.proofs.Marks.{rule-agrees}
-use Rattle.sheet.proofs.Accepted.{AllTyped, none-typed, one-typed, accepted-of, on-accepted}
+use Rattle.sheet.proofs.Accepted.{accepted-of, on-accepted}
 use Rattle.sheet.proofs.Acceptance.{accepted-good, good-model}
 
 -- ---- an outcome and what evaluate answers for it

@@ -7,7 +7,8 @@ use mathlib.Core.Option.{some}
 use mathlib.Core.List.{List, [], _∷_}
 use Rattle.laws.specs.Lists.{member}
 use Rattle.ocl.specs.Laws.{numbers}
-use Rattle.ocl.specs.Typing.{refused}
+use Rattle.ocl.specs.Types.{Ty}
+use Rattle.ocl.specs.Typing.{typed, refused}
 use Rattle.sheet.specs.Text.{Bytes, linesOf}
 use Rattle.sheet.specs.Sheet.{Rule, Sheet}
 use Rattle.sheet.specs.Reading.{accepted, rejected, readText}
@@ -39,6 +40,11 @@ abbrev pub TypeRefusals : Type 0
 TypeRefusals =
     (text : Bytes) (s : Sheet) → readText text ≡ accepted s → (r : ℕ) (x : Rule) → getElem? (s .rules) r ≡ some x
     → (n p : ℕ) → typingOf s x .answer ≡ refused n p → TypeRefusal s x n p
+
+-- these rules of a sheet have these types
+pub data AllTyped (s : Sheet) : List Rule → List Ty → Type 0 where
+  none-typed : AllTyped s [] []
+  one-typed : {x : Rule} {xs : List Rule} {t : Ty} {ts : List Ty} → typingOf s x .answer ≡ typed t → AllTyped s xs ts → AllTyped s (x ∷ xs) (t ∷ ts)
 
 -- what reading writes is at most 64 lines of 14 bytes, so that no output which it takes is too short
 abbrev pub ReadLength : Type 0

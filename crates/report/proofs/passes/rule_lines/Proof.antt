@@ -20,7 +20,7 @@ loop-holds : tie.Need-loop-holds Inv-loop μ-loop
 loop-holds c = rules-none _ _
 
 mark-rule-requires : tie.Need-mark-rule-requires Inv-loop μ-loop
-mark-rule-requires c κs = ((c .before .before .before .before .before .before .before .before .before .pre .0 .0, omega (arith, c .before .before .before .before .before .before .before .before .before .pre .0 .1, c .before .before .before .loop .inv .kept1 .size), omega (arith, c .before .before .before .before .before .before .before .before .before .pre .0 .2, c .before .before .before .loop .inv .kept2 .size)), (record { sheet = c .before .before .before .before .before .before .before .before .before .pre .1 .sheet; accepted = c .before .before .before .loop .inv .still (c .before .before .before .before .before .before .before .before .before .pre .1 .sheet) (c .before .before .before .before .before .before .before .before .before .pre .1 .accepted) }, omega (arith, c .before .before .loop-test .taken, c .before .before .before .before .wide .ensures)))
+mark-rule-requires c κs = ((c .before .before .before .before .before .before .before .before .before .pre .0 .0, omega (arith, c .before .before .before .before .before .before .before .before .before .pre .0 .1, c .before .before .before .loop .inv .kept1 .size), omega (arith, c .before .before .before .before .before .before .before .before .before .pre .0 .2, c .before .before .before .loop .inv .kept2 .size)), (record { sheet = c .before .before .before .before .before .before .before .before .before .pre .1 .sheet; lies = c .before .before .before .loop .inv .still (c .before .before .before .before .before .before .before .before .before .pre .1 .sheet) (c .before .before .before .before .before .before .before .before .before .pre .1 .lies) }, omega (arith, c .before .before .loop-test .taken, c .before .before .before .before .wide .ensures)))
 
 object-lines-requires : tie.Need-object-lines-requires Inv-loop μ-loop
 object-lines-requires c κs = ((c .before .before .before .before .before .before .before .before .before .before .before .before .before .before .before .before .before .pre .0 .0, omega (arith, c .before .before .before .before .before .before .before .before .before .before .before .before .before .before .before .before .before .pre .0 .1, c .before .before .before .before .before .before .before .before .before .before .before .loop .inv .kept1 .size, c .before .before .before .before .before .before .before .mark-rule .ensures .0 .kept .size), omega (arith, c .before .before .before .before .before .before .before .before .before .before .before .before .before .before .before .before .before .pre .0 .2, c .before .before .before .before .before .before .before .before .before .before .before .loop .inv .kept2 .size, c .before .before .before .before .before .before .before .mark-rule .ensures .1 .size)), rule-room (omega (arith, c .before .before .before .before .before .before .before .before .before .before .loop-test .taken, c .before .before .before .before .before .before .before .before .before .before .before .before .wide .ensures)) (c .before .before .before .before .before .before .before .before .before .before .before .loop .inv) (c .before .before .before .before .before .before .before .mark-rule .ensures .0) (c .before .before .before .before .before .before .before .before .before .before .before .before .before .before .before .before .before .pre .1) refl refl)

@@ -29,7 +29,7 @@ evaluate-rule-requires : tie.Need-evaluate-rule-requires
 evaluate-rule-requires c κs =
     let k = rule-known (c .before .before .before .before .before .before .pre .1 .0) (c .before .before .before .before .before .before .pre .1 .1) in
     let size = length-take-le 8192 (c .before .before .before .before .before .before .args .w2 .now) (omega arith) in
-    (record { fine = c .before .before .before .before .before .before .pre .1 .0 .accepted .fine; tables = c .before .before .before .before .before .before .pre .0 .0; nodes = c .before .before .before .before .before .before .pre .0 .1; stack = omega arith; node = omega (arith, k .1 .root); room = omega arith }, (rule-shallow (k .1) (c .before .wide .ensures), c .before .before .before .before .before .before .pre .1 .2))
+    (record { fine = c .before .before .before .before .before .before .pre .1 .0 .lies .fine; tables = c .before .before .before .before .before .before .pre .0 .0; nodes = c .before .before .before .before .before .before .pre .0 .1; stack = omega arith; node = omega (arith, k .1 .root); room = omega arith }, (rule-shallow (k .1) (c .before .wide .ensures), c .before .before .before .before .before .before .pre .1 .2))
 
 same-length : tie.Need-same-length
 same-length c = search needs
