@@ -9,7 +9,7 @@ use borrow.Author.Tests.{eq-eqb, ne-eqb, le-leb, lt-leb, lt-ltb, le-ltb}
 use Rattle.laws.specs.Choice.{if_then_else_}
 use Rattle.ocl.specs.Types.{any, boolean, integer, class, Kind, set, sequence, bag, kindCode, sameKind, Letter, collection, exactly, Ty, void, simple, around, Boolean, Integer, Class, depth, Parents, simpleSubtype, subtype, join}
 use Rattle.ocl.specs.Environment.{Env}
-use Rattle.ocl.specs.Model.{Model}
+use Rattle.ocl.specs.Model.{Schema}
 use Rattle.ocl.specs.Typing.{Answer, typed, refused, below, common, wrap, onCollection, onKind, boundType, leafType, castType, unaryType, bothBelow, binaryType, conditionalType}
 use Rattle.types.specs.declared.FlatType.{FlatType}
 use Rattle.types.specs.declared.Joined.{Joined}
@@ -19,7 +19,7 @@ use Rattle.types.specs.declared.ClassNumber.the-variants as number
 use Rattle.types.specs.Flat.{parentsIn, letterOf, tyOf, joinedType}
 use Rattle.types.specs.Parts.{codeOf, outerCode, memberType, simpleClass, classOf, isAny, classNumber}
 use Rattle.types.proofs.Members.{no-collection, is-collection, class-is}
-use Rattle.nodes.specs.Nodes.{variable, leafOf, unaryOf, binaryOf}
+use Rattle.nodes.specs.Nodes.{variable, classIn, leafOf, unaryOf, binaryOf}
 use Rattle.judgements.proofs.Joins.{joined-yes, joined-no}
 
 -- ---- collections and kinds
@@ -88,13 +88,13 @@ module _ (n : ℕ) (w : ℕ → ℕ) (Γ : Env Ty) where
   unfolding leafType leafOf
   leaf-var k q e = rw q e
 
-  pub leaf-all : (k : ℕ) {r : Ty} → 2 ≤ k → (k ≡ 2 → ⊥) → (k ≡ 3 → ⊥) → (k ≡ 4 → ⊥) → (k ≡ 5 → ⊥) → r ≡ around (exactly set) (Class (w 1)) → typed r ≡ leafType n (leafOf k w) Γ
+  pub leaf-all : (k : ℕ) {r : Ty} → 2 ≤ k → (k ≡ 2 → ⊥) → (k ≡ 3 → ⊥) → (k ≡ 4 → ⊥) → (k ≡ 5 → ⊥) → r ≡ around (exactly set) (Class (classIn (w 1))) → typed r ≡ leafType n (leafOf k w) Γ
   unfolding leafType leafOf
   leaf-all k h a b c d e = rw (ne-eqb k 0 (λ q. omega arith), ne-eqb k 1 (λ q. omega arith), ne-eqb k 2 a, ne-eqb k 3 b, ne-eqb k 4 c, ne-eqb k 5 d) (ap typed e)
 
 -- ---- over a model whose parents the code reads
 
-module _ (m : Model) (ps : List ℕ) (e : m .parent ≡ parentsIn ps) (n : ℕ) where
+module _ (m : Schema) (ps : List ℕ) (e : m .parent ≡ parentsIn ps) (n : ℕ) where
   -- a test of the code is the model's
   tested : {q : Bool} (t : Ty) {u w : Ty} → q ≡ subtype (parentsIn ps) t u → u ≡ w → q ≡ subtype (m .parent) t w
   tested t h k = rw (e, ← k) h
@@ -190,10 +190,10 @@ module _ (m : Model) (ps : List ℕ) (e : m .parent ≡ parentsIn ps) (n : ℕ) 
 
 -- ---- the second operand of `union`, where the first is of kind k
 
-unfoldable both-kinds : Model → ℕ → Ty → Kind → Ty → Answer
+unfoldable both-kinds : Schema → ℕ → Ty → Kind → Ty → Answer
 both-kinds m n u k x = onCollection u (refused 11 n) (λ r y. onKind r (refused 11 n) (λ l. if sameKind k l then common n (join (m .parent) x y) (wrap n (exactly k)) else refused 11 n))
 
-module _ (m : Model) (n : ℕ) (u : Ty) (k : Kind) (x : Ty) where
+module _ (m : Schema) (n : ℕ) (u : Ty) (k : Kind) (x : Ty) where
   other-kind : (d : ℕ) → d ≡ outerCode u → (kindCode k + 2 ≡ d → ⊥) → refused 11 n ≡ both-kinds m n u k x
   unfolding both-kinds sameKind
   other-kind zero g ne = no-kind (refused 11 n) (λ l y. if sameKind k l then common n (join (m .parent) x y) (wrap n (exactly k)) else refused 11 n) u (omega arith)
@@ -210,7 +210,7 @@ module _ (m : Model) (n : ℕ) (u : Ty) (k : Kind) (x : Ty) where
 
 -- ---- which form a code is
 
-module _ (m : Model) (n : ℕ) where
+module _ (m : Schema) (n : ℕ) where
   module _ (w : ℕ → ℕ) (k : ℕ) (t : Ty) {a : Answer} where
     pub unary-not : k ≡ 7 → a ≡ below m n t Boolean (typed Boolean) → a ≡ unaryType m n (unaryOf k w) t
     unfolding unaryType unaryOf
@@ -220,7 +220,7 @@ module _ (m : Model) (n : ℕ) where
     unfolding unaryType unaryOf
     unary-size q h = rw q h
 
-    pub unary-cast : (k ≡ 7 → ⊥) → (k ≡ 8 → ⊥) → (9 ≤ k → k ≤ 11 → ⊥) → a ≡ castType m n (w 2) t → a ≡ unaryType m n (unaryOf k w) t
+    pub unary-cast : (k ≡ 7 → ⊥) → (k ≡ 8 → ⊥) → (9 ≤ k → k ≤ 11 → ⊥) → a ≡ castType m n (classIn (w 2)) t → a ≡ unaryType m n (unaryOf k w) t
     unfolding unaryType unaryOf
     unary-cast p q r h = rw (ne-eqb k 7 p, ne-eqb k 8 q, ne-eqb k 9 (λ z. r (omega arith) (omega arith)), ne-eqb k 10 (λ z. r (omega arith) (omega arith)), ne-eqb k 11 (λ z. r (omega arith) (omega arith))) h
 

@@ -11,7 +11,7 @@ use borrow.Author.Tests.{eqb-true, eqb-false}
 use Rattle.laws.specs.Choice.{if_then_else_}
 use Rattle.ocl.specs.Types.{kindCode, sameKind, Ty, Class}
 use Rattle.ocl.specs.Environment.{Env, start}
-use Rattle.ocl.specs.Model.{Model}
+use Rattle.ocl.specs.Model.{Schema}
 use Rattle.ocl.specs.Typing.{Mark, ofRow, rowMarked, kindMarked, Marks, typeRule, markOr, markOf}
 use Rattle.nodes.specs.Nodes.{treeAt}
 use Rattle.nodes.specs.Marks.{markWord}
@@ -44,14 +44,14 @@ mark-at (x ∷ m) l p d h e =
 
 -- ---- a rule
 
-pub started : {B A : List ℕ} {r : Reply} {Γ : Env Ty} (m : Model) (t : List ℕ) (n c : ℕ) → Γ ≡ start (Class c) → Tells (nodeAt t n m Γ) B A r → Tells (typeRule m c (treeAt t n)) B A r
+pub started : {B A : List ℕ} {r : Reply} {Γ : Env Ty} (m : Schema) (t : List ℕ) (n c : ℕ) → Γ ≡ start (Class c) → Tells (nodeAt t n m Γ) B A r → Tells (typeRule m c (treeAt t n)) B A r
 unfolding typeRule
 started m t n c h d = rw h at d
 
 module _ (tables : List ℕ) (classes rows : ℕ) (nodes : List ℕ) (context root : ℕ) (before part : List ℕ) (r : Reply) where
   -- what is said of the first 768 words, of the whole
   pub rule-done : 768 ≤ length before → length part ≡ length (take 768 before)
-      → ((m : Model) → ReadsRows (take classes tables) tables rows m → Tells (typeRule m context (treeAt nodes root)) (replicate (length (take 768 before)) 0) part r)
+      → ((m : Schema) → ReadsRows (take classes tables) tables rows m → Tells (typeRule m context (treeAt nodes root)) (replicate (length (take 768 before)) 0) part r)
       → TypesRule tables classes rows nodes context root before (part ++ drop 768 before) r
   unfolding markOf markWord kindMarked rowMarked sameKind kindCode
   rule-done room size d =

@@ -11,14 +11,14 @@ use super::walk::node;
 use judgements::Reply;
 use judgements::environment::start_env;
 
-// The tree at root, with nothing bound but `self`, of the context class.
+// The type of the tree at root, where nothing is bound but `self`, which has the context class.
 fn root_type(
     nodes: &[u64],
     parents: &[u64],
     tables: &[u64],
     rows: usize,
     root: usize,
-    context: u64,
+    context: u8,
     marks: &mut [u64],
 ) -> Reply
     requires { ⌜ NodeRoom root rows (length (now tables)) (length (now nodes)) (length (now marks)) ⌝ }
@@ -36,7 +36,7 @@ pub fn type_rule(
     rows: usize,
     nodes: &[u64],
     marks: &mut [u64],
-    context: u64,
+    context: u8,
     root: usize,
 ) -> Reply
     requires { ⌜ root < 768 ⌝ }
