@@ -48,13 +48,7 @@ fn report_fits(
 }
 
 // The report of the accepted sheet in the words. An output that is too short is left as it is.
-pub fn report_sheet(
-    w0: &[u64],
-    st: Counts,
-    w1: &[u64],
-    w2: &mut [u64],
-    out: &mut [u8],
-) -> Reported
+pub fn report_sheet(w0: &[u64], st: Counts, w1: &[u64], w2: &mut [u64], out: &mut [u8]) -> Reported
     requires { ⌜ (8192 ≤ length (now w0)) × (8192 ≤ length (now w1)) × (8192 ≤ length (now w2)) ⌝ }
     requires { ⌜ KnownTyped st (now w0) (now w1) (now w2) × (2048 ≤ length (now out)) ⌝ }
     ensures { λ r. ⌜ Reports st (now (w0 .entry)) (now (w1 .entry)) (now (w2 .entry)) (now (w2 .exit)) (now (out .entry)) (now (out .exit)) r ⌝ }
