@@ -1,8 +1,8 @@
 use Prim.Native.Nat.{_-_}
 use native.Mathlib.Omega.{arith}
 use Rattle.rules.proofs.Marks.{Copying, copy-none, copy-more, copy-done}
-use Rattle.rules.proofs.evaluated.keep_marks.Statement.{statement}
-use Rattle.rules.proofs.evaluated.keep_marks.Tie as tie
+use Rattle.rules.proofs.all.keep_marks.Statement.{statement}
+use Rattle.rules.proofs.all.keep_marks.Tie as tie
 
 abbrev Inv-loop : tie.InvT-loop
 Inv-loop w2 w1₀ i₀ w1 i = Copying w2 w1₀ i w1
