@@ -118,5 +118,5 @@ pub fn class_known(t: FlatType, classes: u64) -> bool
     if tag(b) != 4 {
         return true;
     }
-    class_in(b) < classes
+    (class_in(b) as u64) < classes
 }

@@ -19,7 +19,7 @@ use Rattle.types.specs.declared.ClassNumber.the-variants as number
 use Rattle.types.specs.Flat.{parentsIn, letterOf, tyOf, joinedType}
 use Rattle.types.specs.Parts.{codeOf, outerCode, memberType, simpleClass, classOf, isAny, classNumber}
 use Rattle.types.proofs.Members.{no-collection, is-collection, class-is}
-use Rattle.nodes.specs.Nodes.{variable, leafOf, unaryOf, binaryOf}
+use Rattle.nodes.specs.Nodes.{variable, classIn, leafOf, unaryOf, binaryOf}
 use Rattle.judgements.proofs.Joins.{joined-yes, joined-no}
 
 -- ---- collections and kinds
@@ -88,7 +88,7 @@ module _ (n : ℕ) (w : ℕ → ℕ) (Γ : Env Ty) where
   unfolding leafType leafOf
   leaf-var k q e = rw q e
 
-  pub leaf-all : (k : ℕ) {r : Ty} → 2 ≤ k → (k ≡ 2 → ⊥) → (k ≡ 3 → ⊥) → (k ≡ 4 → ⊥) → (k ≡ 5 → ⊥) → r ≡ around (exactly set) (Class (w 1)) → typed r ≡ leafType n (leafOf k w) Γ
+  pub leaf-all : (k : ℕ) {r : Ty} → 2 ≤ k → (k ≡ 2 → ⊥) → (k ≡ 3 → ⊥) → (k ≡ 4 → ⊥) → (k ≡ 5 → ⊥) → r ≡ around (exactly set) (Class (classIn (w 1))) → typed r ≡ leafType n (leafOf k w) Γ
   unfolding leafType leafOf
   leaf-all k h a b c d e = rw (ne-eqb k 0 (λ q. omega arith), ne-eqb k 1 (λ q. omega arith), ne-eqb k 2 a, ne-eqb k 3 b, ne-eqb k 4 c, ne-eqb k 5 d) (ap typed e)
 
@@ -220,7 +220,7 @@ module _ (m : Model) (n : ℕ) where
     unfolding unaryType unaryOf
     unary-size q h = rw q h
 
-    pub unary-cast : (k ≡ 7 → ⊥) → (k ≡ 8 → ⊥) → (9 ≤ k → k ≤ 11 → ⊥) → a ≡ castType m n (w 2) t → a ≡ unaryType m n (unaryOf k w) t
+    pub unary-cast : (k ≡ 7 → ⊥) → (k ≡ 8 → ⊥) → (9 ≤ k → k ≤ 11 → ⊥) → a ≡ castType m n (classIn (w 2)) t → a ≡ unaryType m n (unaryOf k w) t
     unfolding unaryType unaryOf
     unary-cast p q r h = rw (ne-eqb k 7 p, ne-eqb k 8 q, ne-eqb k 9 (λ z. r (omega arith) (omega arith)), ne-eqb k 10 (λ z. r (omega arith) (omega arith)), ne-eqb k 11 (λ z. r (omega arith) (omega arith))) h
 

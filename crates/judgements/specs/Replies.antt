@@ -3,20 +3,18 @@ use mathlib.Core.Path.{_≡_}
 use mathlib.Core.Bool.{false}
 use mathlib.Core.Option.{Option, none, some}
 use mathlib.Core.List.{List, [], _∷_}
-use Prim.Native.Nat.{ℕ, zero, suc}
+use Prim.Native.Nat.{ℕ}
 use lib.ListN.{getD, set, take, drop}
 use Rattle.laws.specs.Choice.{if_then_else_, onSome}
 use Rattle.ocl.specs.Types.{Ty, Parents, join}
 use Rattle.ocl.specs.Environment.{Env}
 use Rattle.ocl.specs.Model.{Model}
 use Rattle.ocl.specs.Typing.{Answer, typed, refused, Marks, Typed}
-use Rattle.types.specs.declared.Base.{Base}
 use Rattle.types.specs.declared.Base.the-variants as b
-use Rattle.types.specs.declared.FlatType.{FlatType}
-use Rattle.types.specs.Flat.{tyOf}
+use Rattle.types.specs.Flat.{tyOf, bare}
 use Rattle.nodes.specs.Classes.{HoldsClasses}
 use Rattle.nodes.specs.Marks.{markWord}
-use Rattle.judgements.specs.declared.Slot.{Slot}
+use Rattle.judgements.specs.declared.TypeEnv.{TypeEnv}
 use Rattle.judgements.specs.declared.Reply.{Reply}
 use Rattle.judgements.specs.declared.Reply.the-variants as reply
 
@@ -30,27 +28,10 @@ meaning (reply.No c p) = refused c p
 unfoldable pub joinMore : Parents → Option Ty → Ty → Option Ty
 joinMore parent o t = onSome o (λ s. join parent s t)
 
--- ---- the environment: an array of slots gives each variable its type
+-- ---- the environment: each variable that is bound has its type
 
-abbrev pub freeSlot : Slot
-freeSlot = record { bound = false; tag = 0; outer = 0; middle = 0; inner = 0; class = 0 }
-
--- the base of a tag, with its class where it is one
-unfoldable pub baseOf : ℕ → ℕ → Base
-baseOf zero c = b.Void
-baseOf (suc zero) c = b.Bool
-baseOf (suc (suc zero)) c = b.Int
-baseOf (suc (suc (suc zero))) c = b.Any
-baseOf (suc (suc (suc (suc n)))) c = b.Class c
-
-abbrev pub flatOf : Slot → FlatType
-flatOf s = record { base = baseOf (s .tag) (s .class); outer = s .outer; middle = s .middle; inner = s .inner }
-
-unfoldable pub slotType : Slot → Option Ty
-slotType s = if s .bound then some (tyOf (flatOf s)) else none
-
-unfoldable pub envOf : List Slot → Env Ty
-envOf env j = slotType (getD env j freeSlot)
+unfoldable pub envOf : TypeEnv → Env Ty
+envOf e j = if getD (e .bound) j false then some (tyOf (getD (e .types) j (bare b.Void))) else none
 
 -- ---- the marks: word p of a table is that of node p's mark
 

@@ -65,7 +65,7 @@ pub fn attribute_type(
 }
 
 // The code of the letter that `collect` gives: a Sequence (3) gives a Sequence, any other collection a Bag (4).
-fn collect_code(code: u64) -> u64
+fn collect_code(code: u8) -> u8
     ensures { λ r. ⌜ r ≡ collectCode code ⌝ }
 {
     if code == 3 { 3 } else { 4 }
@@ -93,7 +93,16 @@ pub fn collect_type(
         return Reply::No(11, n as u64);
     };
     let kind = collect_code(code);
-    let found = row_type(parents, tables, rows, n, name, c, 64 * (4 - kind), marks);
+    let found = row_type(
+        parents,
+        tables,
+        rows,
+        n,
+        name,
+        c,
+        64 * (4 - kind as u64),
+        marks,
+    );
     let Reply::Is(u) = found else {
         return found;
     };

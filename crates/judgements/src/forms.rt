@@ -1,5 +1,5 @@
-// The type of each form with no operand or with strict operands, and of `if`, given the types of the operands. `n` is the node's number, which a refusal
-// names; `parents` is the table of parents that subtyping reads.
+// The type of each form with no operand or with strict operands, and of `if`, from the types of its operands. `n` is the node's
+// number, which a refusal names; `parents` is the table that subtyping reads. "Else 11" says: any other type is refused with 11.
 ghost use mathlib.Core.Path.{_≡_};
 ghost use Prim.Native.Nat.{_<_, _≤_};
 ghost use lib.ListN.{length};
@@ -10,7 +10,7 @@ ghost use Rattle.types.specs.Flat.{parentsIn, tyOf, letterOf, joinedType};
 ghost use Rattle.nodes.specs.Nodes.{word, leafOf, unaryOf, binaryOf};
 ghost use Rattle.judgements.specs.Replies.{meaning, envOf, joinMore};
 use super::Reply;
-use super::Slot;
+use super::TypeEnv;
 use super::environment::bound;
 use nodes::node_word;
 use types::Base;
@@ -32,7 +32,7 @@ use types::parts::wrap;
 
 // ---- what several forms ask
 
-// A condition is below Bool, else 11.
+// A condition must be below Bool, else 11.
 pub fn condition(parents: &[u64], n: u64, t: FlatType) -> Reply
     ensures { λ r. ⌜ ((m : Model) → m .parent ≡ parentsIn (now (parents .entry)) → meaning r ≡ below m n (tyOf t) Boolean (typed Boolean)) ⌝ }
 {
@@ -42,7 +42,7 @@ pub fn condition(parents: &[u64], n: u64, t: FlatType) -> Reply
     Reply::No(11, n)
 }
 
-// Both types below w, else 11; the type is r.
+// Both operands must be below w, else 11; the result has type r.
 pub fn both_below(
     parents: &[u64],
     n: u64,
@@ -62,7 +62,7 @@ pub fn both_below(
     Reply::No(11, n)
 }
 
-// The common type, else 10.
+// The common type of both, else 10.
 pub fn common_type(parents: &[u64], n: u64, t: FlatType, u: FlatType) -> Reply
     ensures { λ r. ⌜ ((m : Model) → m .parent ≡ parentsIn (now (parents .entry)) → meaning r ≡ common n (joinOf (m .parent) (tyOf t) (tyOf u)) typed) ⌝ }
 {
@@ -72,7 +72,7 @@ pub fn common_type(parents: &[u64], n: u64, t: FlatType, u: FlatType) -> Reply
     Reply::Is(w)
 }
 
-// Bool where there is a common type, else 10.
+// Bool, if both have a common type, else 10.
 fn comparable(parents: &[u64], n: u64, t: FlatType, u: FlatType) -> Reply
     ensures { λ r. ⌜ ((m : Model) → m .parent ≡ parentsIn (now (parents .entry)) → meaning r ≡ common n (joinOf (m .parent) (tyOf t) (tyOf u)) (λ w. typed Boolean)) ⌝ }
 {
@@ -82,8 +82,8 @@ fn comparable(parents: &[u64], n: u64, t: FlatType, u: FlatType) -> Reply
     Reply::Is(plain(Base::Bool))
 }
 
-// The letter of the code around t, unless that is over three deep (13).
-pub fn wrapped(n: u64, code: u64, t: FlatType) -> Reply
+// A collection of t with the letter of the code; refused with 13 if that is over three deep.
+pub fn wrapped(n: u64, code: u8, t: FlatType) -> Reply
     requires { ⌜ 0 < code ⌝ }
     ensures { λ r. ⌜ meaning r ≡ wrapType n (letterOf code) (tyOf t) ⌝ }
 {
@@ -93,7 +93,7 @@ pub fn wrapped(n: u64, code: u64, t: FlatType) -> Reply
     Reply::No(13, n)
 }
 
-// The common type with one type more, where there is one of those before it.
+// The common type of one type more and those before it, if they have one.
 pub fn join_more(parents: &[u64], common: Joined, t: FlatType) -> Joined
     ensures { λ r. ⌜ joinedType r ≡ joinMore (parentsIn (now (parents .entry))) (joinedType common) (tyOf t) ⌝ }
 {
@@ -103,8 +103,8 @@ pub fn join_more(parents: &[u64], common: Joined, t: FlatType) -> Joined
     join(parents, s, t)
 }
 
-// The letter of the code around a common type, else 10.
-pub fn around_common(n: u64, code: u64, joined: Joined) -> Reply
+// A collection of the common type, if there is one, else 10.
+pub fn around_common(n: u64, code: u8, joined: Joined) -> Reply
     requires { ⌜ 0 < code ⌝ }
     ensures { λ r. ⌜ meaning r ≡ common n (joinedType joined) (wrapType n (letterOf code)) ⌝ }
 {
@@ -116,7 +116,7 @@ pub fn around_common(n: u64, code: u64, joined: Joined) -> Reply
 
 // ---- forms with no operand
 
-pub fn leaf_type(nodes: &[u64], form: u64, n: usize, env: [Slot; 16]) -> Reply
+pub fn leaf_type(nodes: &[u64], form: u64, n: usize, env: TypeEnv) -> Reply
     requires { ⌜ (n < 768) × (6144 ≤ length (now nodes)) ⌝ }
     ensures { λ r. ⌜ meaning r ≡ leafType n (leafOf form (word (now (nodes .entry)) n)) (envOf env) ⌝ }
 {
@@ -126,13 +126,13 @@ pub fn leaf_type(nodes: &[u64], form: u64, n: usize, env: [Slot; 16]) -> Reply
         3 => Reply::Is(plain(Base::Int)),
         4 => bound(n as u64, 0, env),
         5 => bound(n as u64, wide(node_word(nodes, n, 1)) % 16, env),
-        _ => Reply::Is(set_of_class(node_word(nodes, n, 1))),
+        _ => Reply::Is(set_of_class((node_word(nodes, n, 1) % 256) as u8)),
     }
 }
 
 // ---- forms with one strict operand
 
-// `size`: of a collection, else 11; Void is none.
+// `size` takes a collection, else 11; Void is none.
 fn size_type(n: u64, t: FlatType) -> Reply
     ensures { λ r. ⌜ meaning r ≡ onCollection (tyOf t) (refused 11 n) (λ l u. typed Integer) ⌝ }
 {
@@ -142,8 +142,8 @@ fn size_type(n: u64, t: FlatType) -> Reply
     Reply::Is(plain(Base::Int))
 }
 
-// `asSet`, `asSequence`, `asBag`: the letter of the code around the member type of a collection, else 11.
-fn converted(n: u64, code: u64, t: FlatType) -> Reply
+// `asSet`, `asSequence`, `asBag` take a collection, else 11; its letter becomes that of the code.
+fn converted(n: u64, code: u8, t: FlatType) -> Reply
     requires { ⌜ 0 < code ⌝ }
     ensures { λ r. ⌜ meaning r ≡ onCollection (tyOf t) (refused 11 n) (λ l u. wrapType n (letterOf code) u) ⌝ }
 {
@@ -153,8 +153,8 @@ fn converted(n: u64, code: u64, t: FlatType) -> Reply
     wrapped(n, code, member_type(t))
 }
 
-// `as`: from Any, or from a class above or below c; an unrelated class is 10, any other type 11.
-fn cast_type(parents: &[u64], n: u64, c: u64, t: FlatType) -> Reply
+// `as` takes Any, or a class above or below c; an unrelated class is refused with 10, any other type with 11.
+fn cast_type(parents: &[u64], n: u64, c: u8, t: FlatType) -> Reply
     ensures { λ r. ⌜ ((m : Model) → m .parent ≡ parentsIn (now (parents .entry)) → meaning r ≡ castType m n c (tyOf t)) ⌝ }
 {
     if is_any(t) {
@@ -163,10 +163,10 @@ fn cast_type(parents: &[u64], n: u64, c: u64, t: FlatType) -> Reply
     let ClassNumber::Is(d) = is_class(t) else {
         return Reply::No(11, n);
     };
-    if class_below(parents, d, c) {
+    if class_below(parents, d, c as u64) {
         return Reply::Is(plain(Base::Class(c)));
     }
-    if class_below(parents, c, d) {
+    if class_below(parents, c as u64, d) {
         return Reply::Is(plain(Base::Class(c)));
     }
     Reply::No(10, n)
@@ -179,14 +179,14 @@ pub fn unary_type(parents: &[u64], nodes: &[u64], form: u64, n: usize, t: FlatTy
     match form {
         7 => condition(parents, n as u64, t),
         8 => size_type(n as u64, t),
-        9..=11 => converted(n as u64, form - 7, t),
-        _ => cast_type(parents, n as u64, node_word(nodes, n, 2), t),
+        9..=11 => converted(n as u64, (form - 7) as u8, t),
+        _ => cast_type(parents, n as u64, (node_word(nodes, n, 2) % 256) as u8, t),
     }
 }
 
 // ---- forms with two strict operands
 
-// `includes`: a collection, else 11, whose member type has a common type with u, else 10.
+// `includes` takes a collection, else 11; its member type and u must have a common type, else 10.
 fn includes_type(parents: &[u64], n: u64, t: FlatType, u: FlatType) -> Reply
     ensures { λ r. ⌜ ((m : Model) → m .parent ≡ parentsIn (now (parents .entry)) → meaning r ≡ onCollection (tyOf t) (refused 11 n) (λ l e. common n (joinOf (m .parent) e (tyOf u)) (λ w. typed Boolean))) ⌝ }
 {
@@ -196,7 +196,7 @@ fn includes_type(parents: &[u64], n: u64, t: FlatType, u: FlatType) -> Reply
     comparable(parents, n, member_type(t), u)
 }
 
-// `including`: S, Q or B, else 11, around the common type of its members and u.
+// `including` takes a Set, Sequence or Bag, else 11; its member type and u must have a common type, else 10.
 fn including_type(parents: &[u64], n: u64, t: FlatType, u: FlatType) -> Reply
     ensures { λ r. ⌜ ((m : Model) → m .parent ≡ parentsIn (now (parents .entry)) → meaning r ≡ binaryType m n (binaryOf 21) (tyOf t) (tyOf u)) ⌝ }
 {
@@ -207,7 +207,7 @@ fn including_type(parents: &[u64], n: u64, t: FlatType, u: FlatType) -> Reply
     around_common(n, code, join(parents, member_type(t), u))
 }
 
-// `union`: both S, both Q or both B, else 11, around the common type of their members.
+// `union` takes two Sets, two Sequences or two Bags, else 11; their member types must have a common type, else 10.
 fn union_type(parents: &[u64], n: u64, t: FlatType, u: FlatType) -> Reply
     ensures { λ r. ⌜ ((m : Model) → m .parent ≡ parentsIn (now (parents .entry)) → meaning r ≡ binaryType m n (binaryOf 22) (tyOf t) (tyOf u)) ⌝ }
 {
@@ -237,7 +237,7 @@ pub fn binary_type(parents: &[u64], form: u64, n: u64, t: FlatType, u: FlatType)
 
 // ---- `if`
 
-// `if`: a condition below Bool, else 11; then the common type of the branches, else 10.
+// The condition must be below Bool, else 11; then the branches must have a common type, else 10.
 pub fn conditional_type(parents: &[u64], n: u64, c: FlatType, t: FlatType, u: FlatType) -> Reply
     ensures { λ r. ⌜ ((m : Model) → m .parent ≡ parentsIn (now (parents .entry)) → meaning r ≡ conditionalType m n (tyOf c) (tyOf t) (tyOf u)) ⌝ }
 {

@@ -1,4 +1,4 @@
-// The forms with a single operand, strict or not, by the form's code: what follows once the operand has its type.
+// All forms with a single operand, by the form's code: what follows once the operand has its type.
 ghost use Prim.Native.Nat.{_<_, _≤_};
 ghost use lib.ListN.{length};
 ghost use Rattle.ocl.specs.Model.{Model};
@@ -15,7 +15,7 @@ use types::Base;
 use types::FlatType;
 use types::parts::plain;
 
-// Node n, whose operand has type t. `isUndef` is Bool, whatever its operand.
+// Node n, whose operand has type t. `isUndef` takes any type.
 pub fn single_type(
     nodes: &[u64],
     parents: &[u64],

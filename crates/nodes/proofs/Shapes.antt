@@ -7,7 +7,7 @@ use native.Mathlib.Omega.{arith}
 use lib.IntN.{ℤ}
 use lib.ListN.{length, getD}
 use lib.Dec.{leb}
-use borrow.Author.Tests.{leb-true}
+use borrow.Author.Tests.{leb-true, ltb-true}
 use Rattle.laws.specs.Integers.{bias, unbias}
 use Rattle.laws.specs.Lists.{Each, each-nil, each-cons}
 use Rattle.laws.proofs.Tests.{and-true}
@@ -16,10 +16,10 @@ use Rattle.ocl.specs.Evaluation.{inRange}
 use Rattle.ocl.specs.Forms.{plus, minus, times, div, modulo, Connective, and, or, Quantifier, forAll, exists, Access, ofObject, ofMembers, Leaf, truth, undef, number, self, var, all, Unary, negation, sizeOf, convert, castTo, Binary, equal, less, arith as calculation, includes, including, union, Expr, node, Form}
 use Rattle.sheet.specs.Lines.{Shape, leaf, unary, binary, connective, isUndef, conditional, letIn, attribute, quantified, iterate, assemble}
 use Rattle.sheet.specs.Sheet.{operandsOf, growAll, grow}
-use Rattle.sheet.specs.Refusals.{isVariable, typeWithin, leafWithin, formWithin}
+use Rattle.sheet.specs.Refusals.{isVariable, isClass, typeWithin, leafWithin, unaryWithin, formWithin}
 use Rattle.types.specs.Word.{typeIn}
 use Rattle.ocl.proofs.Ranges.{unbias-bias, bias-small}
-use Rattle.nodes.specs.Nodes.{TypeSaid, word, variable, leafOf, unaryOf, arithByCode, binaryOf, connectiveOf, quantifierOf, kindOf, accessOf, operandsIn, formOf, treesBelow, treeAt, leafWords, unaryWords, arithCode, binaryCode, connectiveCode, quantifierCode, accessCode, assembleCode, operandWord, shapeWords}
+use Rattle.nodes.specs.Nodes.{TypeSaid, word, variable, classIn, leafOf, unaryOf, arithByCode, binaryOf, connectiveOf, quantifierOf, kindOf, accessOf, operandsIn, formOf, treesBelow, treeAt, leafWords, unaryWords, arithCode, binaryCode, connectiveCode, quantifierCode, accessCode, assembleCode, operandWord, shapeWords}
 use Rattle.nodes.proofs.Nodes.{tree-law, below-law, assemble-range}
 
 -- ---- numbers that the words hold
@@ -30,6 +30,10 @@ integer-back z h = let q : bias z % 4294967296 ≡ bias z = omega (arith, bias-s
 variable-back : (i : ℕ) → isVariable i ≡ true → variable i ≡ i
 unfolding isVariable
 variable-back i h = omega (arith, leb-true i 15 (and-true (leb 1 i) (leb i 15) h .1))
+
+class-back : (c : ℕ) → isClass c ≡ true → classIn c ≡ c
+unfolding isClass
+class-back c h = omega (arith, ltb-true c 64 h)
 
 -- ---- codes of collections
 
@@ -65,16 +69,16 @@ module _ (f g : ℕ → Expr) (w : ℕ → ℕ) (first n type line : ℕ) (near 
   leaf-grow (number z) h ws = rw (ws 0 (omega arith), ws 1 (omega arith), integer-back z h)
   leaf-grow self h ws = rw (ws 0 (omega arith))
   leaf-grow (var i) h ws = rw (ws 0 (omega arith), ws 1 (omega arith), variable-back i h)
-  leaf-grow (all c) h ws = rw (ws 0 (omega arith), ws 1 (omega arith))
+  leaf-grow (all c) h ws = rw (ws 0 (omega arith), ws 1 (omega arith), class-back c h)
 
-  unary-grow : (op : Unary) (a : ℕ) → a < n → Words (unary op a) → formOf f w (w 0) ≡ Form.unary op (g a)
-  unfolding Words shapeWords unaryWords formOf unaryOf
-  unary-grow negation a l ws = rw (ws 0 (omega arith), ws 1 (omega arith), near a l)
-  unary-grow sizeOf a l ws = rw (ws 0 (omega arith), ws 1 (omega arith), near a l)
-  unary-grow (convert set) a l ws = rw (ws 0 (omega arith), ws 1 (omega arith), near a l)
-  unary-grow (convert sequence) a l ws = rw (ws 0 (omega arith), ws 1 (omega arith), near a l)
-  unary-grow (convert bag) a l ws = rw (ws 0 (omega arith), ws 1 (omega arith), near a l)
-  unary-grow (castTo c) a l ws = rw (ws 0 (omega arith), ws 1 (omega arith), ws 2 (omega arith), near a l)
+  unary-grow : (op : Unary) (a : ℕ) → unaryWithin op ≡ true → a < n → Words (unary op a) → formOf f w (w 0) ≡ Form.unary op (g a)
+  unfolding Words shapeWords unaryWords unaryWithin formOf unaryOf
+  unary-grow negation a h l ws = rw (ws 0 (omega arith), ws 1 (omega arith), near a l)
+  unary-grow sizeOf a h l ws = rw (ws 0 (omega arith), ws 1 (omega arith), near a l)
+  unary-grow (convert set) a h l ws = rw (ws 0 (omega arith), ws 1 (omega arith), near a l)
+  unary-grow (convert sequence) a h l ws = rw (ws 0 (omega arith), ws 1 (omega arith), near a l)
+  unary-grow (convert bag) a h l ws = rw (ws 0 (omega arith), ws 1 (omega arith), near a l)
+  unary-grow (castTo c) a h l ws = rw (ws 0 (omega arith), ws 1 (omega arith), ws 2 (omega arith), near a l, class-back c h)
 
   binary-grow : (op : Binary) (a b : ℕ) → a < n → b < n → Words (binary op a b) → formOf f w (w 0) ≡ Form.binary op (g a) (g b)
   unfolding Words shapeWords binaryCode arithCode formOf binaryOf arithByCode
@@ -135,7 +139,7 @@ module _ (f g : ℕ → Expr) (w : ℕ → ℕ) (first n type line : ℕ) (near 
       → ((j : ℕ) → j < 8 → w j ≡ getD (shapeWords first type line x) j 0) → formOf f w (w 0) ≡ grow g x
   unfolding grow operandsOf formWithin Words shapeWords formOf
   form-grow (leaf l) h s o c ws = leaf-grow l h ws
-  form-grow (unary op a) h s (each-cons l each-nil) c ws = unary-grow op a l ws
+  form-grow (unary op a) h s (each-cons l each-nil) c ws = unary-grow op a h l ws
   form-grow (binary op a b) h s (each-cons l (each-cons m each-nil)) c ws = binary-grow op a b l m ws
   form-grow (connective op a b) h s (each-cons l (each-cons m each-nil)) c ws = connective-grow op a b l m ws
   form-grow (isUndef a) h s (each-cons l each-nil) c ws = rw (ws 0 (omega arith), ws 1 (omega arith), near a l)

@@ -21,6 +21,10 @@ word t n k = getD t (8 * n + k) 0
 abbrev pub variable : ℕ → ℕ
 variable w = w % 16
 
+-- a class's number, a byte, which an accepted sheet has below 64
+abbrev pub classIn : ℕ → ℕ
+classIn w = w % 256
+
 -- ---- a form by its code k and its words w
 
 -- codes 0 to 6
@@ -32,7 +36,7 @@ leafOf k w =
     else if eqb k 3 then number (unbias (w 1 % 4294967296))
     else if eqb k 4 then self
     else if eqb k 5 then var (variable (w 1))
-    else all (w 1)
+    else all (classIn (w 1))
 
 -- codes 7 to 12
 unfoldable pub unaryOf : ℕ → (ℕ → ℕ) → Unary
@@ -42,7 +46,7 @@ unaryOf k w =
     else if eqb k 9 then convert set
     else if eqb k 10 then convert sequence
     else if eqb k 11 then convert bag
-    else castTo (w 2)
+    else castTo (classIn (w 2))
 
 -- codes 15 to 19 of the binary forms
 unfoldable pub arithByCode : ℕ → Arith

@@ -188,7 +188,7 @@ module _ {st : Counts} {w0 env : List ℕ} (k x : ℕ) {sp s : ℕ} {B : List �
   unfolding leafFor leafOf leafRun
   leaf-var e q x₁ = record { small = x₁ .small; ran = λ w ok ρ rel. rw (e, ← q) (x₁ .ran ρ rel) }
 
-  pub leaf-all : {A : List ℕ} (f : Formed) {r : Ended} → k ≡ 6 → sp ≤ length B → Instances st w0 x sp B A f → r ≡ formedAs f s → Evals (ModelIn st w0) (leafFor k x) env sp s B A r
+  pub leaf-all : {A : List ℕ} (f : Formed) {r : Ended} → k ≡ 6 → sp ≤ length B → Instances st w0 (x % 256) sp B A f → r ≡ formedAs f s → Evals (ModelIn st w0) (leafFor k x) env sp s B A r
   unfolding leafFor leafOf leafRun
   leaf-all f e room N q = rw q (record { small = formed-small f s (N .small); ran = λ w ok ρ rel. rw e (formed-ran B s room (N .is (w .model) (ok .holds))) })
 

@@ -2,7 +2,7 @@
 use mathlib.Core.Path.{_≡_, refl, sym, ap, _∙_}
 use mathlib.Core.Bool.{Bool, true, false, not}
 use mathlib.Core.List.{List}
-use Prim.Native.Nat.{ℕ, zero, suc, _+_, _-_, _<_, _≤_}
+use Prim.Native.Nat.{ℕ, zero, suc, _+_, _-_, _%_, _<_, _≤_}
 use native.Mathlib.Omega.{arith}
 use lib.ListN.{length, getD}
 use lib.IntN.{pos}
@@ -160,7 +160,7 @@ unary-8 k c e = rw e
 pub unary-9 : (k c : ℕ) → 9 ≤ k → k < 12 → unaryFor k c ≡ convert (kindFor (k - 9))
 unary-9 k c h l = let e : 9 + (k - 9) ≡ k = omega arith in ap (λ (n : ℕ). unaryFor n c) (sym e) ∙ convert-codes (k - 9) c (omega arith)
 
-pub unary-12 : (k c : ℕ) → k ≡ 12 → unaryFor k c ≡ castTo c
+pub unary-12 : (k c : ℕ) → k ≡ 12 → unaryFor k c ≡ castTo (c % 256)
 unfolding unaryFor unaryOf
 unary-12 k c e = rw e
 

@@ -126,7 +126,7 @@ pub fn unary_apply(
         7 => negate(stack, sp, len, steps),
         8 => member_total(stack, sp, len, steps),
         9..=11 => change(form - 9, stack, sp, len, steps),
-        _ => cast(tables, st, c, stack, sp, len, steps),
+        _ => cast(tables, st, c % 256, stack, sp, len, steps),
     }
 }
 

@@ -93,6 +93,6 @@ pub fn leaf(
         3 => put(stack, sp, Simple::Integer { biased: word % END }, steps),
         4 => variable(0, env, stack, sp, steps),
         5 => variable(wide(word % 16), env, stack, sp, steps),
-        _ => formed(instances(tables, st, word, stack, sp), steps),
+        _ => formed(instances(tables, st, word % 256, stack, sp), steps),
     }
 }

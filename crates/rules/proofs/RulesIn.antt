@@ -69,6 +69,7 @@ module _ {st : Counts} {w0 w1 : List ℕ} {s : Sheet} (fine : Fine st) (holds : 
         body = entry-by (treeAt w1) (λ (y : Rule). y .body) 4512 w0 (s .rules) x (holds .rules .bodies) r (a .0) ∙ ap (λ (y : Rule). y .body) (a .1);
         root = root-below r (a .0);
         shallow = each-elem r (good .rules) e .shallow;
+        low-context = each-elem r (good .rules) e .low-context;
       }
 
   pub rule-there : (r : ℕ) → r < st .rules → (x : Rule) × (getElem? (s .rules) r ≡ some x)

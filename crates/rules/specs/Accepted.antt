@@ -39,6 +39,7 @@ pub record RuleIn (w0 w1 : List ℕ) (r : ℕ) (x : Rule) : Type 0 where
   pub body : treeAt w1 (getD w0 (4512 + r) 0) ≡ x .body
   pub root : getD w0 (4512 + r) 0 < 768
   pub shallow : levels (x .body) ≤ mostLevels
+  pub low-context : x .context < 64
 
 pub record Ready (st : Counts) (w0 w1 : List ℕ) (s : Sheet) : Type 0 where
   -- classes and rows, for typing

@@ -19,7 +19,7 @@ pub fn type_numbered(w0: &[u64], st: Counts, w1: &[u64], w2: &mut [u64], r: usiz
 {
     let classes = wide(st.classes);
     let rows = wide(st.rows);
-    let context = w0[4448 + r];
+    let context = w0[4448 + r] as u8;
     let root = wide(w0[4512 + r]);
     type_rule(w0, classes, rows, w1, w2, context, root)
 }

@@ -46,6 +46,7 @@ rule-ok n c body h e l = let r = last-tree (c .trees) body e in record {
   on-sheet = subst (λ i. Each (λ p. p < i) (numbers body)) (h .count) (subst (λ x. Each (λ p. p < c .first + length (c .trees)) (numbers x)) (r .is) (h .forest .below (r .index) (r .inside)));
   shallow = l;
   in-range = subst (λ x. InRange (literals x)) (r .is) (tree-in-range (h .in-range) (r .index));
+  low-context = h .low-context;
 }
 
 good-body : (s : Sheet) (c : Current) → Good s → CurrentOk (length (s .lines)) c → (o : Option Expr) → lastTree (c .trees) ≡ o

@@ -22,7 +22,7 @@ use Rattle.ocl.specs.Forms.{node, levels}
 use Rattle.ocl.specs.Laws.{integersInRange, Formed, numbers, literals}
 use Rattle.sheet.specs.Lines.{Line, classLine, rowLine, objectLine, valueLine, ruleLine, nodeLine, Shape}
 use Rattle.sheet.specs.Sheet.{Slot, Rule, Current, Sheet, empty, noRow, modelOf, operandsOf, grow, treeOf, withNode, added, mostLevels}
-use Rattle.sheet.specs.Refusals.{partWithin, valueWithin, isNode, formWithin, withinLimits, blockOf, numbered, inOrder, afterSlots, ordered, parentSmaller, partsKnown, suits, operandsFresh, treeHolds}
+use Rattle.sheet.specs.Refusals.{isClass, partWithin, valueWithin, isNode, formWithin, withinLimits, blockOf, numbered, inOrder, afterSlots, ordered, parentSmaller, partsKnown, suits, operandsFresh, treeHolds}
 use Rattle.sheet.proofs.Ascending.{Ascending, ascending-nil, ascending-more}
 use Rattle.sheet.proofs.InRange.{InRange, value-in-range, tree-in-range, grown-in-range}
 use Rattle.sheet.proofs.Formed.{value-formed}
@@ -72,17 +72,19 @@ pub record SlotOk (m : Model) (x : Slot) : Type 0 where
   pub formed : Formed (x .value)
   pub low-row : x .row < 64
 
--- an ended rule's tree, on a sheet with n nodes
+-- an ended rule, on a sheet with n nodes
 pub record RuleOk (n : ℕ) (r : Rule) : Type 0 where
   pub distinct : Distinct (numbers (r .body))
   pub on-sheet : Each (λ p. p < n) (numbers (r .body))
   pub shallow : levels (r .body) ≤ mostLevels
   pub in-range : InRange (literals (r .body))
+  pub low-context : r .context < 64
 
 pub record CurrentOk (n : ℕ) (c : Current) : Type 0 where
   pub forest : Forest (c .first) (c .trees) (c .used)
   pub count : c .first + length (c .trees) ≡ n
   pub in-range : Each (λ e. InRange (literals e)) (c .trees)
+  pub low-context : c .context < 64
 
 pub data OpenOk (n : ℕ) : Option Current → Type 0 where
   no-rule : OpenOk n none
@@ -230,21 +232,21 @@ good-value s k o a v g m = record {
 }
 
 good-rule : (s : Sheet) (k n c : ℕ) → Good s → Met s (ruleLine n c) → Good (added s k (ruleLine n c))
-unfolding added plain withinLimits numbered
+unfolding added plain withinLimits isClass numbered
 good-rule s k n c g m = record {
   parents = g .parents;
   early = λ h. absurd (omega arith);
   slots = g .slots;
   ascending = g .ascending;
   rules = g .rules;
-  current = open-rule (record { forest = forest-empty (length (s .lines)); count = omega arith; in-range = each-nil });
+  current = open-rule (record { forest = forest-empty (length (s .lines)); count = omega arith; in-range = each-nil; low-context = ltb→lt c 64 (and-r (ltb n 64) _ (m .limits)) });
   room = λ d e. omega (arith, eqb→eq n (length (s .rules)) (met-numbered s (ruleLine n c) m), ltb→lt n 64 (and-l (ltb n 64) _ (m .limits)));
 }
 
 -- ---- a node line
 
 rules-more : {n : ℕ} {l : List Rule} → Each (RuleOk n) l → Each (RuleOk (suc n)) l
-rules-more h = each-imp (λ r x. record { distinct = x .distinct; on-sheet = each-imp (λ p l. omega arith) (x .on-sheet); shallow = x .shallow; in-range = x .in-range }) h
+rules-more h = each-imp (λ r x. record { distinct = x .distinct; on-sheet = each-imp (λ p l. omega arith) (x .on-sheet); shallow = x .shallow; in-range = x .in-range; low-context = x .low-context }) h
 
 current-more : (n : ℕ) (x : Shape) {o : Option Current} → OpenOk n o → T (formWithin x) → T (operandsFresh o x) → OpenOk (suc n) (onSome o (λ c. some (withNode c x)))
 unfolding onSome withNode operandsFresh literals
@@ -253,6 +255,7 @@ current-more n x (open-rule {c} r) w h = open-rule (record {
   forest = forest-more (c .first) (c .trees) (c .used) x (r .forest) h;
   count = omega (arith, r .count, length-more (c .trees) (node (c .first + length (c .trees)) (grow (treeOf (c .trees)) x)));
   in-range = each-append (r .in-range) (each-cons (grown-in-range (treeOf (c .trees)) (tree-in-range (r .in-range)) x w) each-nil);
+  low-context = r .low-context;
 })
 
 -- a rule was open already

@@ -85,7 +85,7 @@ fn base_suits(parents: &[u64], objects: &[u64], base: Base, cell: u64) -> bool
     }
     let sort = sort_of(cell);
     if sort == 2 {
-        return object_suits(parents, objects, payload_of(cell), y, class_in(base));
+        return object_suits(parents, objects, payload_of(cell), y, class_in(base) as u64);
     }
     if 2 < sort {
         return false;
@@ -97,7 +97,7 @@ fn base_suits(parents: &[u64], objects: &[u64], base: Base, cell: u64) -> bool
 }
 
 // Whether the value with this first cell is a collection of the letter's kind.
-fn letter_suits(letter: u64, cell: u64) -> bool
+fn letter_suits(letter: u8, cell: u64) -> bool
     ensures { λ r. ⌜ LetterSuits letter cell r ⌝ }
 {
     let sort = sort_of(cell);
@@ -110,7 +110,7 @@ fn letter_suits(letter: u64, cell: u64) -> bool
     if 4 < letter {
         return true;
     }
-    sort == letter + 1
+    sort == letter as u64 + 1
 }
 
 // Whether the value from p to end belongs to the type.

@@ -25,25 +25,28 @@ pub bits-high : (k : ℕ) → 8 ≤ k → ThreeBits k 1
 bits-high k h = record { small = omega arith; same = λ base under. high-same k base under h }
 
 -- a base's number says the base
-base-back : (a : Base) (n : ℕ) → n ≡ baseTag a + baseClass a → baseIn n ≡ a
+base-back : (a : Base) (n : ℕ) → baseClass a < 256 → n ≡ baseTag a + baseClass a → baseIn n ≡ a
 unfolding baseIn
-base-back b.Void n e = rw e
-base-back b.Bool n e = rw e
-base-back b.Int n e = rw e
-base-back b.Any n e = rw e
-base-back (b.Class c) n e = let q : n ≡ suc (suc (suc (suc c))) = omega arith in rw q
+base-back b.Void n s e = rw e
+base-back b.Bool n s e = rw e
+base-back b.Int n s e = rw e
+base-back b.Any n s e = rw e
+base-back (b.Class c) n s e =
+    let q : n ≡ suc (suc (suc (suc c))) = omega arith in
+    let l : c % 256 ≡ c = omega arith in
+    rw q (ap b.Class l)
 
-pub base-class : (n : ℕ) → 4 ≤ n → b.Class (n - 4) ≡ baseIn n
+pub base-class : (n : ℕ) → 4 ≤ n → b.Class ((n - 4) % 256) ≡ baseIn n
 unfolding baseIn
 base-class zero h = absurd (omega arith)
 base-class (suc zero) h = absurd (omega arith)
 base-class (suc (suc zero)) h = absurd (omega arith)
 base-class (suc (suc (suc zero))) h = absurd (omega arith)
-base-class (suc (suc (suc (suc c)))) h = ap b.Class (omega arith)
+base-class (suc (suc (suc (suc c)))) h = let e : suc (suc (suc (suc c))) - 4 ≡ c = omega arith in ap (λ (k : ℕ). b.Class (k % 256)) e
 
-pub pack-law : (t : FlatType) (n o m i : ℕ) → n ≡ baseTag (t .base) + baseClass (t .base) → ThreeBits (t .outer) o → ThreeBits (t .middle) m → ThreeBits (t .inner) i → typeIn (o + 8 * m + 64 * i + 512 * n) ≡ tyOf t
+pub pack-law : (t : FlatType) (n o m i : ℕ) → baseClass (t .base) < 256 → n ≡ baseTag (t .base) + baseClass (t .base) → ThreeBits (t .outer) o → ThreeBits (t .middle) m → ThreeBits (t .inner) i → typeIn (o + 8 * m + 64 * i + 512 * n) ≡ tyOf t
 unfolding typeIn flatIn
-pack-law t n o m i e p q r =
+pack-law t n o m i s e p q r =
     let w = o + 8 * m + 64 * i + 512 * n in
     let wo : w % 8 ≡ o = omega (arith, p .small) in
     let w8 : w / 8 ≡ m + 8 * (i + 8 * n) = omega (arith, p .small) in
@@ -51,7 +54,7 @@ pack-law t n o m i e p q r =
     let w64 : w / 64 ≡ i + 8 * n = omega (arith, p .small, q .small) in
     let wi : w / 64 % 8 ≡ i = rw w64 (omega (arith, r .small)) in
     let wn : w / 512 ≡ n = omega (arith, p .small, q .small, r .small) in
-    rw (wo, wm, wi, wn, base-back (t .base) n e, p .same, q .same, r .same)
+    rw (wo, wm, wi, wn, base-back (t .base) n s e, p .same, q .same, r .same)
 
 pub tag-le : (a : Base) → baseTag a ≤ 4
 tag-le b.Void = omega arith

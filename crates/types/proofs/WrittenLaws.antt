@@ -25,7 +25,7 @@ pub puts-word : {x y : Base} {at r : ℕ} {a c : Bytes} → x ≡ y → Puts at 
 puts-word e p h = (rw e p, omega (arith, p .end))
 
 -- what `put_base` asks of the calls in it for a class, and what they give
-module _ {c : ℕ} (word : c < 2 ^ 64) (at : ℕ) (a : Bytes) (room : at + 21 ≤ length a) {b' : Bytes} {e : ℕ} (sign : Puts at (35 ∷ []) a b' e) where
+module _ {c : ℕ} (byte : c < 2 ^ 8) (at : ℕ) (a : Bytes) (room : at + 21 ≤ length a) {b' : Bytes} {e : ℕ} (sign : Puts at (35 ∷ []) a b' e) where
   class-room : at + length ((35 ∷ []) ++ spellNumber c) ≤ length a
   class-room = omega (arith, length-append (35 ∷ []) (spellNumber c), digits-at-most 20 c (omega arith) (omega arith))
 

@@ -41,18 +41,18 @@ pub fn class_below(parents: &[u64], c: u64, d: u64) -> bool
 }
 
 // The nearest class that c and d are both below, else Any.
-pub fn common_class(parents: &[u64], c: u64, d: u64) -> Base
+pub fn common_class(parents: &[u64], c: u8, d: u8) -> Base
     ensures { λ r. ⌜ baseType r ≡ simple (simpleJoin (parentsIn (now (parents .entry))) (class c) (class d)) ⌝ }
 {
     let mut x = c;
     loop {
-        if class_below(parents, d, x) {
+        if class_below(parents, d as u64, x as u64) {
             return Base::Class(x);
         }
-        let p = parent(parents, x);
+        let p = parent(parents, x as u64);
         if p == 0 {
             return Base::Any;
         }
-        x = p - 1;
+        x = (p - 1) as u8;
     }
 }

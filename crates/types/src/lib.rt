@@ -9,22 +9,22 @@ pub mod rows; // the attribute row that a class reads
 pub mod reading; // a field that spells a type
 pub mod spelling; // a type, written
 
-// A type with no letter around it.
+// A type with no letter around it. A class's number is a byte: an accepted sheet has it below 64.
 pub enum Base {
     Void,
     Bool,
     Int,
     Any,
-    Class(u64),
+    Class(u8),
 }
 
 // A base with at most three letters around it, the outermost first. A code is 0 for none, 1 for C, 2 for S, 3 for Q, 4 for
 // B; codes after a 0 mean nothing.
 pub struct FlatType {
     pub base: Base,
-    pub outer: u64,
-    pub middle: u64,
-    pub inner: u64,
+    pub outer: u8,
+    pub middle: u8,
+    pub inner: u8,
 }
 
 // The common type of two types, if they have one.

@@ -24,7 +24,7 @@ pub fn tag(b: Base) -> u64
 }
 
 // The class in a base, 0 where there is none.
-pub fn class_in(b: Base) -> u64
+pub fn class_in(b: Base) -> u8
     ensures { λ r. ⌜ r ≡ baseClass b ⌝ }
 {
     match b {
@@ -49,7 +49,7 @@ fn base_below(parents: &[u64], a: Base, b: Base) -> bool
     }
     if x == 4 {
         if y == 4 {
-            return class_below(parents, class_in(a), class_in(b));
+            return class_below(parents, class_in(a) as u64, class_in(b) as u64);
         }
         return false;
     }
@@ -84,7 +84,7 @@ fn base_join(parents: &[u64], a: Base, b: Base) -> Base
 }
 
 // Whether the letter of code k is that of l, or l's is C.
-fn letter_below(k: u64, l: u64) -> bool
+fn letter_below(k: u8, l: u8) -> bool
     ensures { λ r. ⌜ r ≡ letterSubtype (letterOf k) (letterOf l) ⌝ }
 {
     if l < 2 {
@@ -97,7 +97,7 @@ fn letter_below(k: u64, l: u64) -> bool
 }
 
 // The same letter, else C.
-fn letter_join(k: u64, l: u64) -> u64
+fn letter_join(k: u8, l: u8) -> u8
     requires { ⌜ 0 < k ⌝ }
     ensures { λ r. ⌜ (0 < r) × (letterOf r ≡ letterJoin (letterOf k) (letterOf l)) ⌝ }
 {
@@ -108,7 +108,7 @@ fn letter_join(k: u64, l: u64) -> u64
 }
 
 // One level of the subtype test: codes k and l, the first type's base by its tag.
-fn level(tag: u64, k: u64, l: u64, ends: bool, more: bool) -> bool
+fn level(tag: u64, k: u8, l: u8, ends: bool, more: bool) -> bool
     ensures { λ r. ⌜ r ≡ levelOf tag k l ends more ⌝ }
 {
     if k == 0 {

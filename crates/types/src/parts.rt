@@ -28,7 +28,7 @@ pub fn depth(t: FlatType) -> u64
 }
 
 // The code of the outermost letter, 0 where the type is no collection.
-pub fn outer_code(t: FlatType) -> u64
+pub fn outer_code(t: FlatType) -> u8
     ensures { λ r. ⌜ r ≡ outerCode (tyOf t) ⌝ }
 {
     if 4 < t.outer {
@@ -48,7 +48,7 @@ pub fn member_type(t: FlatType) -> FlatType
 }
 
 // A letter around a type that has room for it.
-pub fn wrap(code: u64, t: FlatType) -> FlatType
+pub fn wrap(code: u8, t: FlatType) -> FlatType
     requires { ⌜ 0 < code ⌝ }
     requires { ⌜ depthOf (tyOf t) ≤ 2 ⌝ }
     ensures { λ r. ⌜ tyOf r ≡ around (letterOf code) (tyOf t) ⌝ }
@@ -70,7 +70,7 @@ pub fn plain(b: Base) -> FlatType
 }
 
 // The type of all objects of class c.
-pub fn set_of_class(c: u64) -> FlatType
+pub fn set_of_class(c: u8) -> FlatType
     ensures { λ r. ⌜ tyOf r ≡ around (exactly set) (Class c) ⌝ }
 {
     FlatType {
@@ -94,7 +94,7 @@ pub fn is_class(t: FlatType) -> ClassNumber
         Base::Bool => ClassNumber::Nothing,
         Base::Int => ClassNumber::Nothing,
         Base::Any => ClassNumber::Nothing,
-        Base::Class(c) => ClassNumber::Is(c),
+        Base::Class(c) => ClassNumber::Is(c as u64),
     }
 }
 

@@ -71,7 +71,7 @@ fn class_of(n: Num) -> GotType
     match n {
         Num::Bad => GotType::Bad,
         Num::Is(c) => if c < 64 {
-            GotType::Is(plain(Base::Class(c)))
+            GotType::Is(plain(Base::Class(c as u8)))
         } else {
             GotType::Big
         },
@@ -118,7 +118,7 @@ fn base_before(s: &[u8], d: usize) -> GotType
 }
 
 // The code of a letter's byte, 0 for any other byte.
-fn letter_code(b: u8) -> u64
+fn letter_code(b: u8) -> u8
     ensures { λ r. ⌜ r ≡ byteCode b ⌝ }
 {
     match b {
@@ -131,7 +131,7 @@ fn letter_code(b: u8) -> u64
 }
 
 // A letter around a type: a fourth is one too many.
-fn deeper(k: u64, t: FlatType) -> GotType
+fn deeper(k: u8, t: FlatType) -> GotType
     requires { ⌜ 0 < k ⌝ }
     ensures { λ r. ⌜ typeField r ≡ letteredField k (is (tyOf t)) ⌝ }
 {

@@ -14,7 +14,7 @@ use text::spelling::put_byte;
 use text::spelling::put_bytes;
 use text::spelling::put_number;
 
-// A base, at most 21 bytes: a class's number is a word, so it has at most twenty digits.
+// A base, for which 21 bytes are always room.
 fn put_base(out: &mut [u8], at: usize, b: Base) -> usize
     requires { ⌜ at + 21 ≤ length (now out) ⌝ }
     ensures { λ r. ⌜ Puts at (spellType (baseType b)) (now (out .entry)) (now (out .exit)) r ⌝ }
@@ -27,13 +27,13 @@ fn put_base(out: &mut [u8], at: usize, b: Base) -> usize
         Base::Any => put_bytes(out, at, b"Any"),
         Base::Class(c) => {
             let e = put_byte(out, at, b'#');
-            put_number(out, e, c)
+            put_number(out, e, c as u64)
         }
     }
 }
 
 // The byte of a code's letter.
-fn letter_byte(k: u64) -> u8
+fn letter_byte(k: u8) -> u8
     ensures { λ r. ⌜ r ≡ letterByte (letterOf k) ⌝ }
 {
     match k {
@@ -44,7 +44,7 @@ fn letter_byte(k: u64) -> u8
     }
 }
 
-fn put_opening(out: &mut [u8], at: usize, k: u64) -> usize
+fn put_opening(out: &mut [u8], at: usize, k: u8) -> usize
     requires { ⌜ at + 2 ≤ length (now out) ⌝ }
     ensures { λ r. ⌜ Puts at (opening k) (now (out .entry)) (now (out .exit)) r ⌝ }
 {

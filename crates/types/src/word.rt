@@ -1,7 +1,6 @@
 // A type as one word, to stand in a table.
 ghost use mathlib.Core.Path.{_≡_};
-ghost use Prim.Native.Nat.{_+_, _^_, _<_};
-ghost use Rattle.types.specs.Flat.{baseClass, tyOf};
+ghost use Rattle.types.specs.Flat.{tyOf};
 ghost use Rattle.types.specs.Word.{baseIn, typeIn, ThreeBits};
 use super::Base;
 use super::FlatType;
@@ -9,22 +8,21 @@ use super::order::class_in;
 use super::order::tag;
 
 // A code in three bits; one that does not fit counts as C.
-fn three_bits(k: u64) -> u64
+fn three_bits(k: u8) -> u64
     ensures { λ r. ⌜ ThreeBits k r ⌝ }
 {
     if k < 8 {
-        return k;
+        return k as u64;
     }
     1
 }
 
 // The type as a word.
 pub fn pack(t: FlatType) -> u64
-    requires { ⌜ baseClass (t .base) + 4 < 2 ^ 55 ⌝ }
     ensures { λ r. ⌜ typeIn r ≡ tyOf t ⌝ }
 {
     let b = t.base;
-    let n = tag(b) + class_in(b);
+    let n = tag(b) + class_in(b) as u64;
     let o = three_bits(t.outer);
     let m = three_bits(t.middle);
     let i = three_bits(t.inner);
@@ -39,7 +37,7 @@ fn base_in(n: u64) -> Base
         1 => Base::Bool,
         2 => Base::Int,
         3 => Base::Any,
-        _ => Base::Class(n - 4),
+        _ => Base::Class(((n - 4) % 256) as u8),
     }
 }
 
@@ -50,8 +48,8 @@ pub fn unpack(w: u64) -> FlatType
     let b = base_in(w / 512);
     FlatType {
         base: b,
-        outer: w % 8,
-        middle: w / 8 % 8,
-        inner: w / 64 % 8,
+        outer: (w % 8) as u8,
+        middle: (w / 8 % 8) as u8,
+        inner: (w / 64 % 8) as u8,
     }
 }

@@ -13,7 +13,7 @@ use Rattle.ocl.specs.Typing.{typed, Typed, Typing, pure, andThen, below, typing
 use Rattle.types.specs.Flat.{tyOf}
 use Rattle.types.specs.Word.{typeIn}
 use Rattle.nodes.specs.Nodes.{word, variable, binaryOf, kindOf, operandsIn, treesBelow, treeAt}
-use Rattle.judgements.specs.declared.Slot.{Slot}
+use Rattle.judgements.specs.declared.TypeEnv.{TypeEnv}
 use Rattle.judgements.specs.declared.Reply.{Reply}
 use Rattle.typing.specs.declared.PairReply.{PairReply}
 use Rattle.typing.specs.declared.PairReply.the-variants as two
@@ -34,10 +34,10 @@ pub record TellsTwo (f g : Typed) (before after : List ℕ) (r : PairReply) : Ty
   pub goes : {t u : _} → r ≡ two.Are t u → (k : Ty → Ty → Typed) {last : List ℕ} {x : Reply}
       → Tells (k (tyOf t) (tyOf u)) after last x → Tells (andThen f (λ t. andThen g (k t))) before last x
 
-abbrev pub Types : List ℕ → List ℕ → ℕ → (Model → Typing) → List Slot → List ℕ → List ℕ → Reply → Type 0
+abbrev pub Types : List ℕ → List ℕ → ℕ → (Model → Typing) → TypeEnv → List ℕ → List ℕ → Reply → Type 0
 Types parents tables rows f env before after r = (m : Model) → ReadsRows parents tables rows m → Tells (f m (envOf env)) before after r
 
-abbrev pub TypesTwo : List ℕ → List ℕ → ℕ → (Model → Typing) → (Model → Typing) → List Slot → List ℕ → List ℕ → PairReply → Type 0
+abbrev pub TypesTwo : List ℕ → List ℕ → ℕ → (Model → Typing) → (Model → Typing) → TypeEnv → List ℕ → List ℕ → PairReply → Type 0
 TypesTwo parents tables rows f g env before after r =
     (m : Model) → ReadsRows parents tables rows m → TellsTwo (f m (envOf env)) (g m (envOf env)) before after r
 

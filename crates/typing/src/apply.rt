@@ -1,4 +1,4 @@
-// The forms that bind nothing: all their operands are typed, in the node's own environment, before the node is judged.
+// The forms that bind no variable: all operands are typed in the node's own environment, and then the node is judged.
 // Parameters as in walk.rt.
 ghost use Prim.Native.Nat.{_<_, _≤_};
 ghost use lib.ListN.{length};
@@ -7,7 +7,7 @@ use super::PairReply;
 use super::walk::operand;
 use super::walk::pair;
 use judgements::Reply;
-use judgements::Slot;
+use judgements::TypeEnv;
 use judgements::forms::around_common;
 use judgements::forms::binary_type;
 use judgements::forms::both_below;
@@ -28,7 +28,7 @@ pub fn single(
     rows: usize,
     n: usize,
     form: u64,
-    env: [Slot; 16],
+    env: TypeEnv,
     marks: &mut [u64],
 ) -> Reply
     requires { ⌜ NodeRoom n rows (length (now tables)) (length (now nodes)) (length (now marks)) ⌝ }
@@ -48,7 +48,7 @@ pub fn binary(
     rows: usize,
     n: usize,
     form: u64,
-    env: [Slot; 16],
+    env: TypeEnv,
     marks: &mut [u64],
 ) -> Reply
     requires { ⌜ 13 ≤ form ⌝ }
@@ -69,7 +69,7 @@ pub fn connective(
     tables: &[u64],
     rows: usize,
     n: usize,
-    env: [Slot; 16],
+    env: TypeEnv,
     marks: &mut [u64],
 ) -> Reply
     requires { ⌜ NodeRoom n rows (length (now tables)) (length (now nodes)) (length (now marks)) ⌝ }
@@ -90,7 +90,7 @@ pub fn conditional(
     tables: &[u64],
     rows: usize,
     n: usize,
-    env: [Slot; 16],
+    env: TypeEnv,
     marks: &mut [u64],
 ) -> Reply
     requires { ⌜ NodeRoom n rows (length (now tables)) (length (now nodes)) (length (now marks)) ⌝ }
@@ -109,8 +109,8 @@ pub fn conditional(
     }
 }
 
-// `coll`: the letter around the common type of the members, all of which are typed before a missing one is refused; over four
-// members, which no accepted sheet has, count as `undef`.
+// `coll`: all members are typed before it is refused that they have no common type. More than four members, which no accepted
+// sheet has, count as `undef`.
 pub fn coll(
     nodes: &[u64],
     parents: &[u64],
@@ -118,7 +118,7 @@ pub fn coll(
     rows: usize,
     n: usize,
     form: u64,
-    env: [Slot; 16],
+    env: TypeEnv,
     marks: &mut [u64],
 ) -> Reply
     requires { ⌜ (27 ≤ form) × (form < 30) ⌝ }
@@ -139,5 +139,5 @@ pub fn coll(
         common = join_more(parents, common, t);
         i += 1;
     }
-    around_common(n as u64, form - 25, common)
+    around_common(n as u64, (form - 25) as u8, common)
 }

@@ -12,7 +12,7 @@ use super::walk::node;
 use judgements::Reply;
 use judgements::environment::start_env;
 
-// Every word 0: no node is marked.
+// Sets every word to 0, so that no node is marked.
 fn clear(marks: &mut [u64])
     ensures { λ _. ⌜ now (marks .exit) ≡ replicate (length (now (marks .entry))) 0 ⌝ }
 {
@@ -23,14 +23,14 @@ fn clear(marks: &mut [u64])
     }
 }
 
-// The tree at root, with nothing bound but `self`, of the context class.
+// The type of the tree at root, where nothing is bound but `self`, which has the context class.
 fn root_type(
     nodes: &[u64],
     parents: &[u64],
     tables: &[u64],
     rows: usize,
     root: usize,
-    context: u64,
+    context: u8,
     marks: &mut [u64],
 ) -> Reply
     requires { ⌜ NodeRoom root rows (length (now tables)) (length (now nodes)) (length (now marks)) ⌝ }
@@ -49,7 +49,7 @@ pub fn type_rule(
     rows: usize,
     nodes: &[u64],
     marks: &mut [u64],
-    context: u64,
+    context: u8,
     root: usize,
 ) -> Reply
     requires { ⌜ root < 768 ⌝ }

@@ -10,7 +10,7 @@ use super::PairReply;
 use super::walk::operand;
 use super::walk::pair;
 use judgements::Reply;
-use judgements::Slot;
+use judgements::TypeEnv;
 use judgements::environment::bind;
 use judgements::forms::condition;
 use nodes::node_word;
@@ -36,7 +36,7 @@ pub fn let_in(
     tables: &[u64],
     rows: usize,
     n: usize,
-    env: [Slot; 16],
+    env: TypeEnv,
     marks: &mut [u64],
 ) -> Reply
     requires { ⌜ NodeRoom n rows (length (now tables)) (length (now nodes)) (length (now marks)) ⌝ }
@@ -57,7 +57,7 @@ pub fn quantified(
     tables: &[u64],
     rows: usize,
     n: usize,
-    env: [Slot; 16],
+    env: TypeEnv,
     marks: &mut [u64],
 ) -> Reply
     requires { ⌜ NodeRoom n rows (length (now tables)) (length (now nodes)) (length (now marks)) ⌝ }
@@ -85,7 +85,7 @@ pub fn iterate(
     tables: &[u64],
     rows: usize,
     n: usize,
-    env: [Slot; 16],
+    env: TypeEnv,
     marks: &mut [u64],
 ) -> Reply
     requires { ⌜ NodeRoom n rows (length (now tables)) (length (now nodes)) (length (now marks)) ⌝ }
@@ -116,7 +116,7 @@ fn body(
     rows: usize,
     n: usize,
     t: FlatType,
-    env: [Slot; 16],
+    env: TypeEnv,
     marks: &mut [u64],
 ) -> Reply
     requires { ⌜ NodeRoom n rows (length (now tables)) (length (now nodes)) (length (now marks)) ⌝ }

@@ -14,21 +14,21 @@ use super::scope::iterate;
 use super::scope::let_in;
 use super::scope::quantified;
 use judgements::Reply;
-use judgements::Slot;
+use judgements::TypeEnv;
 use judgements::forms::leaf_type;
 use nodes::node_word;
 use types::Base;
 use types::classes::wide;
 use types::parts::plain;
 
-// Node n, by the range of its form's code.
+// Node n. The range of its form's code says how it is typed.
 pub fn node(
     nodes: &[u64],
     parents: &[u64],
     tables: &[u64],
     rows: usize,
     n: usize,
-    env: [Slot; 16],
+    env: TypeEnv,
     marks: &mut [u64],
 ) -> Reply
     requires { ⌜ NodeRoom n rows (length (now tables)) (length (now nodes)) (length (now marks)) ⌝ }
@@ -57,7 +57,7 @@ pub fn operand(
     rows: usize,
     n: usize,
     k: usize,
-    env: [Slot; 16],
+    env: TypeEnv,
     marks: &mut [u64],
 ) -> Reply
     requires { ⌜ k < 8 ⌝ }
@@ -78,7 +78,7 @@ pub fn pair(
     tables: &[u64],
     rows: usize,
     n: usize,
-    env: [Slot; 16],
+    env: TypeEnv,
     marks: &mut [u64],
 ) -> PairReply
     requires { ⌜ NodeRoom n rows (length (now tables)) (length (now nodes)) (length (now marks)) ⌝ }

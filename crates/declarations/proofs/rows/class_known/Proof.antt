@@ -13,8 +13,11 @@ returns c = known-without (c .before .before .args .classes) (c .before .before 
 class-in-requires : tie.Need-class-in-requires
 class-in-requires c κs = search needs
 
+cast-result : tie.Need-cast-result
+cast-result c = search needs
+
 returns-2 : tie.Need-returns-2
 returns-2 c = known-class (c .before .before .before .args .classes) (c .before .before .before .args .t) (c .before .before .tag .ensures) (c .before .if1 .left) (c .class-in .ensures)
 
 pub class-known-spec : {M : Type 1} → statement M
-class-known-spec = tie.close (tie.spec tag-requires returns class-in-requires returns-2)
+class-known-spec = tie.close (tie.spec tag-requires returns class-in-requires cast-result returns-2)

@@ -4,7 +4,6 @@ use native.Mathlib.Omega.{arith}
 use borrow.Author.Tests.{not-true, not-false}
 use lib.ListN.{length-set}
 use Rattle.types.specs.Flat.{tyOf}
-use Rattle.types.proofs.Within.{within-class}
 use Rattle.declarations.proofs.RowLaws.{row-block, row-gap, row-twice, row-unknown, row-unknown-type, row-put}
 use Rattle.declarations.proofs.rows.put_row.Statement.{statement}
 use Rattle.declarations.proofs.rows.put_row.Tie as tie
@@ -58,7 +57,7 @@ slice-write-w0-2 : tie.Need-slice-write-w0-2
 slice-write-w0-2 c = simp length-set (omega (arith, c .before .before .before .before .before .before .before .before .before .before .before .before .pre .0, c .before .before .before .before .before .before .before .before .before .before .before .before .pre .1 .rows, c .before .before .before .before .before .before .before .if2 .left))
 
 pack-requires : tie.Need-pack-requires
-pack-requires c κs = omega (arith, within-class (c .before .before .before .before .before .before .before .before .before .before .before .before .args .t) (c .before .before .before .before .before .before .before .before .before .before .before .before .pre .3))
+pack-requires c κs = search needs
 
 add-w0-3 : tie.Need-add-w0-3
 add-w0-3 c = search needs

@@ -31,6 +31,9 @@ returns-2 c = λ m h. collect-no-class m _ _ _ (c .before .before .before .befor
 collect-code-requires : tie.Need-collect-code-requires
 collect-code-requires c κs = search needs
 
+cast-row-type : tie.Need-cast-row-type
+cast-row-type c = search needs
+
 sub-row-type : tie.Need-sub-row-type
 sub-row-type c = omega (arith, code-low _ (c .collect-code .ensures))
 
@@ -73,6 +76,7 @@ collect-type-spec =
     enum-told
     returns-2
     collect-code-requires
+    cast-row-type
     sub-row-type
     mul-row-type
     row-type-requires

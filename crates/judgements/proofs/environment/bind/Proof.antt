@@ -1,21 +1,20 @@
 -- `bind` meets its contract. Assumes nothing.
-use native.Mathlib.Omega.{arith}
-use Rattle.judgements.proofs.Environments.{env-set}
+use Rattle.judgements.proofs.Environments.{sixteen, env-set}
 use borrow.Author.Needs.{needs}
 use Rattle.judgements.proofs.environment.bind.Statement.{statement}
 use Rattle.judgements.proofs.environment.bind.Tie as tie
 
-slot-of-requires : tie.Need-slot-of-requires
-slot-of-requires c κs = search needs
+mul-t : tie.Need-mul-t
+mul-t c = search needs
 
-mul-inner : tie.Need-mul-inner
-mul-inner c = search needs
+element-set-from-t : tie.Need-element-set-from-t
+element-set-from-t c = search needs
 
-array-set-from-inner : tie.Need-array-set-from-inner
-array-set-from-inner c = search needs
+element-write-inner : tie.Need-element-write-inner
+element-write-inner c = search needs
 
 returns : tie.Need-returns
-returns c = env-set _ _ _ _ (c .slot-of .ensures) (omega (arith, c .before .good)) (c .before .pre)
+returns c = env-set (c .args .env) _ _ (sixteen _ (c .args .env .types) (c .good .0 .1 .1 .0 .1 .0 .1)) (sixteen _ (c .args .env .bound) (c .good .0 .1 .1 .1 .0 .1 .0 .1)) (c .pre)
 
 pub bind-spec : {M : Type 1} → statement M
-bind-spec = tie.close (tie.spec slot-of-requires mul-inner array-set-from-inner returns)
+bind-spec = tie.close (tie.spec mul-t element-set-from-t element-write-inner returns)

@@ -17,7 +17,7 @@ wrapped-requires : tie.Need-wrapped-requires
 wrapped-requires c κs = search needs
 
 returns-2 : tie.Need-returns-2
-returns-2 c = joined-yes _ _ _ (c .before .before .joined .given .1) (c .wrapped .ensures)
+returns-2 c = search joined-yes
 
 pub around-common-spec : {M : Type 1} → statement M
 around-common-spec =

@@ -1,7 +1,5 @@
 -- `common_type` meets its contract. Assumes nothing.
-use mathlib.Core.Path.{refl}
 use Rattle.judgements.proofs.FormTypes.{common-yes, common-no}
-use Rattle.ocl.specs.Typing.{typed}
 use borrow.Author.Needs.{needs}
 use Rattle.judgements.proofs.forms.common_type.Statement.{statement}
 use Rattle.judgements.proofs.forms.common_type.Tie as tie
@@ -16,10 +14,10 @@ enum-told : tie.Need-enum-told
 enum-told c = search needs
 
 returns : tie.Need-returns
-returns c = λ m e. common-no m _ e _ _ _ typed _ (c .before .before .join .ensures) (c .enum-told .given .1)
+returns c = search common-no
 
 returns-2 : tie.Need-returns-2
-returns-2 c = λ m e. common-yes m _ e _ _ _ typed _ (c .before .before .before .join .ensures) (c .before .w .given .1) refl
+returns-2 c = search common-yes
 
 pub common-type-spec : {M : Type 1} → statement M
 common-type-spec = tie.close (tie.spec join-requires enum-known-w enum-told returns returns-2)

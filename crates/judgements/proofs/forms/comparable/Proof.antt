@@ -1,8 +1,5 @@
 -- `comparable` meets its contract. Assumes nothing.
-use mathlib.Core.Path.{ap}
 use Rattle.judgements.proofs.FormTypes.{common-yes, common-no}
-use Rattle.ocl.specs.Types.{Boolean}
-use Rattle.ocl.specs.Typing.{typed}
 use borrow.Author.Needs.{needs}
 use Rattle.judgements.proofs.forms.comparable.Statement.{statement}
 use Rattle.judgements.proofs.forms.comparable.Tie as tie
@@ -17,13 +14,13 @@ enum-told : tie.Need-enum-told
 enum-told c = search needs
 
 returns : tie.Need-returns
-returns c = λ m e. common-no m _ e _ _ _ (λ w. typed Boolean) _ (c .before .before .join .ensures) (c .enum-told .given .1)
+returns c = search common-no
 
 plain-requires : tie.Need-plain-requires
 plain-requires c κs = search needs
 
 returns-2 : tie.Need-returns-2
-returns-2 c = λ m e. common-yes m _ e _ _ _ (λ w. typed Boolean) _ (c .before .before .before .before .join .ensures) (c .before .before .w .given .1) (ap typed (c .plain .ensures))
+returns-2 c = search common-yes
 
 pub comparable-spec : {M : Type 1} → statement M
 comparable-spec =

@@ -11,7 +11,7 @@ outer-code-requires : tie.Need-outer-code-requires
 outer-code-requires c κs = search needs
 
 returns : tie.Need-returns
-returns c = no-members _ (λ l u. wrap (c .before .before .args .n) (letterOf (c .before .before .args .code)) u) _ (c .before .outer-code .ensures) (c .if1 .taken)
+returns c = search no-members
 
 member-type-requires : tie.Need-member-type-requires
 member-type-requires c κs = search needs

@@ -12,7 +12,7 @@ outer-code-requires : tie.Need-outer-code-requires
 outer-code-requires c κs = search needs
 
 returns : tie.Need-returns
-returns c = λ m e. no-members _ (λ l x. common (c .before .before .before .args .n) (join (m .parent) x (tyOf (c .before .before .before .args .u))) (λ w. typed Boolean)) _ (c .before .outer-code .ensures) (c .if1 .taken)
+returns c = search no-members
 
 member-type-requires : tie.Need-member-type-requires
 member-type-requires c κs = search needs

@@ -8,7 +8,7 @@ outer-code-requires : tie.Need-outer-code-requires
 outer-code-requires c κs = search needs
 
 returns : tie.Need-returns
-returns c = λ m e. including-no m _ _ _ _ (c .before .outer-code .ensures) (c .if1 .taken)
+returns c = search including-no
 
 member-type-requires : tie.Need-member-type-requires
 member-type-requires c κs = search needs
@@ -20,7 +20,7 @@ around-common-requires : tie.Need-around-common-requires
 around-common-requires c κs = search needs
 
 returns-2 : tie.Need-returns-2
-returns-2 c = λ m e. including-yes m _ _ _ _ (c .before .before .before .before .outer-code .ensures) (c .before .before .before .if1 .left) (c .before .before .member-type .ensures) (common-of m _ e _ _ _ _ _ (c .before .join .ensures) (c .around-common .ensures))
+returns-2 c = search (including-yes, common-of)
 
 pub including-type-spec : {M : Type 1} → statement M
 including-type-spec =

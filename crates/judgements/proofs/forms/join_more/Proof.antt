@@ -17,7 +17,7 @@ join-requires : tie.Need-join-requires
 join-requires c κs = search needs
 
 returns-2 : tie.Need-returns-2
-returns-2 c = more-some _ _ _ (c .before .before .common .given .1) (c .join .ensures)
+returns-2 c = search more-some
 
 pub join-more-spec : {M : Type 1} → statement M
 join-more-spec = tie.close (tie.spec enum-known-common enum-told returns join-requires returns-2)

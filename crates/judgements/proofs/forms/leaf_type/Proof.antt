@@ -6,6 +6,7 @@ use Rattle.ocl.specs.Typing.{boundType}
 use Rattle.ocl.specs.Types.{around, exactly, set, Class}
 use Rattle.judgements.specs.Replies.{envOf}
 use Prim.Native.Nat.{ℕ, _%_}
+use Rattle.nodes.specs.Nodes.{classIn}
 use borrow.Author.Needs.{needs}
 use Rattle.judgements.proofs.forms.leaf_type.Statement.{statement}
 use Rattle.judgements.proofs.forms.leaf_type.Tie as tie
@@ -34,17 +35,20 @@ plain-requires-3 c κs = search needs
 node-word-requires-2 : tie.Need-node-word-requires-2
 node-word-requires-2 c κs = search needs
 
+cast-set-of-class : tie.Need-cast-set-of-class
+cast-set-of-class c = search needs
+
 set-of-class-requires : tie.Need-set-of-class-requires
 set-of-class-requires c κs = search needs
 
 returns : tie.Need-returns
-returns c = leaf-void _ _ _ _ (c .before .match .keys1) (c .plain .ensures)
+returns c = search leaf-void
 
 returns-2 : tie.Need-returns-2
-returns-2 c = leaf-number _ _ _ _ (c .before .match .keys2) (c .plain2 .ensures)
+returns-2 c = search leaf-number
 
 returns-3 : tie.Need-returns-3
-returns-3 c = leaf-self _ _ _ _ (c .before .match .keys3) (c .bound .ensures)
+returns-3 c = search leaf-self
 
 returns-4 : tie.Need-returns-4
 returns-4 c = leaf-var _ _ _ _ (c .before .before .before .match .keys4) (c .bound2 .ensures ∙ ap (λ (i : ℕ). boundType (c .before .before .before .before .before .args .n) (envOf (c .before .before .before .before .before .args .env) (i % 16))) (c .before .wide .ensures ∙ c .before .before .node-word .ensures))
@@ -53,7 +57,7 @@ returns-5 : tie.Need-returns-5
 returns-5 c = leaf-truth _ _ _ _ (omega arith) (c .plain3 .ensures)
 
 returns-6 : tie.Need-returns-6
-returns-6 c = leaf-all _ _ _ _ (omega arith) (c .before .before .before .match .rest .0 .0 .0 .1) (c .before .before .before .match .rest .0 .0 .1) (c .before .before .before .match .rest .0 .1) (c .before .before .before .match .rest .1) (c .set-of-class .ensures ∙ ap (λ (i : ℕ). around (exactly set) (Class i)) (c .before .node-word2 .ensures))
+returns-6 c = leaf-all _ _ _ _ (omega arith) (c .before .before .before .match .rest .0 .0 .0 .1) (c .before .before .before .match .rest .0 .0 .1) (c .before .before .before .match .rest .0 .1) (c .before .before .before .match .rest .1) (c .set-of-class .ensures ∙ ap (λ (i : ℕ). around (exactly set) (Class (classIn i))) (c .before .node-word2 .ensures))
 
 pub leaf-type-spec : {M : Type 1} → statement M
 leaf-type-spec =
@@ -67,6 +71,7 @@ leaf-type-spec =
     bound-requires-2
     plain-requires-3
     node-word-requires-2
+    cast-set-of-class
     set-of-class-requires
     returns
     returns-2

@@ -8,13 +8,13 @@ outer-code-requires : tie.Need-outer-code-requires
 outer-code-requires c κs = search needs
 
 returns : tie.Need-returns
-returns c = λ m e. union-no m _ _ _ _ (c .before .outer-code .ensures) (c .if1 .taken)
+returns c = search union-no
 
 outer-code-requires-2 : tie.Need-outer-code-requires-2
 outer-code-requires-2 c κs = search needs
 
 returns-2 : tie.Need-returns-2
-returns-2 c = λ m e. union-other m _ _ _ _ (c .before .before .before .outer-code .ensures) _ (c .before .outer-code2 .ensures) (c .before .before .if1 .left) (c .if2 .taken)
+returns-2 c = search union-other
 
 member-type-requires : tie.Need-member-type-requires
 member-type-requires c κs = search needs
@@ -29,7 +29,7 @@ around-common-requires : tie.Need-around-common-requires
 around-common-requires c κs = search needs
 
 returns-3 : tie.Need-returns-3
-returns-3 c = λ m e. union-yes m _ _ _ _ (c .before .before .before .before .before .before .before .outer-code .ensures) _ (c .before .before .before .before .before .outer-code2 .ensures) (c .before .before .before .before .before .before .if1 .left) (c .before .before .before .before .if2 .left) (c .before .before .before .member-type .ensures) (c .before .before .member-type2 .ensures) (common-of m _ e _ _ _ _ _ (c .before .join .ensures) (c .around-common .ensures))
+returns-3 c = search (union-yes, common-of)
 
 pub union-type-spec : {M : Type 1} → statement M
 union-type-spec =

@@ -11,10 +11,10 @@ wrap-requires : tie.Need-wrap-requires
 wrap-requires c κs = search needs
 
 returns : tie.Need-returns
-returns c = wrap-yes _ _ _ _ (c .before .before .depth .ensures) (c .before .if1 .taken) (c .wrap .ensures)
+returns c = search wrap-yes
 
 returns-2 : tie.Need-returns-2
-returns-2 c = wrap-no _ _ _ _ (c .before .depth .ensures) (c .if1 .left)
+returns-2 c = search wrap-no
 
 pub wrapped-spec : {M : Type 1} → statement M
 wrapped-spec = tie.close (tie.spec depth-requires wrap-requires returns returns-2)

@@ -19,6 +19,9 @@ mul-context c = search needs
 shared-slice-read-context : tie.Need-shared-slice-read-context
 shared-slice-read-context c = search needs
 
+cast-context : tie.Need-cast-context
+cast-context c = let k = rule-known (c .before .before .before .before .before .before .pre .1 .0) (c .before .before .before .before .before .before .pre .1 .1) in omega (arith, k .1 .context, k .1 .low-context)
+
 add-wide : tie.Need-add-wide
 add-wide c = search needs
 
@@ -49,6 +52,7 @@ type-numbered-spec =
     add-context
     mul-context
     shared-slice-read-context
+    cast-context
     add-wide
     mul-wide
     shared-slice-read-wide

@@ -20,6 +20,9 @@ payload-of-requires c κs = search needs
 class-in-requires : tie.Need-class-in-requires
 class-in-requires c κs = search needs
 
+cast-object-suits : tie.Need-cast-object-suits
+cast-object-suits c = search needs
+
 object-suits-requires : tie.Need-object-suits-requires
 object-suits-requires c κs = search needs
 
@@ -47,6 +50,7 @@ base-suits-spec =
     sort-of-requires
     payload-of-requires
     class-in-requires
+    cast-object-suits
     object-suits-requires
     returns-2
     returns-3

@@ -22,6 +22,9 @@ enum-told-4 c = search needs
 enum-known-b : tie.Need-enum-known-b
 enum-known-b c = search needs
 
+cast-result : tie.Need-cast-result
+cast-result c = search needs
+
 add-result : tie.Need-add-result
 add-result c = omega (arith, classes-less _ _ (c .before .before .before .pre) (c .before .b .given .1))
 
@@ -54,6 +57,7 @@ classes-in-spec =
     enum-told-3
     enum-told-4
     enum-known-b
+    cast-result
     add-result
     returns
     returns-2

@@ -1,6 +1,5 @@
 -- `type_field` meets its contract.
 use Rattle.trees.proofs.IterateLaws.{type-bad, type-big, type-is, type-small}
-use native.Mathlib.Omega.{arith}
 use borrow.Author.Needs.{needs}
 use Rattle.trees.proofs.iterate.type_field.Statement.{statement}
 use Rattle.trees.proofs.iterate.type_field.Tie as tie
@@ -18,7 +17,7 @@ enum-known-t : tie.Need-enum-known-t
 enum-known-t c = search needs
 
 pack-requires : tie.Need-pack-requires
-pack-requires c κs = omega (arith, type-small _ (c .before .before .before .read-type .ensures) _ (c .before .t .given .1))
+pack-requires c κs = search needs
 
 classes-in-requires : tie.Need-classes-in-requires
 classes-in-requires c κs = type-small _ (c .before .before .before .before .read-type .ensures) _ (c .before .before .t .given .1)

@@ -21,8 +21,14 @@ returns-2 c = below-any _ (c .before .before .before .before .before .args .a) (
 class-in-requires : tie.Need-class-in-requires
 class-in-requires c κs = search needs
 
+cast-class-below : tie.Need-cast-class-below
+cast-class-below c = search needs
+
 class-in-requires-2 : tie.Need-class-in-requires-2
 class-in-requires-2 c κs = search needs
+
+cast-class-below-2 : tie.Need-cast-class-below-2
+cast-class-below-2 c = search needs
 
 class-below-requires : tie.Need-class-below-requires
 class-below-requires c κs = search needs
@@ -48,7 +54,9 @@ base-below-spec =
     returns
     returns-2
     class-in-requires
+    cast-class-below
     class-in-requires-2
+    cast-class-below-2
     class-below-requires
     returns-3
     returns-4

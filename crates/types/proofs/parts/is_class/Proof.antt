@@ -24,6 +24,9 @@ enum-told-4 c = search needs
 enum-known-b : tie.Need-enum-known-b
 enum-known-b c = search needs
 
+cast-t6 : tie.Need-cast-t6
+cast-t6 c = search needs
+
 returns-2 : tie.Need-returns-2
 unfolding classNumber classOf simpleClass
 returns-2 c = class-ends (c .before .before .before .before .args .t) _ (c .before .before .if1 .left) (c .enum-told .given .1)
@@ -54,6 +57,7 @@ is-class-spec =
     enum-told-3
     enum-told-4
     enum-known-b
+    cast-t6
     returns-2
     returns-3
     returns-4

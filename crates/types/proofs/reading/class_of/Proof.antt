@@ -12,6 +12,9 @@ enum-told c = search needs
 enum-known-n : tie.Need-enum-known-n
 enum-known-n c = search needs
 
+cast-t7 : tie.Need-cast-t7
+cast-t7 c = search needs
+
 plain-requires : tie.Need-plain-requires
 plain-requires c κs = search needs
 
@@ -27,4 +30,4 @@ returns-3 c = big-class _ _ (c .before .before .n .given .1) (c .if1 .left)
 
 pub class-of-spec : {M : Type 1} → statement M
 class-of-spec =
-    tie.close (tie.spec enum-told enum-known-n plain-requires returns returns-2 returns-3)
+    tie.close (tie.spec enum-told enum-known-n cast-t7 plain-requires returns returns-2 returns-3)

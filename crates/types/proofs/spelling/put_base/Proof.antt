@@ -49,6 +49,9 @@ enum-known-b c = search needs
 put-byte-requires : tie.Need-put-byte-requires
 put-byte-requires c κs = search needs
 
+cast-put-number : tie.Need-cast-put-number
+cast-put-number c = search needs
+
 put-number-requires : tie.Need-put-number-requires
 put-number-requires c κs = room-number (c .before .before .before .before .before .known-told .given .0 .1) _ (c .before .before .before .before .before .before .before .before .before .args .out .now) (c .before .before .before .before .before .before .before .before .before .pre) (c .before .before .before .put-byte .ensures)
 
@@ -104,6 +107,7 @@ put-base-spec =
     put-bytes-requires-4
     enum-known-b
     put-byte-requires
+    cast-put-number
     put-number-requires
     same-length
     returns

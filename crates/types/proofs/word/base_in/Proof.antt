@@ -10,6 +10,9 @@ use Rattle.types.proofs.word.base_in.Tie as tie
 sub-t3 : tie.Need-sub-t3
 sub-t3 c = search needs
 
+cast-t5 : tie.Need-cast-t5
+cast-t5 c = search needs
+
 returns : tie.Need-returns
 unfolding baseIn
 returns c = ap baseIn (sym (c .match .keys1))
@@ -30,4 +33,4 @@ returns-5 : tie.Need-returns-5
 returns-5 c = base-class _ (omega arith)
 
 pub base-in-spec : {M : Type 1} → statement M
-base-in-spec = tie.close (tie.spec sub-t3 returns returns-2 returns-3 returns-4 returns-5)
+base-in-spec = tie.close (tie.spec sub-t3 cast-t5 returns returns-2 returns-3 returns-4 returns-5)

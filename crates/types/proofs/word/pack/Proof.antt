@@ -11,8 +11,11 @@ tag-requires c κs = search needs
 class-in-requires : tie.Need-class-in-requires
 class-in-requires c κs = search needs
 
+cast-n : tie.Need-cast-n
+cast-n c = search needs
+
 add-n : tie.Need-add-n
-add-n c = omega (arith, tag-le (c .before .before .args .t .base), c .before .tag .ensures, c .class-in .ensures)
+add-n c = omega (arith, tag-le (c .before .before .args .t .base), c .before .tag .ensures, c .class-in .ok)
 
 three-bits-requires : tie.Need-three-bits-requires
 three-bits-requires c κs = search needs
@@ -36,13 +39,13 @@ add-result-2 : tie.Need-add-result-2
 add-result-2 c = search needs
 
 mul-result-3 : tie.Need-mul-result-3
-mul-result-3 c = omega (arith, tag-le (c .before .before .before .before .before .args .t .base), c .before .before .before .before .tag .ensures, c .before .before .before .class-in .ensures, c .before .before .before .before .before .pre)
+mul-result-3 c = omega (arith, tag-le (c .before .before .before .before .before .args .t .base), c .before .before .before .before .tag .ensures, c .before .before .before .class-in .ok)
 
 add-result-3 : tie.Need-add-result-3
-add-result-3 c = omega (arith, tag-le (c .before .before .before .before .before .args .t .base), c .before .before .before .before .tag .ensures, c .before .before .before .class-in .ensures, c .before .before .before .before .before .pre, c .before .before .three-bits .ensures .small, c .before .three-bits2 .ensures .small, c .three-bits3 .ensures .small)
+add-result-3 c = omega (arith, tag-le (c .before .before .before .before .before .args .t .base), c .before .before .before .before .tag .ensures, c .before .before .before .class-in .ok, c .before .before .three-bits .ensures .small, c .before .three-bits2 .ensures .small, c .three-bits3 .ensures .small)
 
 returns : tie.Need-returns
-returns c = pack-law (c .before .before .before .before .before .args .t) _ _ _ _ (omega (arith, c .before .before .before .before .tag .ensures, c .before .before .before .class-in .ensures)) (c .before .before .three-bits .ensures) (c .before .three-bits2 .ensures) (c .three-bits3 .ensures)
+returns c = pack-law (c .before .before .before .before .before .args .t) _ _ _ _ (omega (arith, c .before .before .before .class-in .ensures, c .before .before .before .class-in .ok)) (omega (arith, c .before .before .before .before .tag .ensures, c .before .before .before .class-in .ensures)) (c .before .before .three-bits .ensures) (c .before .three-bits2 .ensures) (c .three-bits3 .ensures)
 
 pub pack-spec : {M : Type 1} → statement M
 pack-spec =
@@ -50,6 +53,7 @@ pack-spec =
     (tie.spec
     tag-requires
     class-in-requires
+    cast-n
     add-n
     three-bits-requires
     three-bits-requires-2

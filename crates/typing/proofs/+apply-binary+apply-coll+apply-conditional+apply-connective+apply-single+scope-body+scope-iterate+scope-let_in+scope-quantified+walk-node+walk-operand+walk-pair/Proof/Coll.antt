@@ -53,7 +53,7 @@ module _ (t : ℕ) where
   add-operand c = search needs
 
   operand-requires : lts.Need-operand-requires calls (coll-at t) coll.Post Inv μ
-  operand-requires c κs = omega (arith, c .before .before .before .before .if1 .left, c .before .loop-test .taken, c .before .before .loop .inv .0, c .before .before .before .before .before .before .before .before .before .before .before)
+  operand-requires c κs = omega arith
 
   enum-known-member : lts.Need-enum-known-member calls (coll-at t) coll.Post Inv μ
   enum-known-member c = search needs
@@ -62,7 +62,7 @@ module _ (t : ℕ) where
   enum-told c = search needs
 
   same-length : lts.Need-same-length calls (coll-at t) coll.Post Inv μ
-  same-length c = omega (arith, c .before .before .before .before .operand, c .before .before .before .before .before .before .before .loop .inv .0, c .before .before .before .before .before .before .before .before .before .before .before .before .before .before .before .before)
+  same-length c = omega arith
 
   returns-2 : lts.Need-returns-2 calls (coll-at t) coll.Post Inv μ
   returns-2 c = λ m h. left-refused m _ _ _ _ _ _ _ (c .before .before .before .before .before .before .before .loop .inv .1 m h) (c .before .before .before .before .before .before .loop-test .taken) (c .before .before .before .before .operand .ensures m h) (c .enum-told .given .1)
@@ -74,7 +74,7 @@ module _ (t : ℕ) where
   add-i c = search needs
 
   loop-less : lts.Need-loop-less calls (coll-at t) coll.Post Inv μ
-  loop-less c = omega (arith, c .before .before .before .before .before .before .before .before .loop-test .taken)
+  loop-less c = omega arith
 
   loop-again : lts.Need-loop-again calls (coll-at t) coll.Post Inv μ
   loop-again c = (omega (arith, c .before .before .before .before .before .before .operand, c .before .before .before .before .before .before .before .before .before .loop .inv .0), λ m h. left-next m _ _ _ _ _ _ _ (c .before .before .before .before .before .before .before .before .before .loop .inv .1 m h) _ (h .classes .parent) (c .before .before .before .before .before .before .before .before .loop-test .taken) (c .before .before .before .before .before .before .operand .ensures m h) (c .before .before .member .given .1) (c .join-more .ensures))
@@ -82,14 +82,17 @@ module _ (t : ℕ) where
   sub-around-common : lts.Need-sub-around-common calls (coll-at t) coll.Post Inv μ
   sub-around-common c = search needs
 
+  cast-around-common : lts.Need-cast-around-common calls (coll-at t) coll.Post Inv μ
+  cast-around-common c = search needs
+
   around-common-requires : lts.Need-around-common-requires calls (coll-at t) coll.Post Inv μ
   around-common-requires c κs = search needs
 
   same-length-2 : lts.Need-same-length-2 calls (coll-at t) coll.Post Inv μ
-  same-length-2 c = omega (arith, c .before .before .loop .inv .0, c .before .before .before .before .before .before .before .before .before .before .before)
+  same-length-2 c = omega arith
 
   returns-3 : lts.Need-returns-3 calls (coll-at t) coll.Post Inv μ
   returns-3 c = λ m h. left-done m _ _ _ _ _ _ _ (c .before .before .loop .inv .1 m h) (c .before .loop-test .left) (c .around-common .ensures)
 
   pub closed : {M : Type 1} → lts.Closed calls (coll-at t) coll.Post M
-  closed = lts.spec calls (coll-at t) coll.Post Inv μ node-word-requires wide-requires plain-requires returns plain-requires-2 loop-holds add-operand operand-requires enum-known-member enum-told same-length returns-2 join-more-requires add-i loop-less loop-again sub-around-common around-common-requires same-length-2 returns-3
+  closed = lts.spec calls (coll-at t) coll.Post Inv μ node-word-requires wide-requires plain-requires returns plain-requires-2 loop-holds add-operand operand-requires enum-known-member enum-told same-length returns-2 join-more-requires add-i loop-less loop-again sub-around-common cast-around-common around-common-requires same-length-2 returns-3

@@ -55,7 +55,7 @@ module _ (t : ℕ) where
   bind-requires c κs = search needs
 
   operand-requires-2 : lts.Need-operand-requires-2 calls (quantified-at t) quantified.Post
-  operand-requires-2 c κs = search needs
+  operand-requires-2 c κs = omega (arith, c .before .before .before .before .before .before .before .before .before .before .before .before .before .before .before .before .before, c .before .before .before .before .before .before .before .before .before .before .before .operand)
 
   enum-known-body : lts.Need-enum-known-body calls (quantified-at t) quantified.Post
   enum-known-body c = search needs

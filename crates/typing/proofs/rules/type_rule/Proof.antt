@@ -14,16 +14,16 @@ slice-relend-prefix-table : tie.Need-slice-relend-prefix-table
 slice-relend-prefix-table c = search needs
 
 slice-aggregate-table : tie.Need-slice-aggregate-table
-slice-aggregate-table c = sym (length-take-le 768 (c .before .before .before .before .before .args .marks .now) (omega arith))
+slice-aggregate-table c = search length-take-le
 
 root-type-requires : tie.Need-root-type-requires
-root-type-requires c κs = let h = length-take-le 768 (c .before .before .before .before .before .args .marks .now) (omega arith) in omega arith
+root-type-requires c κs = search (length-take-le, needs)
 
 same-length : tie.Need-same-length
 same-length c = search needs
 
 returns : tie.Need-returns
-returns c = rule-done _ _ _ _ _ _ _ _ _ (omega arith) (c .before .before .root-type .kept .1 .1 .1 .1 .1 .1 .0) (c .before .before .root-type .ensures)
+returns c = search rule-done
 
 pub type-rule-spec : {M : Type 1} → statement M
 type-rule-spec =
