@@ -2,24 +2,24 @@
 use mathlib.Core.Path.{refl}
 use native.Mathlib.Omega.{arith}
 use borrow.Author.Needs.{needs}
-use Rattle.report.proofs.PassLaws.{marked-rule, marked-known, no-line, fits-kept, fits-counted, line-kept, counted-few, line-counted}
+use Rattle.report.proofs.PassLaws.{rule-there, sheet-known, no-line, fits-kept, fits-counted, line-kept, counted-few, line-counted}
 use Rattle.report.proofs.passes.object_line.Statement.{statement}
 use Rattle.report.proofs.passes.object_line.Tie as tie
 
 add-is-a : tie.Need-add-is-a
-add-is-a c = omega (arith, c .before .before .before .before .pre .0 .0, marked-rule (c .before .before .before .before .pre .1 .0 .marked), c .before .before .before .before .pre .1 .0 .marked .lies .fine .rules)
+add-is-a c = omega (arith, c .before .before .before .before .pre .0 .0, rule-there (c .before .before .before .before .pre .1 .0 .typed), c .before .before .before .before .pre .1 .0 .typed .lies .fine .rules)
 
 mul-is-a : tie.Need-mul-is-a
-mul-is-a c = omega (arith, c .before .before .before .before .pre .0 .0, marked-rule (c .before .before .before .before .pre .1 .0 .marked), c .before .before .before .before .pre .1 .0 .marked .lies .fine .rules)
+mul-is-a c = omega (arith, c .before .before .before .before .pre .0 .0, rule-there (c .before .before .before .before .pre .1 .0 .typed), c .before .before .before .before .pre .1 .0 .typed .lies .fine .rules)
 
 shared-slice-read-is-a : tie.Need-shared-slice-read-is-a
-shared-slice-read-is-a c = omega (arith, c .before .before .before .before .before .pre .0 .0, marked-rule (c .before .before .before .before .before .pre .1 .0 .marked), c .before .before .before .before .before .pre .1 .0 .marked .lies .fine .rules)
+shared-slice-read-is-a c = omega (arith, c .before .before .before .before .before .pre .0 .0, rule-there (c .before .before .before .before .before .pre .1 .0 .typed), c .before .before .before .before .before .pre .1 .0 .typed .lies .fine .rules)
 
 is-a-requires : tie.Need-is-a-requires
-is-a-requires c κs = record { fine = c .before .before .before .before .before .pre .1 .0 .marked .lies .fine; lent = c .before .before .before .before .before .pre .0 .0 }
+is-a-requires c κs = record { fine = c .before .before .before .before .before .pre .1 .0 .typed .lies .fine; lent = c .before .before .before .before .before .pre .0 .0 }
 
 evaluate-numbered-requires : tie.Need-evaluate-numbered-requires
-evaluate-numbered-requires c κs = (c .before .before .before .before .before .before .before .before .pre .0, (marked-known (c .before .before .before .before .before .before .before .before .pre .1 .0 .marked), marked-rule (c .before .before .before .before .before .before .before .before .pre .1 .0 .marked), omega (arith, c .before .before .before .before .before .before .before .before .pre .1 .1, c .before .before .before .before .before .before .before .before .pre .1 .0 .marked .lies .fine .objects)))
+evaluate-numbered-requires c κs = (c .before .before .before .before .before .before .before .before .pre .0, (sheet-known (c .before .before .before .before .before .before .before .before .pre .1 .0 .typed), rule-there (c .before .before .before .before .before .before .before .before .pre .1 .0 .typed), omega (arith, c .before .before .before .before .before .before .before .before .pre .1 .1, c .before .before .before .before .before .before .before .before .pre .1 .0 .typed .lies .fine .objects)))
 
 put-line-requires : tie.Need-put-line-requires
 put-line-requires c κs = fits-kept (c .before .before .before .before .before .before .before .before .is-a .ensures) (c .before .before .before .before .before .before .before .if1 .taken) (c .before .before .before .before .before .before .before .before .before .before .before .before .before .before .pre .1 .0) (c .before .before .before .before .before .evaluate-numbered .ensures) (c .before .before .if2 .taken)

@@ -19,7 +19,7 @@ object-line-requires : tie.Need-object-line-requires Inv-loop μ-loop
 object-line-requires c κs = ((c .before .before .before .before .before .before .before .before .before .pre .0 .0, c .before .before .before .before .before .before .before .before .before .pre .0 .1, omega (arith, c .before .before .before .before .before .before .before .before .before .pre .0 .2, c .before .before .before .before .loop .inv .kept .size)), (lines-room (c .before .before .before .before .loop .inv) (c .before .before .if1 .taken) (c .before .before .before .before .before .before .before .before .before .pre .1) refl refl, c .before .before .if1 .taken))
 
 add-o : tie.Need-add-o Inv-loop μ-loop
-add-o c = omega (arith, c .before .before .before .before .before .before .before .if1 .taken, c .before .before .before .before .before .before .before .before .before .before .before .before .before .before .pre .1 .marked .lies .fine .objects)
+add-o c = omega (arith, c .before .before .before .before .before .before .before .if1 .taken, c .before .before .before .before .before .before .before .before .before .before .before .before .before .before .pre .1 .typed .lies .fine .objects)
 
 loop-less : tie.Need-loop-less Inv-loop μ-loop
 loop-less c = omega (arith, c .before .before .before .before .before .before .before .if1 .taken)
