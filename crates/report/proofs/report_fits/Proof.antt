@@ -14,7 +14,7 @@ same-length : tie.Need-same-length
 same-length c = search needs
 
 returns-2 : tie.Need-returns-2
-returns-2 c = tells-length (c .before .before .measured .ensures)
+returns-2 c = search tells-length
 
 pub report-fits-spec : {M : Type 1} → statement M
 report-fits-spec =

@@ -19,22 +19,22 @@ loop-holds : tie.Need-loop-holds Inv-loop μ-loop
 loop-holds c = bounded-none
 
 add-lines-bound : tie.Need-add-lines-bound Inv-loop μ-loop
-add-lines-bound c = omega (arith, c .before .before .before .before .before .pre .0 .fine .rules)
+add-lines-bound c = omega arith
 
 mul-lines-bound : tie.Need-mul-lines-bound Inv-loop μ-loop
-mul-lines-bound c = omega (arith, c .before .before .before .before .before .pre .0 .fine .rules)
+mul-lines-bound c = omega arith
 
 shared-slice-read-lines-bound : tie.Need-shared-slice-read-lines-bound Inv-loop μ-loop
-shared-slice-read-lines-bound c = omega (arith, c .before .before .before .before .before .before .pre .0 .fine .rules, c .before .before .before .before .before .before .pre .0 .lent)
+shared-slice-read-lines-bound c = omega arith
 
 add-unpack : tie.Need-add-unpack Inv-loop μ-loop
-add-unpack c = omega (arith, c .before .before .before .before .before .before .pre .0 .fine .rules)
+add-unpack c = omega arith
 
 mul-unpack : tie.Need-mul-unpack Inv-loop μ-loop
-mul-unpack c = omega (arith, c .before .before .before .before .before .before .pre .0 .fine .rules)
+mul-unpack c = omega arith
 
 shared-slice-read-unpack : tie.Need-shared-slice-read-unpack Inv-loop μ-loop
-shared-slice-read-unpack c = omega (arith, c .before .before .before .before .before .before .before .pre .0 .fine .rules)
+shared-slice-read-unpack c = omega arith
 
 unpack-requires : tie.Need-unpack-requires Inv-loop μ-loop
 unpack-requires c κs = search needs
@@ -43,7 +43,7 @@ lines-bound-requires : tie.Need-lines-bound-requires Inv-loop μ-loop
 lines-bound-requires c κs = search needs
 
 add-bound : tie.Need-add-bound Inv-loop μ-loop
-add-bound c = omega (arith, c .before .before .before .before .before .before .before .before .before .pre .0 .fine .rules, c .before .before .before .before .before .loop .inv .few, c .lines-bound .ensures .few)
+add-bound c = omega arith
 
 add-r : tie.Need-add-r Inv-loop μ-loop
 add-r c = search needs
