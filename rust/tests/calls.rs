@@ -168,6 +168,23 @@ fn evaluating_refuses_what_reading_refuses_before_14_and_15() {
     assert_eq!(evaluate_on("C 0 -|C 1 1", 0, 0), answer(6, 0, 2, ""));
 }
 
+/// What reading and evaluating answer was worked out by hand from document 02.
+#[test]
+fn one_call_for_reading_and_typing() {
+    let start = "C 0 -|C 1 0|A 0 0 5 Int|O 0 0|O 1 1|R 0 0|N 0 true|R 1 1|N 0 self";
+    let typed = format!("{start}|N 1 attr 0 5|R 2 0|N 0 coll S");
+    assert_eq!(read(&typed), answer(0, 0, 0, "Bool\nInt\nS(Void)\n"));
+    assert_eq!(evaluate_on(&typed, 1, 1), answer(0, 2, 0, "u"));
+    // Of two rules that do not type the first is refused, before 14.
+    let untyped = format!("{start}|N 1 attr 0 9|R 2 0|N 0 int 1|N 1 not 0");
+    assert_eq!(read(&untyped), answer(12, 0, 10, ""));
+    assert_eq!(evaluate_on(&untyped, 0, 0), answer(12, 0, 10, ""));
+    assert_eq!(evaluate_on(&untyped, 9, 0), answer(12, 0, 10, ""));
+    let collected = "C 0 -|C 1 -|C 2 1|A 0 1 5 Int|A 1 2 5 Bool|O 0 0|O 1 1|O 2 2|\
+        V 1 0 4|V 2 0 3|V 2 1 t|R 0 0|N 0 all 1|N 1 collect 0 5";
+    assert_eq!(read(collected), answer(0, 0, 0, "B(Int)\n"));
+}
+
 #[test]
 fn a_stop_has_steps_and_no_place() {
     let members = (0..127)

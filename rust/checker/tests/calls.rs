@@ -68,6 +68,33 @@ fn refusals_are_errors() {
 }
 
 #[test]
+fn reading_types_every_rule() {
+    let mut memory = Box::new(Memory::new());
+    let mut output = [0; LEAST_OUTPUT];
+    let start = "C 0 -|C 1 0|A 0 0 5 Int|O 0 0|O 1 1|R 0 0|N 0 true|R 1 1|N 0 self";
+    let text = sheet(&format!("{start}|N 1 attr 0 5|R 2 0|N 0 coll S"));
+    let types = read_types(&text, &mut memory, &mut output).unwrap();
+    assert_eq!(types.collect::<Vec<_>>(), ["Bool", "Int", "S(Void)"]);
+    let value = evaluate_rule(&text, 1, 1, &mut memory, &mut output).unwrap();
+    assert_eq!((value.value, value.steps), ("u", 2));
+    // Of two rules that do not type the first is refused, before an absent rule.
+    let text = sheet(&format!("{start}|N 1 attr 0 9|R 2 0|N 0 int 1|N 1 not 0"));
+    let none = refused(Refusal::NoAttribute, 0, 10);
+    let types = read_types(&text, &mut memory, &mut output);
+    assert_eq!(types.unwrap_err(), none);
+    for (rule, object) in [(0, 0), (9, 0), (0, 9), (1, 0)] {
+        let value = evaluate_rule(&text, rule, object, &mut memory, &mut output);
+        assert_eq!(value, Err(none), "{rule} {object}");
+    }
+    // 64 rules with the longest spelling of a type.
+    let nodes = "N 0 coll S|N 1 coll Q 0|N 2 coll B 1";
+    let rules: String = (0..64).map(|rule| format!("|R {rule} 0|{nodes}")).collect();
+    let types = read_types(&sheet(&format!("C 0 -{rules}")), &mut memory, &mut output).unwrap();
+    assert_eq!(types.collect::<Vec<_>>(), ["B(Q(S(Void)))"; 64]);
+    assert_eq!((output[895], output[896]), (b'\n', 0));
+}
+
+#[test]
 fn a_stop_has_its_steps() {
     let members = vec!["7"; 127].join(",");
     let text = sheet(&format!(
