@@ -1,6 +1,7 @@
 //! Sheets by seed, and what is asked of the calls about them.
 
 pub mod damage;
+pub mod definitions;
 pub mod draft;
 pub mod fields;
 pub mod forms;
@@ -17,17 +18,33 @@ use crate::model::Model;
 use crate::read::read;
 use crate::tree::DEEPEST_RULE;
 use crate::types::{Type, DEEPEST};
+use definitions::{defined, Callable, MOST_DEFINITIONS};
 use draft::Draft;
 use random::Random;
 use rules::Growth;
 use std::iter;
-use world::{any_type, world, Scale};
+use world::{any_type, spelt_type, world, Scale};
 
 /// A sheet for a seed: most type, some are damaged, some stand at a limit.
 pub fn sheet(seed: u64) -> Vec<u8> {
     let mut random = Random::new(seed);
     match random.below(20) {
-        0..=8 => grown(&mut random),
+        0..=7 => grown(&mut random),
+        8 => {
+            let text = match random.below(4) {
+                0 => grown(&mut random),
+                1 => large::large(&mut random),
+                2 => {
+                    let kind = *random.pick(&limits::OF_RULES);
+                    limits::limit(&mut random, kind)
+                }
+                _ => {
+                    let kind = *random.pick(&limits::OF_DEFINITIONS);
+                    return limits::limit(&mut random, kind);
+                }
+            };
+            defined(&mut random, &text).unwrap_or(text)
+        }
         9 => large::large(&mut random),
         10..=17 => {
             let text = grown(&mut random);
@@ -57,20 +74,62 @@ fn grown(random: &mut Random) -> Vec<u8> {
     let mut text = world::spell(&model);
     let faulty = random.one_in(3);
     let mut left: usize = 768;
-    for number in 0..random.between(1, rules) {
-        let (context, draft) = rule(random, &model, budget, faulty);
-        if draft.lines.len() > left {
+    let mut callable = Vec::new();
+    let (definitions, size) = match random.below(8) {
+        0..=3 => (0, 1),
+        4 => (random.between(1, MOST_DEFINITIONS), 6),
+        _ => (random.between(1, 4), budget.min(40)),
+    };
+    for number in 0..definitions {
+        let most = if random.one_in(3) { DEEPEST_RULE } else { 5 };
+        let depth = random.between(1, most);
+        let tree = tree(random, &model, &callable, (depth, size, faulty));
+        if tree.draft.lines.len() > left {
             break;
         }
-        left -= draft.lines.len();
-        text += &format!("R\t{number}\t{context}\n");
-        text += &draft.spell(random);
+        left -= tree.draft.lines.len();
+        let given = if random.one_in(2) && tree.found.depth() <= DEEPEST {
+            tree.found
+        } else {
+            tree.wanted
+        };
+        text += &format!("D\t{number}\t{}\t{}\n", tree.context, spelt_type(&given));
+        text += &tree.draft.spell(random);
+        callable.push(Callable {
+            class: tree.context,
+            ty: given,
+            depth,
+        });
+    }
+    for number in 0..random.between(1, rules) {
+        let depth = random.between(1, DEEPEST_RULE);
+        let tree = tree(random, &model, &callable, (depth, budget, faulty));
+        if tree.draft.lines.len() > left {
+            break;
+        }
+        left -= tree.draft.lines.len();
+        text += &format!("R\t{number}\t{}\n", tree.context);
+        text += &tree.draft.spell(random);
     }
     text.into_bytes()
 }
 
-/// A rule and its context class, which mostly has objects.
-fn rule(random: &mut Random, model: &Model, budget: usize, faulty: bool) -> (u8, Draft) {
+/// A rule, or a definition, in the making.
+struct Tree {
+    context: u8,
+    wanted: Type,
+    /// The type that came out, mostly below the one wanted.
+    found: Type,
+    draft: Draft,
+}
+
+/// A tree at most so deep and large, for a context class that mostly has objects.
+fn tree(
+    random: &mut Random,
+    model: &Model,
+    callable: &[Callable],
+    (depth, budget, faulty): (usize, usize, bool),
+) -> Tree {
     let context = if model.objects.is_empty() || random.one_in(8) {
         random.below(model.classes.0.len()) as u8
     } else {
@@ -78,14 +137,14 @@ fn rule(random: &mut Random, model: &Model, budget: usize, faulty: bool) -> (u8,
         let upward: Vec<u8> = model.classes.upward(class).collect();
         *random.pick(&upward)
     };
-    let ty = match random.below(4) {
+    let wanted = match random.below(4) {
         0 => Type::Bool,
         _ => any_type(random, &model.classes, DEEPEST),
     };
-    let depth = random.between(1, DEEPEST_RULE);
     let mut growth = Growth {
         random,
         model,
+        callable,
         context,
         budget,
         faulty,
@@ -93,8 +152,13 @@ fn rule(random: &mut Random, model: &Model, budget: usize, faulty: bool) -> (u8,
         environment: Default::default(),
         draft: Draft::default(),
     };
-    growth.grow(&ty, depth);
-    (context, growth.draft)
+    let (_, found) = growth.grow(&wanted, depth);
+    Tree {
+        context,
+        wanted,
+        found,
+        draft: growth.draft,
+    }
 }
 
 #[derive(Clone, Copy, PartialEq, Eq, Debug)]

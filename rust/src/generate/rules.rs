@@ -1,9 +1,10 @@
-//! Random rules, grown from the type wanted downward, so that most of them type.
+//! Random rules and bodies, grown from the type wanted downward, so that most type.
 //! Each node is grown with its own type, which may be below the one wanted.
 
+use super::definitions::Callable;
 use super::draft::Draft;
 use super::random::Random;
-use super::world::{any_integer, any_type};
+use super::world::{any_integer, any_type, spelt_type};
 use crate::model::Model;
 use crate::types::{Kind, Type, DEEPEST};
 
@@ -13,6 +14,8 @@ pub type Grown = (usize, Type);
 pub struct Growth<'g> {
     pub random: &'g mut Random,
     pub model: &'g Model,
+    /// The definitions that may be called.
+    pub callable: &'g [Callable],
     pub context: u8,
     /// Nodes after which only leaves are grown.
     pub budget: usize,
@@ -53,6 +56,10 @@ impl Growth<'_> {
                 Some((variable, known)) => self.probe(variable, known, depth),
                 None => self.particular(&ty, depth),
             },
+            10 | 11 => {
+                let grown = self.call(&ty, depth);
+                grown.unwrap_or_else(|| self.particular(&ty, depth))
+            }
             _ => self.particular(&ty, depth),
         }
     }
@@ -251,10 +258,7 @@ impl Growth<'_> {
         let outer = self.environment[usize::from(j)].replace(ty.clone());
         let (body, _) = self.body(i, member, ty, depth);
         self.environment[usize::from(j)] = outer;
-        let mut spelt = Vec::new();
-        ty.spell(&mut spelt);
-        let spelt = String::from_utf8(spelt).expect("spelt in ASCII");
-        let words = format!("iter % {i} {j} {spelt} % %");
+        let words = format!("iter % {i} {j} {} % %", spelt_type(ty));
         (self.draft.line(&words, &[source, start, body]), ty.clone())
     }
 
