@@ -80,10 +80,12 @@ fn grown(random: &mut Random) -> Vec<u8> {
         4 => (random.between(1, MOST_DEFINITIONS), 6),
         _ => (random.between(1, 4), budget.min(40)),
     };
+    // Else hardly a rule would be typed where there are faults.
+    let faulty_bodies = faulty && random.one_in(3);
     for number in 0..definitions {
         let most = if random.one_in(3) { DEEPEST_RULE } else { 5 };
         let depth = random.between(1, most);
-        let tree = tree(random, &model, &callable, (depth, size, faulty));
+        let tree = tree(random, &model, &callable, (depth, size, faulty_bodies));
         if tree.draft.lines.len() > left {
             break;
         }
