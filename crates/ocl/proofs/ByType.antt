@@ -12,7 +12,8 @@ use Rattle.ocl.specs.Types.{Parents, boolean, integer, Kind, Letter, exa
 use Rattle.ocl.specs.Values.{Value, bool, int, obj, coll, Values, nil, cons, count, size, sizes}
 use Rattle.ocl.specs.Model.{Model, schemaOf, classIsA, isA}
 use Rattle.ocl.specs.Typing.{Answer, below}
-use Rattle.ocl.specs.Evaluation.{Outcome, value, Run, form, given, Result, resulting, onBool, onInt, onColl, isInt, isColl, Gather}
+use Rattle.ocl.specs.Operations.{Outcome, value, form, given, Result, resulting, onBool, onInt, onColl, isInt, isColl}
+use Rattle.ocl.specs.Evaluation.{Run, Gather}
 use Rattle.ocl.specs.Soundness.{AcceptedModel}
 use Rattle.ocl.proofs.SimpleTypes.{class-not-boolean, class-not-integer}
 use Rattle.ocl.proofs.Types.{join-upper}

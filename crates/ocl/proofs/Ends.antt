@@ -12,7 +12,8 @@ use Rattle.ocl.specs.Types.{Kind}
 use Rattle.ocl.specs.Values.{Value, bool, int, obj, coll, Values, nil, addAll, size}
 use Rattle.ocl.specs.Environment.{Env}
 use Rattle.ocl.specs.Forms.{Arith, plus, minus, times, div, modulo, Quantifier}
-use Rattle.ocl.specs.Evaluation.{Outcome, value, undefined, stuck, stop, Run, resume, bind, tick, form, given, formAll, bound, onBool, onInt, onColl, inRange, Result, result, noResult, overRange, resulting, ranged, unlessZero, arithmetic, endsAt, seek, fold}
+use Rattle.ocl.specs.Operations.{Outcome, value, undefined, stuck, stop, form, given, formAll, onBool, onInt, onColl, inRange, Result, result, noResult, overRange, resulting, ranged, unlessZero, arithmetic}
+use Rattle.ocl.specs.Evaluation.{Run, resume, bind, tick, bound, endsAt, seek, fold}
 use Rattle.laws.proofs.Tests.{by-if, All?, all-none, all-some}
 use Rattle.ocl.proofs.Values.{Every, every-nil, every-cons}
 

@@ -16,7 +16,8 @@ use Rattle.ocl.specs.Model.{Model, schemaOf, isA, every}
 use Rattle.ocl.specs.Forms.{Connective, Quantifier, Access, ofObject, ofMembers, Leaf, truth, undef, number, self, var, all, Unary, negation, sizeOf, convert, castTo, Binary, equal, less, arith, includes, including, union, Expr, node, Form, leaf, unary, binary, connective, isUndef, conditional, letIn, attribute, quantified, iterate, assemble, Operands, noOperand, operand, reach, inside, reaches}
 use Rattle.ocl.specs.Laws.{literals, Agree}
 use Rattle.ocl.specs.Typing.{Answer, typed, Mark, ofRow, ofRows, rowMarked, kindMarked, wrap, collectKind, boundType, leafType, castType, unaryType, bothBelow, binaryType, conditionalType, rowType, attributeType, leafTyping, unaryTyping, binaryTyping, connectiveTyping, isUndefTyping, conditionalTyping, letTyping, attributeTyping, quantifiedTyping, iterateTyping, noOperandTyping, operandTyping, assembleTyping, typing, formTyping, operandsTyping, typeRule}
-use Rattle.ocl.specs.Evaluation.{Run, isLess, inRange, instances, leafRun, cast, unaryApply, unaryRun, leftFits, binaryApply, binaryRun, decides, connectiveRun, isUndefRun, conditionalRun, letRun, hasRow, valueInRow, valuesInRow, formAll, access, attributeRun, quantifiedRun, iterateRun, Gather, noOperandRun, operandRun, assembleRun, evaluation, formRun, operandsRun, evaluateRule, bound as boundRun}
+use Rattle.ocl.specs.Operations.{isLess, inRange, instances, cast, unaryApply, leftFits, binaryApply, hasRow, valueInRow, valuesInRow, formAll, access}
+use Rattle.ocl.specs.Evaluation.{Run, leafRun, unaryRun, binaryRun, decides, connectiveRun, isUndefRun, conditionalRun, letRun, attributeRun, quantifiedRun, iterateRun, Gather, noOperandRun, operandRun, assembleRun, evaluation, formRun, operandsRun, evaluateRule, bound as boundRun}
 use Rattle.ocl.specs.Soundness.{AcceptedModel, Sound, Soundness}
 use Rattle.laws.proofs.Tests.{by-if, All?, all-none, all-some, Any?, any-some, all-imp, all-self, at-some}
 use Rattle.ocl.proofs.SimpleTypes.{climb→simpleSubtype, boolean-not-class, integer-not-class}

@@ -14,7 +14,8 @@ use Rattle.ocl.specs.Model.{Model, isA, every}
 use Rattle.ocl.specs.Environment.{Env, extend, start}
 use Rattle.ocl.specs.Forms.{Connective, Quantifier, Access, ofObject, ofMembers, Leaf, truth, undef, number, self, var, all, Unary, negation, sizeOf, convert, castTo, Binary, equal, less, arith, includes, including, union, Expr, node, Form, leaf, unary, binary, connective, isUndef, conditional, letIn, attribute, quantified, iterate, assemble, Operands, noOperand, operand}
 use Rattle.ocl.specs.Typing.{Mark, rowMarked, kindMarked}
-use Rattle.ocl.specs.Evaluation.{Outcome, value, undefined, stuck, stop, Stop, step-stop, size-stop, range-stop, stepsOf, Run, resume, bind, tick, form, given, bound, onBool, onInt, onColl, Result, result, noResult, overRange, resulting, arithmetic, leafRun, cast, unaryApply, unaryRun, leftFits, binaryApply, binaryRun, decides, connectiveRun, isUndefRun, conditionalRun, letRun, hasRow, valueInRow, valuesInRow, formAll, access, attributeRun, endsAt, seek, quantifiedRun, fold, iterateRun, Gather, noOperandRun, operandRun, assembleRun, evaluation, formRun, operandsRun, evaluateRule}
+use Rattle.ocl.specs.Operations.{Outcome, value, undefined, stuck, stop, Stop, step-stop, size-stop, range-stop, stepsOf, form, given, onBool, onInt, onColl, Result, result, noResult, overRange, resulting, arithmetic, cast, unaryApply, leftFits, binaryApply, hasRow, valueInRow, valuesInRow, formAll, access}
+use Rattle.ocl.specs.Evaluation.{Run, resume, bind, tick, bound, leafRun, unaryRun, binaryRun, decides, connectiveRun, isUndefRun, conditionalRun, letRun, attributeRun, endsAt, seek, quantifiedRun, fold, iterateRun, Gather, noOperandRun, operandRun, assembleRun, evaluation, formRun, operandsRun, evaluateRule}
 
 pub data Limited : Outcome → Type 0 where
   limited-value : {v : Value} {n : ℕ} → n ≤ 1000000 → Limited (value v n)

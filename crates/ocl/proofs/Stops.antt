@@ -6,7 +6,8 @@ use native.Mathlib.Omega.{arith}
 use Rattle.ocl.specs.Environment.{Env}
 use Rattle.ocl.specs.Values.{Value, bool}
 use Rattle.ocl.specs.Forms.{Connective, and, or}
-use Rattle.ocl.specs.Evaluation.{value, stop, Stop, step-stop, size-stop, range-stop, Run, inRange, ranged, unlessZero, quotient, remainder, arithmetic, unaryRun, binaryRun, decides, connectiveRun, isUndefRun, conditionalRun, letRun, attributeRun, seek, quantifiedRun, fold, iterateRun, operandRun}
+use Rattle.ocl.specs.Operations.{value, stop, Stop, step-stop, size-stop, range-stop, inRange, ranged, unlessZero, quotient, remainder, arithmetic}
+use Rattle.ocl.specs.Evaluation.{Run, unaryRun, binaryRun, decides, connectiveRun, isUndefRun, conditionalRun, letRun, attributeRun, seek, quantifiedRun, fold, iterateRun, operandRun}
 use Rattle.ocl.specs.Stops.{Upward, least, greatest, RangeEnds}
 
 pub upward : Upward

@@ -15,7 +15,8 @@ use Rattle.ocl.specs.Model.{Schema, Model, belongs}
 use Rattle.ocl.specs.Environment.{Env}
 use Rattle.ocl.specs.Forms.{Leaf, truth, undef, number, self, var, all, Expr, node, Form, leaf, unary, binary, connective, isUndef, conditional, letIn, attribute, quantified, iterate, assemble, Operands, noOperand, operand}
 use Rattle.ocl.specs.Typing.{refused, Mark, rowMarked, kindMarked, Marks, typing}
-use Rattle.ocl.specs.Evaluation.{value, inRange, instances, evaluation, evaluateRule}
+use Rattle.ocl.specs.Operations.{value, inRange, instances}
+use Rattle.ocl.specs.Evaluation.{evaluation, evaluateRule}
 
 -- ---- what the statements speak of: the nodes and literals of a tree, the Integers of a value
 

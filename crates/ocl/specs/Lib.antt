@@ -4,6 +4,7 @@ pub mod Model
 pub mod Environment
 pub mod Forms
 pub mod Typing
+pub mod Operations
 pub mod Evaluation
 pub mod Stops
 pub mod Laws

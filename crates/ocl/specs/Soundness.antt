@@ -11,7 +11,8 @@ use Rattle.ocl.specs.Values.{Value, size}
 use Rattle.ocl.specs.Model.{Model, schemaOf, isA, belongs}
 use Rattle.ocl.specs.Forms.{Expr, reach}
 use Rattle.ocl.specs.Typing.{typed, Mark, typeRule}
-use Rattle.ocl.specs.Evaluation.{Outcome, value, stuck, stop, Stop, stepsOf, inRange, evaluateRule}
+use Rattle.ocl.specs.Operations.{Outcome, value, stuck, stop, Stop, stepsOf, inRange}
+use Rattle.ocl.specs.Evaluation.{evaluateRule}
 use Rattle.ocl.specs.Laws.{integersInRange, Formed, literals, Agree}
 
 -- what reading makes sure of

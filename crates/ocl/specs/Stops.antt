@@ -9,7 +9,8 @@ use Rattle.ocl.specs.Model.{Model}
 use Rattle.ocl.specs.Environment.{Env, extend}
 use Rattle.ocl.specs.Forms.{plus, minus, times, div, modulo, Connective, Quantifier, Access, Unary, Binary}
 use Rattle.ocl.specs.Typing.{Mark}
-use Rattle.ocl.specs.Evaluation.{Outcome, value, undefined, stop, Run, result, noResult, overRange, arithmetic, unaryRun, leftFits, binaryRun, decides, connectiveRun, isUndefRun, conditionalRun, letRun, attributeRun, seek, quantifiedRun, fold, iterateRun, Gather, operandRun}
+use Rattle.ocl.specs.Operations.{Outcome, value, undefined, stop, result, noResult, overRange, arithmetic, leftFits}
+use Rattle.ocl.specs.Evaluation.{Run, unaryRun, binaryRun, decides, connectiveRun, isUndefRun, conditionalRun, letRun, attributeRun, seek, quantifiedRun, fold, iterateRun, Gather, operandRun}
 
 -- where f stops, so does g, with the same number and the same steps
 abbrev pub Passes : Run → Run → Type 0

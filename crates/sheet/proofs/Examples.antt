@@ -8,7 +8,8 @@ use Rattle.ocl.specs.Model.{classIsA, isA, every, belongs, declared, nearest, r
 use Rattle.ocl.specs.Environment.{extend, start}
 use Rattle.ocl.specs.Forms.{levels}
 use Rattle.ocl.specs.Typing.{thenFor, andThen, common, wrap, onCollection, onKind, boundType, leafType, castType, unaryType, bothBelow, binaryType, conditionalType, onClass, rowMarked, kindMarked, collectKind, rowType, attributeType, leafTyping, unaryTyping, binaryTyping, connectiveTyping, isUndefTyping, conditionalTyping, letTyping, attributeTyping, quantifiedTyping, iterateTyping, noOperandTyping, operandTyping, assembleTyping, typing, typeRule, markOr, markIn}
-use Rattle.ocl.specs.Evaluation.{stepsOf, tick, form, isLess, inRange, ranged, unlessZero, quotient, remainder, arithmetic, instances, leafRun, cast, unaryApply, unaryRun, leftFits, binaryApply, binaryRun, decides, connectiveRun, isUndefRun, conditionalRun, letRun, hasRow, valueInRow, valuesInRow, access, attributeRun, endsAt, seek, quantifiedRun, fold, iterateRun, noOperandRun, operandRun, assembleRun, evaluation, evaluateRule}
+use Rattle.ocl.specs.Operations.{stepsOf, form, isLess, inRange, ranged, unlessZero, quotient, remainder, arithmetic, instances, cast, unaryApply, leftFits, binaryApply, hasRow, valueInRow, valuesInRow, access}
+use Rattle.ocl.specs.Evaluation.{tick, leafRun, unaryRun, binaryRun, decides, connectiveRun, isUndefRun, conditionalRun, letRun, attributeRun, endsAt, seek, quantifiedRun, fold, iterateRun, noOperandRun, operandRun, assembleRun, evaluation, evaluateRule}
 use Rattle.sheet.specs.Text.{bytes, onto, split, linesOf, fieldsOf, nothing, after, literal, behind, _or_, _then_, mapped, atEnd, whole, isDigit, digits, afterDigits, plain, valueOfDigits, numberParser, negative, integerParser, spellDigits, spellNumber, spellInteger}
 use Rattle.sheet.specs.Spelling.{collectionType, typeParser, readType, letterByte, spellSimple, spellType, valueParser, readValue, kindByte, spellBool, spellValue}
 use Rattle.sheet.specs.Lines.{is, next, done, each, aNumber, anInteger, aParent, aKind, oneOperand, twoOperands, threeNumbers, iterateFields, atMostFour, assembleFields, shapeOf, aWord, lineOf, firstIsN}

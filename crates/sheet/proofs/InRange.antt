@@ -10,7 +10,7 @@ use Rattle.laws.proofs.Lists.{each-append}
 use Rattle.ocl.specs.Values.{Value, bool, int, obj, coll, Values, nil, cons, everyPart, everyParts}
 use Rattle.ocl.specs.Forms.{Leaf, truth, undef, number, self, var, all, Expr}
 use Rattle.ocl.specs.Laws.{leafLiterals, literals, literalsIn, literalsOf, integerInRange, integersInRange}
-use Rattle.ocl.specs.Evaluation.{inRange}
+use Rattle.ocl.specs.Operations.{inRange}
 use Rattle.sheet.specs.Lines.{Shape, leaf, unary, binary, connective, isUndef, conditional, letIn, attribute, quantified, iterate, assemble}
 use Rattle.sheet.specs.Sheet.{growAll, grow, treeOf}
 use Rattle.sheet.specs.Refusals.{partWithin, leafWithin, formWithin}

@@ -18,7 +18,7 @@ use Rattle.ocl.specs.Model.{Model, isA}
 use Rattle.ocl.specs.Forms.{reach}
 use Rattle.ocl.specs.Environment.{start}
 use Rattle.ocl.specs.Typing.{Answer, typed, refused, typeRule}
-use Rattle.ocl.specs.Evaluation.{Outcome, value, undefined, stuck, stop, Stop, step-stop, size-stop, range-stop, stepsOf}
+use Rattle.ocl.specs.Operations.{Outcome, value, undefined, stuck, stop, Stop, step-stop, size-stop, range-stop, stepsOf}
 use Rattle.ocl.specs.Soundness.{Sound}
 use Rattle.ocl.proofs.Places.{typing-places}
 use Rattle.ocl.proofs.Stops.{stop-within}

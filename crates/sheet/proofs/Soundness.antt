@@ -18,7 +18,7 @@ use Rattle.ocl.specs.Forms.{reach}
 use Rattle.ocl.specs.Laws.{numbers}
 use Rattle.ocl.specs.Typing.{typed, refused, typeRule}
 use Rattle.ocl.specs.Environment.{start}
-use Rattle.ocl.specs.Evaluation.{Outcome, value, undefined, stuck, stop, stepsOf}
+use Rattle.ocl.specs.Operations.{Outcome, value, undefined, stuck, stop, stepsOf}
 use Rattle.ocl.specs.Soundness.{Sound}
 use Rattle.ocl.proofs.Soundness.{soundness}
 use Rattle.ocl.proofs.Places.{typing-places}

@@ -9,7 +9,8 @@ use Rattle.laws.specs.Choice.{if_then_else_}
 use Rattle.ocl.specs.Types.{class, Ty}
 use Rattle.ocl.specs.Model.{Schema, Model, isA}
 use Rattle.ocl.specs.Typing.{Answer, typed, refused, Mark, Marks, Typed, typeRule, markIn}
-use Rattle.ocl.specs.Evaluation.{Outcome, value, undefined, stuck, stop, evaluateRule}
+use Rattle.ocl.specs.Operations.{Outcome, value, undefined, stuck, stop}
+use Rattle.ocl.specs.Evaluation.{evaluateRule}
 use Rattle.sheet.specs.Text.{Bytes, byte, bytes}
 use Rattle.sheet.specs.Spelling.{spellType, spellValue}
 use Rattle.sheet.specs.Sheet.{Rule, Sheet, schemaIn, modelOf}
