@@ -16,6 +16,7 @@ pub mod Places
 pub mod Means
 pub mod Answered
 pub mod ByType
+pub mod StrictForms
 pub mod Soundness
 pub mod Stops
 pub mod Worked
