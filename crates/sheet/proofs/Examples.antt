@@ -14,7 +14,8 @@ use Rattle.sheet.specs.Text.{bytes, onto, split, linesOf, fieldsOf, noth
 use Rattle.sheet.specs.Spelling.{collectionType, typeParser, readType, letterByte, spellSimple, spellType, valueParser, readValue, kindByte, spellBool, spellValue}
 use Rattle.sheet.specs.Lines.{is, next, done, each, aNumber, anInteger, aParent, aKind, oneOperand, twoOperands, threeNumbers, iterateFields, atMostFour, assembleFields, shapeOf, aWord, lineOf, firstIsN}
 use Rattle.sheet.specs.Sheet.{empty, lookup, noRow, modelOf, operandsOf, growAll, grow, treeOf, withNode, added, lastTree, allUsed, withRule, endOf, endFor, endRule}
-use Rattle.sheet.specs.Refusals.{simpleClassBelow, objectBelow, partWithin, nesting, mayFollow, followed, ordered, isClass, isVariable, isNode, leafWithin, unaryWithin, formWithin, parentWithin, totalSize, withinLimits, blockOf, declares, afterSlots, nextNode, twoVariables, numbered, inOrder, parentSmaller, leafKnown, unaryKnown, formKnown, partsKnown, suits, fresh, operandsFresh, treeHolds, classBelow, typeWithin, valueWithin}
+use Rattle.sheet.specs.Limits.{simpleClassBelow, partWithin, nesting, isClass, isVariable, isNode, leafWithin, unaryWithin, formWithin, parentWithin, totalSize, withinLimits, classBelow, typeWithin, valueWithin}
+use Rattle.sheet.specs.Refusals.{objectBelow, mayFollow, followed, ordered, blockOf, declares, afterSlots, nextNode, twoVariables, numbered, inOrder, parentSmaller, leafKnown, unaryKnown, formKnown, partsKnown, suits, fresh, operandsFresh, treeHolds}
 use Rattle.sheet.specs.Reading.{must, stepLine, stepSpelled, step, onStep, onEnd, closing, readLast, readLines, readText}
 use Rattle.sheet.specs.Calls.{answer, refusalAt, refusal, shortWords, shortOutput, onSheet, onRule, typingOf, onType, onTypes, onAccepted, typeLines, readCall, onObject, ruleMarks, marksOf, outcomeOf, ended, evaluateOn, evaluateCall}
 use Rattle.sheet.specs.Report.{spellOutcome, reportLine, objectLines, ruleLines, fitting, reportOf, printed, program}

@@ -21,7 +21,8 @@ use Rattle.ocl.specs.Laws.{integersInRange, Formed, numbers, literals}
 use Rattle.ocl.proofs.Answered.{Named}
 use Rattle.sheet.specs.Lines.{Line, classLine, rowLine, objectLine, valueLine, ruleLine, nodeLine, Shape}
 use Rattle.sheet.specs.Sheet.{Slot, Rule, Current, Sheet, empty, noRow, modelOf, operandsOf, grow, treeOf, withNode, added, mostLevels}
-use Rattle.sheet.specs.Refusals.{isClass, partWithin, valueWithin, isNode, formWithin, withinLimits, blockOf, numbered, inOrder, afterSlots, ordered, parentSmaller, partsKnown, suits, operandsFresh, treeHolds}
+use Rattle.sheet.specs.Limits.{isClass, partWithin, valueWithin, isNode, formWithin, withinLimits}
+use Rattle.sheet.specs.Refusals.{blockOf, numbered, inOrder, afterSlots, ordered, parentSmaller, partsKnown, suits, operandsFresh, treeHolds}
 use Rattle.sheet.proofs.Belonging.{belongs-same}
 use Rattle.sheet.proofs.Parents.{parent-more}
 use Rattle.sheet.proofs.Ascending.{Ascending, ascending-nil, ascending-more}

@@ -13,7 +13,7 @@ use Rattle.ocl.specs.Laws.{leafLiterals, literals, literalsIn, literalsOf, inte
 use Rattle.ocl.specs.Operations.{inRange}
 use Rattle.sheet.specs.Lines.{Shape, leaf, unary, binary, connective, isUndef, conditional, letIn, attribute, quantified, iterate, assemble}
 use Rattle.sheet.specs.Sheet.{growAll, grow, treeOf}
-use Rattle.sheet.specs.Refusals.{partWithin, leafWithin, formWithin}
+use Rattle.sheet.specs.Limits.{partWithin, leafWithin, formWithin}
 
 -- ---- a value
 

@@ -11,7 +11,7 @@ use Rattle.ocl.specs.Values.{Value, bool, int, obj, coll, Values, nil, cons, si
 use Rattle.ocl.specs.Operations.{inRange}
 use Rattle.sheet.specs.Text.{bytes, spellInteger}
 use Rattle.sheet.specs.Spelling.{spellSimple, spellType, spellBool, spellValue, spellMembers, spellMore}
-use Rattle.sheet.specs.Refusals.{simpleClassBelow, classBelow, partWithin}
+use Rattle.sheet.specs.Limits.{simpleClassBelow, classBelow, partWithin}
 use Rattle.sheet.specs.SpellingLaws.{LengthLaws}
 use Rattle.sheet.proofs.Numbers.{digits-at-most}
 

@@ -17,7 +17,7 @@ use Rattle.sheet.specs.Text.{Bytes}
 use Rattle.sheet.specs.Spelling.{spellType}
 use Rattle.sheet.specs.Sheet.{Rule, Sheet, noRow, schemaIn}
 use Rattle.sheet.specs.Reading.{Reading, accepted, rejected, readText}
-use Rattle.sheet.specs.Refusals.{classBelow}
+use Rattle.sheet.specs.Limits.{classBelow}
 use Rattle.sheet.specs.Calls.{Verdict, answer, refusalAt, refusal, shortWords, shortOutput, onSheet, typingOf, onType, onTypes, onAccepted, typeLines, readCall, marksOf}
 use Rattle.sheet.specs.Laws.{ReadLength, AllTyped, none-typed, one-typed}
 use Rattle.sheet.proofs.Lengths.{type-length}

@@ -15,7 +15,7 @@ use Rattle.ocl.specs.Forms.{Leaf, truth, undef, number, self, var, all, Unary, 
 use Rattle.ocl.proofs.Answered.{leafNames, unaryNames, Named, NamedIn, NamedOf, Closed}
 use Rattle.sheet.specs.Lines.{Shape, leaf, unary, binary, connective, isUndef, conditional, letIn, attribute, quantified, iterate, assemble}
 use Rattle.sheet.specs.Sheet.{growAll, grow, treeOf}
-use Rattle.sheet.specs.Refusals.{simpleClassBelow, classBelow, isClass, isVariable, typeWithin, leafWithin, unaryWithin, formWithin}
+use Rattle.sheet.specs.Limits.{simpleClassBelow, classBelow, isClass, isVariable, typeWithin, leafWithin, unaryWithin, formWithin}
 
 -- at most n letters deep, and a class in it is below 64
 pub record Fits (n : ℕ) (t : Ty) : Type 0 where

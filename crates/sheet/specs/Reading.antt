@@ -9,7 +9,8 @@ use Rattle.laws.specs.Choice.{if_then_else_}
 use Rattle.sheet.specs.Text.{Bytes, linesOf, fieldsOf}
 use Rattle.sheet.specs.Lines.{Line, lineOf, firstIsN}
 use Rattle.sheet.specs.Sheet.{Sheet, empty, added, endRule}
-use Rattle.sheet.specs.Refusals.{withinLimits, inOrder, partsKnown, suits, treeHolds}
+use Rattle.sheet.specs.Limits.{withinLimits}
+use Rattle.sheet.specs.Refusals.{inOrder, partsKnown, suits, treeHolds}
 
 -- one line: the sheet with it, or a refusal's number
 pub data Step : Type 0 where
