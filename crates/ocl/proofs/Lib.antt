@@ -22,3 +22,4 @@ pub mod Stops
 pub mod Worked
 pub mod Mistakes
 pub mod Collect
+pub mod Definitions

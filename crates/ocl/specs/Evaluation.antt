@@ -4,13 +4,13 @@ use mathlib.Core.Option.{Option, none, some}
 use Prim.Native.Nat.{ℕ, _+_}
 use lib.Dec.{ltb}
 use Rattle.laws.specs.Choice.{if_then_else_}
-use Rattle.ocl.specs.Types.{Kind, set}
+use Rattle.ocl.specs.Types.{class, Kind, set}
 use Rattle.ocl.specs.Values.{Value, bool, int, obj, coll, Values, nil, cons, add}
-use Rattle.ocl.specs.Model.{Model}
+use Rattle.ocl.specs.Model.{Model, isA}
 use Rattle.ocl.specs.Environment.{Env, extend, start}
 use Rattle.ocl.specs.Typing.{Mark}
-use Rattle.ocl.specs.Forms.{Connective, and, or, Quantifier, forAll, exists, Access, Leaf, truth, undef, number, self, var, all, Unary, Binary, Expr, node, Form, leaf, unary, binary, connective, isUndef, conditional, letIn, attribute, quantified, iterate, assemble, Operands, noOperand, operand}
-use Rattle.ocl.specs.Operations.{Outcome, value, undefined, stuck, stop, form, onBool, onColl, instances, unaryApply, leftFits, binaryApply, access}
+use Rattle.ocl.specs.Forms.{Connective, and, or, Quantifier, forAll, exists, Access, Leaf, truth, undef, number, self, var, all, Unary, Binary, Expr, node, Form, leaf, unary, binary, connective, isUndef, conditional, letIn, attribute, call, quantified, iterate, assemble, Operands, noOperand, operand}
+use Rattle.ocl.specs.Operations.{Outcome, value, undefined, stuck, stop, form, onBool, onObj, onColl, instances, unaryApply, leftFits, binaryApply, access}
 
 -- a node's evaluation
 abbrev pub Run : Type 0
@@ -80,6 +80,10 @@ letRun i f g ρ n = bind (f ρ n) (λ v n. g (extend ρ i v) n)
 unfoldable pub attributeRun : Model → Access → Mark → Run → Run
 attributeRun s x m f ρ n = bind (f ρ n) (λ v n. access s x m v n)
 
+-- document 02, F-13: `call` takes an object of the definition's class or below and binds it as `self`; all other variables are hidden
+unfoldable pub callRun : Model → ℕ → Run → Run → Run
+callRun s c f g ρ n = bind (f ρ n) (λ v n. onObj v (λ o. if isA s o (class c) then g (start (obj o)) n else stuck))
+
 -- the body that ends it: false for `forAll`, true for `exists`
 unfoldable pub endsAt : Quantifier → Bool
 endsAt forAll = false
@@ -134,6 +138,7 @@ unfoldable mutual
   formRun s mark p (conditional c a b) = conditionalRun (evaluation s mark c) (evaluation s mark a) (evaluation s mark b)
   formRun s mark p (letIn i a b) = letRun i (evaluation s mark a) (evaluation s mark b)
   formRun s mark p (attribute x name a) = attributeRun s x (mark p) (evaluation s mark a)
+  formRun s mark p (call c t a b) = callRun s c (evaluation s mark a) (evaluation s mark b)
   formRun s mark p (quantified q i a b) = quantifiedRun q i (evaluation s mark a) (evaluation s mark b)
   formRun s mark p (iterate i j t a e b) = iterateRun i j (evaluation s mark a) (evaluation s mark e) (evaluation s mark b)
   formRun s mark p (assemble k es) = assembleRun k (operandsRun s mark es)

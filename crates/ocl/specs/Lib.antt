@@ -12,3 +12,4 @@ pub mod Soundness
 pub mod Worked
 pub mod Mistakes
 pub mod Collect
+pub mod Definitions

@@ -55,6 +55,12 @@ onInt (int z) k = k z
 onInt (obj o) k = stuck
 onInt (coll c vs) k = stuck
 
+abbrev pub onObj : Value → (ℕ → Outcome) → Outcome
+onObj (bool b) k = stuck
+onObj (int z) k = stuck
+onObj (obj o) k = k o
+onObj (coll c vs) k = stuck
+
 abbrev pub onColl : Value → (Kind → Values → Outcome) → Outcome
 onColl (bool b) k = stuck
 onColl (int z) k = stuck
