@@ -10,7 +10,7 @@ use Rattle.ocl.specs.Types.{Simple, any, boolean, integer, class, Ty, void, sim
 use Rattle.ocl.specs.Values.{Value, bool, int, obj, coll, Values, nil, cons, size, everyPart}
 use Rattle.ocl.specs.Operations.{inRange}
 use Rattle.ocl.specs.Forms.{Leaf, truth, undef, number, self, var, all, Unary, negation, sizeOf, convert, castTo}
-use Rattle.sheet.specs.Lines.{Shape, leaf, unary, binary, connective, isUndef, conditional, letIn, attribute, quantified, iterate, assemble, Line, classLine, rowLine, objectLine, valueLine, ruleLine, nodeLine}
+use Rattle.sheet.specs.Lines.{Shape, leaf, unary, binary, connective, isUndef, conditional, letIn, attribute, call, quantified, iterate, assemble, Line, classLine, rowLine, objectLine, valueLine, definitionLine, ruleLine, nodeLine}
 use Rattle.sheet.specs.Sheet.{Slot, Sheet, operandsOf}
 
 -- ---- parts of lines
@@ -58,6 +58,10 @@ isVariable i = leb 1 i && leb i 15
 unfoldable pub isNode : ℕ → Bool
 isNode a = ltb a 768
 
+-- definitions 0 to 31
+unfoldable pub isDefinition : ℕ → Bool
+isDefinition n = ltb n 32
+
 unfoldable pub typeWithin : Ty → Bool
 typeWithin t = leb (depth t) 3 && classBelow 64 t
 
@@ -88,6 +92,7 @@ formWithin (isUndef a) = true
 formWithin (conditional c a b) = true
 formWithin (letIn i a b) = isVariable i
 formWithin (attribute x name a) = ltb name 256
+formWithin (call a n) = isDefinition n
 formWithin (quantified q i a b) = isVariable i
 formWithin (iterate i j t a e b) = isVariable i && isVariable j && typeWithin t
 formWithin (assemble k es) = true
@@ -108,6 +113,7 @@ withinLimits s (objectLine n c) = ltb n 96 && isClass c
 -- at most 1,024 V lines, of sizes that come to at most 2,048
 withinLimits s (valueLine o a v) =
     ltb o 96 && ltb a 64 && valueWithin v && ltb (length (s .slots)) 1024 && leb (totalSize (s .slots) + size v) 2048
+withinLimits s (definitionLine n c t) = isDefinition n && isClass c && typeWithin t
 withinLimits s (ruleLine n c) = ltb n 64 && isClass c
--- at most 768 nodes in all rules
+-- at most 768 nodes in all definitions and rules
 withinLimits s (nodeLine n x) = isNode n && formWithin x && allOf isNode (operandsOf x) && ltb (length (s .lines)) 768

@@ -1,4 +1,4 @@
--- Document 01, Calls: when a well-spelled line is refused with 5, 6, 7 or 8; Limits.antt has 4. Each test says what must hold.
+-- Document 01, Calls: when a well-spelled line is refused with 5, 6, 23, 24, 7 or 8; Limits.antt has 4. Each test says what must hold.
 use Prim.Native.Nat.{ℕ, Ordering, Ordering·lt, Ordering·eq, Ordering·gt}
 use mathlib.Core.Bool.{Bool, true, false, not, _&&_, _||_}
 use mathlib.Core.Option.{Option, none, some}
@@ -6,12 +6,12 @@ use mathlib.Core.List.{List, [], _∷_}
 use lib.ListN.{length}
 use lib.Dec.{eqb, leb, ltb}
 use Rattle.laws.specs.Lists.{member}
-use Rattle.ocl.specs.Types.{class, Kind, set, sequence, bag}
+use Rattle.ocl.specs.Types.{class, Kind, set, sequence, bag, Ty}
 use Rattle.ocl.specs.Values.{Value, bool, int, obj, coll, Values, nil, cons, everyPart, order}
 use Rattle.ocl.specs.Operations.{isLess}
 use Rattle.ocl.specs.Model.{Row, isA, belongs}
 use Rattle.ocl.specs.Forms.{Leaf, truth, undef, number, self, var, all, Unary, negation, sizeOf, convert, castTo}
-use Rattle.sheet.specs.Lines.{Shape, leaf, unary, binary, connective, isUndef, conditional, letIn, attribute, quantified, iterate, assemble, Line, classLine, rowLine, objectLine, valueLine, ruleLine, nodeLine}
+use Rattle.sheet.specs.Lines.{Shape, leaf, unary, binary, connective, isUndef, conditional, letIn, attribute, call, quantified, iterate, assemble, Line, classLine, rowLine, objectLine, valueLine, definitionLine, ruleLine, nodeLine}
 use Rattle.sheet.specs.Sheet.{Slot, Current, Sheet, modelOf, operandsOf}
 use Rattle.sheet.specs.Limits.{classBelow}
 
@@ -41,14 +41,15 @@ unfoldable mutual
   allOrdered k nil = true
   allOrdered k (cons v vs) = ordered v && followed k v vs && allOrdered k vs
 
--- C, A, O, V, then R with its N
+-- C, A, O, V, D, R; an N stands in D and in R
 unfoldable pub blockOf : Line → ℕ
 blockOf (classLine n p) = 0
 blockOf (rowLine n c name t) = 1
 blockOf (objectLine n c) = 2
 blockOf (valueLine o a v) = 3
-blockOf (ruleLine n c) = 4
-blockOf (nodeLine n x) = 4
+blockOf (definitionLine n c t) = 4
+blockOf (ruleLine n c) = 5
+blockOf (nodeLine n x) = 5
 
 -- does class c declare the name
 unfoldable pub declares : List Row → ℕ → ℕ → Bool
@@ -61,7 +62,7 @@ afterSlots [] o a = true
 afterSlots (x ∷ []) o a = ltb (x .object) o || eqb (x .object) o && ltb (x .row) a
 afterSlots (x ∷ y ∷ xs) o a = afterSlots (y ∷ xs) o a
 
--- a node line stands in a rule, with the next number
+-- a node line stands in a definition or a rule, with the next number
 unfoldable pub nextNode : Option Current → ℕ → Bool
 nextNode none n = false
 nextNode (some c) n = eqb n (length (c .trees))
@@ -76,6 +77,7 @@ twoVariables (isUndef a) = true
 twoVariables (conditional c a b) = true
 twoVariables (letIn i a b) = true
 twoVariables (attribute x name a) = true
+twoVariables (call a n) = true
 twoVariables (quantified q i a b) = true
 twoVariables (iterate i j t a e b) = not (eqb i j)
 twoVariables (assemble k es) = true
@@ -85,6 +87,7 @@ numbered s (classLine n p) = eqb n (length (s .parents))
 numbered s (rowLine n c name t) = eqb n (length (s .rows)) && not (declares (s .rows) c name)
 numbered s (objectLine n c) = eqb n (length (s .objects))
 numbered s (valueLine o a v) = afterSlots (s .slots) o a && ordered v
+numbered s (definitionLine n c t) = eqb n (length (s .definitions))
 numbered s (ruleLine n c) = eqb n (length (s .rules))
 numbered s (nodeLine n x) = nextNode (s .current) n && twoVariables x
 
@@ -128,6 +131,7 @@ formKnown n (isUndef a) = true
 formKnown n (conditional c a b) = true
 formKnown n (letIn i a b) = true
 formKnown n (attribute x name a) = true
+formKnown n (call a d) = true
 formKnown n (quantified q i a b) = true
 formKnown n (iterate i j t a e b) = classBelow n t
 formKnown n (assemble k es) = true
@@ -138,8 +142,55 @@ partsKnown s (rowLine n c name t) = ltb c (length (s .parents)) && classBelow (l
 partsKnown s (objectLine n c) = ltb c (length (s .parents))
 partsKnown s (valueLine o a v) =
     ltb o (length (s .objects)) && ltb a (length (s .rows)) && everyPart (objectBelow (length (s .objects))) v
+partsKnown s (definitionLine n c t) = ltb c (length (s .parents)) && classBelow (length (s .parents)) t
 partsKnown s (ruleLine n c) = ltb c (length (s .parents))
 partsKnown s (nodeLine n x) = formKnown (length (s .parents)) x
+
+-- ---- 23: a definition calls only smaller ones; 24: a definition that is called is on the sheet (document 02, F-13)
+
+-- the definition that a form calls is below n
+unfoldable pub callBelow : ℕ → Shape → Bool
+callBelow n (leaf l) = true
+callBelow n (unary op a) = true
+callBelow n (binary op a b) = true
+callBelow n (connective c a b) = true
+callBelow n (isUndef a) = true
+callBelow n (conditional c a b) = true
+callBelow n (letIn i a b) = true
+callBelow n (attribute x name a) = true
+callBelow n (call a d) = ltb d n
+callBelow n (quantified q i a b) = true
+callBelow n (iterate i j t a e b) = true
+callBelow n (assemble k es) = true
+
+-- is it a definition that is open
+unfoldable pub hasType : Option Ty → Bool
+hasType none = false
+hasType (some t) = true
+
+unfoldable pub inDefinition : Option Current → Bool
+inDefinition none = false
+inDefinition (some c) = hasType (c .result)
+
+-- the open definition's number is how many have ended, so that it and all larger ones are those not below
+unfoldable pub callsSmaller : Sheet → Line → Bool
+callsSmaller s (classLine n p) = true
+callsSmaller s (rowLine n c name t) = true
+callsSmaller s (objectLine n c) = true
+callsSmaller s (valueLine o a v) = true
+callsSmaller s (definitionLine n c t) = true
+callsSmaller s (ruleLine n c) = true
+callsSmaller s (nodeLine n x) = not (inDefinition (s .current)) || callBelow (length (s .definitions)) x
+
+-- in a rule all definitions have ended
+unfoldable pub callsKnown : Sheet → Line → Bool
+callsKnown s (classLine n p) = true
+callsKnown s (rowLine n c name t) = true
+callsKnown s (objectLine n c) = true
+callsKnown s (valueLine o a v) = true
+callsKnown s (definitionLine n c t) = true
+callsKnown s (ruleLine n c) = true
+callsKnown s (nodeLine n x) = callBelow (length (s .definitions)) x
 
 -- ---- 7: the object is of the row's class or below, and the value belongs to the row's type
 
@@ -149,12 +200,13 @@ suits s (rowLine n c name t) = true
 suits s (objectLine n c) = true
 suits s (valueLine o a v) =
     isA (modelOf s) o (class (modelOf s .row a .owner)) && belongs (modelOf s) (modelOf s .row a .type) v
+suits s (definitionLine n c t) = true
 suits s (ruleLine n c) = true
 suits s (nodeLine n x) = true
 
 -- ---- 8: an operand is a smaller node that is no operand yet
 
--- of a rule's node n, where some nodes are operands already
+-- of node n of a definition or rule, where some nodes are operands already
 unfoldable pub fresh : ℕ → List ℕ → List ℕ → Bool
 fresh n used [] = true
 fresh n used (a ∷ es) = ltb a n && not (member a used) && fresh n (a ∷ used) es
@@ -168,5 +220,6 @@ treeHolds s (classLine n p) = true
 treeHolds s (rowLine n c name t) = true
 treeHolds s (objectLine n c) = true
 treeHolds s (valueLine o a v) = true
+treeHolds s (definitionLine n c t) = true
 treeHolds s (ruleLine n c) = true
 treeHolds s (nodeLine n x) = operandsFresh (s .current) x
