@@ -1,14 +1,14 @@
 use Prim.Native.Nat.{_-_}
 use native.Mathlib.Omega.{arith}
 use Rattle.rules.proofs.Marks.{Copying, copy-none, copy-more, copy-done}
-use Rattle.rules.proofs.evaluated.keep_marks.Statement.{statement}
-use Rattle.rules.proofs.evaluated.keep_marks.Tie as tie
+use Rattle.rules.proofs.all.keep_marks.Statement.{statement}
+use Rattle.rules.proofs.all.keep_marks.Tie as tie
 
 abbrev Inv-loop : tie.InvT-loop
-Inv-loop w2 w1₀ i₀ w1 i = Copying w2 w1₀ i w1
+Inv-loop w2 w1₀ p₀ w1 p = Copying w2 w1₀ p w1
 
 abbrev μ-loop : tie.MeasureT-loop
-μ-loop w2 w1₀ i₀ w1 i = 768 - i
+μ-loop w2 w1₀ p₀ w1 p = 768 - p
 
 loop-holds : tie.Need-loop-holds Inv-loop μ-loop
 loop-holds c = copy-none _ _
@@ -28,8 +28,8 @@ mul-w1-2 c = omega arith
 slice-write-w1 : tie.Need-slice-write-w1 Inv-loop μ-loop
 slice-write-w1 c = omega arith
 
-add-i : tie.Need-add-i Inv-loop μ-loop
-add-i c = omega arith
+add-p : tie.Need-add-p Inv-loop μ-loop
+add-p c = omega arith
 
 loop-less : tie.Need-loop-less Inv-loop μ-loop
 loop-less c = omega arith
@@ -55,7 +55,7 @@ keep-marks-spec =
     add-w1
     mul-w1-2
     slice-write-w1
-    add-i
+    add-p
     loop-less
     loop-again
     same-length
