@@ -14,7 +14,7 @@ use Rattle.laws.proofs.Tests.{by-if}
 use Rattle.ocl.specs.Types.{class, Ty}
 use Rattle.ocl.specs.Model.{Model, isA}
 use Rattle.ocl.specs.Typing.{Answer as TypeAnswer, typed, refused as untyped}
-use Rattle.ocl.specs.Evaluation.{Outcome, value, undefined, stuck, stop}
+use Rattle.ocl.specs.Operations.{Outcome, value, undefined, stuck, stop}
 use Rattle.ocl.specs.Soundness.{Sound}
 use Rattle.ocl.proofs.Stops.{stop-within}
 use Rattle.sheet.specs.Text.{Bytes}

@@ -9,7 +9,7 @@ use lib.Dec.{T}
 use Rattle.ocl.specs.Types.{Ty}
 use Rattle.ocl.specs.Values.{Value, size}
 use Rattle.ocl.specs.Model.{Model, belongs}
-use Rattle.ocl.specs.Evaluation.{Stop}
+use Rattle.ocl.specs.Operations.{Stop}
 use Rattle.ocl.specs.Laws.{integersInRange, Formed}
 use Rattle.sheet.specs.Text.{Bytes, bytes}
 use Rattle.sheet.specs.Spelling.{spellType, spellValue}

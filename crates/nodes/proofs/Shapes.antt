@@ -12,11 +12,11 @@ use Rattle.laws.specs.Integers.{bias, unbias}
 use Rattle.laws.specs.Lists.{Each, each-nil, each-cons}
 use Rattle.laws.proofs.Tests.{and-true}
 use Rattle.ocl.specs.Types.{Kind, set, sequence, bag, Ty}
-use Rattle.ocl.specs.Evaluation.{inRange}
+use Rattle.ocl.specs.Operations.{inRange}
 use Rattle.ocl.specs.Forms.{plus, minus, times, div, modulo, Connective, and, or, Quantifier, forAll, exists, Access, ofObject, ofMembers, Leaf, truth, undef, number, self, var, all, Unary, negation, sizeOf, convert, castTo, Binary, equal, less, arith as calculation, includes, including, union, Expr, node, Form}
 use Rattle.sheet.specs.Lines.{Shape, leaf, unary, binary, connective, isUndef, conditional, letIn, attribute, quantified, iterate, assemble}
 use Rattle.sheet.specs.Sheet.{operandsOf, growAll, grow}
-use Rattle.sheet.specs.Refusals.{isVariable, isClass, typeWithin, leafWithin, unaryWithin, formWithin}
+use Rattle.sheet.specs.Limits.{isVariable, isClass, typeWithin, leafWithin, unaryWithin, formWithin}
 use Rattle.types.specs.Word.{typeIn}
 use Rattle.ocl.proofs.Ranges.{unbias-bias, bias-small}
 use Rattle.nodes.specs.Nodes.{TypeSaid, word, variable, classIn, leafOf, unaryOf, arithByCode, binaryOf, connectiveOf, quantifierOf, kindOf, accessOf, operandsIn, formOf, treesBelow, treeAt, leafWords, unaryWords, arithCode, binaryCode, connectiveCode, quantifierCode, accessCode, assembleCode, operandWord, shapeWords}

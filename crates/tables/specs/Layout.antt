@@ -12,7 +12,7 @@ use Rattle.ocl.specs.Model.{Row}
 use Rattle.ocl.specs.Forms.{levels}
 use Rattle.sheet.specs.Text.{Bytes, fieldsOf}
 use Rattle.sheet.specs.Sheet.{Slot, Rule, Current, Sheet, treeOf}
-use Rattle.sheet.specs.Refusals.{totalSize}
+use Rattle.sheet.specs.Limits.{totalSize}
 use Rattle.sheet.specs.Reading.{Step, taken, refuse, step}
 use Rattle.types.specs.Word.{typeIn}
 use Rattle.values.specs.Cells.{enc, Fits}
