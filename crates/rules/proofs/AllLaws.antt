@@ -5,12 +5,12 @@ use mathlib.Core.List.{List, [], _∷_, _++_}
 use Prim.Native.Nat.{ℕ, suc, _+_, _≤_, _<_}
 use native.Mathlib.Omega.{arith}
 use native.Mathlib.Numerals.{add-one}
-use lib.ListN.{length, getD, getElem?, set, take, drop, replicate, length-append, length-drop}
+use lib.ListN.{length, getElem?, set, take, drop, replicate, length-append, length-drop}
 use lib.Seq.{take-length, take-at, drop-at, drop-drop, take-set-le}
 use Rattle.ocl.specs.Types.{Ty}
-use Rattle.ocl.specs.Typing.{typed, refused as untyped, Marks}
+use Rattle.ocl.specs.Typing.{refused as untyped}
 use Rattle.sheet.specs.Sheet.{Rule, Sheet, schemaIn}
-use Rattle.sheet.specs.Calls.{Verdict, refusalAt, typingOf, onTypes, ruleMarks}
+use Rattle.sheet.specs.Calls.{refusalAt, typingOf, onTypes, ruleMarks}
 use Rattle.sheet.specs.Laws.{AllTyped, none-typed}
 use Rattle.types.specs.declared.FlatType.{FlatType}
 use Rattle.types.specs.Flat.{tyOf}

@@ -20,7 +20,7 @@ same-length-2 : tie.Need-same-length-2
 same-length-2 c = search needs
 
 returns : tie.Need-returns
-returns c = accepts (c .before .before .before .before .before .before .before .before .before .before .before .before .before .before .before .before .before .args .w2 .now) (c .before .before .keep-marks .ensures) (c .before .before .before .before .before .before .before .before .before .before .before .before .before .before .before .before .before .pre .0 .2) (c .before .before .before .before .before .before .before .before .before .before .before .before .clear-marks .ensures) (c .before .before .before .before .before .before .before .type-all .ensures)
+returns c = search accepts
 
 pub accept-spec : {M : Type 1} → statement M
 accept-spec =

@@ -35,13 +35,13 @@ loop-less : tie.Need-loop-less Inv-loop μ-loop
 loop-less c = omega arith
 
 loop-again : tie.Need-loop-again Inv-loop μ-loop
-loop-again c = copy-more (c .before .before .before .pre .0) (c .before .loop-test .taken) (c .before .before .loop .inv)
+loop-again c = search copy-more
 
 same-length : tie.Need-same-length Inv-loop μ-loop
-same-length c = c .before .loop .inv .size
+same-length c = cc
 
 returns : tie.Need-returns Inv-loop μ-loop
-returns c = copy-done (c .loop-test .left) (c .before .loop .inv)
+returns c = search copy-done
 
 pub keep-marks-spec : {M : Type 1} → statement M
 keep-marks-spec =

@@ -1,5 +1,4 @@
 -- `type_all` meets its contract. Assumes nothing.
-use mathlib.Core.Path.{_∙_}
 use Prim.Native.Nat.{_-_}
 use native.Mathlib.Omega.{arith}
 use borrow.Author.Needs.{needs}
@@ -20,19 +19,19 @@ loop-holds : tie.Need-loop-holds Inv-loop μ-loop
 loop-holds c = typed-none _
 
 type-numbered-requires : tie.Need-type-numbered-requires Inv-loop μ-loop
-type-numbered-requires c κs = ((c .before .before .before .before .before .before .before .pre .0 .0, c .before .before .before .before .before .before .before .pre .0 .1, omega (arith, c .before .before .before .before .before .before .before .pre .0 .2, c .before .before .loop .inv .kept .size)), (c .before .before .before .before .before .before .before .pre .1, omega (arith, c .before .loop-test .taken, c .before .before .before .wide .ensures)))
+type-numbered-requires c κs = search needs
 
 enum-known-number : tie.Need-enum-known-number Inv-loop μ-loop
 enum-known-number c = search needs
 
 node-line-requires : tie.Need-node-line-requires Inv-loop μ-loop
-node-line-requires c κs = (refused-node (c .before .before .before .before .before .before .before .before .before .before .before .before .before .pre .1) (c .before .before .before .before .before .before .before .before .before .wide .ensures) (c .before .before .before .before .before .before .before .loop-test .taken) (c .before .before .before .before .before .type-numbered .ensures) (c .before .number .given .1), c .before .before .before .before .before .before .before .before .before .before .before .before .before .pre .0 .1)
+node-line-requires c κs = search refused-node
 
 same-length : tie.Need-same-length Inv-loop μ-loop
-same-length c = c .before .before .before .before .before .before .type-numbered .ensures .size ∙ c .before .before .before .before .before .before .before .before .before .loop .inv .kept .size
+same-length c = search needs
 
 returns : tie.Need-returns Inv-loop μ-loop
-returns c = typed-refused (c .before .before .before .before .before .before .before .before .before .before .wide .ensures) (c .before .before .before .before .before .before .before .before .before .loop .inv) (c .before .before .before .before .before .before .before .before .loop-test .taken) (c .before .before .before .before .before .before .type-numbered .ensures) (c .before .before .number .given .1) (c .node-line .ensures)
+returns c = search typed-refused
 
 enum-known-t : tie.Need-enum-known-t Inv-loop μ-loop
 enum-known-t c = search needs
@@ -41,28 +40,28 @@ pack-requires : tie.Need-pack-requires Inv-loop μ-loop
 pack-requires c κs = search needs
 
 add-w2 : tie.Need-add-w2 Inv-loop μ-loop
-add-w2 c = omega (arith, c .before .before .before .before .before .before .before .before .loop-test .taken, c .before .before .before .before .before .before .before .before .before .before .wide .ensures, c .before .before .before .before .before .before .before .before .before .before .before .before .before .before .pre .1 .lies .fine .rules)
+add-w2 c = omega arith
 
 mul-w2 : tie.Need-mul-w2 Inv-loop μ-loop
-mul-w2 c = omega (arith, c .before .before .before .before .before .before .before .before .loop-test .taken, c .before .before .before .before .before .before .before .before .before .before .wide .ensures, c .before .before .before .before .before .before .before .before .before .before .before .before .before .before .pre .1 .lies .fine .rules)
+mul-w2 c = omega arith
 
 slice-write-w2 : tie.Need-slice-write-w2 Inv-loop μ-loop
-slice-write-w2 c = omega (arith, c .before .before .before .before .before .before .before .before .loop-test .taken, c .before .before .before .before .before .before .before .before .before .before .wide .ensures, c .before .before .before .before .before .before .before .before .before .before .before .before .before .before .pre .1 .lies .fine .rules, c .before .before .before .before .before .before .before .before .before .before .before .before .before .before .pre .0 .2, c .before .before .before .before .before .before .type-numbered .ensures .size, c .before .before .before .before .before .before .before .before .before .loop .inv .kept .size)
+slice-write-w2 c = omega arith
 
 add-r : tie.Need-add-r Inv-loop μ-loop
-add-r c = omega (arith, c .before .before .before .before .before .before .before .before .loop-test .taken)
+add-r c = omega arith
 
 loop-less : tie.Need-loop-less Inv-loop μ-loop
-loop-less c = omega (arith, c .before .before .before .before .before .before .before .before .loop-test .taken)
+loop-less c = omega arith
 
 loop-again : tie.Need-loop-again Inv-loop μ-loop
-loop-again c = typed-next (c .pack .result) (c .before .before .before .before .before .before .before .before .before .before .before .before .before .before .pre .1) (c .before .before .before .before .before .before .before .before .before .before .before .before .before .before .pre .0 .2) (c .before .before .before .before .before .before .before .before .before .before .wide .ensures) (c .before .before .before .before .before .before .before .before .before .loop .inv) (c .before .before .before .before .before .before .before .before .loop-test .taken) (c .before .before .before .before .before .before .type-numbered .ensures) (c .before .before .t .given .1) (c .pack .ensures)
+loop-again c = search typed-next
 
 same-length-2 : tie.Need-same-length-2 Inv-loop μ-loop
-same-length-2 c = c .before .loop .inv .kept .size
+same-length-2 c = search needs
 
 returns-2 : tie.Need-returns-2 Inv-loop μ-loop
-returns-2 c = typed-all (c .before .before .wide .ensures) (c .before .loop .inv) (c .loop-test .left)
+returns-2 c = search typed-all
 
 pub type-all-spec : {M : Type 1} → statement M
 type-all-spec =
