@@ -138,22 +138,22 @@ module _ (f g : ℕ → Expr) (w : ℕ → ℕ) (first n type : ℕ) (d : Called
   pub form-grow : (h : ℕ → Definition) (x : Shape) → formWithin x ≡ true → TypeSaid type x → CallSaid f h d x → Each (λ a. a < n) (operandsOf x) → length (operandsOf x) ≤ 4
       → ((j : ℕ) → j < 8 → w j ≡ getD (shapeWords first type d line x) j 0) → formOf f w (w 0) ≡ grow g h x
   unfolding grow operandsOf formWithin Words shapeWords formOf
-  form-grow e (leaf l) h s k o c ws = leaf-grow l h ws
-  form-grow e (unary op a) h s k (each-cons l each-nil) c ws = unary-grow op a h l ws
-  form-grow e (binary op a b) h s k (each-cons l (each-cons m each-nil)) c ws = binary-grow op a b l m ws
-  form-grow e (connective op a b) h s k (each-cons l (each-cons m each-nil)) c ws = connective-grow op a b l m ws
-  form-grow e (isUndef a) h s k (each-cons l each-nil) c ws = rw (ws 0 (omega arith), ws 1 (omega arith), near a l)
-  form-grow e (conditional d a b) h s k (each-cons l (each-cons m (each-cons o each-nil))) c ws =
+  form-grow defs (leaf l) h s called o c ws = leaf-grow l h ws
+  form-grow defs (unary op a) h s called (each-cons l each-nil) c ws = unary-grow op a h l ws
+  form-grow defs (binary op a b) h s called (each-cons l (each-cons m each-nil)) c ws = binary-grow op a b l m ws
+  form-grow defs (connective op a b) h s called (each-cons l (each-cons m each-nil)) c ws = connective-grow op a b l m ws
+  form-grow defs (isUndef a) h s called (each-cons l each-nil) c ws = rw (ws 0 (omega arith), ws 1 (omega arith), near a l)
+  form-grow defs (conditional d a b) h s called (each-cons l (each-cons m (each-cons o each-nil))) c ws =
       rw (ws 0 (omega arith), ws 1 (omega arith), ws 2 (omega arith), ws 3 (omega arith), near d l, near a m, near b o)
-  form-grow e (letIn i a b) h s k (each-cons l (each-cons m each-nil)) c ws =
+  form-grow defs (letIn i a b) h s called (each-cons l (each-cons m each-nil)) c ws =
       rw (ws 0 (omega arith), ws 1 (omega arith), ws 2 (omega arith), ws 3 (omega arith), variable-back i h, near a l, near b m)
-  form-grow e (attribute x name a) h s k (each-cons l each-nil) c ws = attribute-grow x name a l ws
-  form-grow e (call a n) h s k (each-cons l each-nil) c ws =
-      rw (ws 0 (omega arith), ws 1 (omega arith), ws 2 (omega arith), ws 3 (omega arith), ws 4 (omega arith), near a l, k .context a n refl, k .type a n refl, k .body a n refl)
-  form-grow e (quantified q i a b) h s k (each-cons l (each-cons m each-nil)) c ws = quantified-grow q i a b h l m ws
-  form-grow e (iterate i j t a e b) h s k (each-cons l (each-cons m (each-cons o each-nil))) c ws =
+  form-grow defs (attribute x name a) h s called (each-cons l each-nil) c ws = attribute-grow x name a l ws
+  form-grow defs (call a n) h s called (each-cons l each-nil) c ws =
+      rw (ws 0 (omega arith), ws 1 (omega arith), ws 2 (omega arith), ws 3 (omega arith), ws 4 (omega arith), near a l, called .context a n refl, called .type a n refl, called .body a n refl)
+  form-grow defs (quantified q i a b) h s called (each-cons l (each-cons m each-nil)) c ws = quantified-grow q i a b h l m ws
+  form-grow defs (iterate i j t a e b) h s called (each-cons l (each-cons m (each-cons o each-nil))) c ws =
       iterate-grow i j t a e b h (s .said i j t a e b refl) l m o ws
-  form-grow e (assemble k es) h s k o c ws = assemble-grow k es o c ws
+  form-grow defs (assemble k es) h s called o c ws = assemble-grow k es o c ws
 
 -- ---- a node
 
