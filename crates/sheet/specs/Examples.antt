@@ -144,8 +144,8 @@ pub record Examples : Type 0 where
   pub call-limit : prints ("C 0 -" ∷ "R 0 0" ∷ "N 0 call 7 32" ∷ []) ≡ bytes "! 4 3\n"
   pub definition-limit : prints ("C 0 -" ∷ "D 32 9 Int" ∷ []) ≡ bytes "! 4 2\n"
   pub definition-deep : prints ("C 0 -" ∷ "D 1 9 S(S(S(S(Int))))" ∷ []) ≡ bytes "! 4 2\n"
-  -- 5: a gap; a value after a definition, a definition after a rule; 6: its class, and its type's; 3: a field too many
-  pub definition-gap : prints ("C 0 -" ∷ "D 1 9 Int" ∷ []) ≡ bytes "! 5 2\n"
+  -- 5: a gap, where 31 is within the limit; a value after a definition, a definition after a rule; 6: its class, and its type's; 3: a field too many
+  pub definition-gap : prints ("C 0 -" ∷ "D 31 9 Int" ∷ []) ≡ bytes "! 5 2\n"
   pub value-late : prints ("C 0 -" ∷ "A 0 0 5 Int" ∷ "O 0 0" ∷ "D 0 0 Int" ∷ "N 0 int 1" ∷ "V 0 0 1" ∷ []) ≡ bytes "! 5 6\n"
   pub definition-late : prints ("C 0 -" ∷ "R 0 0" ∷ "N 0 true" ∷ "D 0 0 Int" ∷ []) ≡ bytes "! 5 4\n"
   pub definition-class : prints ("C 0 -" ∷ "D 0 1 Int" ∷ []) ≡ bytes "! 6 2\n"
