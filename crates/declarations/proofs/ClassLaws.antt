@@ -13,7 +13,8 @@ use Rattle.laws.proofs.Lists.{length-more}
 use Rattle.sheet.specs.Text.{Bytes, bytes, fieldsOf}
 use Rattle.sheet.specs.Lines.{classLine, is, next, done, aNumber, aParent, lineOf}
 use Rattle.sheet.specs.Sheet.{Sheet, added}
-use Rattle.sheet.specs.Refusals.{isClass, parentWithin, withinLimits, blockOf, numbered, inOrder, partsKnown, suits, treeHolds}
+use Rattle.sheet.specs.Limits.{isClass, parentWithin, withinLimits}
+use Rattle.sheet.specs.Refusals.{blockOf, numbered, inOrder, partsKnown, suits, treeHolds}
 use Rattle.types.specs.Flat.{parentOf}
 use Rattle.text.specs.Numbers.{cutNum}
 use Rattle.text.specs.declared.parts.Fields.{Fields}

@@ -12,7 +12,8 @@ use lib.Seq.{getD-set-same}
 use Rattle.laws.proofs.Lists.{length-more}
 use Rattle.sheet.specs.Lines.{objectLine}
 use Rattle.sheet.specs.Sheet.{Sheet, added}
-use Rattle.sheet.specs.Refusals.{isClass, withinLimits, blockOf, numbered, inOrder, partsKnown, suits, treeHolds}
+use Rattle.sheet.specs.Limits.{isClass, withinLimits}
+use Rattle.sheet.specs.Refusals.{blockOf, numbered, inOrder, partsKnown, suits, treeHolds}
 use Rattle.tables.specs.declared.Counts.{Counts}
 use Rattle.tables.specs.declared.Step.the-variants.{Next, Stop}
 use Rattle.tables.specs.Layout.{Holds, Fine}

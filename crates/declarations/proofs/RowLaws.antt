@@ -15,7 +15,8 @@ use Rattle.ocl.specs.Types.{Ty}
 use Rattle.ocl.specs.Model.{Row}
 use Rattle.sheet.specs.Lines.{rowLine}
 use Rattle.sheet.specs.Sheet.{Sheet, added}
-use Rattle.sheet.specs.Refusals.{isClass, classBelow, typeWithin, declares, withinLimits, blockOf, numbered, inOrder, partsKnown, suits, treeHolds}
+use Rattle.sheet.specs.Limits.{isClass, classBelow, typeWithin, withinLimits}
+use Rattle.sheet.specs.Refusals.{declares, blockOf, numbered, inOrder, partsKnown, suits, treeHolds}
 use Rattle.types.specs.Word.{typeIn}
 use Rattle.tables.specs.declared.Counts.{Counts}
 use Rattle.tables.specs.declared.Step.the-variants.{Next, Stop}

@@ -16,7 +16,8 @@ use denote.Enum.Declared.{tagOf}
 use Rattle.laws.specs.Choice.{if_then_else_}
 use Rattle.ocl.specs.Values.{Value}
 use Rattle.ocl.specs.Environment.{Env, extend}
-use Rattle.ocl.specs.Evaluation.{Outcome, value, undefined, stuck, stop, resume, bind, tick}
+use Rattle.ocl.specs.Operations.{Outcome, value, undefined, stuck, stop}
+use Rattle.ocl.specs.Evaluation.{resume, bind, tick}
 use Rattle.operations.proofs.Ended.{the-type}
 use Rattle.operations.specs.declared.Ended.{Ended}
 use Rattle.operations.specs.declared.Ended.the-variants as ended

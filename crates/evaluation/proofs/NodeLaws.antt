@@ -12,7 +12,8 @@ use Rattle.laws.specs.Choice.{if_then_else_}
 use Rattle.ocl.specs.Values.{Value, obj, size}
 use Rattle.ocl.specs.Environment.{Env, extend, start}
 use Rattle.ocl.specs.Forms.{Expr, node, undef, levels}
-use Rattle.ocl.specs.Evaluation.{Outcome, value, undefined, stuck, stop, resume, bind, tick, leafRun, unaryApply, unaryRun, isUndefRun, access, attributeRun, evaluation, formRun, evaluateRule}
+use Rattle.ocl.specs.Operations.{Outcome, value, undefined, stuck, stop, unaryApply, access}
+use Rattle.ocl.specs.Evaluation.{resume, bind, tick, leafRun, unaryRun, isUndefRun, attributeRun, evaluation, formRun, evaluateRule}
 use Rattle.ocl.proofs.Steps.{run-limited}
 use Rattle.values.specs.Cells.{fits-obj}
 use Rattle.values.specs.Contracts.{means-obj, Pushes}

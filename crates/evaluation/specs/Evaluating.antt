@@ -10,7 +10,8 @@ use Rattle.laws.specs.Choice.{if_then_else_}
 use Rattle.ocl.specs.Values.{Value, bool, Values}
 use Rattle.ocl.specs.Environment.{Env, extend}
 use Rattle.ocl.specs.Forms.{Expr, levels, Connective, Quantifier, undef}
-use Rattle.ocl.specs.Evaluation.{value, undefined, resume, bind, onBool, leafRun, binaryRun, decides, connectiveRun, conditionalRun, letRun, quantifiedRun, iterateRun, assembleRun, evaluation, evaluateRule, operandsRun, seek, fold}
+use Rattle.ocl.specs.Operations.{value, undefined, onBool}
+use Rattle.ocl.specs.Evaluation.{resume, bind, leafRun, binaryRun, decides, connectiveRun, conditionalRun, letRun, quantifiedRun, iterateRun, assembleRun, evaluation, evaluateRule, operandsRun, seek, fold}
 use Rattle.values.specs.Cells.{encs, AllFit}
 use Rattle.nodes.specs.Nodes.{word, variable, binaryOf, connectiveOf, quantifierOf, kindOf, operandsIn, treesBelow, treeAt}
 use Rattle.nodes.specs.Marks.{Marked}

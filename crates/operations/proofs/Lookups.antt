@@ -15,7 +15,7 @@ use Rattle.ocl.specs.Types.{class, simpleSubtype}
 use Rattle.ocl.specs.Values.{Value, bool, int, obj, coll, size}
 use Rattle.ocl.specs.Model.{Row, Model, isA, classIsA}
 use Rattle.ocl.specs.Forms.{ofObject}
-use Rattle.ocl.specs.Evaluation.{given, hasRow, valueInRow, access}
+use Rattle.ocl.specs.Operations.{given, hasRow, valueInRow, access}
 use Rattle.ocl.proofs.Values.{size-pos}
 use Rattle.types.specs.Flat.{parentsIn}
 use Rattle.values.specs.Cells.{payload, head, enc, Fits}

@@ -13,7 +13,7 @@ use Rattle.ocl.specs.Values.{Value, obj, coll, size}
 use Rattle.ocl.specs.Model.{Model, isA}
 use Rattle.ocl.specs.Forms.{Access}
 use Rattle.ocl.specs.Typing.{Mark}
-use Rattle.ocl.specs.Evaluation.{value, hasRow, access, instances}
+use Rattle.ocl.specs.Operations.{value, hasRow, access, instances}
 use Rattle.values.specs.Cells.{head, enc, Fits}
 use Rattle.values.specs.Contracts.{Forms, SmallForm}
 use Rattle.values.specs.declared.Formed.{Formed}

@@ -9,7 +9,7 @@ use Rattle.laws.specs.Lists.{each-nil, concat}
 use Rattle.laws.proofs.Parts.{part-all}
 use Rattle.sheet.specs.Text.{Bytes, linesOf, fieldsOf}
 use Rattle.sheet.specs.Sheet.{Sheet, empty}
-use Rattle.sheet.specs.Refusals.{totalSize}
+use Rattle.sheet.specs.Limits.{totalSize}
 use Rattle.sheet.specs.Reading.{Reading, rejected, step, onStep, closing, readLines}
 use Rattle.sheet.proofs.Split.{split-laws}
 use Rattle.sheet.proofs.Good.{good-empty}

@@ -10,7 +10,7 @@ use lib.ListN.{length, getD, take, drop, take-append-drop, length-append}
 use Rattle.laws.proofs.Elements.{elem-at}
 use Rattle.ocl.specs.Types.{class, Ty}
 use Rattle.ocl.specs.Model.{isA}
-use Rattle.ocl.specs.Evaluation.{Outcome}
+use Rattle.ocl.specs.Operations.{Outcome}
 use Rattle.sheet.specs.Text.{Bytes}
 use Rattle.sheet.specs.Sheet.{Rule, Sheet, modelOf}
 use Rattle.sheet.specs.Calls.{outcomeOf}

@@ -15,7 +15,7 @@ use Rattle.ocl.specs.Values.{Value, bool, int, obj, coll, Values, size, everyPa
 use Rattle.ocl.specs.Model.{Model, classIsA, isA, every, belongs}
 use Rattle.ocl.specs.Forms.{reach}
 use Rattle.ocl.specs.Typing.{typed}
-use Rattle.ocl.specs.Evaluation.{Outcome, value, undefined, stuck, stop, stepsOf}
+use Rattle.ocl.specs.Operations.{Outcome, value, undefined, stuck, stop, stepsOf}
 use Rattle.ocl.specs.Soundness.{Sound}
 use Rattle.ocl.proofs.SimpleTypes.{integer-not-class}
 use Rattle.ocl.proofs.Steps.{steps-limited}
@@ -23,7 +23,7 @@ use Rattle.ocl.proofs.Stops.{stop-within}
 use Rattle.sheet.specs.Text.{bytes, spellNumber}
 use Rattle.sheet.specs.Spelling.{spellBool, spellValue}
 use Rattle.sheet.specs.Sheet.{Rule, Sheet, modelOf}
-use Rattle.sheet.specs.Refusals.{partWithin}
+use Rattle.sheet.specs.Limits.{partWithin}
 use Rattle.sheet.specs.Calls.{typingOf, outcomeOf}
 use Rattle.sheet.specs.Report.{spellOutcome, reportLine}
 use Rattle.sheet.proofs.Acceptance.{accepted-good}

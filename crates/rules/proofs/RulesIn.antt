@@ -13,7 +13,7 @@ use Rattle.ocl.specs.Forms.{undef, node, Form}
 use Rattle.nodes.specs.Marks.{markWord, Marked}
 use Rattle.nodes.proofs.Marks.{marked}
 use Rattle.sheet.specs.Sheet.{Rule, Sheet}
-use Rattle.sheet.specs.Refusals.{isClass}
+use Rattle.sheet.specs.Limits.{isClass}
 use Rattle.sheet.specs.Calls.{marksOf}
 use Rattle.sheet.proofs.Good.{Good}
 use Rattle.sheet.proofs.Marks.{mark-row, mark-kind}

@@ -16,7 +16,7 @@ use Rattle.sheet.specs.Text.{Bytes, bytes, fieldsOf}
 use Rattle.sheet.specs.Lines.{Line, valueLine, is, next, done, aNumber, lineOf}
 use Rattle.sheet.specs.Spelling.{readValue}
 use Rattle.sheet.specs.Sheet.{Sheet}
-use Rattle.sheet.specs.Refusals.{valueWithin, withinLimits, totalSize}
+use Rattle.sheet.specs.Limits.{valueWithin, withinLimits, totalSize}
 use Rattle.text.specs.Numbers.{cutNum}
 use Rattle.text.specs.Parts.{Cut}
 use Rattle.text.specs.declared.parts.Fields.{Fields}

@@ -15,7 +15,8 @@ use Rattle.laws.proofs.Slices.{cut-part}
 use Rattle.ocl.specs.Values.{Value, size, everyPart}
 use Rattle.sheet.specs.Lines.{valueLine}
 use Rattle.sheet.specs.Sheet.{Slot, Sheet, added}
-use Rattle.sheet.specs.Refusals.{objectBelow, totalSize, valueWithin, withinLimits, inOrder, partsKnown, suits, treeHolds}
+use Rattle.sheet.specs.Limits.{totalSize, valueWithin, withinLimits}
+use Rattle.sheet.specs.Refusals.{objectBelow, inOrder, partsKnown, suits, treeHolds}
 use Rattle.values.specs.Cells.{enc}
 use Rattle.tables.specs.declared.Counts.{Counts}
 use Rattle.tables.specs.declared.Step.the-variants.{Next, Stop}

@@ -13,7 +13,7 @@ use Rattle.laws.proofs.Lists.{length-more}
 use Rattle.types.specs.Word.{typeIn}
 use Rattle.nodes.specs.Nodes.{treeAt}
 use Rattle.sheet.specs.Sheet.{Current, Sheet}
-use Rattle.sheet.specs.Refusals.{totalSize}
+use Rattle.sheet.specs.Limits.{totalSize}
 use Rattle.tables.specs.declared.Counts.{Counts}
 use Rattle.tables.specs.Layout.{tab, HoldsTables, HoldsRules, HoldsOpen, closed, opened, Counted, Holds, Fine}
 use Rattle.tables.proofs.Tables.{tab-before, tab-after}

@@ -7,7 +7,8 @@ use Prim.Native.Nat.{ℕ}
 use Rattle.sheet.specs.Text.{Bytes}
 use Rattle.sheet.specs.Lines.{Line, lineOf}
 use Rattle.sheet.specs.Sheet.{Sheet, added}
-use Rattle.sheet.specs.Refusals.{withinLimits, inOrder, partsKnown, suits, treeHolds}
+use Rattle.sheet.specs.Limits.{withinLimits}
+use Rattle.sheet.specs.Refusals.{inOrder, partsKnown, suits, treeHolds}
 use Rattle.sheet.specs.Reading.{taken, refuse, must, stepLine, stepSpelled, step}
 
 module _ (s : Sheet) (k : ℕ) (l : Line) where

@@ -18,7 +18,8 @@ use Rattle.ocl.specs.Forms.{plus, minus, times, div, modulo, Connective, and, o
 use Rattle.sheet.specs.Text.{Bytes}
 use Rattle.sheet.specs.Lines.{Shape, leaf, unary, binary, connective, isUndef, conditional, letIn, attribute, quantified, iterate, assemble, done, oneOperand, twoOperands, threeNumbers}
 use Rattle.sheet.specs.Sheet.{operandsOf}
-use Rattle.sheet.specs.Refusals.{isNode, isVariable, leafWithin, unaryWithin, formWithin, twoVariables, leafKnown, unaryKnown, formKnown}
+use Rattle.sheet.specs.Limits.{isNode, isVariable, leafWithin, unaryWithin, formWithin}
+use Rattle.sheet.specs.Refusals.{twoVariables, leafKnown, unaryKnown, formKnown}
 use Rattle.text.specs.Forms.{shapeBy}
 use Rattle.nodes.specs.Nodes.{TypeSaid, leafWords, unaryWords, binaryCode, arithCode, connectiveCode, shapeWords}
 use Rattle.trees.specs.declared.Parsed.{Parsed}

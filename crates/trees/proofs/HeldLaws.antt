@@ -14,7 +14,8 @@ use Rattle.ocl.specs.Forms.{Quantifier, forAll, exists, Access, ofObject, ofMem
 use Rattle.sheet.specs.Text.{Bytes}
 use Rattle.sheet.specs.Lines.{leaf, unary, letIn, attribute, quantified, twoOperands, threeNumbers}
 use Rattle.sheet.specs.Sheet.{operandsOf}
-use Rattle.sheet.specs.Refusals.{isNode, isClass, isVariable, leafWithin, unaryWithin, formWithin, twoVariables, leafKnown, unaryKnown, formKnown}
+use Rattle.sheet.specs.Limits.{isNode, isClass, isVariable, leafWithin, unaryWithin, formWithin}
+use Rattle.sheet.specs.Refusals.{twoVariables, leafKnown, unaryKnown, formKnown}
 use Rattle.text.specs.Forms.{shapeBy}
 use Rattle.nodes.specs.Nodes.{leafWords, unaryWords, quantifierCode, accessCode, shapeWords}
 use Rattle.trees.specs.declared.numbers.Numbers.{Numbers}

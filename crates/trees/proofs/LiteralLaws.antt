@@ -15,12 +15,13 @@ use Rattle.laws.proofs.Cases.{AllBelow, from-below, zero-least}
 use Rattle.laws.proofs.Options.{nowhere}
 use Rattle.laws.proofs.Tests.{Any?, any-some}
 use Rattle.ocl.specs.Types.{Kind, set, sequence, bag}
-use Rattle.ocl.specs.Evaluation.{inRange}
+use Rattle.ocl.specs.Operations.{inRange}
 use Rattle.ocl.specs.Forms.{number}
 use Rattle.sheet.specs.Text.{Bytes, bytes, after, literal, _or_, whole, atEnd}
 use Rattle.sheet.specs.Lines.{leaf, assemble, next, done, each, aNumber, anInteger, aKind, atMostFour, assembleFields}
 use Rattle.sheet.specs.Sheet.{operandsOf}
-use Rattle.sheet.specs.Refusals.{leafWithin, formWithin, twoVariables, leafKnown, formKnown}
+use Rattle.sheet.specs.Limits.{leafWithin, formWithin}
+use Rattle.sheet.specs.Refusals.{twoVariables, leafKnown, formKnown}
 use Rattle.text.specs.Forms.{shapeBy}
 use Rattle.laws.specs.Integers.{bias}
 use Rattle.text.specs.Numbers.{wholeOf}

@@ -15,7 +15,8 @@ use Rattle.laws.proofs.Lists.{member-none, each-imp, each-append, map-each}
 use Rattle.ocl.specs.Forms.{Expr, node, levels}
 use Rattle.sheet.specs.Lines.{Shape, nodeLine}
 use Rattle.sheet.specs.Sheet.{Current, Sheet, added, operandsOf, grow, treeOf, withNode as growRule}
-use Rattle.sheet.specs.Refusals.{formWithin, fresh, suits, operandsFresh, treeHolds}
+use Rattle.sheet.specs.Limits.{formWithin}
+use Rattle.sheet.specs.Refusals.{fresh, suits, operandsFresh, treeHolds}
 use Rattle.nodes.specs.Nodes.{word, shapeWords, treeAt}
 use Rattle.nodes.proofs.Keep.{tree-keep, tree-depth}
 use Rattle.nodes.proofs.Shapes.{shape-tree}

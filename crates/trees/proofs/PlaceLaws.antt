@@ -13,7 +13,8 @@ use Rattle.laws.proofs.Bounds.{cut-lt}
 use Rattle.laws.proofs.Tests.{and-true}
 use Rattle.sheet.specs.Lines.{Shape, nodeLine}
 use Rattle.sheet.specs.Sheet.{Current, Sheet, operandsOf}
-use Rattle.sheet.specs.Refusals.{isNode, formWithin, twoVariables, formKnown, withinLimits, blockOf, nextNode, numbered, inOrder, partsKnown}
+use Rattle.sheet.specs.Limits.{isNode, formWithin, withinLimits}
+use Rattle.sheet.specs.Refusals.{twoVariables, formKnown, blockOf, nextNode, numbered, inOrder, partsKnown}
 use Rattle.tables.specs.Layout.{Holds, HoldsOpen, closed, opened, Fine, moved-stop}
 use Rattle.tables.specs.declared.Counts.{Counts}
 use Rattle.tables.specs.declared.Step.the-variants as code

@@ -11,7 +11,8 @@ use Rattle.laws.specs.Lists.{allOf}
 use Rattle.sheet.specs.Text.{byte}
 use Rattle.sheet.specs.Lines.{Shape}
 use Rattle.sheet.specs.Sheet.{operandsOf}
-use Rattle.sheet.specs.Refusals.{isNode, formWithin, twoVariables, formKnown}
+use Rattle.sheet.specs.Limits.{isNode, formWithin}
+use Rattle.sheet.specs.Refusals.{twoVariables, formKnown}
 use Rattle.nodes.specs.Nodes.{TypeSaid, shapeWords}
 use Rattle.trees.specs.declared.Parsed.{Parsed}
 use Rattle.trees.specs.Fields.{cut}

@@ -10,7 +10,7 @@ use Rattle.laws.specs.Lists.{allOf}
 use Rattle.sheet.specs.Text.{Bytes}
 use Rattle.sheet.specs.Lines.{Shape, nodeLine}
 use Rattle.sheet.specs.Sheet.{Sheet, endRule}
-use Rattle.sheet.specs.Refusals.{isNode}
+use Rattle.sheet.specs.Limits.{isNode}
 use Rattle.sheet.specs.Reading.{stepLine}
 use Rattle.tables.specs.Layout.{Holds, Fine, Kept, Moved, Took}
 use Rattle.tables.specs.declared.Counts.{Counts}

@@ -6,7 +6,7 @@ ghost use Prim.Native.Nat.{ℕ, _≤_};
 ghost use lib.ListN.{length, getD, drop};
 ghost use Rattle.sheet.specs.Text.{Bytes, fieldsOf};
 ghost use Rattle.sheet.specs.Lines.{anInteger};
-ghost use Rattle.sheet.specs.Refusals.{isVariable};
+ghost use Rattle.sheet.specs.Limits.{isVariable};
 ghost use Rattle.text.specs.Parts.{Cut};
 ghost use Rattle.text.specs.Forms.{shapeBy};
 ghost use Rattle.text.specs.Numbers.{wholeOf};

@@ -4,7 +4,7 @@ ghost use Prim.Native.Nat.{_+_, _*_, _/_, _≤_, _<_, min, max};
 ghost use mathlib.Core.Bool.{true};
 ghost use lib.ListN.{length};
 ghost use Rattle.laws.specs.Lists.{allOf};
-ghost use Rattle.sheet.specs.Refusals.{isNode};
+ghost use Rattle.sheet.specs.Limits.{isNode};
 ghost use Rattle.trees.specs.Forms.{operandsAt};
 ghost use Rattle.trees.specs.Operands.{shifted, marking, marked, WroteWords};
 
