@@ -45,6 +45,6 @@ rulesBound s (x ∷ xs) [] = 0
 rulesBound s (x ∷ xs) (t ∷ ts) = linesBound s x t (length (s .objects)) + rulesBound s xs ts
 
 -- n is that bound of an accepted sheet: at most 64 rules for 96 objects with lines of 1,551 bytes
-pub record BoundsReport (st : Counts) (w0 w1 w2 : List ℕ) (n : ℕ) : Type 0 where
-  pub is : (s : Sheet) (ts : List Ty) → Accepted st w0 w1 s ts → TypesIn w2 ts → n ≡ rulesBound s (s .rules) ts
+pub record BoundsReport (st : Counts) (w0 w2 : List ℕ) (n : ℕ) : Type 0 where
+  pub is : (w1 : List ℕ) (s : Sheet) (ts : List Ty) → Accepted st w0 w1 s ts → TypesIn w2 ts → n ≡ rulesBound s (s .rules) ts
   pub few : n ≤ 9529344

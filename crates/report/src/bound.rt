@@ -4,7 +4,6 @@ ghost use Prim.Native.Nat.{_≤_};
 ghost use lib.ListN.{length};
 ghost use Rattle.types.specs.Flat.{tyOf};
 ghost use Rattle.operations.specs.Tables.{Bounds};
-ghost use Rattle.rules.specs.Accepted.{KnownTyped};
 ghost use Rattle.rules.specs.Width.{width as widthOf};
 ghost use Rattle.report.specs.Bound.{CountsObjects, BoundsLines, BoundsReport};
 use operations::lookup::is_a;
@@ -57,10 +56,9 @@ fn lines_bound(w0: &[u64], st: Counts, c: u64, t: FlatType) -> usize
 }
 
 // How many bytes the report can take.
-pub fn report_bound(w0: &[u64], st: Counts, w1: &[u64], w2: &[u64]) -> usize
-    requires { ⌜ (8192 ≤ length (now w0)) × (8192 ≤ length (now w1)) × (8192 ≤ length (now w2)) ⌝ }
-    requires { ⌜ KnownTyped st (now w0) (now w1) (now w2) ⌝ }
-    ensures { λ n. ⌜ BoundsReport st (now (w0 .entry)) (now (w1 .entry)) (now (w2 .entry)) n ⌝ }
+pub fn report_bound(w0: &[u64], st: Counts, w2: &[u64]) -> usize
+    requires { ⌜ Bounds st (length (now w0)) × (8192 ≤ length (now w2)) ⌝ }
+    ensures { λ n. ⌜ BoundsReport st (now (w0 .entry)) (now (w2 .entry)) n ⌝ }
 {
     let rules = wide(st.rules);
     let mut bound: usize = 0;

@@ -53,7 +53,7 @@ pub fn report_sheet(w0: &[u64], st: Counts, w1: &[u64], w2: &mut [u64], out: &mu
     requires { ⌜ KnownTyped st (now w0) (now w1) (now w2) × (2048 ≤ length (now out)) ⌝ }
     ensures { λ r. ⌜ Reports st (now (w0 .entry)) (now (w1 .entry)) (now (w2 .entry)) (now (w2 .exit)) (now (out .entry)) (now (out .exit)) r ⌝ }
 {
-    let bound = report_bound(w0, st, w1, w2);
+    let bound = report_bound(w0, st, w2);
     if report_fits(w0, st, w1, w2, bound, out.len()) {
         Reported::Written(rule_lines(w0, st, w1, w2, out, true))
     } else {

@@ -15,7 +15,7 @@ use Rattle.ocl.specs.Model.{Row}
 use Rattle.sheet.specs.Sheet.{Slot, Sheet, noRow, modelOf}
 use Rattle.sheet.proofs.Good.{Good}
 use Rattle.sheet.proofs.Acceptance.{accepted-good, good-model}
-use Rattle.sheet.proofs.Soundness.{type-refusals}
+use Rattle.sheet.proofs.Soundness.{good-refusals}
 use Rattle.tables.specs.declared.Counts.{Counts}
 use Rattle.tables.specs.Layout.{Holds, Fine}
 use Rattle.tables.specs.Stored.{HoldsModel}
@@ -68,6 +68,6 @@ ready {st} {s = s} a =
       rule = rule-in (a .fine) (a .holds) good;
       some-rule = rule-there (a .fine) (a .holds);
       no-rule = rule-past (a .fine) (a .holds);
-      place = λ r x n p e h. node-line (a .fine) (a .holds) p (type-refusals (a .text) s (a .was) r x e n p h .on-sheet);
-      mark = λ r x e p. mark-told (a .fine) (a .holds) x p;
+      place = λ r x n p e h. node-line (a .fine) (a .holds) p (good-refusals s good r x e n p h .on-sheet);
+      mark = mark-told (a .fine) (a .holds);
     }

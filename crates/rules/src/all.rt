@@ -57,10 +57,10 @@ fn keep_marks(w2: &[u64], w1: &mut [u64])
     requires { ⌜ (8192 ≤ length (now w1)) × (8192 ≤ length (now w2)) ⌝ }
     ensures { λ _. ⌜ KeepsMarks (now (w2 .entry)) (now (w1 .entry)) (now (w1 .exit)) ⌝ }
 {
-    let mut i = 0;
-    while i < 768 {
-        w1[6144 + i] = w2[i];
-        i += 1;
+    let mut p = 0;
+    while p < 768 {
+        w1[6144 + p] = w2[p];
+        p += 1;
     }
 }
 

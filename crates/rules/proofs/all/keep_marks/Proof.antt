@@ -1,14 +1,14 @@
 use Prim.Native.Nat.{_-_}
 use native.Mathlib.Omega.{arith}
 use Rattle.rules.proofs.Marks.{Copying, copy-none, copy-more, copy-done}
-use Rattle.rules.proofs.evaluated.keep_marks.Statement.{statement}
-use Rattle.rules.proofs.evaluated.keep_marks.Tie as tie
+use Rattle.rules.proofs.all.keep_marks.Statement.{statement}
+use Rattle.rules.proofs.all.keep_marks.Tie as tie
 
 abbrev Inv-loop : tie.InvT-loop
-Inv-loop w2 w1₀ i₀ w1 i = Copying w2 w1₀ i w1
+Inv-loop w2 w1₀ p₀ w1 p = Copying w2 w1₀ p w1
 
 abbrev μ-loop : tie.MeasureT-loop
-μ-loop w2 w1₀ i₀ w1 i = 768 - i
+μ-loop w2 w1₀ p₀ w1 p = 768 - p
 
 loop-holds : tie.Need-loop-holds Inv-loop μ-loop
 loop-holds c = copy-none _ _
@@ -28,20 +28,20 @@ mul-w1-2 c = omega arith
 slice-write-w1 : tie.Need-slice-write-w1 Inv-loop μ-loop
 slice-write-w1 c = omega arith
 
-add-i : tie.Need-add-i Inv-loop μ-loop
-add-i c = omega arith
+add-p : tie.Need-add-p Inv-loop μ-loop
+add-p c = omega arith
 
 loop-less : tie.Need-loop-less Inv-loop μ-loop
 loop-less c = omega arith
 
 loop-again : tie.Need-loop-again Inv-loop μ-loop
-loop-again c = copy-more (c .before .before .before .pre .0) (c .before .loop-test .taken) (c .before .before .loop .inv)
+loop-again c = search copy-more
 
 same-length : tie.Need-same-length Inv-loop μ-loop
-same-length c = c .before .loop .inv .size
+same-length c = cc
 
 returns : tie.Need-returns Inv-loop μ-loop
-returns c = copy-done (c .loop-test .left) (c .before .loop .inv)
+returns c = search copy-done
 
 pub keep-marks-spec : {M : Type 1} → statement M
 keep-marks-spec =
@@ -55,7 +55,7 @@ keep-marks-spec =
     add-w1
     mul-w1-2
     slice-write-w1
-    add-i
+    add-p
     loop-less
     loop-again
     same-length
