@@ -1,6 +1,5 @@
 -- `open_text` meets its contract. Assumes nothing.
 use borrow.Author.Needs.{needs}
-use native.Mathlib.Omega.{arith}
 use Rattle.checker.proofs.Readings.{known-read, opens-sheet, opens-none}
 use Rattle.checker.proofs.open_text.Statement.{statement}
 use Rattle.checker.proofs.open_text.Tie as tie

@@ -1,5 +1,4 @@
 use borrow.Author.Needs.{needs}
-use native.Mathlib.Omega.{arith}
 use Rattle.checker.proofs.Readings.{long-text, within-text}
 use Rattle.checker.proofs.read_text.Statement.{statement}
 use Rattle.checker.proofs.read_text.Tie as tie

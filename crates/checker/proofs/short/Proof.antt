@@ -1,4 +1,3 @@
-use native.Mathlib.Omega.{arith}
 use Rattle.checker.proofs.Answers.{short0, short1, short2}
 use Rattle.checker.proofs.short.Statement.{statement}
 use Rattle.checker.proofs.short.Tie as tie

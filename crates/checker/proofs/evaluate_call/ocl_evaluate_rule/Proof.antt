@@ -1,5 +1,4 @@
 use borrow.Author.Needs.{needs}
-use mathlib.Core.Path.{sym, _∙_}
 use Rattle.sheet.specs.Calls.{evaluateCall}
 use Rattle.checker.proofs.Answers.{all-lent, still-long, short-call, long-call}
 use Rattle.checker.proofs.EvaluateCalls.{evaluate-number}

@@ -1,5 +1,4 @@
 use borrow.Author.Needs.{needs}
-use mathlib.Core.Path.{refl}
 use native.Mathlib.Omega.{arith}
 use lib.ListN.{length}
 use Rattle.checker.proofs.OutcomeLaws.{value-fits, gives-value, gives-undefined, gives-stuck, gives-stopped}

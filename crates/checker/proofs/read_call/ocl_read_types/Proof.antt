@@ -1,6 +1,5 @@
 -- `ocl_read_types` meets its contract. Assumes nothing.
 use borrow.Author.Needs.{needs}
-use mathlib.Core.Path.{sym, _∙_}
 use Rattle.sheet.specs.Calls.{readCall}
 use Rattle.checker.proofs.Answers.{all-lent, still-long, short-call, long-call}
 use Rattle.checker.proofs.ReadCalls.{read-number}

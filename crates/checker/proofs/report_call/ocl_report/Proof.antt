@@ -1,6 +1,5 @@
 -- `ocl_report` meets its contract. Assumes nothing.
 use borrow.Author.Needs.{needs}
-use mathlib.Core.Path.{sym, _∙_}
 use Rattle.sheet.specs.Report.{reportCall}
 use Rattle.checker.proofs.Answers.{all-lent, still-long, short-call, long-call}
 use Rattle.checker.proofs.ReportCalls.{report-number}
