@@ -183,24 +183,21 @@ impl Evaluation<'_> {
             }
             Form::ForAll(variable) => self.quantifier(operands, *variable, false),
             Form::Exists(variable) => self.quantifier(operands, *variable, true),
-            Form::Call(number) => {
-                let called = &self.definitions[usize::from(*number)];
-                match self.node(&operands[0])? {
-                    Value::Object(object) if self.model.is_of(object, called.class) => {
-                        self.called(&called.root, object)
-                    }
-                    _ => Err(STUCK),
-                }
-            }
+            Form::Call(number) => self.call(*number, &operands[0]),
         }
     }
 
-    /// A called body's outcome for an object; the caller's object and variables
-    /// are put back.
-    fn called(&mut self, body: &Node, object: u8) -> Outcome {
+    /// A definition's body, in which `self` is the operand and no variable is
+    /// bound; the caller's are put back.
+    fn call(&mut self, number: u8, operand: &Node) -> Outcome {
+        let called = &self.definitions[usize::from(number)];
+        let object = match self.node(operand)? {
+            Value::Object(object) if self.model.is_of(object, called.class) => object,
+            _ => return Err(STUCK),
+        };
         let caller = mem::replace(&mut self.object, object);
         let hidden = mem::take(&mut self.environment);
-        let outcome = self.node(body);
+        let outcome = self.node(&called.root);
         self.object = caller;
         self.environment = hidden;
         outcome

@@ -1,6 +1,9 @@
 //! What the three calls answer, beyond what a report can show.
 
-use second_evaluator::calls::{self, Answer, Words};
+mod common;
+
+use common::{answer, evaluate_on, lent, lent_with, read, text};
+use second_evaluator::calls::{self, Answer};
 
 const SHEET: &str = "C 0 -|C 1 0|C 2 -|A 0 0 5 Int|O 0 1|O 1 0|O 2 2|V 0 0 9|\
     R 0 0|N 0 self|N 1 attr 0 5|N 2 int 12|N 3 less 1 2|\
@@ -8,53 +11,6 @@ const SHEET: &str = "C 0 -|C 1 0|C 2 -|A 0 0 5 Int|O 0 1|O 1 0|O 2 2|V 0 0 9|\
     R 2 0|N 0 all 0|N 1 int 1|N 2 including 0 1";
 /// Behind it, two rules that do not type: an unbound variable, and no attribute.
 const UNTYPED: &str = "|R 3 0|N 0 var 1|R 4 0|N 0 self|N 1 attr 0 6";
-
-fn text(sheet: &str) -> Vec<u8> {
-    let lines = sheet.split('|').map(|line| line.replace(' ', "\t") + "\n");
-    lines.collect::<String>().into_bytes()
-}
-
-/// The answer and what was written, with all that was lent checked.
-fn lent(call: impl Fn(Words, &mut [u8]) -> Answer) -> (Answer, String) {
-    lent_with([8_192, 8_193, 9_000], 2_048, call)
-}
-
-fn lent_with(
-    lengths: [usize; 3],
-    room: usize,
-    call: impl Fn(Words, &mut [u8]) -> Answer,
-) -> (Answer, String) {
-    let mut slices = lengths.map(|length| vec![7; length]);
-    let mut out = vec![b'~'; room];
-    let answer = call(slices.each_mut().map(Vec::as_mut_slice), &mut out);
-    let wiped = if answer.number == 1 { 0 } else { 8_192 };
-    for slice in &slices {
-        assert!(slice[..wiped].iter().all(|word| *word == 0));
-        assert!(slice[wiped..].iter().all(|word| *word == 7));
-    }
-    let length = answer.length as usize;
-    assert!(out[length..].iter().all(|byte| *byte == b'~'));
-    (answer, String::from_utf8(out[..length].to_vec()).unwrap())
-}
-
-fn answer(number: u64, steps: u64, place: u64, written: &str) -> (Answer, String) {
-    let length = written.len() as u64;
-    let answer = Answer {
-        number,
-        steps,
-        place,
-        length,
-    };
-    (answer, written.to_string())
-}
-
-fn read(sheet: &str) -> (Answer, String) {
-    lent(|words, out| calls::read_types(&text(sheet), words, out))
-}
-
-fn evaluate_on(sheet: &str, rule: u64, object: u64) -> (Answer, String) {
-    lent(|words, out| calls::evaluate_rule(&text(sheet), rule, object, words, out))
-}
 
 fn evaluate(rule: u64, object: u64) -> (Answer, String) {
     evaluate_on(SHEET, rule, object)
@@ -183,55 +139,6 @@ fn one_call_for_reading_and_typing() {
     let collected = "C 0 -|C 1 -|C 2 1|A 0 1 5 Int|A 1 2 5 Bool|O 0 0|O 1 1|O 2 2|\
         V 1 0 4|V 2 0 3|V 2 1 t|R 0 0|N 0 all 1|N 1 collect 0 5";
     assert_eq!(read(collected), answer(0, 0, 0, "B(Int)\n"));
-}
-
-const DEFINED: &str = "C 0 -|C 1 0|A 0 0 5 Int|O 0 0|O 1 1|V 1 0 9|\
-    D 0 0 Int|N 0 self|N 1 attr 0 5|D 1 0 Any|N 0 self|N 1 call 0 0|N 2 int 1|N 3 plus 1 2";
-
-#[test]
-fn definitions_have_no_line_and_no_number_among_rules() {
-    let rules = "|R 0 1|N 0 self|N 1 call 0 0|R 1 0|N 0 self|N 1 call 0 1";
-    let sheet = DEFINED.to_string() + rules;
-    // A call has the type that is declared, not the body's.
-    assert_eq!(read(&sheet), answer(0, 0, 0, "Int\nAny\n"));
-    assert_eq!(read(DEFINED), answer(0, 0, 0, ""));
-    assert_eq!(evaluate_on(&sheet, 0, 1), answer(0, 4, 0, "9"));
-    assert_eq!(evaluate_on(&sheet, 1, 0), answer(0, 7, 0, "u"));
-    assert_eq!(evaluate_on(&sheet, 1, 1), answer(0, 8, 0, "10"));
-    assert_eq!(evaluate_on(&sheet, 2, 0), answer(14, 0, 0, ""));
-    assert_eq!(evaluate_on(DEFINED, 0, 0), answer(14, 0, 0, ""));
-}
-
-#[test]
-fn definitions_are_typed_before_rules_and_before_14() {
-    // Unused, and behind it a rule that does not type either.
-    let untyped = DEFINED.to_string() + "|D 2 0 Bool|N 0 int 1|R 0 0|N 0 var 1";
-    assert_eq!(read(&untyped), answer(11, 0, 16, ""));
-    for (rule, object) in [(0, 0), (1, 0), (0, 9), (u64::MAX, u64::MAX)] {
-        assert_eq!(evaluate_on(&untyped, rule, object), answer(11, 0, 16, ""));
-    }
-    // What the root is refused for comes before what the body is not below.
-    let root = DEFINED.to_string() + "|D 2 0 Bool|N 0 self|N 1 attr 0 6";
-    assert_eq!(read(&root), answer(12, 0, 17, ""));
-    // Variables of a caller are not seen.
-    let hidden =
-        "C 0 -|O 0 0|D 0 0 Int|N 0 var 1|R 0 0|N 0 int 1|N 1 self|N 2 call 1 0|N 3 let 1 0 2";
-    assert_eq!(read(hidden), answer(9, 0, 4, ""));
-}
-
-#[test]
-fn calls_upward_and_of_unknown_definitions() {
-    for number in [2, 3, 31] {
-        let upward = format!("{DEFINED}|D 2 0 Int|N 0 self|N 1 call 0 {number}");
-        assert_eq!(read(&upward), answer(23, 0, 17, ""), "{number}");
-        let unknown = format!("{DEFINED}|R 0 0|N 0 self|N 1 call 0 {number}");
-        assert_eq!(read(&unknown), answer(24, 0, 17, ""), "{number}");
-    }
-    // 4 and 5 before them, 8 behind.
-    assert_eq!(read("C 0 -|D 0 0 Int|N 1 call 9 32"), answer(4, 0, 3, ""));
-    assert_eq!(read("C 0 -|D 0 0 Int|N 1 call 9 0"), answer(5, 0, 3, ""));
-    assert_eq!(read("C 0 -|D 0 0 Int|N 0 call 9 0"), answer(23, 0, 3, ""));
-    assert_eq!(read("C 0 -|R 0 0|N 0 call 9 0"), answer(24, 0, 3, ""));
 }
 
 #[test]

@@ -11,40 +11,22 @@ pub mod limits;
 pub mod random;
 pub mod rules;
 pub mod runs;
+pub mod trees;
 pub mod world;
 
 use crate::calls::{program, LEAST_OUTPUT, LEAST_WORDS, PROGRAM_OUTPUT};
-use crate::model::Model;
 use crate::read::read;
-use crate::tree::DEEPEST_RULE;
-use crate::types::{Type, DEEPEST};
-use definitions::{defined, Callable, MOST_DEFINITIONS};
-use draft::Draft;
+use definitions::defined;
 use random::Random;
-use rules::Growth;
 use std::iter;
-use world::{any_type, spelt_type, world, Scale};
+use trees::grown;
 
 /// A sheet for a seed: most type, some are damaged, some stand at a limit.
 pub fn sheet(seed: u64) -> Vec<u8> {
     let mut random = Random::new(seed);
     match random.below(20) {
         0..=7 => grown(&mut random),
-        8 => {
-            let text = match random.below(4) {
-                0 => grown(&mut random),
-                1 => large::large(&mut random),
-                2 => {
-                    let kind = *random.pick(&limits::OF_RULES);
-                    limits::limit(&mut random, kind)
-                }
-                _ => {
-                    let kind = *random.pick(&limits::OF_DEFINITIONS);
-                    return limits::limit(&mut random, kind);
-                }
-            };
-            defined(&mut random, &text).unwrap_or(text)
-        }
+        8 => with_definitions(&mut random),
         9 => large::large(&mut random),
         10..=17 => {
             let text = grown(&mut random);
@@ -62,105 +44,21 @@ pub fn sheet(seed: u64) -> Vec<u8> {
     }
 }
 
-/// A sheet whose rules mostly type.
-fn grown(random: &mut Random) -> Vec<u8> {
-    let (scale, rules, budget) = match random.below(20) {
-        0 => (Scale::LIMIT, 3, 12),
-        1 => (Scale::SMALL, 64, 10),
-        2..=4 => (Scale::SMALL, 2, 300),
-        _ => (Scale::SMALL, 5, 40),
-    };
-    let model = world(random, scale);
-    let mut text = world::spell(&model);
-    let faulty = random.one_in(3);
-    let mut left: usize = 768;
-    let mut callable = Vec::new();
-    let (definitions, size) = match random.below(8) {
-        0..=3 => (0, 1),
-        4 => (random.between(1, MOST_DEFINITIONS), 6),
-        _ => (random.between(1, 4), budget.min(40)),
-    };
-    // Else hardly a rule would be typed where there are faults.
-    let faulty_bodies = faulty && random.one_in(3);
-    for number in 0..definitions {
-        let most = if random.one_in(3) { DEEPEST_RULE } else { 5 };
-        let depth = random.between(1, most);
-        let tree = tree(random, &model, &callable, (depth, size, faulty_bodies));
-        if tree.draft.lines.len() > left {
-            break;
+/// A sheet about definitions, or another one with its rules made definitions.
+fn with_definitions(random: &mut Random) -> Vec<u8> {
+    let text = match random.below(4) {
+        0 => grown(random),
+        1 => large::large(random),
+        2 => {
+            let kind = *random.pick(&limits::OF_RULES);
+            limits::limit(random, kind)
         }
-        left -= tree.draft.lines.len();
-        let given = if random.one_in(2) && tree.found.depth() <= DEEPEST {
-            tree.found
-        } else {
-            tree.wanted
-        };
-        text += &format!("D\t{number}\t{}\t{}\n", tree.context, spelt_type(&given));
-        text += &tree.draft.spell(random);
-        callable.push(Callable {
-            class: tree.context,
-            ty: given,
-            depth,
-        });
-    }
-    for number in 0..random.between(1, rules) {
-        let depth = random.between(1, DEEPEST_RULE);
-        let tree = tree(random, &model, &callable, (depth, budget, faulty));
-        if tree.draft.lines.len() > left {
-            break;
+        _ => {
+            let kind = *random.pick(&limits::OF_DEFINITIONS);
+            return limits::limit(random, kind);
         }
-        left -= tree.draft.lines.len();
-        text += &format!("R\t{number}\t{}\n", tree.context);
-        text += &tree.draft.spell(random);
-    }
-    text.into_bytes()
-}
-
-/// A rule, or a definition, in the making.
-struct Tree {
-    context: u8,
-    wanted: Type,
-    /// The type that came out, mostly below the one wanted.
-    found: Type,
-    draft: Draft,
-}
-
-/// A tree at most so deep and large, for a context class that mostly has objects.
-fn tree(
-    random: &mut Random,
-    model: &Model,
-    callable: &[Callable],
-    (depth, budget, faulty): (usize, usize, bool),
-) -> Tree {
-    let context = if model.objects.is_empty() || random.one_in(8) {
-        random.below(model.classes.0.len()) as u8
-    } else {
-        let class = *random.pick(&model.objects);
-        let upward: Vec<u8> = model.classes.upward(class).collect();
-        *random.pick(&upward)
     };
-    let wanted = match random.below(4) {
-        0 => Type::Bool,
-        _ => any_type(random, &model.classes, DEEPEST),
-    };
-    let mut growth = Growth {
-        random,
-        model,
-        callable,
-        context,
-        budget,
-        faulty,
-        burst: 0,
-        environment: Default::default(),
-        draft: Draft::default(),
-    };
-    let (_, found) = growth.grow(&wanted, depth);
-    Tree {
-        context,
-        wanted,
-        found,
-        draft: growth.draft,
-    }
+    defined(random, &text).unwrap_or(text)
 }
 
 #[derive(Clone, Copy, PartialEq, Eq, Debug)]
