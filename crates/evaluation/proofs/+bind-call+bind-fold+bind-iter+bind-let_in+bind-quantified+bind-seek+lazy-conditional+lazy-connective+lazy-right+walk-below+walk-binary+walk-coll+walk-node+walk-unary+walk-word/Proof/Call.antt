@@ -27,7 +27,7 @@ module _ (t : ℕ) where
   same-length c = search needs
 
   returns : lts.Need-returns calls (call-at t) call.Post
-  returns c = call-first _ _ (c .before .before .before .below .ensures) (c .match .keys2)
+  returns c = search call-first
 
   node-word-requires : lts.Need-node-word-requires calls (call-at t) call.Post
   node-word-requires c κs = search needs
@@ -60,7 +60,7 @@ module _ (t : ℕ) where
   same-length-2 c = search needs
 
   returns-2 : lts.Need-returns-2 calls (call-at t) call.Post
-  returns-2 c = call-second _ _ (c .before .before .before .before .before .before .before .before .before .before .before .before .before .before .below .ensures) (c .before .before .before .before .before .before .before .before .before .before .first .given .1) (c .before .before .before .before .before .before .before .before .node-word .ensures) (c .before .before .before .before .before .before .is-object .ensures) (c .before .before .before .before .before .if1 .taken) (c .before .before .before .below2 .ensures) (c .match2 .keys2)
+  returns-2 c = search call-second
 
   slide-requires : lts.Need-slide-requires calls (call-at t) call.Post
   slide-requires c κs = (omega (arith, bounds (c .before .before .before .before .before .before .before .before .before .before .before .before .before .before .before .before .before .below .ensures .small) (c .before .before .before .before .before .before .before .before .before .before .before .before .before .first .given .1), bounds (c .before .before .before .before .before .before .below2 .ensures .small) (c .before .before .body .given .1), c .before .before .before .before .before .before .before .before .before .before .before .before .before .before .before .before .before .before .before .before .before .before .pre, c .before .before .before .before .before .before .before .before .before .before .before .before .before .before .before .before .before .below .kept, c .before .before .before .before .before .before .below2 .kept), inl (omega (arith, bounds (c .before .before .before .before .before .before .before .before .before .before .before .before .before .before .before .before .before .below .ensures .small) (c .before .before .before .before .before .before .before .before .before .before .before .before .before .first .given .1))))
@@ -75,7 +75,7 @@ module _ (t : ℕ) where
   same-length-4 c = search needs
 
   returns-4 : lts.Need-returns-4 calls (call-at t) call.Post
-  returns-4 c = call-stuck _ _ (c .before .before .before .before .before .before .before .before .before .below .ensures) (c .before .before .before .before .before .first .given .1) (c .before .before .before .node-word .ensures) (c .before .is-object .ensures) (c .if1 .left)
+  returns-4 c = search call-stuck
 
   pub closed : {M : Type 1} → lts.Closed calls (call-at t) call.Post M
   closed = lts.spec calls (call-at t) call.Post below-requires enum-known-first same-length returns node-word-requires mul-is-object slice-read-is-object is-object-requires add-top add-inner array-write-inner below-requires-2 enum-known-body same-length-2 returns-2 slide-requires same-length-3 returns-3 same-length-4 returns-4
