@@ -1,5 +1,5 @@
 /*
- * The rule checker's four calls, for C and C++. Link with libchecker.a; docs/USING.md says how, and what a call needs.
+ * The rule checker's three calls, for C and C++. Link with libchecker.a; docs/USING.md says how, and what a call needs.
  *
  * What a call does depends on the text, the numbers and the lengths that it is given, and on nothing else. It keeps nothing
  * between calls, calls nothing but the C library's memset, memcpy and memmove, and can fail only by the number that it
@@ -11,7 +11,7 @@
  *   text            a sheet (docs/SHEETS.md). It is only read.
  *   words0 .. 2     working memory: three slices of 64-bit words, OCL_LEAST_WORDS or more each. What they hold before
  *                   does not matter.
- *   output          where the answer is written, OCL_LEAST_OUTPUT bytes or more. ocl_read_sheet has none.
+ *   output          where the answer is written, OCL_LEAST_OUTPUT bytes or more.
  *
  * Each is a pointer and a length, counted in elements: bytes of the text and the output, words of the rest. A pointer leads
  * to that many elements and is aligned for them. It may be null only where its length is 0. No slice overlaps another one.
@@ -38,7 +38,7 @@ extern "C" {
 #endif
 
 #define OCL_LEAST_WORDS 8192    /* the fewest words of each word slice */
-#define OCL_LEAST_OUTPUT 2048   /* the fewest bytes of an output: every type and every value fits */
+#define OCL_LEAST_OUTPUT 2048   /* the fewest bytes of an output: every value, and the types of all rules, fit */
 #define OCL_LONGEST_TEXT 49152  /* the most bytes of a sheet */
 #define OCL_REPORT_OUTPUT 65536 /* the bytes that the program ocl_report lends for a report */
 #define OCL_MOST_STEPS 1000000  /* the most steps of an evaluation */
@@ -51,23 +51,23 @@ typedef struct ocl_answer {
     uint64_t length; /* bytes written to the output; 0 unless the number is 0 */
 } ocl_answer;
 
-/* The numbers. In brackets: who gives it, R read, T type, E evaluate, P report; and whether with a place. */
+/* The numbers. In brackets: who gives it, R read, E evaluate, P report; and whether with a place. */
 enum ocl_number {
-    OCL_ANSWERED = 0,            /* an answer (RTEP) */
-    OCL_SHORT_SLICE = 1,         /* a word slice or the output is too short; nothing was touched (RTEP) */
-    OCL_SHEET_TOO_LONG = 2,      /* the text is longer than a sheet may be (RTEP) */
-    OCL_BAD_LINE = 3,            /* a line is misspelled: fields, letter, form, number, line feed (RTEP, place) */
-    OCL_OUT_OF_LIMITS = 4,       /* a number, count, size or nesting is outside its limits (RTEP, place) */
-    OCL_OUT_OF_ORDER = 5,        /* lines, numbers or members out of order; a name or variable twice (RTEP, place) */
-    OCL_UNKNOWN_REFERENCE = 6,   /* a class, row or object that the sheet does not have by then (RTEP, place) */
-    OCL_VALUE_MISMATCH = 7,      /* a value that its row, or a row that its object, does not take (RTEP, place) */
-    OCL_MALFORMED_TREE = 8,      /* the nodes of a rule make no tree, or one that is too deep (RTEP, place) */
-    OCL_UNBOUND_VARIABLE = 9,    /* a variable that nothing binds (TEP, place) */
-    OCL_NO_COMMON_TYPE = 10,     /* two types without a common one; a cast between unrelated classes (TEP, place) */
-    OCL_WRONG_OPERAND_TYPE = 11, /* a form does not take an operand of this type (TEP, place) */
-    OCL_NO_ATTRIBUTE = 12,       /* the class has no attribute of this name (TEP, place) */
-    OCL_TYPE_TOO_DEEP = 13,      /* a type would be over three deep (TEP, place) */
-    OCL_NOT_FOUND = 14,          /* the sheet has no such rule (TE), or no such object (E) */
+    OCL_ANSWERED = 0,            /* an answer (REP) */
+    OCL_SHORT_SLICE = 1,         /* a word slice or the output is too short; nothing was touched (REP) */
+    OCL_SHEET_TOO_LONG = 2,      /* the text is longer than a sheet may be (REP) */
+    OCL_BAD_LINE = 3,            /* a line is misspelled: fields, letter, form, number, line feed (REP, place) */
+    OCL_OUT_OF_LIMITS = 4,       /* a number, count, size or nesting is outside its limits (REP, place) */
+    OCL_OUT_OF_ORDER = 5,        /* lines, numbers or members out of order; a name or variable twice (REP, place) */
+    OCL_UNKNOWN_REFERENCE = 6,   /* a class, row or object that the sheet does not have by then (REP, place) */
+    OCL_VALUE_MISMATCH = 7,      /* a value that its row, or a row that its object, does not take (REP, place) */
+    OCL_MALFORMED_TREE = 8,      /* the nodes of a rule make no tree, or one that is too deep (REP, place) */
+    OCL_UNBOUND_VARIABLE = 9,    /* a variable that nothing binds (REP, place) */
+    OCL_NO_COMMON_TYPE = 10,     /* two types without a common one; a cast between unrelated classes (REP, place) */
+    OCL_WRONG_OPERAND_TYPE = 11, /* a form does not take an operand of this type (REP, place) */
+    OCL_NO_ATTRIBUTE = 12,       /* the class has no attribute of this name (REP, place) */
+    OCL_TYPE_TOO_DEEP = 13,      /* a type would be over three deep (REP, place) */
+    OCL_NOT_FOUND = 14,          /* the sheet has no such rule, or no such object (E) */
     OCL_OTHER_CLASS = 15,        /* the rule does not apply to objects of this class (E) */
     OCL_STEP_STOP = 16,          /* stopped: over OCL_MOST_STEPS steps are due (E, with the steps) */
     OCL_SIZE_STOP = 17,          /* stopped: a value of a size over 128 would be formed (E, with the steps) */
@@ -75,23 +75,22 @@ enum ocl_number {
     OCL_OVER_RANGE = 19          /* stopped: an exact result leaves the Integer range (E, with the steps) */
 };
 
-/* Reads a sheet and says whether it is valid. Writes nothing. The other three read it too, and refuse it with the same number. */
-ocl_answer ocl_read_sheet(
+/*
+ * Reads a sheet, types all its rules in order, and writes the types, one a line, as `Bool` or `S(#2)`, with a line feed at the
+ * end of each. A sheet is accepted only if all its rules type. The other two read and type it too, and refuse it with the same
+ * number and place.
+ */
+ocl_answer ocl_read_types(
     const uint8_t *text, size_t text_length,
-    uint64_t *words0, size_t words0_length,
-    uint64_t *words1, size_t words1_length,
-    uint64_t *words2, size_t words2_length);
-
-/* Types a rule, counted from 0 as on the sheet, and writes its type, as `Bool` or `S(#2)`. */
-ocl_answer ocl_type_rule(
-    const uint8_t *text, size_t text_length,
-    uint64_t rule,
     uint64_t *words0, size_t words0_length,
     uint64_t *words1, size_t words1_length,
     uint64_t *words2, size_t words2_length,
     uint8_t *output, size_t output_length);
 
-/* Types a rule and evaluates it for an object, and writes its value, as `t` or `S(@1,@4)`; `u` is undefined. */
+/*
+ * Evaluates a rule for an object, both counted from 0 as on the sheet, and writes the value, as `t` or `S(@1,@4)`; `u` is
+ * undefined. The sheet is read and typed first: one with a rule that has no type is refused, whichever rule is asked for.
+ */
 ocl_answer ocl_evaluate_rule(
     const uint8_t *text, size_t text_length,
     uint64_t rule, uint64_t object,
@@ -101,8 +100,8 @@ ocl_answer ocl_evaluate_rule(
     uint8_t *output, size_t output_length);
 
 /*
- * Types all rules, evaluates each for every object of its class or below, and writes a line for each: rule, object, value and
- * steps, with single spaces between them and a line feed at the end. A stop is written in its line as `!16`, `!17` or `!19`.
+ * Evaluates each rule for every object of its class or below, and writes a line for each: rule, object, value and steps, with
+ * single spaces between them and a line feed at the end. A stop is written in its line as `!16`, `!17` or `!19`.
  */
 ocl_answer ocl_report(
     const uint8_t *text, size_t text_length,

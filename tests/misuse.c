@@ -13,8 +13,8 @@
 #define WORD UINT64_C(0x7e7e7e7e7e7e7e7e)
 #define BYTE 0x7e
 
-enum call { READ, TYPE, EVALUATE, REPORT };
-static const char *const names[] = {"read", "type", "evaluate", "report"};
+enum call { READ, EVALUATE, REPORT };
+static const char *const names[] = {"read", "evaluate", "report"};
 
 static uint64_t words[3][OCL_LEAST_WORDS + MARGIN];
 static uint8_t output[OCL_LEAST_OUTPUT + MARGIN];
@@ -34,9 +34,7 @@ static ocl_answer call(enum call which, const void *text, size_t text_length)
     }
     switch (which) {
     case READ:
-        return ocl_read_sheet(text, text_length, w[0], lengths[0], w[1], lengths[1], w[2], lengths[2]);
-    case TYPE:
-        return ocl_type_rule(text, text_length, 0, w[0], lengths[0], w[1], lengths[1], w[2], lengths[2], out, room);
+        return ocl_read_types(text, text_length, w[0], lengths[0], w[1], lengths[1], w[2], lengths[2], out, room);
     case EVALUATE:
         return ocl_evaluate_rule(
             text, text_length, 0, 0, w[0], lengths[0], w[1], lengths[1], w[2], lengths[2], out, room);
@@ -89,6 +87,7 @@ int main(void)
 {
     static const char sheet[] = "C\t0\t-\nO\t0\t0\nR\t0\t0\nN\t0\ttrue\n";
     static const char bad[] = "C\t0\t-\nC\t1\t1\n";
+    static const char untyped[] = "C\t0\t-\nO\t0\t0\nR\t0\t0\nN\t0\ttrue\nR\t1\t0\nN\t0\tvar\t1\n";
     static const uint8_t longer[OCL_LONGEST_TEXT + 1];
     static const size_t little[] = {0, 1, OCL_LEAST_WORDS - 1};
     const size_t most = OCL_LEAST_WORDS, sheet_length = sizeof sheet - 1;
@@ -107,21 +106,21 @@ int main(void)
         /* a short slice comes before a sheet that is too long */
         lend(most, most, most - 1, OCL_LEAST_OUTPUT);
         expect(which, longer, sizeof longer, OCL_SHORT_SLICE, "");
-    }
-    for (enum call which = TYPE; which <= REPORT; which++) {
         lend(most, most, most, 0);
         expect(which, sheet, sheet_length, OCL_SHORT_SLICE, "");
         lend(most, most, most, OCL_LEAST_OUTPUT - 1);
         expect(which, sheet, sheet_length, OCL_SHORT_SLICE, "");
     }
     for (enum call which = READ; which <= REPORT; which++) {
-        static const char *const written[] = {"", "Bool", "t", "0 0 t 1\n"};
+        static const char *const written[] = {"Bool\n", "t", "0 0 t 1\n"};
         lend(most, most, most, OCL_LEAST_OUTPUT);
         expect(which, sheet, sheet_length, OCL_ANSWERED, written[which]);
         expect(which, bad, sizeof bad - 1, OCL_UNKNOWN_REFERENCE, "");
+        /* every call types all rules */
+        expect(which, untyped, sizeof untyped - 1, OCL_UNBOUND_VARIABLE, "");
         expect(which, longer, sizeof longer, OCL_SHEET_TOO_LONG, "");
         /* the text of no bytes is a sheet without rules */
-        expect(which, NULL, 0, which == TYPE || which == EVALUATE ? OCL_NOT_FOUND : OCL_ANSWERED, "");
+        expect(which, NULL, 0, which == EVALUATE ? OCL_NOT_FOUND : OCL_ANSWERED, "");
     }
     if (failures == 0) {
         printf("misuse: %d cases\n", cases);

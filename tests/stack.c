@@ -13,8 +13,8 @@
 #define STACK_WORDS (512 * 1024 / 8)
 #define PAINT UINT64_C(0xa5c3a5c3a5c3a5c3)
 
-enum call { READ, TYPE, EVALUATE, REPORT };
-static const char *const names[] = {"read", "type", "evaluate", "report"};
+enum call { READ, EVALUATE, REPORT };
+static const char *const names[] = {"read", "evaluate", "report"};
 
 static uint64_t stack[STACK_WORDS];
 static uint8_t text[OCL_LONGEST_TEXT + 1];
@@ -28,8 +28,8 @@ static uint64_t rule, object;
 static ocl_answer answer;
 static uintptr_t frame;
 
-static size_t most[4];
-static const char *most_in[4];
+static size_t most[3];
+static const char *most_in[3];
 static uint64_t runs;
 
 #define TEXT text, text_length
@@ -41,10 +41,7 @@ static void run(void)
     frame = (uintptr_t)__builtin_frame_address(0);
     switch (which) {
     case READ:
-        answer = ocl_read_sheet(TEXT, WORDS);
-        break;
-    case TYPE:
-        answer = ocl_type_rule(TEXT, rule, WORDS, OUTPUT);
+        answer = ocl_read_types(TEXT, WORDS, OUTPUT);
         break;
     case EVALUATE:
         answer = ocl_evaluate_rule(TEXT, rule, object, WORDS, OUTPUT);
@@ -84,18 +81,20 @@ static uint64_t measure(enum call call, const char *sheet)
 
 static void measure_sheet(const char *sheet)
 {
-    measure(READ, sheet);
     if (measure(REPORT, sheet) != OCL_ANSWERED) {
         printf("refused %s\n", sheet);
     }
-    for (rule = 0;; rule++) {
-        uint64_t typed = measure(TYPE, sheet);
-        if (typed != OCL_ANSWERED && typed < OCL_UNBOUND_VARIABLE) {
-            return; /* the sheet is refused */
-        }
-        if (typed == OCL_NOT_FOUND) {
-            return;
-        }
+    rule = 0;
+    object = 0;
+    measure(EVALUATE, sheet);
+    if (measure(READ, sheet) != OCL_ANSWERED) {
+        return;
+    }
+    uint64_t rules = 0;
+    for (uint64_t i = 0; i < answer.length; i++) {
+        rules += output[i] == '\n'; /* a line for each rule */
+    }
+    for (; rule < rules; rule++) {
         for (object = 0; measure(EVALUATE, sheet) != OCL_NOT_FOUND; object++) {
         }
     }

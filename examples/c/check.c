@@ -1,6 +1,6 @@
 /*
  * check SHEET: reads a job sheet from a file and prints each rule's type, what the rule comes to for each of its objects, and
- * the report; or why the sheet is refused, in words. It shows the four calls of include/ocl_checker.h. All memory is static.
+ * the report; or why the sheet is refused, in words. It shows the three calls of include/ocl_checker.h. All memory is static.
  *
  *     cc -std=c11 -Wall -Wextra -Werror -Iinclude examples/c/check.c target/staticlib/libchecker.a -o target/check
  *     target/check examples/cap.sheet
@@ -17,8 +17,10 @@ static uint8_t text[OCL_LONGEST_TEXT + 1];
 static size_t text_length;
 static uint64_t words[3][OCL_LEAST_WORDS];
 static uint8_t output[OCL_REPORT_OUTPUT];
+/* The rules' types have an output of their own, so that they last while the rules are evaluated. */
+static uint8_t types[OCL_LEAST_OUTPUT];
 
-/* What every call is lent, and what those that write are lent besides. */
+/* What calls are lent. */
 #define TEXT text, text_length
 #define WORDS words[0], OCL_LEAST_WORDS, words[1], OCL_LEAST_WORDS, words[2], OCL_LEAST_WORDS
 #define OUTPUT output, sizeof output
@@ -78,20 +80,17 @@ static void evaluate_for_all(uint64_t rule)
     }
 }
 
-/* Prints what each rule is and comes to; whether all of them have a type. */
-static int print_rules(void)
+/* Prints what each rule is and comes to. Its type is its line of the types, which take so many bytes. */
+static void print_rules(uint64_t length)
 {
-    for (uint64_t rule = 0;; rule++) {
-        ocl_answer answer = ocl_type_rule(TEXT, rule, WORDS, OUTPUT);
-        if (answer.number == OCL_NOT_FOUND) {
-            return 1; /* the rule before this one was the last */
+    uint64_t rule = 0, start = 0;
+    for (uint64_t end = 0; end < length; end++) {
+        if (types[end] == '\n') {
+            printf("rule %" PRIu64 ": %.*s\n", rule, (int)(end - start), (const char *)types + start);
+            evaluate_for_all(rule);
+            rule++;
+            start = end + 1;
         }
-        if (answer.number != OCL_ANSWERED) {
-            print_refusal(answer);
-            return 0;
-        }
-        printf("rule %" PRIu64 ": %.*s\n", rule, (int)answer.length, (const char *)output);
-        evaluate_for_all(rule);
     }
 }
 
@@ -117,14 +116,12 @@ int main(int argc, char **argv)
         perror(argv[1]);
         return 2;
     }
-    ocl_answer answer = ocl_read_sheet(TEXT, WORDS);
+    ocl_answer answer = ocl_read_types(TEXT, WORDS, types, sizeof types);
     if (answer.number != OCL_ANSWERED) {
         print_refusal(answer);
         return 1;
     }
-    if (!print_rules()) {
-        return 1;
-    }
+    print_rules(answer.length);
     answer = ocl_report(TEXT, WORDS, OUTPUT);
     if (answer.number != OCL_ANSWERED) {
         print_refusal(answer);

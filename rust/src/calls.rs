@@ -1,12 +1,13 @@
-//! The four calls, with everything they answer: number, steps, place, length,
+//! The three calls, with everything they answer: number, steps, place, length,
 //! the output bytes and the word slices. Each reads the text anew.
 
 use crate::eval::evaluate;
-use crate::model::{Rule, Sheet};
+use crate::model::Sheet;
 use crate::read::read;
 use crate::refusal::{Refusal, Refused};
 use crate::report;
-use crate::typing;
+use crate::types::Type;
+use crate::typing::type_rules;
 
 pub const LONGEST_SHEET: usize = 49_152;
 pub const LEAST_WORDS: usize = 8_192;
@@ -29,36 +30,28 @@ pub type Words<'w> = [&'w mut [u64]; 3];
 /// What a call writes and the steps it took, or its refusal and the steps begun.
 type Work = Result<(Vec<u8>, u64), (Refused, u64)>;
 
-pub fn read_sheet(text: &[u8], words: Words) -> Answer {
-    // Read is lent no output, so none can be short.
-    lent(words, &mut [0; LEAST_OUTPUT], |_| {
-        sheet(text)?;
-        Ok((Vec::new(), 0))
-    })
-}
-
-pub fn type_rule(text: &[u8], rule: u64, words: Words, out: &mut [u8]) -> Answer {
+/// Reads the sheet and writes its rules' types, one a line.
+pub fn read_types(text: &[u8], words: Words, out: &mut [u8]) -> Answer {
     lent(words, out, |_| {
-        let mut sheet = sheet(text)?;
-        let rule = listed_rule(&mut sheet.rules, rule)?;
-        let ty = typing::type_rule(&sheet.model, rule).map_err(without_steps)?;
-        let mut spelt = Vec::new();
-        ty.spell(&mut spelt);
-        Ok((spelt, 0))
+        let (_, types) = accepted(text)?;
+        let mut lines = Vec::new();
+        for ty in types {
+            ty.spell(&mut lines);
+            lines.push(b'\n');
+        }
+        Ok((lines, 0))
     })
 }
 
 pub fn evaluate_rule(text: &[u8], rule: u64, object: u64, words: Words, out: &mut [u8]) -> Answer {
     lent(words, out, |_| {
-        let Sheet { model, mut rules } = sheet(text)?;
-        let rule = listed_rule(&mut rules, rule)?;
-        let object = u8::try_from(object).ok();
-        let listed = object.filter(|object| usize::from(*object) < model.objects.len());
-        let object = listed.ok_or((Refusal::NotFound.at(0), 0))?;
+        let (Sheet { model, rules }, _) = accepted(text)?;
+        let rule = listed(rule, rules.len())?;
+        let object = listed(object, model.objects.len())?;
+        let (rule, object) = (&rules[rule], object as u8);
         if !model.is_of(object, rule.context) {
             return Err((Refusal::OtherClass.at(0), 0));
         }
-        typing::type_rule(&model, rule).map_err(without_steps)?;
         let (outcome, steps) = evaluate(&model, rule, object);
         let value = outcome.map_err(|stop| (stop.refusal().at(0), steps))?;
         let mut spelt = Vec::new();
@@ -69,7 +62,8 @@ pub fn evaluate_rule(text: &[u8], rule: u64, object: u64, words: Words, out: &mu
 
 pub fn report(text: &[u8], words: Words, out: &mut [u8]) -> Answer {
     lent(words, out, |room| {
-        let written = report::report(&mut sheet(text)?, room).map_err(without_steps)?;
+        let (sheet, _) = accepted(text)?;
+        let written = report::report(&sheet, room).map_err(without_steps)?;
         Ok((written, 0))
     })
 }
@@ -88,17 +82,21 @@ pub fn program(text: &[u8]) -> Vec<u8> {
     out
 }
 
-fn sheet(text: &[u8]) -> Result<Sheet, (Refused, u64)> {
+/// The sheet and its rules' types: it is accepted only if all of them type.
+fn accepted(text: &[u8]) -> Result<(Sheet, Vec<Type>), (Refused, u64)> {
     if text.len() > LONGEST_SHEET {
         return Err((Refusal::SheetTooLong.at(0), 0));
     }
-    read(text).map_err(without_steps)
+    let mut sheet = read(text).map_err(without_steps)?;
+    let types = type_rules(&mut sheet).map_err(without_steps)?;
+    Ok((sheet, types))
 }
 
-fn listed_rule(rules: &mut [Rule], rule: u64) -> Result<&mut Rule, (Refused, u64)> {
-    let rule = usize::try_from(rule).ok();
-    rule.and_then(|rule| rules.get_mut(rule))
-        .ok_or((Refusal::NotFound.at(0), 0))
+/// The number of a rule or an object, of which there are so many.
+fn listed(number: u64, count: usize) -> Result<usize, (Refused, u64)> {
+    let number = usize::try_from(number).ok();
+    let listed = number.filter(|number| *number < count);
+    listed.ok_or((Refusal::NotFound.at(0), 0))
 }
 
 fn without_steps(refused: Refused) -> (Refused, u64) {

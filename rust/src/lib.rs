@@ -1,5 +1,5 @@
 //! An independent second evaluator for the job sheet's rule checker, written
-//! from document 01 alone: the yardstick the product is compared with.
+//! from documents 01 and 02 alone: the yardstick the product is compared with.
 
 pub mod calls;
 pub mod eval;

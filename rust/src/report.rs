@@ -3,14 +3,10 @@
 use crate::eval::{evaluate, Stop};
 use crate::model::Sheet;
 use crate::refusal::{Refusal, Refused};
-use crate::typing::type_rule;
 use crate::values::Value;
 
-/// The report of at most `room` bytes.
-pub fn report(sheet: &mut Sheet, room: usize) -> Result<Vec<u8>, Refused> {
-    for rule in &mut sheet.rules {
-        type_rule(&sheet.model, rule)?;
-    }
+/// The report, of at most `room` bytes, on a sheet whose rules are typed.
+pub fn report(sheet: &Sheet, room: usize) -> Result<Vec<u8>, Refused> {
     let mut out = Vec::new();
     for (number, rule) in sheet.rules.iter().enumerate() {
         for object in sheet.model.objects_of(rule.context) {

@@ -7,7 +7,7 @@ use crate::harness::second;
 use crate::read::read;
 use crate::tree::Node;
 use crate::types::Kind;
-use crate::typing::type_rule;
+use crate::typing::type_rules;
 use crate::values::Value;
 use std::collections::BTreeMap;
 use std::fmt;
@@ -85,10 +85,10 @@ impl Statistics {
         let Ok(mut sheet) = read(&text) else {
             return;
         };
-        for rule in &mut sheet.rules {
-            if text.len() > LONGEST_SHEET || type_rule(&sheet.model, rule).is_err() {
-                continue;
-            }
+        if text.len() > LONGEST_SHEET || type_rules(&mut sheet).is_err() {
+            return;
+        }
+        for rule in &sheet.rules {
             self.forms(&rule.root);
             for object in sheet.model.objects_of(rule.context).take(OBJECTS) {
                 let outcome = match evaluate(&sheet.model, rule, object).0 {
@@ -159,7 +159,7 @@ impl fmt::Display for Statistics {
             writeln!(out, "  {number:>10} {count:>10}")?;
         }
         let named = [
-            ("Forms in rules that type:", &self.forms),
+            ("Forms in accepted sheets:", &self.forms),
             ("Outcomes:", &self.outcomes),
             ("Kinds of values:", &self.kinds),
         ];

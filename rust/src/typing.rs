@@ -1,6 +1,6 @@
-//! The type of a rule, and the row each `attr` and `collect` reads.
+//! The types of rules, and the row each `attr` and `collect` reads.
 
-use crate::model::{Model, Rule};
+use crate::model::{Model, Rule, Sheet};
 use crate::refusal::{Refusal, Refused};
 use crate::tree::{Form, Node};
 use crate::types::{Kind, Type, DEEPEST};
@@ -12,6 +12,12 @@ struct Typing<'m> {
     model: &'m Model,
     context: u8,
     environment: Environment,
+}
+
+/// The types of all rules, in order, or the first refusal.
+pub fn type_rules(sheet: &mut Sheet) -> Result<Vec<Type>, Refused> {
+    let rules = sheet.rules.iter_mut();
+    rules.map(|rule| type_rule(&sheet.model, rule)).collect()
 }
 
 pub fn type_rule(model: &Model, rule: &mut Rule) -> Result<Type, Refused> {

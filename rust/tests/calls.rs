@@ -1,12 +1,13 @@
-//! What the four calls answer, beyond what a report can show.
+//! What the three calls answer, beyond what a report can show.
 
 use second_evaluator::calls::{self, Answer, Words};
 
 const SHEET: &str = "C 0 -|C 1 0|C 2 -|A 0 0 5 Int|O 0 1|O 1 0|O 2 2|V 0 0 9|\
     R 0 0|N 0 self|N 1 attr 0 5|N 2 int 12|N 3 less 1 2|\
     R 1 1|N 0 self|N 1 coll Q 0|\
-    R 2 0|N 0 var 1|\
-    R 3 0|N 0 all 0|N 1 int 1|N 2 including 0 1";
+    R 2 0|N 0 all 0|N 1 int 1|N 2 including 0 1";
+/// Behind it, two rules that do not type: an unbound variable, and no attribute.
+const UNTYPED: &str = "|R 3 0|N 0 var 1|R 4 0|N 0 self|N 1 attr 0 6";
 
 fn text(sheet: &str) -> Vec<u8> {
     let lines = sheet.split('|').map(|line| line.replace(' ', "\t") + "\n");
@@ -48,36 +49,51 @@ fn answer(number: u64, steps: u64, place: u64, written: &str) -> (Answer, String
 }
 
 fn read(sheet: &str) -> (Answer, String) {
-    lent(|words, _| calls::read_sheet(&text(sheet), words))
+    lent(|words, out| calls::read_types(&text(sheet), words, out))
 }
 
-fn type_rule(rule: u64) -> (Answer, String) {
-    lent(|words, out| calls::type_rule(&text(SHEET), rule, words, out))
+fn evaluate_on(sheet: &str, rule: u64, object: u64) -> (Answer, String) {
+    lent(|words, out| calls::evaluate_rule(&text(sheet), rule, object, words, out))
 }
 
 fn evaluate(rule: u64, object: u64) -> (Answer, String) {
-    lent(|words, out| calls::evaluate_rule(&text(SHEET), rule, object, words, out))
+    evaluate_on(SHEET, rule, object)
 }
 
 #[test]
-fn read_answers_nothing_but_its_number_and_place() {
-    assert_eq!(read(SHEET), answer(0, 0, 0, ""));
+fn reading_writes_a_line_for_each_rule() {
+    assert_eq!(read(SHEET), answer(0, 0, 0, "Bool\nQ(#1)\nS(Any)\n"));
+    assert_eq!(read("C 0 -|O 0 0"), answer(0, 0, 0, ""));
+    let empty = lent(|words, out| calls::read_types(b"", words, out));
+    assert_eq!(empty, answer(0, 0, 0, ""));
+}
+
+#[test]
+fn reading_writes_nothing_where_it_refuses() {
     assert_eq!(read("C 0 -|C 1 1"), answer(6, 0, 2, ""));
+    // Three rules type; of the two that do not, the first is to blame.
+    let untyped = SHEET.to_string() + UNTYPED;
+    assert_eq!(read(&untyped), answer(9, 0, 22, ""));
+    let swapped = SHEET.to_string() + "|R 3 0|N 0 self|N 1 attr 0 6|R 4 0|N 0 var 1";
+    assert_eq!(read(&swapped), answer(12, 0, 23, ""));
+    // What a later line is refused for comes before all typing.
+    assert_eq!(read(&(untyped + "|X 0")), answer(3, 0, 26, ""));
 }
 
 #[test]
-fn typing_writes_the_type() {
-    assert_eq!(type_rule(0), answer(0, 0, 0, "Bool"));
-    assert_eq!(type_rule(1), answer(0, 0, 0, "Q(#1)"));
-    assert_eq!(type_rule(3), answer(0, 0, 0, "S(Any)"));
-    assert_eq!(type_rule(2), answer(9, 0, 18, ""));
-    for off in [4, 64, 256, 1 << 32, u64::MAX] {
-        assert_eq!(type_rule(off), answer(14, 0, 0, ""), "{off}");
-    }
+fn the_types_of_64_rules_fit_in_the_least_output() {
+    // The longest spelling, 13 bytes, and a line feed each.
+    let nodes = "N 0 coll S|N 1 coll Q 0|N 2 coll B 1";
+    let rules: String = (0..64).map(|rule| format!("|R {rule} 0|{nodes}")).collect();
+    let types = "B(Q(S(Void)))\n".repeat(64);
+    assert_eq!(types.len(), 896);
+    assert_eq!(read(&format!("C 0 -{rules}")), answer(0, 0, 0, &types));
+    let too_many = format!("C 0 -{rules}|R 64 0|N 0 true");
+    assert_eq!(read(&too_many), answer(4, 0, 258, ""));
 }
 
 #[test]
-fn typing_spells_every_kind_of_type() {
+fn reading_spells_every_kind_of_type() {
     let cases = [
         ("undef", "Void"),
         ("true", "Bool"),
@@ -109,9 +125,8 @@ fn typing_spells_every_kind_of_type() {
         let nodes: String = nodes
             .map(|(node, words)| format!("|N {node} {words}"))
             .collect();
-        let sheet = text(&format!("C 0 -|C 1 0|C 2 -|A 0 0 5 Int|R 0 1{nodes}"));
-        let typed = lent(|words, out| calls::type_rule(&sheet, 0, words, out));
-        assert_eq!(typed, answer(0, 0, 0, ty), "{nodes}");
+        let sheet = format!("C 0 -|C 1 0|C 2 -|A 0 0 5 Int|R 0 1{nodes}");
+        assert_eq!(read(&sheet), answer(0, 0, 0, &format!("{ty}\n")), "{nodes}");
     }
 }
 
@@ -120,20 +135,54 @@ fn evaluating_writes_the_value_and_counts_steps() {
     assert_eq!(evaluate(0, 0), answer(0, 4, 0, "t"));
     assert_eq!(evaluate(0, 1), answer(0, 3, 0, "u"));
     assert_eq!(evaluate(1, 0), answer(0, 2, 0, "Q(@0)"));
-    assert_eq!(evaluate(3, 0), answer(0, 3, 0, "S(1,@0,@1)"));
+    assert_eq!(evaluate(2, 0), answer(0, 3, 0, "S(1,@0,@1)"));
 }
 
 #[test]
-fn evaluating_refuses_14_then_15_then_by_typing() {
-    assert_eq!(evaluate(4, 0), answer(14, 0, 0, ""));
-    assert_eq!(evaluate(0, 3), answer(14, 0, 0, ""));
-    assert_eq!(evaluate(0, 256), answer(14, 0, 0, ""));
-    assert_eq!(evaluate(0, u64::MAX), answer(14, 0, 0, ""));
-    // Rule 2 does not type: an object off the sheet or of another class comes first.
-    assert_eq!(evaluate(2, 3), answer(14, 0, 0, ""));
-    assert_eq!(evaluate(2, 2), answer(15, 0, 0, ""));
+fn evaluating_refuses_14_then_15() {
+    for off in [3, 64, 256, 1 << 32, u64::MAX] {
+        assert_eq!(evaluate(off, 0), answer(14, 0, 0, ""), "{off}");
+        assert_eq!(evaluate(0, off), answer(14, 0, 0, ""), "{off}");
+    }
+    // An absent rule or object comes before one of another class.
+    assert_eq!(evaluate(3, 2), answer(14, 0, 0, ""));
+    assert_eq!(evaluate(1, 3), answer(14, 0, 0, ""));
     assert_eq!(evaluate(1, 1), answer(15, 0, 0, ""));
-    assert_eq!(evaluate(2, 0), answer(9, 0, 18, ""));
+    assert_eq!(evaluate(0, 2), answer(15, 0, 0, ""));
+}
+
+#[test]
+fn evaluating_refuses_what_reading_refuses_before_14_and_15() {
+    let untyped = SHEET.to_string() + UNTYPED;
+    // The rule asked for types, or does not, or is not there; so is the object,
+    // or it is of another class.
+    for rule in [0, 1, 2, 3, 4, 5, u64::MAX] {
+        for object in [0, 1, 2, 3, u64::MAX] {
+            let refused = evaluate_on(&untyped, rule, object);
+            assert_eq!(refused, answer(9, 0, 22, ""), "{rule} {object}");
+        }
+    }
+    // Earlier than the rule asked for, too.
+    let earlier = "C 0 -|O 0 0|R 0 0|N 0 var 1|R 1 0|N 0 true";
+    assert_eq!(evaluate_on(earlier, 1, 0), answer(9, 0, 4, ""));
+    assert_eq!(evaluate_on("C 0 -|C 1 1", 0, 0), answer(6, 0, 2, ""));
+}
+
+/// What reading and evaluating answer was worked out by hand from document 02.
+#[test]
+fn one_call_for_reading_and_typing() {
+    let start = "C 0 -|C 1 0|A 0 0 5 Int|O 0 0|O 1 1|R 0 0|N 0 true|R 1 1|N 0 self";
+    let typed = format!("{start}|N 1 attr 0 5|R 2 0|N 0 coll S");
+    assert_eq!(read(&typed), answer(0, 0, 0, "Bool\nInt\nS(Void)\n"));
+    assert_eq!(evaluate_on(&typed, 1, 1), answer(0, 2, 0, "u"));
+    // Of two rules that do not type the first is refused, before 14.
+    let untyped = format!("{start}|N 1 attr 0 9|R 2 0|N 0 int 1|N 1 not 0");
+    assert_eq!(read(&untyped), answer(12, 0, 10, ""));
+    assert_eq!(evaluate_on(&untyped, 0, 0), answer(12, 0, 10, ""));
+    assert_eq!(evaluate_on(&untyped, 9, 0), answer(12, 0, 10, ""));
+    let collected = "C 0 -|C 1 -|C 2 1|A 0 1 5 Int|A 1 2 5 Bool|O 0 0|O 1 1|O 2 2|\
+        V 1 0 4|V 2 0 3|V 2 1 t|R 0 0|N 0 all 1|N 1 collect 0 5";
+    assert_eq!(read(collected), answer(0, 0, 0, "B(Int)\n"));
 }
 
 #[test]
@@ -164,17 +213,26 @@ fn a_short_slice_goes_before_all_and_leaves_all_untouched() {
         for length in [0, 1, 8_191] {
             let mut lengths = [8_192; 3];
             lengths[slice] = length;
-            let short = lent_with(lengths, 2_048, |words, _| calls::read_sheet(&long, words));
+            let short = lent_with(lengths, 2_048, |words, out| {
+                calls::read_types(&long, words, out)
+            });
             assert_eq!(short, answer(1, 0, 0, ""));
         }
     }
     for room in [0, 2_047] {
-        let short = lent_with([8_192; 3], room, |words, out| {
-            calls::report(&long, words, out)
-        });
-        assert_eq!(short, answer(1, 0, 0, ""));
+        // Though the types of a sheet without rules need no room.
+        for text in [&long[..], b""] {
+            let short = lent_with([8_192; 3], room, |words, out| {
+                calls::read_types(text, words, out)
+            });
+            assert_eq!(short, answer(1, 0, 0, ""));
+            let short = lent_with([8_192; 3], room, |words, out| {
+                calls::report(text, words, out)
+            });
+            assert_eq!(short, answer(1, 0, 0, ""));
+        }
     }
-    let long = lent(|words, out| calls::type_rule(&long, 0, words, out));
+    let long = lent(|words, out| calls::read_types(&long, words, out));
     assert_eq!(long, answer(2, 0, 0, ""));
 }
 

@@ -2,6 +2,7 @@
 
 use second_evaluator::calls::{Answer, Words};
 use second_evaluator::generate::{self, Ask, Call};
+use second_evaluator::harness::cases::Case;
 use second_evaluator::harness::compare::compare;
 use second_evaluator::harness::run;
 use second_evaluator::harness::shrink::shrink;
@@ -54,8 +55,12 @@ fn what_was_never_compared_is_missing() {
     let asks = generate::asks(0, b"");
     assert!(run::sheet(&standin, b"", 0, &asks, &mut tally).is_ok());
     let missing = tally.missing();
-    assert!(missing.contains(&"read 8".to_string()), "{missing:?}");
-    assert!(!missing.contains(&"read 9".to_string()), "{missing:?}");
+    assert!(missing.contains(&"read 9".to_string()), "{missing:?}");
+    assert!(!missing.contains(&"read 14".to_string()), "{missing:?}");
+    for case in Case::ALL {
+        let met = !missing.contains(&case.name().to_string());
+        assert_eq!(met, case == Case::NoRules, "{missing:?}");
+    }
 }
 
 #[test]
@@ -68,9 +73,10 @@ fn tallies_add_up() {
     one.add(Call::Read, answer(7));
     other.add(Call::Read, answer(8));
     other.add(Call::Report, answer(18));
+    other.add_case(Case::LaterRule);
     one.join(other);
     let missing = one.missing();
-    for reached in ["read 7", "read 8", "report 18"] {
+    for reached in ["read 7", "read 8", "report 18", Case::LaterRule.name()] {
         assert!(!missing.contains(&reached.to_string()), "{reached}");
     }
 }

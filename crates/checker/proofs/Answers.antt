@@ -1,5 +1,5 @@
 -- What all calls have in common: short slices leave everything as it was; long ones are wiped. Assumes nothing.
-use mathlib.Core.Path.{_≡_, refl, ap, _∙_}
+use mathlib.Core.Path.{_≡_, refl, sym, ap, _∙_}
 use mathlib.Core.Logic.{_≢_}
 use mathlib.Core.Bool.{Bool, true, false, _||_}
 use mathlib.Core.List.{List, _++_}
@@ -16,8 +16,9 @@ use Rattle.sheet.specs.Soundness.{Lent}
 use Rattle.tables.specs.Layout.{Kept}
 use Rattle.text.specs.Written.{Puts}
 use Rattle.checker.specs.declared.Answer.{Answer}
-use Rattle.checker.specs.Answers.{answerOf, Answers, AnswersWith}
-use Rattle.checker.specs.Parts.{GivesAnswer, Leaves, Wipes, writtenTo}
+use Rattle.reader.specs.declared.SheetRead.{SheetRead}
+use Rattle.checker.specs.Answers.{answerOf, AnswersWith}
+use Rattle.checker.specs.Parts.{OpensText, GivesAnswer, Leaves, Wipes, writtenTo}
 
 -- ---- lengths
 
@@ -49,16 +50,21 @@ module _ (w0 w1 w2 : List ℕ) where
       let b = or-false (ltb (length w0) 8192) (ltb (length w1) 8192) (a .0) in
       (ltb-false (length w0) 8192 (b .0), ltb-false (length w1) 8192 (b .1), ltb-false (length w2) 8192 (a .1))
 
-pub all-lent : {w0 w1 w2 : List ℕ} {out : Bytes} → (shortWords w0 w1 w2 || shortOutput out) ≡ false → Lent w0 w1 w2 out
+pub all-lent : {w0 w1 w2 : List ℕ} {out : Bytes} {b : Bool} → b ≡ (shortWords w0 w1 w2 || shortOutput out) → b ≡ false → Lent w0 w1 w2 out
 unfolding shortOutput
-all-lent {w0} {w1} {w2} {out} e =
-    let a = or-false (shortWords w0 w1 w2) (shortOutput out) e in
+all-lent {w0} {w1} {w2} {out} e q =
+    let a = or-false (shortWords w0 w1 w2) (shortOutput out) (sym e ∙ q) in
     let l = long-words w0 w1 w2 (a .0) in
     record { words0 = l .0; words1 = l .1; words2 = l .2; output = ltb-false (length out) 2048 (a .1) }
 
 -- the words are as many after as before
-pub still-lent : {w0 w1 w2 v0 v1 : List ℕ} {out : Bytes} → Lent w0 w1 w2 out → Kept w0 v0 → Kept w1 v1 → Lent v0 v1 w2 out
-still-lent l k0 k1 = record { words0 = omega (arith, l .words0, k0 .size); words1 = omega (arith, l .words1, k1 .size); words2 = l .words2; output = l .output }
+pub still-lent : {text : Bytes} {r : SheetRead} {w0 w1 w2 v0 v1 v2 : List ℕ} {out : Bytes} → Lent w0 w1 w2 out → OpensText text r w0 w1 w2 v0 v1 v2 → Lent v0 v1 v2 out
+still-lent l k = record {
+  words0 = omega (arith, l .words0, k .kept0 .size);
+  words1 = omega (arith, l .words1, k .kept1 .size);
+  words2 = omega (arith, l .words2, k .kept2 .size);
+  output = l .output;
+}
 
 pub still-long : {v : Verdict} {a : Answer} {w0 w1 w2 v0 v1 v2 : List ℕ} {out after : Bytes} → Lent w0 w1 w2 out
     → Leaves v a w0 w1 w2 out v0 v1 v2 after → (8192 ≤ length v0) × (8192 ≤ length v1) × (8192 ≤ length v2)
@@ -77,37 +83,36 @@ gives-written {w = w} p e = record { is = rw (p .end, zero-add (length w)) at e;
 
 -- ---- the words and the output after a call
 
-pub untouched : {a : Answer} (w0 w1 w2 : List ℕ) → a ≡ answerOf (refusalAt 1 0) → Answers (refusal 1) a w0 w1 w2 w0 w1 w2
-unfolding refusal refusalAt wordsAfter
-untouched w0 w1 w2 e = record { is = e; words0 = refl; words1 = refl; words2 = refl }
-
-untouched-output : {a : Answer} (w0 w1 w2 : List ℕ) (out : Bytes) → a ≡ answerOf (refusalAt 1 0) → AnswersWith (refusal 1) a w0 w1 w2 out w0 w1 w2 out
-unfolding refusal refusalAt outputAfter
-untouched-output w0 w1 w2 out e = record { answers = untouched w0 w1 w2 e; output = refl }
+untouched : {a : Answer} (w0 w1 w2 : List ℕ) (out : Bytes) → a ≡ answerOf (refusalAt 1 0) → AnswersWith (refusal 1) a w0 w1 w2 out w0 w1 w2 out
+unfolding refusal refusalAt wordsAfter outputAfter
+untouched w0 w1 w2 out e = record { is = e; words0 = refl; words1 = refl; words2 = refl; output = refl }
 
 wiped-kept : {w v : List ℕ} → Kept w v → wiped v ≡ wiped w
 unfolding wiped
 wiped-kept k = ap (λ l. replicate 8192 0 ++ l) (k .rest)
 
-module _ {v : Verdict} {a : Answer} {w0 w1 w2 v0 v1 v2 x0 x1 x2 : List ℕ} (n : v .number ≢ 1) where
-  pub wiped-after : a ≡ answerOf v → Kept w0 v0 → Kept w1 v1 → Kept w2 v2 → Wipes v0 v1 v2 x0 x1 x2 → Answers v a w0 w1 w2 x0 x1 x2
-  unfolding wordsAfter
-  wiped-after e k0 k1 k2 z =
-      let q : eqb (v .number) 1 ≡ false = ne-eqb (v .number) 1 n in
-      record { is = e; words0 = z .words0 ∙ wiped-kept k0 ∙ rw q; words1 = z .words1 ∙ wiped-kept k1 ∙ rw q; words2 = z .words2 ∙ wiped-kept k2 ∙ rw q }
+finished : {v : Verdict} {a : Answer} {w0 w1 w2 v0 v1 v2 x0 x1 x2 : List ℕ} {out after : Bytes} → v .number ≢ 1
+    → Leaves v a w0 w1 w2 out v0 v1 v2 after → Wipes v0 v1 v2 x0 x1 x2 → AnswersWith v a w0 w1 w2 out x0 x1 x2 after
+unfolding wordsAfter
+finished {v} n l z =
+    let q : eqb (v .number) 1 ≡ false = ne-eqb (v .number) 1 n in
+    record {
+      is = l .gives .is;
+      words0 = z .words0 ∙ wiped-kept (l .kept0) ∙ rw q;
+      words1 = z .words1 ∙ wiped-kept (l .kept1) ∙ rw q;
+      words2 = z .words2 ∙ wiped-kept (l .kept2) ∙ rw q;
+      output = l .gives .output;
+    }
 
-  finished : {out after : Bytes} → Leaves v a w0 w1 w2 out v0 v1 v2 after → Wipes v0 v1 v2 x0 x1 x2 → AnswersWith v a w0 w1 w2 out x0 x1 x2 after
-  finished l z = record { answers = wiped-after (l .gives .is) (l .kept0) (l .kept1) (l .kept2) z; output = l .gives .output }
-
--- ---- a call that is lent an output, with the verdict v where nothing is short
+-- ---- a call, with the verdict v where nothing is short
 
 abbrev call : Verdict → List ℕ → List ℕ → List ℕ → Bytes → Verdict
 call v w0 w1 w2 out = if shortWords w0 w1 w2 || shortOutput out then refusal 1 else v
 
-module _ (v : Verdict) (w0 w1 w2 : List ℕ) (out : Bytes) {a : Answer} where
-  pub short-call : a ≡ answerOf (refusalAt 1 0) → (shortWords w0 w1 w2 || shortOutput out) ≡ true → AnswersWith (call v w0 w1 w2 out) a w0 w1 w2 out w0 w1 w2 out
-  short-call e q = rw q (untouched-output w0 w1 w2 out e)
+module _ (v : Verdict) (w0 w1 w2 : List ℕ) (out : Bytes) {a : Answer} {b : Bool} (is : b ≡ (shortWords w0 w1 w2 || shortOutput out)) where
+  pub short-call : b ≡ true → a ≡ answerOf (refusalAt 1 0) → AnswersWith (call v w0 w1 w2 out) a w0 w1 w2 out w0 w1 w2 out
+  short-call q e = rw (sym is ∙ q) (untouched w0 w1 w2 out e)
 
-  pub long-call : {v0 v1 v2 x0 x1 x2 : List ℕ} {after : Bytes} → v .number ≢ 1 → (shortWords w0 w1 w2 || shortOutput out) ≡ false
+  pub long-call : {v0 v1 v2 x0 x1 x2 : List ℕ} {after : Bytes} → b ≡ false → v .number ≢ 1
       → Leaves v a w0 w1 w2 out v0 v1 v2 after → Wipes v0 v1 v2 x0 x1 x2 → AnswersWith (call v w0 w1 w2 out) a w0 w1 w2 out x0 x1 x2 after
-  long-call n q d z = rw q (finished n d z)
+  long-call q n d z = rw (sym is ∙ q) (finished n d z)

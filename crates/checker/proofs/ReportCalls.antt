@@ -1,87 +1,64 @@
 -- The call that writes the report. Assumes nothing.
-use mathlib.Core.Path.{_≡_, refl}
+use mathlib.Core.Path.{_≡_}
 use mathlib.Core.Logic.{_≢_}
 use mathlib.Core.Bool.{Bool, true, false}
-use mathlib.Core.Option.{some}
-use mathlib.Core.List.{List, [], _∷_}
-use Prim.Native.Nat.{ℕ, suc}
+use mathlib.Core.List.{List}
+use Prim.Native.Nat.{ℕ}
 use native.Mathlib.Omega.{arith}
 use lib.Dec.{ltb}
-use lib.ListN.{length, getElem?}
+use lib.ListN.{length}
 use Rattle.laws.specs.Choice.{if_then_else_}
-use Rattle.ocl.specs.Typing.{Answer as TypeAnswer, typed, refused as untyped}
 use Rattle.sheet.specs.Text.{Bytes}
-use Rattle.sheet.specs.Sheet.{Rule, Sheet}
-use Rattle.sheet.specs.Reading.{readText}
-use Rattle.sheet.specs.Calls.{Verdict, answer, refusalAt, refusal, typingOf, onType}
-use Rattle.sheet.specs.Report.{ruleLines, onTypes, fitting, reportOf}
-use Rattle.sheet.proofs.Soundness.{type-refusals}
+use Rattle.sheet.specs.Calls.{Verdict, answer, refusalAt, refusal}
+use Rattle.sheet.specs.Report.{ruleLines, fitting, reportOf}
 use Rattle.tables.specs.declared.Counts.{Counts}
+use Rattle.tables.specs.Layout.{Kept}
+use Rattle.reader.specs.declared.SheetRead.{SheetRead}
 use Rattle.reader.specs.declared.SheetRead.the-variants as sheet
-use Rattle.reader.specs.Contracts.{EndsAs}
 use Rattle.report.specs.declared.Reported.{Reported}
 use Rattle.report.specs.declared.Reported.the-variants as reported
-use Rattle.report.specs.Reports.{reportOn, SaysReport, written, too-long, a-refusal, Reports}
+use Rattle.report.specs.Reports.{reportOn, SaysReport, written, too-long, Reports}
 use Rattle.checker.specs.declared.Answer.{Answer}
 use Rattle.checker.specs.Answers.{answerOf}
-use Rattle.checker.specs.Parts.{GivesAnswer, GivesFor, writtenTo}
-use Rattle.checker.proofs.Readings.{gives-on, gives-stop, read-number}
+use Rattle.checker.specs.Parts.{OpensText, GivesFor, Leaves, writtenTo}
+use Rattle.checker.proofs.Readings.{leaves-on, leaves-stop, accepted-number}
 
--- ---- on a sheet that lies in the words
+-- ---- on an accepted sheet
 
-module _ {st : Counts} {w0 u1 u2 v1 v2 : List ℕ} {out now : Bytes} {a : Answer} where
-  of-answer : {r : Reported} → Reports st w0 u1 u2 v1 v2 out now r → ((v : Verdict) → SaysReport r v → a ≡ answerOf v)
-      → GivesFor st w0 u1 (λ s. reportOn s (length out)) a out now
-  of-answer d e = record { for = λ s is. record { is = e (reportOn s (length out)) (d .is s is); output = d .output s is } }
+module _ {st : Counts} {w0 w1 w2 v2 : List ℕ} {out now : Bytes} {a : Answer} where
+  of-answer : {r : Reported} → Reports st w0 w1 w2 v2 out now r → ((v : Verdict) → SaysReport r v → a ≡ answerOf v)
+      → GivesFor st w0 w1 w2 (λ s ts. reportOn s (length out)) a out now
+  of-answer d e = record { for = λ s ts g i. record { is = e (reportOn s (length out)) (d .is s ts g i); output = d .output s ts g i } }
 
-  pub report-written : {r : Reported} {n : ℕ} → Reports st w0 u1 u2 v1 v2 out now r → r ≡ reported.Written n → a ≡ writtenTo n 0
-      → GivesFor st w0 u1 (λ s. reportOn s (length out)) a out now
+  pub report-written : {r : Reported} {n : ℕ} → Reports st w0 w1 w2 v2 out now r → r ≡ reported.Written n → a ≡ writtenTo n 0
+      → GivesFor st w0 w1 w2 (λ s ts. reportOn s (length out)) a out now
   unfolding answer
   report-written {r} {n} d q e = of-answer (rw q at d) by
     where
       by : (v : Verdict) → SaysReport (reported.Written n) v → a ≡ answerOf v
       by _ (written b l) = rw l at e
 
-  pub report-short : {r : Reported} → Reports st w0 u1 u2 v1 v2 out now r → r ≡ reported.Short → a ≡ answerOf (refusalAt 18 0)
-      → GivesFor st w0 u1 (λ s. reportOn s (length out)) a out now
+  pub report-short : {r : Reported} → Reports st w0 w1 w2 v2 out now r → r ≡ reported.Short → a ≡ answerOf (refusalAt 18 0)
+      → GivesFor st w0 w1 w2 (λ s ts. reportOn s (length out)) a out now
   unfolding refusal
   report-short {r} d q e = of-answer (rw q at d) by
     where
       by : (v : Verdict) → SaysReport reported.Short v → a ≡ answerOf v
       by _ too-long = e
 
-  pub report-refused : {r : Reported} {n k : ℕ} → Reports st w0 u1 u2 v1 v2 out now r → r ≡ reported.Refused n k → a ≡ answerOf (refusalAt n k)
-      → GivesFor st w0 u1 (λ s. reportOn s (length out)) a out now
-  report-refused {r} {n} {k} d q e = of-answer (rw q at d) by
-    where
-      by : (v : Verdict) → SaysReport (reported.Refused n k) v → a ≡ answerOf v
-      by _ a-refusal = e
+-- ---- after a text is opened
 
--- ---- after a reading
-
-module _ {v0 v1 : List ℕ} {a : Answer} (text : Bytes) where
-  pub report-given : {st : Counts} {before after : Bytes} → EndsAs v0 v1 (sheet.Sheet st) (readText text)
-      → GivesFor st v0 v1 (λ s. reportOn s (length before)) a before after → GivesAnswer (reportOf text (length before)) a before after
-  unfolding reportOf reportOn
-  report-given h g = gives-on h text refl g
-
-  pub report-stopped : {n k : ℕ} (out : Bytes) → EndsAs v0 v1 (sheet.Refused n k) (readText text) → a ≡ answerOf (refusalAt n k)
-      → GivesAnswer (reportOf text (length out)) a out out
+module _ {text : Bytes} {w0 w1 w2 v0 v1 v2 : List ℕ} {z : SheetRead} {a : Answer} (t : OpensText text z w0 w1 w2 v0 v1 v2) where
+  pub report-given : {st : Counts} {x2 : List ℕ} {out after : Bytes} → z ≡ sheet.Sheet st → GivesFor st v0 v1 v2 (λ s ts. reportOn s (length out)) a out after → Kept v2 x2
+      → Leaves (reportOf text (length out)) a w0 w1 w2 out v0 v1 x2 after
   unfolding reportOf
-  report-stopped out h e = gives-stop h (λ s. onTypes s (s .rules) (fitting (length out) (ruleLines s 0 (s .rules)))) out e
+  report-given {out = out} e g k = leaves-on t (λ s ts. reportOn s (length out)) e g k
 
--- ---- no call refuses with 1 after a reading
+  pub report-stopped : {n k : ℕ} (out : Bytes) → z ≡ sheet.Refused n k → a ≡ answerOf (refusalAt n k) → Leaves (reportOf text (length out)) a w0 w1 w2 out v0 v1 v2 out
+  unfolding reportOf
+  report-stopped out e q = leaves-stop t (λ s ts. reportOn s (length out)) out e q
 
--- a refusal of typing is none with 1
-types-number : (s : Sheet) (v : Verdict) → v .number ≢ 1 → (xs : List Rule)
-    → ((r : ℕ) (x : Rule) → getElem? xs r ≡ some x → (n p : ℕ) → typingOf s x .answer ≡ untyped n p → n ≢ 1) → onTypes s xs v .number ≢ 1
-unfolding onTypes onType refusalAt
-types-number s v h [] f = h
-types-number s v h (x ∷ xs) f = by (typingOf s x .answer) refl (types-number s v h xs (λ r. f (suc r)))
-  where
-    by : (a : TypeAnswer) → typingOf s x .answer ≡ a → onTypes s xs v .number ≢ 1 → onType s a (λ t. onTypes s xs v) .number ≢ 1
-    by (typed t) e ih = ih
-    by (untyped n p) e ih = f 0 x refl n p e
+-- ---- the call does not refuse with 1 once nothing is short
 
 fitting-number : (room : ℕ) (b : Bytes) → fitting room b .number ≢ 1
 unfolding fitting refusal refusalAt answer
@@ -93,6 +70,4 @@ fitting-number room b = by (ltb room (length b))
 
 pub report-number : (text : Bytes) (room : ℕ) → reportOf text room .number ≢ 1
 unfolding reportOf
-report-number text room = read-number text (λ s. onTypes s (s .rules) (fitting room (ruleLines s 0 (s .rules))))
-    (λ s e. types-number s (fitting room (ruleLines s 0 (s .rules))) (fitting-number room (ruleLines s 0 (s .rules))) (s .rules)
-    (λ r x q n p i z. omega (arith, type-refusals text s e r x q n p i .low)))
+report-number text room = accepted-number text (λ s ts. reportOn s room) (λ s ts e h. fitting-number room (ruleLines s 0 (s .rules)))

@@ -11,14 +11,10 @@ use Rattle.checker.specs.declared.Answer.{Answer}
 abbrev pub answerOf : Verdict → Answer
 answerOf v = record { number = v .number; steps = v .steps; place = v .place; length = length (v .output) }
 
--- a call that is lent no output
-pub record Answers (v : Verdict) (r : Answer) (w0 w1 w2 v0 v1 v2 : List ℕ) : Type 0 where
+-- what is written stands in front of the output
+pub record AnswersWith (v : Verdict) (r : Answer) (w0 w1 w2 : List ℕ) (out : Bytes) (v0 v1 v2 : List ℕ) (after : Bytes) : Type 0 where
   pub is : r ≡ answerOf v
   pub words0 : v0 ≡ wordsAfter v w0
   pub words1 : v1 ≡ wordsAfter v w1
   pub words2 : v2 ≡ wordsAfter v w2
-
--- a call that is lent an output: what is written stands in front of it
-pub record AnswersWith (v : Verdict) (r : Answer) (w0 w1 w2 : List ℕ) (out : Bytes) (v0 v1 v2 : List ℕ) (after : Bytes) : Type 0 where
-  pub answers : Answers v r w0 w1 w2 v0 v1 v2
   pub output : after ≡ outputAfter v out

@@ -1,4 +1,5 @@
 pub mod Answers
 pub mod Parts
+pub mod TypeLines
 pub mod Outcomes
 pub mod Soundness

@@ -1,20 +1,21 @@
--- Document 01, Evaluation, demand 3 of the calls that type and evaluate, and that what stands for stuck is never seen: of whatever answers
+-- Document 01, Evaluation, demand 3 of the calls that read and evaluate, and that what stands for stuck is never seen: of whatever answers
 -- and outputs the calls' contracts allow.
 use mathlib.Core.Path.{_≡_}
 use mathlib.Core.Logic.{_≢_}
+use mathlib.Core.Option.{some}
 use mathlib.Core.List.{List, _++_}
 use Prim.Native.Nat.{ℕ, _≤_}
-use lib.ListN.{length, take}
+use lib.ListN.{length, take, getElem?}
 use lib.Dec.{T}
 use Rattle.ocl.specs.Types.{Ty}
 use Rattle.ocl.specs.Values.{Value, size}
 use Rattle.ocl.specs.Model.{Model, belongs}
 use Rattle.ocl.specs.Evaluation.{Stop}
 use Rattle.ocl.specs.Laws.{integersInRange, Formed}
-use Rattle.sheet.specs.Text.{Bytes, bytes}
+use Rattle.sheet.specs.Text.{Bytes, bytes, linesOf}
 use Rattle.sheet.specs.Spelling.{spellType, spellValue}
 use Rattle.sheet.specs.Sheet.{modelOf}
-use Rattle.sheet.specs.Calls.{typeCall, evaluateCall}
+use Rattle.sheet.specs.Calls.{readCall, evaluateCall}
 use Rattle.sheet.specs.Report.{reportCall}
 use Rattle.sheet.specs.Soundness.{Lent, sheetIn, reachOf, ofContext}
 use Rattle.checker.specs.declared.Answer.{Answer}
@@ -40,22 +41,26 @@ pub record SoundAnswer (text : Bytes) (r : ℕ) (t : Ty) (a : Answer) (out : Byt
   -- no step stop where the reach is within the limit
   pub no-step-stop : reachOf text r ≤ 1000000 → a .number ≢ 16
 
--- the call that types answers with t, object o is of the rule's class or below it, and both calls are lent every slice at its minimum or
--- above. A rule gets a type only on an accepted sheet, so that acceptance need not be asked
+-- the call that reads answers 0, and line r of what it wrote is t's spelling
+pub record SaysType (r : ℕ) (t : Ty) (a : Answer) (out : Bytes) : Type 0 where
+  pub number : a .number ≡ 0
+  pub line : getElem? (linesOf (take (a .length) out)) r ≡ some (spellType t)
+
+-- rule r has type t, object o is of the rule's class or below it, and both calls are lent every slice at its minimum or above
 abbrev pub Demand3OfCall : Type 0
 Demand3OfCall =
     (text : Bytes) (r o : ℕ) (t : Ty)
     → (x0 x1 x2 : List ℕ) (put : Bytes) → Lent x0 x1 x2 put
-    → (b : Answer) (y0 y1 y2 : List ℕ) (typed : Bytes) → AnswersWith (typeCall text r x0 x1 x2 put) b x0 x1 x2 put y0 y1 y2 typed
-    → Says (spellType t) b typed
+    → (b : Answer) (y0 y1 y2 : List ℕ) (types : Bytes) → AnswersWith (readCall text x0 x1 x2 put) b x0 x1 x2 put y0 y1 y2 types
+    → SaysType r t b types
     → T (ofContext text r o)
     → (w0 w1 w2 : List ℕ) (out : Bytes) → Lent w0 w1 w2 out
     → (a : Answer) (v0 v1 v2 : List ℕ) (after : Bytes) → AnswersWith (evaluateCall text r o w0 w1 w2 out) a w0 w1 w2 out v0 v1 v2 after
     → SoundAnswer text r t a after
 
--- whatever the text and whatever is lent: evaluate and report answer 0 or a number of the documents, and the report that is written
--- has no `!100`
+-- whatever the text and whatever is lent: the calls answer 0 or a number of the documents, and the report that is written has no `!100`
 pub record NeverStuckAnswer (text : Bytes) (w0 w1 w2 : List ℕ) (out : Bytes) (a : Answer) (v0 v1 v2 : List ℕ) (after : Bytes) : Type 0 where
+  pub read : AnswersWith (readCall text w0 w1 w2 out) a w0 w1 w2 out v0 v1 v2 after → a .number ≤ 19
   pub evaluated : (r o : ℕ) → AnswersWith (evaluateCall text r o w0 w1 w2 out) a w0 w1 w2 out v0 v1 v2 after → a .number ≤ 19
   pub reported : AnswersWith (reportCall text w0 w1 w2 out) a w0 w1 w2 out v0 v1 v2 after → a .number ≤ 19
   pub report-bytes : AnswersWith (reportCall text w0 w1 w2 out) a w0 w1 w2 out v0 v1 v2 after

@@ -2,29 +2,24 @@
 ghost use mathlib.Core.Bool.{true};
 ghost use Prim.Native.Nat.{_+_, _≤_, _<_};
 ghost use lib.ListN.{length, getD};
-ghost use Rattle.sheet.specs.Calls.{onSheet, evaluateOn, evaluateCall};
-ghost use Rattle.sheet.specs.Reading.{readText};
+ghost use Rattle.sheet.specs.Calls.{onAccepted, evaluateOn, evaluateCall};
 ghost use Rattle.sheet.specs.Soundness.{Lent};
 ghost use Rattle.tables.specs.Layout.{Kept};
 ghost use Rattle.operations.specs.Tables.{IsA};
-ghost use Rattle.rules.specs.Accepted.{Known};
+ghost use Rattle.rules.specs.Accepted.{KnownTyped};
 ghost use Rattle.checker.specs.Answers.{AnswersWith};
 ghost use Rattle.checker.specs.Parts.{Leaves, GivesFor};
 ghost use Rattle.checker.specs.Outcomes.{Fitting, GivesEnded};
 use super::Answer;
 use super::no_output;
-use super::read_text;
+use super::open_text;
 use super::short_lent;
 use super::wipe_all;
 use super::written;
-use judgements::Reply;
 use operations::Ended;
 use operations::lookup::is_a;
 use reader::SheetRead;
 use rules::evaluated::evaluate_numbered;
-use rules::evaluated::keep_marks;
-use rules::typed::node_line;
-use rules::typed::type_numbered;
 use spelling::put_value;
 use tables::Counts;
 use text::spelling::put_byte;
@@ -50,42 +45,36 @@ fn put_outcome(e: Ended, w2: &[u64], out: &mut [u8]) -> Answer
     }
 }
 
-// Rule r for object o, which is of its context class or below: typing comes first, and leaves the marks that evaluation reads.
+// Rule r for object o, which is of its context class or below. The rule has a type, and its marks are kept.
 fn evaluate_typed(
     w0: &[u64],
     st: Counts,
-    w1: &mut [u64],
+    w1: &[u64],
     w2: &mut [u64],
     r: usize,
     o: u64,
     out: &mut [u8],
 ) -> Answer
-    requires { ⌜ Lent (now w0) (now w1) (now w2) (now out) × Known st (now w0) (now w1) ⌝ }
+    requires { ⌜ Lent (now w0) (now w1) (now w2) (now out) × KnownTyped st (now w0) (now w1) (now w2) ⌝ }
     requires { ⌜ (r < st .rules) × (o < st .objects) × IsA st (now w0) o (getD (now w0) (4448 + r) 0) true ⌝ }
-    ensures { λ a. ⌜ GivesFor st (now (w0 .entry)) (now (w1 .entry)) (λ s. evaluateOn s r o) a (now (out .entry)) (now (out .exit)) × Kept (now (w1 .entry)) (now (w1 .exit)) × Kept (now (w2 .entry)) (now (w2 .exit)) ⌝ }
+    ensures { λ a. ⌜ GivesFor st (now (w0 .entry)) (now (w1 .entry)) (now (w2 .entry)) (λ s ts. evaluateOn s r o) a (now (out .entry)) (now (out .exit)) × Kept (now (w2 .entry)) (now (w2 .exit)) ⌝ }
 {
-    match type_numbered(w0, st, w1, w2, r) {
-        Reply::No(n, p) => no_output(n, node_line(w1, p)),
-        Reply::Is(_) => {
-            keep_marks(w2, w1);
-            let e = evaluate_numbered(w0, st, w1, w2, r, o);
-            put_outcome(e, w2, out)
-        }
-    }
+    let e = evaluate_numbered(w0, st, w1, w2, r, o);
+    put_outcome(e, w2, out)
 }
 
-// Rule r of the sheet that lies in the words, for object o.
+// Rule r of the accepted sheet in the words, for object o.
 fn evaluate_on(
     w0: &[u64],
     st: Counts,
-    w1: &mut [u64],
+    w1: &[u64],
     w2: &mut [u64],
     r: u64,
     o: u64,
     out: &mut [u8],
 ) -> Answer
-    requires { ⌜ Lent (now w0) (now w1) (now w2) (now out) × Known st (now w0) (now w1) ⌝ }
-    ensures { λ a. ⌜ GivesFor st (now (w0 .entry)) (now (w1 .entry)) (λ s. evaluateOn s r o) a (now (out .entry)) (now (out .exit)) × Kept (now (w1 .entry)) (now (w1 .exit)) × Kept (now (w2 .entry)) (now (w2 .exit)) ⌝ }
+    requires { ⌜ Lent (now w0) (now w1) (now w2) (now out) × KnownTyped st (now w0) (now w1) (now w2) ⌝ }
+    ensures { λ a. ⌜ GivesFor st (now (w0 .entry)) (now (w1 .entry)) (now (w2 .entry)) (λ s ts. evaluateOn s r o) a (now (out .entry)) (now (out .exit)) × Kept (now (w2 .entry)) (now (w2 .exit)) ⌝ }
 {
     if st.rules <= r {
         return no_output(14, 0);
@@ -112,9 +101,9 @@ fn evaluate_answer(
     out: &mut [u8],
 ) -> Answer
     requires { ⌜ Lent (now w0) (now w1) (now w2) (now out) ⌝ }
-    ensures { λ a. ⌜ Leaves (onSheet (readText (now (text .entry))) (λ s. evaluateOn s r o)) a (now (w0 .entry)) (now (w1 .entry)) (now (w2 .entry)) (now (out .entry)) (now (w0 .exit)) (now (w1 .exit)) (now (w2 .exit)) (now (out .exit)) ⌝ }
+    ensures { λ a. ⌜ Leaves (onAccepted (now (text .entry)) (λ s ts. evaluateOn s r o)) a (now (w0 .entry)) (now (w1 .entry)) (now (w2 .entry)) (now (out .entry)) (now (w0 .exit)) (now (w1 .exit)) (now (w2 .exit)) (now (out .exit)) ⌝ }
 {
-    match read_text(text, w0, w1) {
+    match open_text(text, w0, w1, w2) {
         SheetRead::Sheet(st) => evaluate_on(w0, st, w1, w2, r, o, out),
         SheetRead::Refused(n, k) => no_output(n, k),
     }

@@ -5,15 +5,18 @@ ghost use mathlib.Core.Path.{_≡_};
 ghost use Prim.Native.Nat.{_≤_};
 ghost use lib.ListN.{length};
 ghost use Rattle.sheet.specs.Calls.{refusalAt, shortWords, shortOutput};
+ghost use Rattle.rules.specs.Accepted.{Known};
 ghost use Rattle.checker.specs.Answers.{answerOf};
-ghost use Rattle.checker.specs.Parts.{ReadsText, Wipes, writtenTo};
+ghost use Rattle.checker.specs.Parts.{ReadsText, AcceptsSheet, OpensText, Wipes, writtenTo};
 use reader::SheetRead;
 use reader::read;
+use rules::all::RulesTyped;
+use rules::all::accept;
+use tables::Counts;
 
 pub mod evaluate_call; // ocl_evaluate_rule
-pub mod read_call; // ocl_read_sheet
+pub mod read_call; // ocl_read_types
 pub mod report_call; // ocl_report
-pub mod type_call; // ocl_type_rule
 
 // What a call returns: 0 or a refusal's number, the steps of an evaluation, a line number, and the bytes written.
 #[repr(C)]
@@ -24,7 +27,7 @@ pub struct Answer {
     pub length: u64,
 }
 
-// An answer that writes nothing and took no steps: a refusal, or 0 for a sheet that is read.
+// A refusal: it writes nothing and took no steps.
 fn no_output(number: u64, place: u64) -> Answer
     ensures { λ r. ⌜ r ≡ answerOf (refusalAt number place) ⌝ }
 {
@@ -80,6 +83,29 @@ fn read_text(text: &[u8], w0: &mut [u64], w1: &mut [u64]) -> SheetRead
         return SheetRead::Refused(2, 0);
     }
     read(text, w0, w1)
+}
+
+// The sheet that lies in the words, once all its rules are typed, or the first refusal.
+fn accept_sheet(w0: &[u64], st: Counts, w1: &mut [u64], w2: &mut [u64]) -> SheetRead
+    requires { ⌜ (8192 ≤ length (now w0)) × (8192 ≤ length (now w1)) × (8192 ≤ length (now w2)) ⌝ }
+    requires { ⌜ Known st (now w0) (now w1) ⌝ }
+    ensures { λ r. ⌜ AcceptsSheet st (now (w0 .entry)) (now (w1 .entry)) (now (w2 .entry)) (now (w1 .exit)) (now (w2 .exit)) r ⌝ }
+{
+    match accept(w0, st, w1, w2) {
+        RulesTyped::Yes => SheetRead::Sheet(st),
+        RulesTyped::No(n, k) => SheetRead::Refused(n, k),
+    }
+}
+
+// Opens a text for a call: it is read, and all its rules are typed. Every call begins so, and refuses alike.
+fn open_text(text: &[u8], w0: &mut [u64], w1: &mut [u64], w2: &mut [u64]) -> SheetRead
+    requires { ⌜ (8192 ≤ length (now w0)) × (8192 ≤ length (now w1)) × (8192 ≤ length (now w2)) ⌝ }
+    ensures { λ r. ⌜ OpensText (now (text .entry)) r (now (w0 .entry)) (now (w1 .entry)) (now (w2 .entry)) (now (w0 .exit)) (now (w1 .exit)) (now (w2 .exit)) ⌝ }
+{
+    match read_text(text, w0, w1) {
+        SheetRead::Sheet(st) => accept_sheet(w0, st, w1, w2),
+        SheetRead::Refused(n, k) => SheetRead::Refused(n, k),
+    }
 }
 
 // The first 8,192 words of each slice are set to 0.

@@ -1,44 +1,71 @@
-// The call that reads a sheet.
-ghost use mathlib.Core.Path.{_≡_};
-ghost use mathlib.Core.List.{[]};
+// The call that reads a sheet and types its rules.
 ghost use Prim.Native.Nat.{_≤_};
 ghost use lib.ListN.{length};
-ghost use Rattle.sheet.specs.Calls.{readCall, onSheet, answer as answerWith};
-ghost use Rattle.sheet.specs.Reading.{readText};
-ghost use Rattle.tables.specs.Layout.{Kept};
-ghost use Rattle.checker.specs.Answers.{Answers, answerOf};
+ghost use Rattle.sheet.specs.Calls.{answer as answerWith, onAccepted, typeLines, readCall};
+ghost use Rattle.sheet.specs.Soundness.{Lent};
+ghost use Rattle.checker.specs.Answers.{AnswersWith};
+ghost use Rattle.checker.specs.Parts.{Leaves};
+ghost use Rattle.checker.specs.TypeLines.{Waiting, PutsTypes};
 use super::Answer;
 use super::no_output;
-use super::read_text;
-use super::short;
+use super::open_text;
+use super::short_lent;
 use super::wipe_all;
+use super::written;
 use reader::SheetRead;
+use text::spelling::put_byte;
+use types::classes::wide;
+use types::spelling::put_type;
+use types::word::unpack;
 
-// The answer for the text, whatever the words held before; they are not wiped yet.
-fn read_answer(text: &[u8], w0: &mut [u64], w1: &mut [u64]) -> Answer
-    requires { ⌜ (8192 ≤ length (now w0)) × (8192 ≤ length (now w1)) ⌝ }
-    ensures { λ r. ⌜ (r ≡ answerOf (onSheet (readText (now (text .entry))) (λ s. answerWith []))) × Kept (now (w0 .entry)) (now (w0 .exit)) × Kept (now (w1 .entry)) (now (w1 .exit)) ⌝ }
+// Puts the types that wait in w2 into out, one a line, and answers where the last line ends.
+fn put_types(w2: &[u64], rules: usize, out: &mut [u8]) -> usize
+    requires { ⌜ (8192 ≤ length (now w2)) × (2048 ≤ length (now out)) × Waiting (now w2) rules ⌝ }
+    ensures { λ r. ⌜ PutsTypes (now (w2 .entry)) rules (now (out .entry)) (now (out .exit)) r ⌝ }
 {
-    match read_text(text, w0, w1) {
-        SheetRead::Sheet(_) => no_output(0, 0),
-        SheetRead::Refused(n, k) => no_output(n, k),
+    let mut at: usize = 0;
+    let mut r: usize = 0;
+    while r < rules {
+        let end = put_type(out, at, unpack(w2[768 + r]));
+        at = put_byte(out, end, b'\n');
+        r += 1;
     }
+    at
 }
 
-// Reads a sheet: 0 where it is accepted, else a refusal with its line. Each word slice has at least 8,192 words.
-#[no_mangle]
-pub extern "C" fn ocl_read_sheet(
+// The answer for the text, whatever the words held before; they are not wiped yet.
+fn read_answer(
     text: &[u8],
     w0: &mut [u64],
     w1: &mut [u64],
     w2: &mut [u64],
+    out: &mut [u8],
 ) -> Answer
-    ensures { λ r. ⌜ Answers (readCall (now (text .entry)) (now (w0 .entry)) (now (w1 .entry)) (now (w2 .entry))) r (now (w0 .entry)) (now (w1 .entry)) (now (w2 .entry)) (now (w0 .exit)) (now (w1 .exit)) (now (w2 .exit)) ⌝ }
+    requires { ⌜ Lent (now w0) (now w1) (now w2) (now out) ⌝ }
+    ensures { λ a. ⌜ Leaves (onAccepted (now (text .entry)) (λ s ts. answerWith (typeLines ts))) a (now (w0 .entry)) (now (w1 .entry)) (now (w2 .entry)) (now (out .entry)) (now (w0 .exit)) (now (w1 .exit)) (now (w2 .exit)) (now (out .exit)) ⌝ }
 {
-    if short(w0, w1, w2) {
+    match open_text(text, w0, w1, w2) {
+        SheetRead::Sheet(st) => written(put_types(w2, wide(st.rules), out), 0),
+        SheetRead::Refused(n, k) => no_output(n, k),
+    }
+}
+
+// Reads a sheet and types all its rules in order: 0 with one type a line in out, else a refusal, which leaves out as it is. Each
+// word slice has at least 8,192 words, out at least 2,048 bytes.
+#[no_mangle]
+pub extern "C" fn ocl_read_types(
+    text: &[u8],
+    w0: &mut [u64],
+    w1: &mut [u64],
+    w2: &mut [u64],
+    out: &mut [u8],
+) -> Answer
+    ensures { λ a. ⌜ AnswersWith (readCall (now (text .entry)) (now (w0 .entry)) (now (w1 .entry)) (now (w2 .entry)) (now (out .entry))) a (now (w0 .entry)) (now (w1 .entry)) (now (w2 .entry)) (now (out .entry)) (now (w0 .exit)) (now (w1 .exit)) (now (w2 .exit)) (now (out .exit)) ⌝ }
+{
+    if short_lent(w0, w1, w2, out) {
         return no_output(1, 0);
     }
-    let a = read_answer(text, w0, w1);
+    let a = read_answer(text, w0, w1, w2, out);
     wipe_all(w0, w1, w2);
     a
 }

@@ -3,13 +3,13 @@ ghost use lib.ListN.{length};
 ghost use Rattle.sheet.specs.Report.{reportOf, reportCall};
 ghost use Rattle.sheet.specs.Soundness.{Lent};
 ghost use Rattle.tables.specs.Layout.{Kept};
-ghost use Rattle.rules.specs.Accepted.{Known};
+ghost use Rattle.rules.specs.Accepted.{KnownTyped};
 ghost use Rattle.report.specs.Reports.{reportOn};
 ghost use Rattle.checker.specs.Answers.{AnswersWith};
 ghost use Rattle.checker.specs.Parts.{Leaves, GivesFor};
 use super::Answer;
 use super::no_output;
-use super::read_text;
+use super::open_text;
 use super::short_lent;
 use super::wipe_all;
 use super::written;
@@ -18,15 +18,14 @@ use report::Reported;
 use report::report_sheet;
 use tables::Counts;
 
-// The report of the sheet that lies in the words, put into out, or a refusal.
-fn report_on(w0: &[u64], st: Counts, w1: &mut [u64], w2: &mut [u64], out: &mut [u8]) -> Answer
-    requires { ⌜ Lent (now w0) (now w1) (now w2) (now out) × Known st (now w0) (now w1) ⌝ }
-    ensures { λ a. ⌜ GivesFor st (now (w0 .entry)) (now (w1 .entry)) (λ s. reportOn s (length (now (out .entry)))) a (now (out .entry)) (now (out .exit)) × Kept (now (w1 .entry)) (now (w1 .exit)) × Kept (now (w2 .entry)) (now (w2 .exit)) ⌝ }
+// The report of the accepted sheet in the words, put into out, or 18.
+fn report_on(w0: &[u64], st: Counts, w1: &[u64], w2: &mut [u64], out: &mut [u8]) -> Answer
+    requires { ⌜ Lent (now w0) (now w1) (now w2) (now out) × KnownTyped st (now w0) (now w1) (now w2) ⌝ }
+    ensures { λ a. ⌜ GivesFor st (now (w0 .entry)) (now (w1 .entry)) (now (w2 .entry)) (λ s ts. reportOn s (length (now (out .entry)))) a (now (out .entry)) (now (out .exit)) × Kept (now (w2 .entry)) (now (w2 .exit)) ⌝ }
 {
     match report_sheet(w0, st, w1, w2, out) {
         Reported::Written(end) => written(end, 0),
         Reported::Short => no_output(18, 0),
-        Reported::Refused(n, k) => no_output(n, k),
     }
 }
 
@@ -41,7 +40,7 @@ fn report_answer(
     requires { ⌜ Lent (now w0) (now w1) (now w2) (now out) ⌝ }
     ensures { λ a. ⌜ Leaves (reportOf (now (text .entry)) (length (now (out .entry)))) a (now (w0 .entry)) (now (w1 .entry)) (now (w2 .entry)) (now (out .entry)) (now (w0 .exit)) (now (w1 .exit)) (now (w2 .exit)) (now (out .exit)) ⌝ }
 {
-    match read_text(text, w0, w1) {
+    match open_text(text, w0, w1, w2) {
         SheetRead::Sheet(st) => report_on(w0, st, w1, w2, out),
         SheetRead::Refused(n, k) => no_output(n, k),
     }

@@ -12,7 +12,7 @@ use borrow.Author.Tests.{ne-eqb}
 use Rattle.laws.specs.Choice.{if_then_else_}
 use Rattle.ocl.specs.Types.{any, boolean, integer, class, kindCode, sameKind, Letter, exactly, Ty, void, simple, around}
 use Rattle.ocl.specs.Forms.{ofObject, ofMembers}
-use Rattle.ocl.specs.Model.{Row, Model, rowRead}
+use Rattle.ocl.specs.Model.{Row, Schema, rowRead}
 use Rattle.ocl.specs.Typing.{Answer, Mark, ofRow, ofRows, rowMarked, kindMarked, typed, refused, Typed, pure, thenFor, andThen, wrap, onClass, collectKind, rowType, attributeType}
 use Rattle.types.specs.declared.FlatType.{FlatType}
 use Rattle.types.specs.declared.ClassNumber.{ClassNumber}
@@ -69,7 +69,7 @@ pub row-small : (ps owners names : List ℕ) (rows c name : ℕ) (x : Found) {i 
 unfolding found
 row-small ps owners names rows c name x {i} h q = row-below ps owners names rows c name i (sym h ∙ ap found q)
 
-module _ {ps tables : List ℕ} {rows : ℕ} (m : Model) (to : ReadsRows ps tables rows m) where
+module _ {ps tables : List ℕ} {rows : ℕ} (m : Schema) (to : ReadsRows ps tables rows m) where
   read-tables : ReadsTables m ps (ownersIn tables) (namesIn tables) rows
   read-tables = record {
     parents = to .classes .parent;
@@ -103,7 +103,7 @@ module _ {ps tables : List ℕ} {rows : ℕ} (m : Model) (to : ReadsRows ps tabl
 
 -- ---- `attr`
 
-module _ (m : Model) (n name : ℕ) (t : Ty) (y : ClassNumber) (p : classNumber y ≡ classOf t) {B : List ℕ} where
+module _ (m : Schema) (n name : ℕ) (t : Ty) (y : ClassNumber) (p : classNumber y ≡ classOf t) {B : List ℕ} where
   pub attribute-not : y ≡ number.Nothing → Tells (attributeType m n ofObject name t) B B (reply.No 11 n)
   unfolding attributeType
   attribute-not q = rw (class-none (pure (refused 11 n)) (λ c. rowType m n ofRow typed (rowRead m c name)) t y p q) (done refl)
@@ -119,7 +119,7 @@ row-word i = omega arith
 -- ---- `collect`
 
 -- the kind goes around the row's type, once that is found
-row-then : (m : Model) (n : ℕ) (mark : ℕ → Mark) (k : Ty → Answer) (o : Option ℕ) → rowType m n mark k o ≡ andThen (rowType m n mark typed o) (λ u. pure (k u))
+row-then : (m : Schema) (n : ℕ) (mark : ℕ → Mark) (k : Ty → Answer) (o : Option ℕ) → rowType m n mark k o ≡ andThen (rowType m n mark typed o) (λ u. pure (k u))
 unfolding rowType andThen thenFor
 row-then m n mark k none = refl
 row-then m n mark k (some i) = refl
@@ -172,10 +172,10 @@ pub more-word : (c i : ℕ) {k : ℕ} → k ≡ collectCode c → markWord (ofRo
 more-word c i e = rw e (collect-word c i)
 
 -- what a collection with the letter, of members of class d, leads to
-abbrev ofClass : Model → ℕ → ℕ → Letter → ℕ → Typed
+abbrev ofClass : Schema → ℕ → ℕ → Letter → ℕ → Typed
 ofClass m n name l d = rowType m n (ofRows (collectKind l)) (wrap n (exactly (collectKind l))) (rowRead m d name)
 
-module _ (m : Model) (n name : ℕ) (t : Ty) {c : ℕ} (e : c ≡ outerCode t) where
+module _ (m : Schema) (n name : ℕ) (t : Ty) {c : ℕ} (e : c ≡ outerCode t) where
   pub collect-not : {B : List ℕ} → c ≡ 0 → Tells (attributeType m n ofMembers name t) B B (reply.No 11 n)
   unfolding attributeType
   collect-not z = rw (no-collection (pure (refused 11 n)) (λ l u. onClass u (pure (refused 11 n)) (ofClass m n name l)) t (sym e ∙ z)) (done refl)

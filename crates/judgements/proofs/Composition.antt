@@ -13,7 +13,7 @@ use Rattle.judgements.specs.declared.Reply.the-variants as reply
 use Rattle.nodes.specs.Marks.{markWord}
 use Rattle.judgements.specs.Replies.{meaning, writeMarks, Tells}
 
-write-append : (l : List ℕ) (a c : Marks) → writeMarks l (a ++ c) ≡ writeMarks (writeMarks l a) c
+pub write-append : (l : List ℕ) (a c : Marks) → writeMarks l (a ++ c) ≡ writeMarks (writeMarks l a) c
 unfolding writeMarks
 write-append l [] c = refl
 write-append l (x ∷ a) c = write-append (set l (x .0) (markWord (x .1))) a c

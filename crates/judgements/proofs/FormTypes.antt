@@ -9,7 +9,7 @@ use borrow.Author.Tests.{eq-eqb, ne-eqb, le-leb, lt-leb, lt-ltb, le-ltb}
 use Rattle.laws.specs.Choice.{if_then_else_}
 use Rattle.ocl.specs.Types.{any, boolean, integer, class, Kind, set, sequence, bag, kindCode, sameKind, Letter, collection, exactly, Ty, void, simple, around, Boolean, Integer, Class, depth, Parents, simpleSubtype, subtype, join}
 use Rattle.ocl.specs.Environment.{Env}
-use Rattle.ocl.specs.Model.{Model}
+use Rattle.ocl.specs.Model.{Schema}
 use Rattle.ocl.specs.Typing.{Answer, typed, refused, below, common, wrap, onCollection, onKind, boundType, leafType, castType, unaryType, bothBelow, binaryType, conditionalType}
 use Rattle.types.specs.declared.FlatType.{FlatType}
 use Rattle.types.specs.declared.Joined.{Joined}
@@ -94,7 +94,7 @@ module _ (n : ℕ) (w : ℕ → ℕ) (Γ : Env Ty) where
 
 -- ---- over a model whose parents the code reads
 
-module _ (m : Model) (ps : List ℕ) (e : m .parent ≡ parentsIn ps) (n : ℕ) where
+module _ (m : Schema) (ps : List ℕ) (e : m .parent ≡ parentsIn ps) (n : ℕ) where
   -- a test of the code is the model's
   tested : {q : Bool} (t : Ty) {u w : Ty} → q ≡ subtype (parentsIn ps) t u → u ≡ w → q ≡ subtype (m .parent) t w
   tested t h k = rw (e, ← k) h
@@ -190,10 +190,10 @@ module _ (m : Model) (ps : List ℕ) (e : m .parent ≡ parentsIn ps) (n : ℕ) 
 
 -- ---- the second operand of `union`, where the first is of kind k
 
-unfoldable both-kinds : Model → ℕ → Ty → Kind → Ty → Answer
+unfoldable both-kinds : Schema → ℕ → Ty → Kind → Ty → Answer
 both-kinds m n u k x = onCollection u (refused 11 n) (λ r y. onKind r (refused 11 n) (λ l. if sameKind k l then common n (join (m .parent) x y) (wrap n (exactly k)) else refused 11 n))
 
-module _ (m : Model) (n : ℕ) (u : Ty) (k : Kind) (x : Ty) where
+module _ (m : Schema) (n : ℕ) (u : Ty) (k : Kind) (x : Ty) where
   other-kind : (d : ℕ) → d ≡ outerCode u → (kindCode k + 2 ≡ d → ⊥) → refused 11 n ≡ both-kinds m n u k x
   unfolding both-kinds sameKind
   other-kind zero g ne = no-kind (refused 11 n) (λ l y. if sameKind k l then common n (join (m .parent) x y) (wrap n (exactly k)) else refused 11 n) u (omega arith)
@@ -210,7 +210,7 @@ module _ (m : Model) (n : ℕ) (u : Ty) (k : Kind) (x : Ty) where
 
 -- ---- which form a code is
 
-module _ (m : Model) (n : ℕ) where
+module _ (m : Schema) (n : ℕ) where
   module _ (w : ℕ → ℕ) (k : ℕ) (t : Ty) {a : Answer} where
     pub unary-not : k ≡ 7 → a ≡ below m n t Boolean (typed Boolean) → a ≡ unaryType m n (unaryOf k w) t
     unfolding unaryType unaryOf

@@ -5,7 +5,7 @@ use Prim.Native.Nat.{ℕ}
 use borrow.Author.Tests.{ne-eqb}
 use Rattle.ocl.specs.Types.{Ty, Boolean}
 use Rattle.ocl.specs.Forms.{ofObject, ofMembers}
-use Rattle.ocl.specs.Model.{Model}
+use Rattle.ocl.specs.Model.{Schema}
 use Rattle.ocl.specs.Typing.{typed, unaryType, attributeType}
 use Rattle.types.specs.declared.FlatType.{FlatType}
 use Rattle.types.specs.Flat.{tyOf}
@@ -16,7 +16,7 @@ use Rattle.judgements.specs.Replies.{meaning, Tells}
 use Rattle.judgements.specs.Single.{singleType}
 use Rattle.judgements.proofs.Composition.{done}
 
-module _ (m : Model) (n k : ℕ) (w : ℕ → ℕ) (t : Ty) where
+module _ (m : Schema) (n k : ℕ) (w : ℕ → ℕ) (t : Ty) where
   pub undef-single : {B : List ℕ} {x : FlatType} → k ≡ 30 → tyOf x ≡ Boolean → Tells (singleType m n k w t) B B (reply.Is x)
   unfolding singleType
   undef-single h e = rw h (done (ap typed e))

@@ -8,7 +8,7 @@ use lib.ListN.{getD, set, take, drop}
 use Rattle.laws.specs.Choice.{if_then_else_, onSome}
 use Rattle.ocl.specs.Types.{Ty, Parents, join}
 use Rattle.ocl.specs.Environment.{Env}
-use Rattle.ocl.specs.Model.{Model}
+use Rattle.ocl.specs.Model.{Schema}
 use Rattle.ocl.specs.Typing.{Answer, typed, refused, Marks, Typed}
 use Rattle.types.specs.declared.Base.the-variants as b
 use Rattle.types.specs.Flat.{tyOf, bare}
@@ -48,6 +48,6 @@ pub record Tells (x : Typed) (before after : List ℕ) (r : Reply) : Type 0 wher
 -- ---- the model
 
 -- the model has these parents, and the rows of the tables: owners from word 64, names from 128, types from 192
-pub record ReadsRows (parents tables : List ℕ) (rows : ℕ) (m : Model) : Type 0 where
+pub record ReadsRows (parents tables : List ℕ) (rows : ℕ) (m : Schema) : Type 0 where
   pub classes : HoldsClasses parents (take 64 (drop 64 tables)) (take 64 (drop 128 tables)) (take 64 (drop 192 tables)) m
   pub count : m .rowCount ≡ rows

@@ -4,12 +4,12 @@ use lib.Dec.{eqb}
 use Rattle.laws.specs.Choice.{if_then_else_}
 use Rattle.ocl.specs.Types.{Ty, Boolean}
 use Rattle.ocl.specs.Forms.{ofObject, ofMembers}
-use Rattle.ocl.specs.Model.{Model}
+use Rattle.ocl.specs.Model.{Schema}
 use Rattle.ocl.specs.Typing.{typed, Typed, pure, unaryType, attributeType}
 use Rattle.nodes.specs.Nodes.{unaryOf}
 
 -- node n of code k with the words w: `isUndef`, `attr`, `collect`, or one that is strict (codes 7 to 12)
-unfoldable pub singleType : Model → ℕ → ℕ → (ℕ → ℕ) → Ty → Typed
+unfoldable pub singleType : Schema → ℕ → ℕ → (ℕ → ℕ) → Ty → Typed
 singleType m n k w t =
     if eqb k 30 then pure (typed Boolean)
     else if eqb k 33 then attributeType m n ofObject (w 2) t

@@ -3,7 +3,7 @@ ghost use mathlib.Core.Path.{_≡_};
 ghost use Prim.Native.Nat.{ℕ, _+_, _<_, _≤_};
 ghost use lib.ListN.{length};
 ghost use Rattle.ocl.specs.Forms.{ofObject, ofMembers};
-ghost use Rattle.ocl.specs.Model.{Model, rowRead};
+ghost use Rattle.ocl.specs.Model.{Schema, rowRead};
 ghost use Rattle.ocl.specs.Typing.{Mark, typed, rowType, attributeType};
 ghost use Rattle.types.specs.Flat.{tyOf};
 ghost use Rattle.nodes.specs.Marks.{markWord};
@@ -33,7 +33,7 @@ fn row_type(
     marks: &mut [u64],
 ) -> Reply
     requires { ⌜ (rows ≤ 64) × (256 ≤ length (now tables)) × (n < 768) × (768 ≤ length (now marks)) × (more ≤ 64) ⌝ }
-    ensures { λ r. ⌜ ((m : Model) → ReadsRows (now (parents .entry)) (now (tables .entry)) rows m → (mark : ℕ → Mark) → ((i : ℕ) → markWord (mark i) ≡ more + i) → Tells (rowType m n mark typed (rowRead m c name)) (now (marks .entry)) (now (marks .exit)) r) ⌝ }
+    ensures { λ r. ⌜ ((m : Schema) → ReadsRows (now (parents .entry)) (now (tables .entry)) rows m → (mark : ℕ → Mark) → ((i : ℕ) → markWord (mark i) ≡ more + i) → Tells (rowType m n mark typed (rowRead m c name)) (now (marks .entry)) (now (marks .exit)) r) ⌝ }
 {
     let owners = &tables[64..128];
     let names = &tables[128..192];
@@ -56,7 +56,7 @@ pub fn attribute_type(
     marks: &mut [u64],
 ) -> Reply
     requires { ⌜ (rows ≤ 64) × (256 ≤ length (now tables)) × (n < 768) × (768 ≤ length (now marks)) ⌝ }
-    ensures { λ r. ⌜ ((m : Model) → ReadsRows (now (parents .entry)) (now (tables .entry)) rows m → Tells (attributeType m n ofObject name (tyOf t)) (now (marks .entry)) (now (marks .exit)) r) ⌝ }
+    ensures { λ r. ⌜ ((m : Schema) → ReadsRows (now (parents .entry)) (now (tables .entry)) rows m → Tells (attributeType m n ofObject name (tyOf t)) (now (marks .entry)) (now (marks .exit)) r) ⌝ }
 {
     let ClassNumber::Is(c) = is_class(t) else {
         return Reply::No(11, n as u64); // Void too is none
@@ -83,7 +83,7 @@ pub fn collect_type(
     marks: &mut [u64],
 ) -> Reply
     requires { ⌜ (rows ≤ 64) × (256 ≤ length (now tables)) × (n < 768) × (768 ≤ length (now marks)) ⌝ }
-    ensures { λ r. ⌜ ((m : Model) → ReadsRows (now (parents .entry)) (now (tables .entry)) rows m → Tells (attributeType m n ofMembers name (tyOf t)) (now (marks .entry)) (now (marks .exit)) r) ⌝ }
+    ensures { λ r. ⌜ ((m : Schema) → ReadsRows (now (parents .entry)) (now (tables .entry)) rows m → Tells (attributeType m n ofMembers name (tyOf t)) (now (marks .entry)) (now (marks .exit)) r) ⌝ }
 {
     let code = outer_code(t);
     if code == 0 {

@@ -4,7 +4,7 @@ ghost use mathlib.Core.Path.{_≡_};
 ghost use Prim.Native.Nat.{_<_, _≤_};
 ghost use lib.ListN.{length};
 ghost use Rattle.ocl.specs.Types.{Boolean, Integer, join as joinOf};
-ghost use Rattle.ocl.specs.Model.{Model};
+ghost use Rattle.ocl.specs.Model.{Schema};
 ghost use Rattle.ocl.specs.Typing.{typed, refused, below, common, onCollection, castType, bothBelow, leafType, unaryType, binaryType, conditionalType, wrap as wrapType};
 ghost use Rattle.types.specs.Flat.{parentsIn, tyOf, letterOf, joinedType};
 ghost use Rattle.nodes.specs.Nodes.{word, leafOf, unaryOf, binaryOf};
@@ -34,7 +34,7 @@ use types::parts::wrap;
 
 // A condition must be below Bool, else 11.
 pub fn condition(parents: &[u64], n: u64, t: FlatType) -> Reply
-    ensures { λ r. ⌜ ((m : Model) → m .parent ≡ parentsIn (now (parents .entry)) → meaning r ≡ below m n (tyOf t) Boolean (typed Boolean)) ⌝ }
+    ensures { λ r. ⌜ ((m : Schema) → m .parent ≡ parentsIn (now (parents .entry)) → meaning r ≡ below m n (tyOf t) Boolean (typed Boolean)) ⌝ }
 {
     if subtype(parents, t, plain(Base::Bool)) {
         return Reply::Is(plain(Base::Bool));
@@ -51,7 +51,7 @@ pub fn both_below(
     t: FlatType,
     u: FlatType,
 ) -> Reply
-    ensures { λ a. ⌜ ((m : Model) → m .parent ≡ parentsIn (now (parents .entry)) → meaning a ≡ bothBelow m n (tyOf w) (tyOf r) (tyOf t) (tyOf u)) ⌝ }
+    ensures { λ a. ⌜ ((m : Schema) → m .parent ≡ parentsIn (now (parents .entry)) → meaning a ≡ bothBelow m n (tyOf w) (tyOf r) (tyOf t) (tyOf u)) ⌝ }
 {
     if subtype(parents, t, w) {
         if subtype(parents, u, w) {
@@ -64,7 +64,7 @@ pub fn both_below(
 
 // The common type of both, else 10.
 pub fn common_type(parents: &[u64], n: u64, t: FlatType, u: FlatType) -> Reply
-    ensures { λ r. ⌜ ((m : Model) → m .parent ≡ parentsIn (now (parents .entry)) → meaning r ≡ common n (joinOf (m .parent) (tyOf t) (tyOf u)) typed) ⌝ }
+    ensures { λ r. ⌜ ((m : Schema) → m .parent ≡ parentsIn (now (parents .entry)) → meaning r ≡ common n (joinOf (m .parent) (tyOf t) (tyOf u)) typed) ⌝ }
 {
     let Joined::Is(w) = join(parents, t, u) else {
         return Reply::No(10, n);
@@ -74,7 +74,7 @@ pub fn common_type(parents: &[u64], n: u64, t: FlatType, u: FlatType) -> Reply
 
 // Bool, if both have a common type, else 10.
 fn comparable(parents: &[u64], n: u64, t: FlatType, u: FlatType) -> Reply
-    ensures { λ r. ⌜ ((m : Model) → m .parent ≡ parentsIn (now (parents .entry)) → meaning r ≡ common n (joinOf (m .parent) (tyOf t) (tyOf u)) (λ w. typed Boolean)) ⌝ }
+    ensures { λ r. ⌜ ((m : Schema) → m .parent ≡ parentsIn (now (parents .entry)) → meaning r ≡ common n (joinOf (m .parent) (tyOf t) (tyOf u)) (λ w. typed Boolean)) ⌝ }
 {
     let Joined::Is(w) = join(parents, t, u) else {
         return Reply::No(10, n);
@@ -155,7 +155,7 @@ fn converted(n: u64, code: u8, t: FlatType) -> Reply
 
 // `as` takes Any, or a class above or below c; an unrelated class is refused with 10, any other type with 11.
 fn cast_type(parents: &[u64], n: u64, c: u8, t: FlatType) -> Reply
-    ensures { λ r. ⌜ ((m : Model) → m .parent ≡ parentsIn (now (parents .entry)) → meaning r ≡ castType m n c (tyOf t)) ⌝ }
+    ensures { λ r. ⌜ ((m : Schema) → m .parent ≡ parentsIn (now (parents .entry)) → meaning r ≡ castType m n c (tyOf t)) ⌝ }
 {
     if is_any(t) {
         return Reply::Is(plain(Base::Class(c)));
@@ -174,7 +174,7 @@ fn cast_type(parents: &[u64], n: u64, c: u8, t: FlatType) -> Reply
 
 pub fn unary_type(parents: &[u64], nodes: &[u64], form: u64, n: usize, t: FlatType) -> Reply
     requires { ⌜ (n < 768) × (6144 ≤ length (now nodes)) ⌝ }
-    ensures { λ r. ⌜ ((m : Model) → m .parent ≡ parentsIn (now (parents .entry)) → meaning r ≡ unaryType m n (unaryOf form (word (now (nodes .entry)) n)) (tyOf t)) ⌝ }
+    ensures { λ r. ⌜ ((m : Schema) → m .parent ≡ parentsIn (now (parents .entry)) → meaning r ≡ unaryType m n (unaryOf form (word (now (nodes .entry)) n)) (tyOf t)) ⌝ }
 {
     match form {
         7 => condition(parents, n as u64, t),
@@ -188,7 +188,7 @@ pub fn unary_type(parents: &[u64], nodes: &[u64], form: u64, n: usize, t: FlatTy
 
 // `includes` takes a collection, else 11; its member type and u must have a common type, else 10.
 fn includes_type(parents: &[u64], n: u64, t: FlatType, u: FlatType) -> Reply
-    ensures { λ r. ⌜ ((m : Model) → m .parent ≡ parentsIn (now (parents .entry)) → meaning r ≡ onCollection (tyOf t) (refused 11 n) (λ l e. common n (joinOf (m .parent) e (tyOf u)) (λ w. typed Boolean))) ⌝ }
+    ensures { λ r. ⌜ ((m : Schema) → m .parent ≡ parentsIn (now (parents .entry)) → meaning r ≡ onCollection (tyOf t) (refused 11 n) (λ l e. common n (joinOf (m .parent) e (tyOf u)) (λ w. typed Boolean))) ⌝ }
 {
     if outer_code(t) == 0 {
         return Reply::No(11, n);
@@ -198,7 +198,7 @@ fn includes_type(parents: &[u64], n: u64, t: FlatType, u: FlatType) -> Reply
 
 // `including` takes a Set, Sequence or Bag, else 11; its member type and u must have a common type, else 10.
 fn including_type(parents: &[u64], n: u64, t: FlatType, u: FlatType) -> Reply
-    ensures { λ r. ⌜ ((m : Model) → m .parent ≡ parentsIn (now (parents .entry)) → meaning r ≡ binaryType m n (binaryOf 21) (tyOf t) (tyOf u)) ⌝ }
+    ensures { λ r. ⌜ ((m : Schema) → m .parent ≡ parentsIn (now (parents .entry)) → meaning r ≡ binaryType m n (binaryOf 21) (tyOf t) (tyOf u)) ⌝ }
 {
     let code = outer_code(t);
     if code <= 1 {
@@ -209,7 +209,7 @@ fn including_type(parents: &[u64], n: u64, t: FlatType, u: FlatType) -> Reply
 
 // `union` takes two Sets, two Sequences or two Bags, else 11; their member types must have a common type, else 10.
 fn union_type(parents: &[u64], n: u64, t: FlatType, u: FlatType) -> Reply
-    ensures { λ r. ⌜ ((m : Model) → m .parent ≡ parentsIn (now (parents .entry)) → meaning r ≡ binaryType m n (binaryOf 22) (tyOf t) (tyOf u)) ⌝ }
+    ensures { λ r. ⌜ ((m : Schema) → m .parent ≡ parentsIn (now (parents .entry)) → meaning r ≡ binaryType m n (binaryOf 22) (tyOf t) (tyOf u)) ⌝ }
 {
     let code = outer_code(t);
     if code <= 1 {
@@ -223,7 +223,7 @@ fn union_type(parents: &[u64], n: u64, t: FlatType, u: FlatType) -> Reply
 
 pub fn binary_type(parents: &[u64], form: u64, n: u64, t: FlatType, u: FlatType) -> Reply
     requires { ⌜ 13 ≤ form ⌝ }
-    ensures { λ r. ⌜ ((m : Model) → m .parent ≡ parentsIn (now (parents .entry)) → meaning r ≡ binaryType m n (binaryOf form) (tyOf t) (tyOf u)) ⌝ }
+    ensures { λ r. ⌜ ((m : Schema) → m .parent ≡ parentsIn (now (parents .entry)) → meaning r ≡ binaryType m n (binaryOf form) (tyOf t) (tyOf u)) ⌝ }
 {
     match form {
         13 => comparable(parents, n, t, u),
@@ -239,7 +239,7 @@ pub fn binary_type(parents: &[u64], form: u64, n: u64, t: FlatType, u: FlatType)
 
 // The condition must be below Bool, else 11; then the branches must have a common type, else 10.
 pub fn conditional_type(parents: &[u64], n: u64, c: FlatType, t: FlatType, u: FlatType) -> Reply
-    ensures { λ r. ⌜ ((m : Model) → m .parent ≡ parentsIn (now (parents .entry)) → meaning r ≡ conditionalType m n (tyOf c) (tyOf t) (tyOf u)) ⌝ }
+    ensures { λ r. ⌜ ((m : Schema) → m .parent ≡ parentsIn (now (parents .entry)) → meaning r ≡ conditionalType m n (tyOf c) (tyOf t) (tyOf u)) ⌝ }
 {
     if subtype(parents, c, plain(Base::Bool)) {
         return common_type(parents, n, t, u);

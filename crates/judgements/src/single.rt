@@ -1,7 +1,7 @@
 // All forms with a single operand, by the form's code: what follows once the operand has its type.
 ghost use Prim.Native.Nat.{_<_, _≤_};
 ghost use lib.ListN.{length};
-ghost use Rattle.ocl.specs.Model.{Model};
+ghost use Rattle.ocl.specs.Model.{Schema};
 ghost use Rattle.types.specs.Flat.{tyOf};
 ghost use Rattle.nodes.specs.Nodes.{word};
 ghost use Rattle.judgements.specs.Replies.{Tells, ReadsRows};
@@ -27,7 +27,7 @@ pub fn single_type(
     marks: &mut [u64],
 ) -> Reply
     requires { ⌜ (rows ≤ 64) × (256 ≤ length (now tables)) × (n < 768) × (6144 ≤ length (now nodes)) × (768 ≤ length (now marks)) ⌝ }
-    ensures { λ r. ⌜ ((m : Model) → ReadsRows (now (parents .entry)) (now (tables .entry)) rows m → Tells (singleType m n form (word (now (nodes .entry)) n) (tyOf t)) (now (marks .entry)) (now (marks .exit)) r) ⌝ }
+    ensures { λ r. ⌜ ((m : Schema) → ReadsRows (now (parents .entry)) (now (tables .entry)) rows m → Tells (singleType m n form (word (now (nodes .entry)) n) (tyOf t)) (now (marks .entry)) (now (marks .exit)) r) ⌝ }
 {
     match form {
         30 => Reply::Is(plain(Base::Bool)),

@@ -2,7 +2,7 @@
 use mathlib.Core.Path.{_≡_, sym, ap, _∙_}
 use mathlib.Core.List.{List}
 use Prim.Native.Nat.{ℕ, _<_, _≤_}
-use Rattle.ocl.specs.Model.{Model}
+use Rattle.ocl.specs.Model.{Schema}
 use Rattle.ocl.specs.Forms.{Form, undef}
 use Rattle.ocl.specs.Typing.{Typing, leafTyping, unaryTyping, binaryTyping, connectiveTyping, isUndefTyping, conditionalTyping, letTyping, attributeTyping, quantifiedTyping, iterateTyping, assembleTyping, typing, formTyping, operandsTyping as membersTyping}
 use Rattle.types.specs.Word.{typeIn}
@@ -10,10 +10,10 @@ use Rattle.nodes.specs.Nodes.{word, variable, leafOf, unaryOf, binaryOf,
 use Rattle.nodes.proofs.Nodes.{tree-law, below-law, late-law, no-form, leaf-range, unary-range, binary-range, connective-range, quantified-range, assemble-range, attribute-range, assemble-over, isUndef-code, conditional-code, let-code, iterate-code}
 
 -- the typing of operand k of node n
-unfoldable pub operandTyping : Model → List ℕ → ℕ → ℕ → Typing
+unfoldable pub operandTyping : Schema → List ℕ → ℕ → ℕ → Typing
 operandTyping s t n k = typing s (treesBelow t n (word t n k))
 
-module _ (s : Model) (t : List ℕ) (n : ℕ) where
+module _ (s : Schema) (t : List ℕ) (n : ℕ) where
   by-form : (k : ℕ) {f : Form} → k ≡ word t n 0 → formOf (treesBelow t n) (word t n) k ≡ f → typing s (treeAt t n) ≡ formTyping s n f
   unfolding typing
   by-form k e h = ap (typing s) (tree-law t n) ∙ ap (formTyping s n) (ap (formOf (treesBelow t n) (word t n)) (sym e) ∙ h)

@@ -4,10 +4,10 @@ use mathlib.Core.Path.{_≡_}
 use mathlib.Core.List.{List}
 use Prim.Native.Nat.{ℕ, _<_}
 use lib.ListN.{getD}
-use Rattle.ocl.specs.Model.{Model}
+use Rattle.ocl.specs.Model.{Schema}
 use Rattle.types.specs.Flat.{parentsIn}
 use Rattle.types.specs.Word.{typeIn}
 
-pub record HoldsClasses (parents owners names types : List ℕ) (m : Model) : Type 0 where
+pub record HoldsClasses (parents owners names types : List ℕ) (m : Schema) : Type 0 where
   pub parent : m .parent ≡ parentsIn parents
   pub row : (i : ℕ) → i < m .rowCount → m .row i ≡ record { owner = getD owners i 0; name = getD names i 0; type = typeIn (getD types i 0) }

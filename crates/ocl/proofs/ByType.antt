@@ -10,7 +10,7 @@ use Rattle.laws.proofs.Tests.{All?, all-none, all-some, Any?, any-some, all-imp
 use Rattle.ocl.specs.Environment.{Env, extend}
 use Rattle.ocl.specs.Types.{Parents, boolean, integer, Kind, Letter, exactly, Ty, around, Boolean, Integer, simpleSubtype, letterSubtype, subtype, join, climbs, height, up, sameSimple, simpleCode}
 use Rattle.ocl.specs.Values.{Value, bool, int, obj, coll, Values, nil, cons, count, size, sizes}
-use Rattle.ocl.specs.Model.{Model, classIsA, isA}
+use Rattle.ocl.specs.Model.{Model, schemaOf, classIsA, isA}
 use Rattle.ocl.specs.Typing.{Answer, below}
 use Rattle.ocl.specs.Evaluation.{Outcome, value, Run, form, given, Result, resulting, onBool, onInt, onColl, isInt, isColl, Gather}
 use Rattle.ocl.specs.Soundness.{AcceptedModel}
@@ -71,7 +71,7 @@ module _ {s : Model} (ok : AcceptedModel s) where
   pub below-by : (t u : Ty) → T (subtype (s .parent) t u) → Below s t u
   below-by t u h = record { up-to = belongs-up s (ok .parents-smaller) t u h }
 
-  pub gives-below : {G : Ty → Type 0} {a : Answer} (p : ℕ) (t u : Ty) → (Below s t u → Gives G a) → Gives G (below s p t u a)
+  pub gives-below : {G : Ty → Type 0} {a : Answer} (p : ℕ) (t u : Ty) → (Below s t u → Gives G a) → Gives G (below (schemaOf s) p t u a)
   gives-below p t u g = gives-if (subtype (s .parent) t u) (λ h. g (below-by t u h)) no-type
 
   pub joined : (t u : Ty) → All? (λ w. Below s t w × Below s u w) (join (s .parent) t u)

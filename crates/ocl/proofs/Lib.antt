@@ -14,6 +14,7 @@ pub mod Steps
 pub mod Marks
 pub mod Places
 pub mod Means
+pub mod Answered
 pub mod ByType
 pub mod Soundness
 pub mod Stops

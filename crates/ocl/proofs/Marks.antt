@@ -8,29 +8,24 @@ use Prim.Native.Nat.{ℕ}
 use lib.Dec.{eqb}
 use borrow.Author.Tests.{eq-eqb, ne-eqb}
 use Rattle.laws.specs.Choice.{if_then_else_}
-use Rattle.ocl.specs.Environment.{Env, extend}
-use Rattle.ocl.specs.Types.{any, boolean, integer, class, Letter, Ty, void, simple, around, subtype}
-use Rattle.ocl.specs.Model.{Model, rowRead}
+use Rattle.ocl.specs.Environment.{Env, extend, start}
+use Rattle.ocl.specs.Types.{any, boolean, integer, class, Letter, Ty, void, simple, around, Class, subtype}
+use Rattle.ocl.specs.Model.{Schema, rowRead}
 use Rattle.ocl.specs.Forms.{Access, ofObject, ofMembers, Expr, node, Form, leaf, unary, binary, connective, isUndef, conditional, letIn, attribute, quantified, iterate, assemble, Operands, noOperand, operand}
-use Rattle.ocl.specs.Laws.{numbers, numbersIn, numbersOf}
-use Rattle.ocl.specs.Typing.{Answer, typed, refused, Mark, Marks, Typed, pure, thenFor, andThen, onCollection, onClass, rowType, attributeType, leafTyping, unaryTyping, binaryTyping, connectiveTyping, isUndefTyping, conditionalTyping, letTyping, attributeTyping, quantifiedTyping, iterateTyping, noOperandTyping, operandTyping, assembleTyping, typing, formTyping, operandsTyping, markOr}
+use Rattle.ocl.specs.Laws.{numbers, numbersIn, numbersOf, EachMark, no-mark, mark-then, Agree}
+use Rattle.ocl.specs.Typing.{Answer, typed, refused, Mark, Marks, Typed, pure, thenFor, andThen, onCollection, onClass, rowType, attributeType, leafTyping, unaryTyping, binaryTyping, connectiveTyping, isUndefTyping, conditionalTyping, letTyping, attributeTyping, quantifiedTyping, iterateTyping, noOperandTyping, operandTyping, assembleTyping, typing, formTyping, operandsTyping, typeRule, markOr}
 use Rattle.laws.specs.Lists.{Each, each-nil, each-cons, Distinct, distinct-nil, distinct-cons}
 
--- the marks are those that typing made
-pub data Agree (mark : ℕ → Mark) : Marks → Type 0 where
-  agree-nil : Agree mark []
-  agree-cons : {p : ℕ} {x : Mark} {m : Marks} → mark p ≡ x → Agree mark m → Agree mark ((p, x) ∷ m)
+pub marks-left : {P : ℕ → Mark → Type 0} (m n : Marks) → EachMark P (m ++ n) → EachMark P m
+marks-left [] n g = no-mark
+marks-left (x ∷ m) n (mark-then e g) = mark-then e (marks-left m n g)
 
-pub agree-left : {mark : ℕ → Mark} (m n : Marks) → Agree mark (m ++ n) → Agree mark m
-agree-left [] n g = agree-nil
-agree-left (x ∷ m) n (agree-cons e g) = agree-cons e (agree-left m n g)
+pub marks-right : {P : ℕ → Mark → Type 0} (m : Marks) {n : Marks} → EachMark P (m ++ n) → EachMark P n
+marks-right [] g = g
+marks-right (x ∷ m) (mark-then e g) = marks-right m g
 
-pub agree-right : {mark : ℕ → Mark} (m : Marks) {n : Marks} → Agree mark (m ++ n) → Agree mark n
-agree-right [] g = g
-agree-right (x ∷ m) (agree-cons e g) = agree-right m g
-
-pub agree-one : {mark : ℕ → Mark} {p : ℕ} {x : Mark} {m : Marks} → Agree mark ((p, x) ∷ m) → mark p ≡ x
-agree-one (agree-cons e g) = e
+pub marks-first : {P : ℕ → Mark → Type 0} {p : ℕ} {x : Mark} {m : Marks} → EachMark P ((p, x) ∷ m) → P p x
+marks-first (mark-then e g) = e
 
 -- ---- marks at some of the nodes, in their order
 
@@ -43,7 +38,7 @@ part-none : (ns : List ℕ) → Part ns []
 part-none [] = part-nil
 part-none (n ∷ ns) = part-skip (part-none ns)
 
-part-append : {a b : List ℕ} {m k : Marks} → Part a m → Part b k → Part (a ++ b) (m ++ k)
+pub part-append : {a b : List ℕ} {m k : Marks} → Part a m → Part b k → Part (a ++ b) (m ++ k)
 part-append part-nil q = q
 part-append (part-skip p) q = part-skip (part-append p q)
 part-append (part-take p) q = part-take (part-append p q)
@@ -91,7 +86,7 @@ marked-if : {ns : List ℕ} {x y : Typed} (b : Bool) → Marked ns x → Marked 
 marked-if true p q = p
 marked-if false p q = q
 
-module _ (s : Model) where
+module _ (s : Schema) where
   row-part : (p : ℕ) (mark : ℕ → Mark) (k : Ty → Answer) (o : Option ℕ) → Marked (p ∷ []) (rowType s p mark k o)
   unfolding rowType
   row-part p mark k none = marked-pure
@@ -130,6 +125,10 @@ module _ (s : Model) where
     marked-operands p noOperand Γ = marked-pure
     marked-operands p (operand e es) Γ = marked-then (marked e Γ) (λ t. marked-last (marked-operands p es Γ) (λ z. marked-pure))
 
+pub marked-rule : (s : Schema) (c : ℕ) (e : Expr) → Marked (numbers e) (typeRule s c e)
+unfolding typeRule
+marked-rule s c e = marked s e (start (Class c))
+
 -- ---- no mark replaces another
 
 keep : (d : Mark) {p : ℕ} {ns : List ℕ} {m : Marks} → Part ns m → Each (λ n. n ≢ p) ns → markOr d m p ≡ d
@@ -141,7 +140,7 @@ keep d {p} (part-take {n} {x} q) (each-cons z h) = keep _ q h ∙ rw (ne-eqb p n
 -- whatever stood there before the marks were made
 pub agree-marks : (d : ℕ → Mark) {ns : List ℕ} {m : Marks} → Part ns m → Distinct ns → Agree (λ p. markOr (d p) m p) m
 unfolding markOr
-agree-marks d part-nil distinct-nil = agree-nil
+agree-marks d part-nil distinct-nil = no-mark
 agree-marks d (part-skip q) (distinct-cons z e) = agree-marks d q e
 agree-marks d (part-take {n} {x} q) (distinct-cons z e) =
-    agree-cons {x = x} (keep _ q z ∙ rw (eq-eqb n n refl)) (agree-marks (λ p. if eqb p n then x else d p) q e)
+    mark-then {x = x} (keep _ q z ∙ rw (eq-eqb n n refl)) (agree-marks (λ p. if eqb p n then x else d p) q e)

@@ -10,7 +10,8 @@ use Rattle.laws.specs.Choice.{if_then_else_}
 use Rattle.laws.proofs.Tests.{All?, all-none, all-some}
 use Rattle.ocl.specs.Types.{any, boolean, integer, class, Kind, Letter, collection, exactly, Ty, void, simple, around, Class, depth}
 use Rattle.ocl.specs.Typing.{Answer, typed, refused, Mark, Marks, Typed, pure, thenFor, andThen, common, wrap, onCollection, onClass, onKind}
-use Rattle.ocl.proofs.Marks.{Agree, agree-left, agree-right}
+use Rattle.ocl.specs.Laws.{Agree}
+use Rattle.ocl.proofs.Marks.{marks-left, marks-right}
 
 -- G of an answer's type
 pub data Gives (G : Ty → Type 0) : Answer → Type 0 where
@@ -29,7 +30,7 @@ means-pure h = record { means = λ t e g. gives-type h e }
 
 then-means : {mark : ℕ → Mark} {F G : Ty → Type 0} {k : Ty → Typed} {m : Marks} (a : Answer) → ((t : Ty) → a ≡ typed t → Agree mark m → F t) → ((t : Ty) → F t → Means mark G (k t)) → Means mark G (thenFor a m k)
 unfolding thenFor
-then-means {m} (typed t) h g = record { means = λ u e z. g t (h t refl (agree-left m _ z)) .means u e (agree-right m z) }
+then-means {m} (typed t) h g = record { means = λ u e z. g t (h t refl (marks-left m _ z)) .means u e (marks-right m z) }
 then-means (refused n p) h g = record { means = λ u e z. absurd (let y : _≡_ {A = ℕ} 0 1 = cc in omega linear) }
 
 pub means-then : {mark : ℕ → Mark} {F G : Ty → Type 0} {x : Typed} {k : Ty → Typed} → Means mark F x → ((t : Ty) → F t → Means mark G (k t)) → Means mark G (andThen x k)

@@ -8,17 +8,17 @@ use native.Mathlib.Omega.{arith as linear}
 use lib.Dec.{T, eqb, leb, leb→le}
 use Rattle.laws.specs.Choice.{if_then_else_}
 use Rattle.laws.specs.Lists.{member, Each}
-use Rattle.ocl.specs.Environment.{Env, extend}
+use Rattle.ocl.specs.Environment.{Env, extend, start}
 use Rattle.ocl.specs.Types.{any, boolean, integer, class, Kind, set, sequence, bag, Letter, collection, exactly, Ty, void, simple, around, Class, Boolean, Integer, depth, sameKind, subtype, join}
-use Rattle.ocl.specs.Model.{Model}
+use Rattle.ocl.specs.Model.{Schema}
 use Rattle.ocl.specs.Forms.{Access, ofObject, ofMembers, Leaf, truth, undef, number, self, var, all, Unary, negation, sizeOf, convert, castTo, Binary, equal, less, arith, includes, including, union, Expr, node, Form, leaf, unary, binary, connective, isUndef, conditional, letIn, attribute, quantified, iterate, assemble, Operands, noOperand, operand}
-use Rattle.ocl.specs.Typing.{Answer, typed, refused, Mark, ofRow, ofRows, rowMarked, kindMarked, Marks, Typed, pure, thenFor, andThen, below, common, wrap, onCollection, onClass, onKind, boundType, leafType, castType, unaryType, bothBelow, binaryType, conditionalType, collectKind, rowType, attributeType, leafTyping, unaryTyping, binaryTyping, connectiveTyping, isUndefTyping, conditionalTyping, letTyping, attributeTyping, quantifiedTyping, iterateTyping, noOperandTyping, operandTyping, assembleTyping, typing, formTyping, operandsTyping, markOr, markOf}
+use Rattle.ocl.specs.Typing.{Answer, typed, refused, Mark, ofRow, ofRows, rowMarked, kindMarked, Marks, Typed, pure, thenFor, andThen, below, common, wrap, onCollection, onClass, onKind, boundType, leafType, castType, unaryType, bothBelow, binaryType, conditionalType, collectKind, rowType, attributeType, leafTyping, unaryTyping, binaryTyping, connectiveTyping, isUndefTyping, conditionalTyping, letTyping, attributeTyping, quantifiedTyping, iterateTyping, noOperandTyping, operandTyping, assembleTyping, typing, formTyping, operandsTyping, typeRule, markOr, markIn}
 use Rattle.ocl.specs.Laws.{Refusal, EachMark, no-mark, mark-then, TypingPlacesLaw, numbers, numbersIn, numbersOf}
 use Rattle.laws.proofs.Tests.{and-l, and-r, by-if, All?, all-none, all-some}
 use Rattle.laws.proofs.Lists.{each-left, each-right, each-head, each-member}
 use Rattle.ocl.proofs.Values.{rowRead-row}
 
-each-mark-append : {P : ℕ → Mark → Type 0} {m n : Marks} → EachMark P m → EachMark P n → EachMark P (m ++ n)
+pub each-mark-append : {P : ℕ → Mark → Type 0} {m n : Marks} → EachMark P m → EachMark P n → EachMark P (m ++ n)
 each-mark-append no-mark k = k
 each-mark-append (mark-then p h) k = mark-then p (each-mark-append h k)
 
@@ -27,7 +27,7 @@ each-mark-imp f no-mark = no-mark
 each-mark-imp f (mark-then {p} {x} h k) = mark-then (f p x h) (each-mark-imp f k)
 
 -- P of the nodes that may be named
-module _ (s : Model) (P : ℕ → Type 0) where
+module _ (s : Schema) (P : ℕ → Type 0) where
   data Says : Answer → Type 0 where
     yes-type : {t : Ty} → Says (typed t)
     no-type : {n p : ℕ} → T (leb 9 n && leb n 13) → P p → Says (refused n p)
@@ -212,7 +212,7 @@ module _ (s : Model) (P : ℕ → Type 0) where
 
 -- ---- of the tree's own nodes
 
-refusal-of : {s : Model} {ns : List ℕ} {a : Answer} {n p : ℕ} → Says s (λ m. T (member m ns)) a → a ≡ refused n p → Refusal ns n p
+refusal-of : {s : Schema} {ns : List ℕ} {a : Answer} {n p : ℕ} → Says s (λ m. T (member m ns)) a → a ≡ refused n p → Refusal ns n p
 refusal-of {ns} {n = k} {p = o} (no-type {n} {p} h q) e =
     let f : n ≡ k = cc in
     let g : p ≡ o = cc in
@@ -239,12 +239,19 @@ each-or P d p h no-mark = h
 each-or P d p h (mark-then {p = q} {x} l k) = each-or P (if eqb p q then x else d) p (by-if P (eqb p q) x d (λ t. l) (λ t. h)) k
 
 -- each node's row is below n, if the rows are
-pub mark-below : (s : Model) (e : Expr) (Γ : Env Ty) (n p : ℕ) → 0 < n → s .rowCount ≤ n → rowMarked (markOf (typing s e Γ) p) < n
-unfolding markOf rowMarked
-mark-below s e Γ n p h l = each-or (λ m. rowMarked m < n) (ofRow 0) p h (each-mark-imp (λ q x k. let r = k .is-row in omega linear) (typing-places s e Γ .marked))
+pub mark-below : {n : ℕ} {m : Marks} (p : ℕ) → 0 < n → EachMark (λ q x. rowMarked x < n) m → rowMarked (markIn m p) < n
+unfolding markIn rowMarked
+mark-below {n} p h k = each-or (λ x. rowMarked x < n) (ofRow 0) p h k
 
--- and its kind is no Set
-pub mark-no-set : (s : Model) (e : Expr) (Γ : Env Ty) (p : ℕ) → kindMarked (markOf (typing s e Γ) p) ≡ set → ⊥
-unfolding markOf kindMarked
-mark-no-set s e Γ p =
-    each-or (λ m. kindMarked m ≡ set → ⊥) (ofRow 0) p (λ e. absurd (let z : _≡_ {A = ℕ} 0 1 = cc in omega linear)) (each-mark-imp (λ q x k. k .no-set) (typing-places s e Γ .marked))
+pub rule-rows : (s : Schema) (c : ℕ) (e : Expr) {n : ℕ} → s .rowCount ≤ n → EachMark (λ q x. rowMarked x < n) (typeRule s c e .marks)
+unfolding typeRule
+rule-rows s c e l = each-mark-imp (λ q x k. let r = k .is-row in omega linear) (typing-places s e (start (Class c)) .marked)
+
+-- and its kind is no Set, if none is
+pub mark-no-set : {m : Marks} (p : ℕ) → EachMark (λ q x. kindMarked x ≡ set → ⊥) m → kindMarked (markIn m p) ≡ set → ⊥
+unfolding markIn kindMarked
+mark-no-set p k = each-or (λ x. kindMarked x ≡ set → ⊥) (ofRow 0) p (λ e. absurd (let z : _≡_ {A = ℕ} 0 1 = cc in omega linear)) k
+
+pub rule-no-set : (s : Schema) (c : ℕ) (e : Expr) → EachMark (λ q x. kindMarked x ≡ set → ⊥) (typeRule s c e .marks)
+unfolding typeRule
+rule-no-set s c e = each-mark-imp (λ q x k. k .no-set) (typing-places s e (start (Class c)) .marked)

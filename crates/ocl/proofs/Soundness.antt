@@ -12,10 +12,10 @@ use Rattle.laws.specs.Lists.{Each}
 use Rattle.ocl.specs.Environment.{Env, extend, start}
 use Rattle.ocl.specs.Types.{Simple, any, boolean, integer, class, Kind, set, Letter, exactly, Ty, void, simple, around, Boolean, Integer, Class, letterSubtype, sameKind, subtype}
 use Rattle.ocl.specs.Values.{Value, bool, int, obj, coll, Values, nil, cons, count, size, orderInt, same, has, add}
-use Rattle.ocl.specs.Model.{Model, isA, every}
+use Rattle.ocl.specs.Model.{Model, schemaOf, isA, every}
 use Rattle.ocl.specs.Forms.{Connective, Quantifier, Access, ofObject, ofMembers, Leaf, truth, undef, number, self, var, all, Unary, negation, sizeOf, convert, castTo, Binary, equal, less, arith, includes, including, union, Expr, node, Form, leaf, unary, binary, connective, isUndef, conditional, letIn, attribute, quantified, iterate, assemble, Operands, noOperand, operand, reach, inside, reaches}
-use Rattle.ocl.specs.Laws.{literals}
-use Rattle.ocl.specs.Typing.{Answer, typed, Mark, ofRow, ofRows, rowMarked, kindMarked, wrap, collectKind, boundType, leafType, castType, unaryType, bothBelow, binaryType, conditionalType, rowType, attributeType, leafTyping, unaryTyping, binaryTyping, connectiveTyping, isUndefTyping, conditionalTyping, letTyping, attributeTyping, quantifiedTyping, iterateTyping, noOperandTyping, operandTyping, assembleTyping, typing, formTyping, operandsTyping, typeRule, markOf}
+use Rattle.ocl.specs.Laws.{literals, Agree}
+use Rattle.ocl.specs.Typing.{Answer, typed, Mark, ofRow, ofRows, rowMarked, kindMarked, wrap, collectKind, boundType, leafType, castType, unaryType, bothBelow, binaryType, conditionalType, rowType, attributeType, leafTyping, unaryTyping, binaryTyping, connectiveTyping, isUndefTyping, conditionalTyping, letTyping, attributeTyping, quantifiedTyping, iterateTyping, noOperandTyping, operandTyping, assembleTyping, typing, formTyping, operandsTyping, typeRule}
 use Rattle.ocl.specs.Evaluation.{Run, isLess, inRange, instances, leafRun, cast, unaryApply, unaryRun, leftFits, binaryApply, binaryRun, decides, connectiveRun, isUndefRun, conditionalRun, letRun, hasRow, valueInRow, valuesInRow, formAll, access, attributeRun, quantifiedRun, iterateRun, Gather, noOperandRun, operandRun, assembleRun, evaluation, formRun, operandsRun, evaluateRule, bound as boundRun}
 use Rattle.ocl.specs.Soundness.{AcceptedModel, Sound, Soundness}
 use Rattle.laws.proofs.Tests.{by-if, All?, all-none, all-some, Any?, any-some, all-imp, all-self, at-some}
@@ -28,7 +28,7 @@ use Rattle.ocl.proofs.ByType.{Ok, Below, EnvOk, Sem, SemAll, below-by, 
 use Rattle.ocl.proofs.Ends.{arithmetic-all}
 use Rattle.ocl.proofs.InRange.{ends-in-range}
 use Rattle.ocl.proofs.Formed.{formed-ends}
-use Rattle.ocl.proofs.Marks.{Agree, agree-one, marked, agree-marks}
+use Rattle.ocl.proofs.Marks.{marks-first}
 
 module _ (s : Model) (ok : AcceptedModel s) (mark : ℕ → Mark) where
   -- ---- forms with no operand
@@ -71,7 +71,7 @@ module _ (s : Model) (ok : AcceptedModel s) (mark : ℕ → Mark) where
   cast-safe c (obj o) p = safe-if (isA s o (class c)) (λ t. safe-value (obj o) (record { bel = t; fits = omega linear })) (λ t. safe-undefined)
   cast-safe c (coll k vs) p = absurd (p .bel)
 
-  cast-sem : {Γ : Env Ty} {k : ℕ} {f : Run} (p c : ℕ) (t : Ty) → Sem s Γ k t f → Gives (λ u. Sem s Γ k u (unaryRun s (castTo c) f)) (castType s p c t)
+  cast-sem : {Γ : Env Ty} {k : ℕ} {f : Run} (p c : ℕ) (t : Ty) → Sem s Γ k t f → Gives (λ u. Sem s Γ k u (unaryRun s (castTo c) f)) (castType (schemaOf s) p c t)
   unfolding castType unaryApply
   cast-sem p c void h = no-type
   cast-sem p c (simple any) h = gives (unary-run (castTo c) h (λ v i. cast-safe c v i))
@@ -80,7 +80,7 @@ module _ (s : Model) (ok : AcceptedModel s) (mark : ℕ → Mark) where
   cast-sem p c (simple (class d)) h = gives-if (subtype (s .parent) (Class d) (Class c) || subtype (s .parent) (Class c) (Class d)) (λ x. gives (unary-run (castTo c) h (λ v i. cast-safe c v i))) no-type
   cast-sem p c (around l t) h = no-type
 
-  unary-sem : {Γ : Env Ty} {k : ℕ} {t : Ty} {f : Run} (p : ℕ) (op : Unary) → Sem s Γ k t f → Gives (λ u. Sem s Γ k u (unaryRun s op f)) (unaryType s p op t)
+  unary-sem : {Γ : Env Ty} {k : ℕ} {t : Ty} {f : Run} (p : ℕ) (op : Unary) → Sem s Γ k t f → Gives (λ u. Sem s Γ k u (unaryRun s op f)) (unaryType (schemaOf s) p op t)
   unfolding unaryType unaryApply letterSubtype
   unary-sem {t = t} p negation h = gives-below ok p t Boolean (λ l. gives (unary-run negation h (λ v i. bool-sem v l i (λ b. give-bool (not b)))))
   unary-sem {Γ} {k} {t} {f} p sizeOf h = gives-collection (λ t. Sem s Γ k t f) p t h (λ l m h. gives (unary-run sizeOf h (λ v i. coll-sem (coll-of v i) (λ k vs x y z. give-int (pos (count vs))))))
@@ -109,7 +109,7 @@ module _ (s : Model) (ok : AcceptedModel s) (mark : ℕ → Mark) where
       (λ tr. form-sem a _ y (addAll-every a (bels q h') (bels p h)))
       (λ fa. absurd (T-not (sameKind a b) fa (same-kind a b c d y e y'))))))
 
-  binary-sem : {Γ : Env Ty} {k n : ℕ} {t u : Ty} {f g : Run} (p : ℕ) (op : Binary) → Sem s Γ k t f → Sem s Γ n u g → Gives (λ w. Sem s Γ (k + n) w (binaryRun op f g)) (binaryType s p op t u)
+  binary-sem : {Γ : Env Ty} {k n : ℕ} {t u : Ty} {f g : Run} (p : ℕ) (op : Binary) → Sem s Γ k t f → Sem s Γ n u g → Gives (λ w. Sem s Γ (k + n) w (binaryRun op f g)) (binaryType (schemaOf s) p op t u)
   unfolding binaryType bothBelow leftFits binaryApply letterSubtype
   binary-sem {t = t} {u = u} p equal hf hg = gives-common p (joined ok t u) (λ w q. gives (binary-run equal hf hg (λ v i. tt) (λ v x i j. give-bool (same v x))))
   binary-sem {t = t} {u = u} p less hf hg = gives-below ok p t Integer (λ a. gives-below ok p u Integer (λ b. gives (binary-run less hf hg (λ v i. int-fits (int-of v a i))
@@ -156,7 +156,7 @@ module _ (s : Model) (ok : AcceptedModel s) (mark : ℕ → Mark) where
   value-ok o i = all-imp (λ v e. record { bel = belongs-by s (s .row i .type) v (ok .values-belong o i v e); fits = ok .values-small o i v e }) (all-self (s .valueOf o i))
 
   -- an object of class c has the row
-  has-row : {c : ℕ} (i : ℕ) → Above s c i → (v : Value) → Ok s (Class c) v → T (hasRow s i v)
+  has-row : {c : ℕ} (i : ℕ) → Above (schemaOf s) c i → (v : Value) → Ok s (Class c) v → T (hasRow s i v)
   unfolding hasRow Belongs
   has-row {c} i a (bool b) h = absurd (boolean-not-class (s .parent) c (h .bel))
   has-row {c} i a (int z) h = absurd (integer-not-class (s .parent) c (h .bel))
@@ -180,14 +180,14 @@ module _ (s : Model) (ok : AcceptedModel s) (mark : ℕ → Mark) where
   all-sem j all-none = safe-undefined
   all-sem j (all-some h) = form-sem j _ (sameKind-refl j) (addAll-every j (bels below-same h) every-nil)
 
-  object-sem : {Γ : Env Ty} {k c : ℕ} {f : Run} (i : ℕ) → Above s c i → Sem s Γ k (Class c) f → Sem s Γ k (s .row i .type) (attributeRun s ofObject (ofRow i) f)
+  object-sem : {Γ : Env Ty} {k c : ℕ} {f : Run} (i : ℕ) → Above (schemaOf s) c i → Sem s Γ k (Class c) f → Sem s Γ k (s .row i .type) (attributeRun s ofObject (ofRow i) f)
   unfolding attributeRun access rowMarked
   object-sem i a h = record {
     run = λ ρ r. safe-le (omega linear) (safe-bind {j = 0} (h .run ρ r) (λ v j.
         safe-if (hasRow s i v) (λ t. given-sem (in-row i v)) (λ t. absurd (T-not (hasRow s i v) t (has-row i a v j)))));
   }
 
-  members-sem : {Γ : Env Ty} {k c : ℕ} {l : Letter} {f : Run} (j : Kind) (i : ℕ) → Above s c i → Sem s Γ k (around l (Class c)) f
+  members-sem : {Γ : Env Ty} {k c : ℕ} {l : Letter} {f : Run} (j : Kind) (i : ℕ) → Above (schemaOf s) c i → Sem s Γ k (around l (Class c)) f
       → Sem s Γ k (around (exactly j) (s .row i .type)) (attributeRun s ofMembers (ofRows j i) f)
   unfolding attributeRun access rowMarked kindMarked
   members-sem j i a h = record {
@@ -195,22 +195,22 @@ module _ (s : Model) (ok : AcceptedModel s) (mark : ℕ → Mark) where
         safe-if (every (hasRow s i) vs) (λ t. all-sem j (all-in-row i vs)) (λ t. absurd (T-not (every (hasRow s i) vs) t (every-test (hasRow s i) (has-row i a) e))))));
   }
 
-  row-means : {Γ : Env Ty} {k c : ℕ} (f : Run) {o : Option ℕ} (p : ℕ) (x : Access) (m : ℕ → Mark) (ty : Ty → Ty) (g : Ty → Answer) → ((t : Ty) → Gives (λ u. u ≡ ty t) (g t)) → All? (Above s c) o
-      → ((i : ℕ) → Above s c i → Sem s Γ k (ty (s .row i .type)) (attributeRun s x (m i) f)) → Means mark (λ u. Sem s Γ k u (attributeRun s x (mark p) f)) (rowType s p m g o)
+  row-means : {Γ : Env Ty} {k c : ℕ} (f : Run) {o : Option ℕ} (p : ℕ) (x : Access) (m : ℕ → Mark) (ty : Ty → Ty) (g : Ty → Answer) → ((t : Ty) → Gives (λ u. u ≡ ty t) (g t)) → All? (Above (schemaOf s) c) o
+      → ((i : ℕ) → Above (schemaOf s) c i → Sem s Γ k (ty (s .row i .type)) (attributeRun s x (m i) f)) → Means mark (λ u. Sem s Γ k u (attributeRun s x (mark p) f)) (rowType (schemaOf s) p m g o)
   unfolding rowType
   row-means f p x m ty g q all-none h = means-pure no-type
   row-means {Γ} {k} f p x m ty g q (all-some {x = i} a) h = record {
     means = λ t e z.
         let y : t ≡ ty (s .row i .type) = gives-type (q (s .row i .type)) e in
-        subst (λ t. Sem s Γ k t (attributeRun s x (mark p) f)) (sym y) (subst (λ j. Sem s Γ k (ty (s .row i .type)) (attributeRun s x j f)) (sym (agree-one z)) (h i a));
+        subst (λ t. Sem s Γ k t (attributeRun s x (mark p) f)) (sym y) (subst (λ j. Sem s Γ k (ty (s .row i .type)) (attributeRun s x j f)) (sym (marks-first z)) (h i a));
   }
 
-  attribute-sem : {Γ : Env Ty} {k : ℕ} {f : Run} (p : ℕ) (x : Access) (name : ℕ) (t : Ty) → Sem s Γ k t f → Means mark (λ u. Sem s Γ k u (attributeRun s x (mark p) f)) (attributeType s p x name t)
+  attribute-sem : {Γ : Env Ty} {k : ℕ} {f : Run} (p : ℕ) (x : Access) (name : ℕ) (t : Ty) → Sem s Γ k t f → Means mark (λ u. Sem s Γ k u (attributeRun s x (mark p) f)) (attributeType (schemaOf s) p x name t)
   unfolding attributeType
   attribute-sem {Γ} {k} {f} p ofObject name t h = means-class (λ t. Sem s Γ k t f) p t h (λ c h.
-      row-means f p ofObject ofRow (λ t. t) typed (λ t. gives refl) (rowRead-above s (ok .parents-smaller) c name) (λ i a. object-sem i a h))
+      row-means f p ofObject ofRow (λ t. t) typed (λ t. gives refl) (rowRead-above (schemaOf s) c name) (λ i a. object-sem i a h))
   attribute-sem {Γ} {k} {f} p ofMembers name t h = means-collection (λ t. Sem s Γ k t f) p t h (λ l m h. means-class (λ m. Sem s Γ k (around l m) f) p m h (λ c h.
-      row-means f p ofMembers (ofRows (collectKind l)) (around (exactly (collectKind l))) (wrap p (exactly (collectKind l))) (λ t. gives-wrap p _ t refl) (rowRead-above s (ok .parents-smaller) c name)
+      row-means f p ofMembers (ofRows (collectKind l)) (around (exactly (collectKind l))) (wrap p (exactly (collectKind l))) (λ t. gives-wrap p _ t refl) (rowRead-above (schemaOf s) c name)
       (λ i a. members-sem (collectKind l) i a h)))
 
   quantified-sem : {Γ : Env Ty} {k n : ℕ} {l : Letter} {m b : Ty} {f g : Run} (q : Quantifier) (i : ℕ) → Below s b Boolean → Sem s Γ k (around l m) f → Sem s (extend Γ i m) n b g → Sem s Γ (k + 127 * n) Boolean (quantifiedRun q i f g)
@@ -249,10 +249,10 @@ module _ (s : Model) (ok : AcceptedModel s) (mark : ℕ → Mark) where
   mutual
     unfolding reach evaluation typing bothBelow conditionalType leafTyping unaryTyping binaryTyping connectiveTyping isUndefTyping conditionalTyping letTyping attributeTyping quantifiedTyping iterateTyping noOperandTyping operandTyping assembleTyping
 
-    sound : (e : Expr) (Γ : Env Ty) → Means mark (λ t. Sem s Γ (reach e) t (evaluation s mark e)) (typing s e Γ)
+    sound : (e : Expr) (Γ : Env Ty) → Means mark (λ t. Sem s Γ (reach e) t (evaluation s mark e)) (typing (schemaOf s) e Γ)
     sound (node p f) Γ = means-imp (λ t h. record { run = λ ρ r. safe-tick (formRun s mark p f) ρ (h .run ρ r) }) (sound-form p f Γ)
 
-    sound-form : (p : ℕ) (f : Form) (Γ : Env Ty) → Means mark (λ t. Sem s Γ (inside f) t (formRun s mark p f)) (formTyping s p f Γ)
+    sound-form : (p : ℕ) (f : Form) (Γ : Env Ty) → Means mark (λ t. Sem s Γ (inside f) t (formRun s mark p f)) (formTyping (schemaOf s) p f Γ)
     sound-form p (leaf l) Γ = means-pure (leaf-sem p l)
     sound-form p (unary op a) Γ = means-then (sound a Γ) (λ t ha. means-pure (unary-sem p op ha))
     sound-form p (binary op a b) Γ = means-then (sound a Γ) (λ t ha. means-then (sound b Γ) (λ u hb. means-pure (binary-sem p op ha hb)))
@@ -270,7 +270,7 @@ module _ (s : Model) (ok : AcceptedModel s) (mark : ℕ → Mark) where
         means-then (sound b (extend (extend Γ i m) j t)) (λ w hb. means-pure (gives-below ok p w t (λ y. gives (iterate-sem i j (below-by ok u t x) y ha he hb))))) (means-pure no-type))))
     sound-form p (assemble k es) Γ = means-then (sound-all p es Γ) (λ t h. means-pure (gives-wrap p (exactly k) t (assemble-sem k h)))
 
-    sound-all : (p : ℕ) (es : Operands) (Γ : Env Ty) → Means mark (λ t. SemAll s Γ (reaches es) t (operandsRun s mark es)) (operandsTyping s p es Γ)
+    sound-all : (p : ℕ) (es : Operands) (Γ : Env Ty) → Means mark (λ t. SemAll s Γ (reaches es) t (operandsRun s mark es)) (operandsTyping (schemaOf s) p es Γ)
     sound-all p noOperand Γ = means-pure (gives no-operand-sem)
     sound-all p (operand e es) Γ = means-then (sound e Γ) (λ t h. means-then (sound-all p es Γ) (λ u hs.
         means-pure (gives-common p (joined ok t u) (λ w q. gives (operand-sem (q .0) (q .1) h hs)))))
@@ -278,15 +278,12 @@ module _ (s : Model) (ok : AcceptedModel s) (mark : ℕ → Mark) where
   fits-of : {t : Ty} {v : Value} → Ok s t v → Fits s t v
   fits-of {t} {v} h = record { belong = belongs-test s t v (h .bel); small = h .fits }
 
-  -- with any table that has the marks
-  sound-with : (e : Expr) → Each (λ z. T (inRange z)) (literals e) → (c o : ℕ) (t : Ty) → typeRule s c e .answer ≡ typed t → Agree mark (typeRule s c e .marks) → T (isA s o (class c))
+  sound-rule : (e : Expr) → Each (λ z. T (inRange z)) (literals e) → (c o : ℕ) (t : Ty) → typeRule (schemaOf s) c e .answer ≡ typed t → Agree mark (typeRule (schemaOf s) c e .marks) → T (isA s o (class c))
       → Sound s t (reach e) (evaluateRule s mark e o)
   unfolding typeRule evaluateRule start Belongs size
-  sound-with e l c o t h g a = fine-sound s t _ _ (safe-zero (safe-weak (λ v. fits-of) (omega linear) (sound e (start (Class c)) .means t h g .run _
+  sound-rule e l c o t h g a = fine-sound s t _ _ (safe-zero (safe-weak (λ v. fits-of) (omega linear) (sound e (start (Class c)) .means t h g .run _
       (extend-ok 0 (record { vars = λ i. all-none }) (record { bel = a; fits = omega linear }))))) (λ v n q. ends-in-range s ok mark e l o n v q)
       (λ v n q. formed-ends s (record { stored-formed = ok .values-formed }) mark e .of-rule o n v q)
 
 pub soundness : Soundness
-unfolding markOf typeRule
-soundness s ok e d l c o t h a =
-    sound-with s ok (markOf (typeRule s c e)) e l c o t h (agree-marks (λ p. ofRow 0) (marked s e (start (Class c)) .part) d) a
+soundness s ok mark e l c o t h g a = sound-rule s ok mark e l c o t h g a

@@ -8,7 +8,7 @@ use lib.Dec.{T, eqb, eqb→eq}
 use Rattle.laws.specs.Choice.{onSome, mapSome}
 use Rattle.ocl.specs.Types.{Simple, boolean, integer, class, Kind, set, sequence, bag, exactly, Ty, void, simple, around, simpleSubtype, letterSubtype, subtype, up, parentOr}
 use Rattle.ocl.specs.Values.{Value, bool, int, obj, coll, Values, nil, cons, count, size, sizes, order, put, insert, append, add, addAll}
-use Rattle.ocl.specs.Model.{Model, classIsA, isA, every, belongs, declared, nearest, rowRead}
+use Rattle.ocl.specs.Model.{Schema, Model, classIsA, isA, every, belongs, declared, nearest, rowRead}
 use Rattle.ocl.specs.Laws.{Small, BelongsUpLaw}
 use Rattle.laws.proofs.Tests.{and-i, and-l, and-r, by-if, All?, all-none, all-some, all-imp, all-self, all-else, all-on}
 use Rattle.ocl.proofs.SimpleTypes.{step, Climb, climb-trans, climb-eq, simpleSubtype→climb, climb→simpleSubtype}
@@ -124,7 +124,7 @@ belongs-test s (around l t) (obj o) h = h
 belongs-test s (around l t) (coll k vs) h = and-i (letterSubtype (exactly k) l) (every (belongs s t) vs) (h .0) (every-test (belongs s t) (belongs-test s t) (h .1))
 
 -- row i is declared at class c or above
-pub record Above (s : Model) (c i : ℕ) : Type 0 where
+pub record Above (s : Schema) (c i : ℕ) : Type 0 where
   pub climb : Climb (s .parent) (class c) (class (s .row i .owner))
 
 module _ (s : Model) (small : Small (s .parent)) where
@@ -159,8 +159,9 @@ module _ (s : Model) (small : Small (s .parent)) where
   belongs-up (around k t) (around l u) h (coll j vs) b =
       (letter-trans (exactly j) k l (b .0) (and-l (letterSubtype k l) _ h), every-imp (belongs-up t u (and-r (letterSubtype k l) _ h)) (b .1))
 
-  -- ---- the row found upward from a class is declared at that class or above it
+-- ---- the row found upward from a class is declared at that class or above it
 
+module _ (s : Schema) where
   declared-at : (c name n : ℕ) → All? (λ i. s .row i .owner ≡ c) (declared s c name n)
   unfolding declared
   declared-at c name zero = all-none
@@ -189,7 +190,7 @@ belongs-monotone s small t u v h b = belongs-test s u v (belongs-up s small t u 
 
 -- ---- and it is one of the rows
 
-module _ (s : Model) where
+module _ (s : Schema) where
   declared-row : (c name n : ℕ) → All? (λ i. i < n) (declared s c name n)
   unfolding declared
   declared-row c name zero = all-none

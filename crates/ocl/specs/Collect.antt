@@ -7,9 +7,9 @@ use Prim.Native.Nat.{ℕ, zero, suc}
 use lib.IntN.{pos}
 use Rattle.ocl.specs.Types.{set, sequence, bag, exactly, around, Boolean, Integer}
 use Rattle.ocl.specs.Values.{Value, bool, int, coll, Values, nil, cons}
-use Rattle.ocl.specs.Model.{Row, Model}
+use Rattle.ocl.specs.Model.{Row, Model, schemaOf}
 use Rattle.ocl.specs.Forms.{ofMembers, truth, self, all, Expr, node, leaf, conditional, attribute, assemble, noOperand, operand}
-use Rattle.ocl.specs.Typing.{typed, refused, ofRows, Typed, typeRule, markOf}
+use Rattle.ocl.specs.Typing.{typed, refused, ofRows, Typed, typeRule, markIn}
 use Rattle.ocl.specs.Evaluation.{Outcome, value, undefined, stop, evaluateRule}
 use Rattle.ocl.specs.Worked.{parents, int₀}
 
@@ -45,10 +45,10 @@ blocks = record { parent = parents; rowCount = 4; row = blockRows; objectCount =
 
 -- a rule of class 0, typed, and evaluated for object 0
 unfoldable pub collectTyping : Expr → Typed
-collectTyping e = typeRule blocks 0 e
+collectTyping e = typeRule (schemaOf blocks) 0 e
 
 unfoldable pub collectOutcome : Expr → Outcome
-collectOutcome e = evaluateRule blocks (markOf (collectTyping e)) e 0
+collectOutcome e = evaluateRule blocks (markIn (collectTyping e .marks)) e 0
 
 unfoldable pub self₀ : ℕ → Expr
 self₀ n = node n (leaf self)

@@ -11,7 +11,7 @@ use Rattle.laws.specs.Lists.{member}
 use Rattle.laws.specs.Orders.{TotalOrder}
 use Rattle.ocl.specs.Types.{Kind, set, sequence, bag, Ty, Parents, Subtype, subtype, join}
 use Rattle.ocl.specs.Values.{Value, bool, int, obj, coll, Values, nil, cons, everyPart, order, same, has, add, addAll}
-use Rattle.ocl.specs.Model.{Model, belongs}
+use Rattle.ocl.specs.Model.{Schema, Model, belongs}
 use Rattle.ocl.specs.Environment.{Env}
 use Rattle.ocl.specs.Forms.{Leaf, truth, undef, number, self, var, all, Expr, node, Form, leaf, unary, binary, connective, isUndef, conditional, letIn, attribute, quantified, iterate, assemble, Operands, noOperand, operand}
 use Rattle.ocl.specs.Typing.{refused, Mark, rowMarked, kindMarked, Marks, typing}
@@ -188,8 +188,8 @@ pub record Refusal (nodes : List ℕ) (n p : ℕ) : Type 0 where
   pub high : n ≤ 13
   pub placed : T (member p nodes)
 
--- a mark is at a node, its row is one of the model, and its kind is none that drops repeats
-pub record MarkAt (s : Model) (nodes : List ℕ) (p : ℕ) (m : Mark) : Type 0 where
+-- a mark is at a node, its row is one of the schema, and its kind is none that drops repeats
+pub record MarkAt (s : Schema) (nodes : List ℕ) (p : ℕ) (m : Mark) : Type 0 where
   pub placed : T (member p nodes)
   pub is-row : rowMarked m < s .rowCount
   pub no-set : kindMarked m ≡ set → ⊥
@@ -199,10 +199,14 @@ pub data EachMark (P : ℕ → Mark → Type 0) : Marks → Type 0 where
   no-mark : EachMark P []
   mark-then : {p : ℕ} {x : Mark} {m : Marks} → P p x → EachMark P m → EachMark P ((p, x) ∷ m)
 
+-- a table of marks that has these
+abbrev pub Agree : (ℕ → Mark) → Marks → Type 0
+Agree mark m = EachMark (λ p x. mark p ≡ x) m
+
 -- refusals and marks are at nodes of the tree that is typed; a refusal leaves the marks made before it
-pub record TypingPlaces (s : Model) (e : Expr) (Γ : Env Ty) : Type 0 where
+pub record TypingPlaces (s : Schema) (e : Expr) (Γ : Env Ty) : Type 0 where
   pub refusals : (n p : ℕ) → typing s e Γ .answer ≡ refused n p → Refusal (numbers e) n p
   pub marked : EachMark (MarkAt s (numbers e)) (typing s e Γ .marks)
 
 abbrev pub TypingPlacesLaw : Type 0
-TypingPlacesLaw = (s : Model) (e : Expr) (Γ : Env Ty) → TypingPlaces s e Γ
+TypingPlacesLaw = (s : Schema) (e : Expr) (Γ : Env Ty) → TypingPlaces s e Γ

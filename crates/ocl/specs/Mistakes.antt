@@ -8,9 +8,9 @@ use Prim.Native.Nat.{ℕ, zero, suc}
 use lib.IntN.{pos, negsuc}
 use Rattle.ocl.specs.Types.{Boolean, Integer, sequence}
 use Rattle.ocl.specs.Values.{Value, bool, int, obj}
-use Rattle.ocl.specs.Model.{Row, Model}
+use Rattle.ocl.specs.Model.{Row, Model, schemaOf}
 use Rattle.ocl.specs.Forms.{plus, Quantifier, forAll, exists, ofObject, truth, self, var, less, arith, sizeOf, castTo, Expr, node, leaf, unary, binary, conditional, letIn, attribute, quantified, iterate, assemble, noOperand, operand}
-use Rattle.ocl.specs.Typing.{typed, refused, ofRow, Typed, typeRule, markOf}
+use Rattle.ocl.specs.Typing.{typed, refused, ofRow, Typed, typeRule, markIn}
 use Rattle.ocl.specs.Environment.{start}
 use Rattle.ocl.specs.Evaluation.{Outcome, value, undefined, stop, evaluation, evaluateRule}
 use Rattle.ocl.specs.Worked.{parents, undef₀, int₀}
@@ -35,10 +35,10 @@ model = record { parent = parents; rowCount = 2; row = redeclared; objectCount =
 
 -- a rule of class 0, typed, and evaluated for the object
 unfoldable pub ruleTyping : Expr → Typed
-ruleTyping e = typeRule model 0 e
+ruleTyping e = typeRule (schemaOf model) 0 e
 
 unfoldable pub outcomeIn : Expr → Outcome
-outcomeIn e = evaluateRule model (markOf (ruleTyping e)) e 0
+outcomeIn e = evaluateRule model (markIn (ruleTyping e .marks)) e 0
 
 -- `attr self 5`
 unfoldable pub attribute₅ : Expr

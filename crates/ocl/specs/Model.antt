@@ -13,6 +13,12 @@ pub record Row : Type 0 where
   pub name : ℕ
   pub type : Ty
 
+-- classes and rows: all that typing reads
+pub record Schema : Type 0 where
+  pub parent : Parents
+  pub rowCount : ℕ
+  pub row : ℕ → Row
+
 -- classes, rows, objects and values
 pub record Model : Type 0 where
   pub parent : Parents
@@ -22,6 +28,9 @@ pub record Model : Type 0 where
   pub classOf : ℕ → Option ℕ
   -- the value of a row for an object, row last; none is undefined
   pub valueOf : ℕ → ℕ → Option Value
+
+abbrev pub schemaOf : Model → Schema
+schemaOf s = record { parent = s .parent; rowCount = s .rowCount; row = s .row }
 
 -- a class, if there is one, that is b or below it
 unfoldable pub classIsA : Parents → Option ℕ → Simple → Bool
@@ -50,15 +59,15 @@ belongs s (around l t) (obj o) = false
 belongs s (around l t) (coll k vs) = letterSubtype (exactly k) l && every (belongs s t) vs
 
 -- the row that class c itself declares with the name, among the first n rows
-unfoldable pub declared : Model → ℕ → ℕ → ℕ → Option ℕ
+unfoldable pub declared : Schema → ℕ → ℕ → ℕ → Option ℕ
 declared s c name zero = none
 declared s c name (suc n) = if eqb (s .row n .owner) c && eqb (s .row n .name) name then some n else declared s c name n
 
 -- the nearest declaration from class c upward, through at most n classes
-unfoldable pub nearest : Model → ℕ → ℕ → ℕ → Option ℕ
+unfoldable pub nearest : Schema → ℕ → ℕ → ℕ → Option ℕ
 nearest s name zero c = none
 nearest s name (suc n) c = orElse (declared s c name (s .rowCount)) (onSome (s .parent c) (nearest s name n))
 
 -- a class has at most as many ancestors as its number says, since parents are smaller
-unfoldable pub rowRead : Model → ℕ → ℕ → Option ℕ
+unfoldable pub rowRead : Schema → ℕ → ℕ → Option ℕ
 rowRead s c name = nearest s name (suc c) c

@@ -5,14 +5,14 @@ use mathlib.Core.Logic.{_≢_}
 use mathlib.Core.Option.{some}
 use Prim.Native.Nat.{ℕ, _≤_, _<_}
 use lib.Dec.{T}
-use Rattle.laws.specs.Lists.{Each, Distinct}
+use Rattle.laws.specs.Lists.{Each}
 use Rattle.ocl.specs.Types.{class, Ty}
 use Rattle.ocl.specs.Values.{Value, size}
-use Rattle.ocl.specs.Model.{Model, isA, belongs}
+use Rattle.ocl.specs.Model.{Model, schemaOf, isA, belongs}
 use Rattle.ocl.specs.Forms.{Expr, reach}
-use Rattle.ocl.specs.Typing.{typed, typeRule, markOf}
+use Rattle.ocl.specs.Typing.{typed, Mark, typeRule}
 use Rattle.ocl.specs.Evaluation.{Outcome, value, stuck, stop, Stop, stepsOf, inRange, evaluateRule}
-use Rattle.ocl.specs.Laws.{integersInRange, Formed, numbers, literals}
+use Rattle.ocl.specs.Laws.{integersInRange, Formed, literals, Agree}
 
 -- what reading makes sure of
 pub record AcceptedModel (s : Model) : Type 0 where
@@ -42,10 +42,9 @@ pub record Sound (s : Model) (t : Ty) (k : ℕ) (o : Outcome) : Type 0 where
   -- no step stop where the reach is within the limit
   pub no-step-stop : k ≤ 1000000 → (n : ℕ) → o ≢ stop 16 n
 
--- each node of the rule's tree has a number of its own, so that no mark replaces another, and its literals are in range: reading makes
--- sure of both
+-- a rule whose literals are in range and which gets type t, with any table that has its marks
 abbrev pub Soundness : Type 0
 Soundness =
-    (s : Model) → AcceptedModel s → (e : Expr) → Distinct (numbers e) → Each (λ z. T (inRange z)) (literals e) → (c o : ℕ) (t : Ty)
-    → typeRule s c e .answer ≡ typed t → T (isA s o (class c))
-    → Sound s t (reach e) (evaluateRule s (markOf (typeRule s c e)) e o)
+    (s : Model) → AcceptedModel s → (mark : ℕ → Mark) (e : Expr) → Each (λ z. T (inRange z)) (literals e) → (c o : ℕ) (t : Ty)
+    → typeRule (schemaOf s) c e .answer ≡ typed t → Agree mark (typeRule (schemaOf s) c e .marks) → T (isA s o (class c))
+    → Sound s t (reach e) (evaluateRule s mark e o)

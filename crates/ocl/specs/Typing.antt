@@ -6,7 +6,7 @@ use Prim.Native.Nat.{ℕ}
 use lib.Dec.{eqb, leb}
 use Rattle.laws.specs.Choice.{if_then_else_}
 use Rattle.ocl.specs.Types.{any, boolean, integer, class, Kind, set, sequence, bag, Letter, collection, exactly, Ty, void, simple, around, Boolean, Integer, Class, depth, sameKind, subtype, join}
-use Rattle.ocl.specs.Model.{Model, rowRead}
+use Rattle.ocl.specs.Model.{Schema, rowRead}
 use Rattle.ocl.specs.Environment.{Env, extend, start}
 use Rattle.ocl.specs.Forms.{Access, ofObject, ofMembers, Leaf, truth, undef, number, self, var, all, Unary, negation, sizeOf, convert, castTo, Binary, equal, less, arith, includes, including, union, Expr, node, Form, leaf, unary, binary, connective, isUndef, conditional, letIn, attribute, quantified, iterate, assemble, Operands, noOperand, operand}
 
@@ -60,7 +60,7 @@ andThen x k = thenFor (x .answer) (x .marks) k
 -- ---- what the node p asks of its operands' types: 11, then 10, then 12, then 13
 
 -- t is below u, else 11
-abbrev pub below : Model → ℕ → Ty → Ty → Answer → Answer
+abbrev pub below : Schema → ℕ → Ty → Ty → Answer → Answer
 below s p t u a = if subtype (s .parent) t u then a else refused 11 p
 
 -- there is a common type, else 10
@@ -109,7 +109,7 @@ leafType p (var i) Γ = boundType p (Γ i)
 leafType p (all c) Γ = typed (around (exactly set) (Class c))
 
 -- `as`: from Any, or from a class above or below c; an unrelated class is 10, any other type 11
-unfoldable pub castType : Model → ℕ → ℕ → Ty → Answer
+unfoldable pub castType : Schema → ℕ → ℕ → Ty → Answer
 castType s p c void = refused 11 p
 castType s p c (simple any) = typed (Class c)
 castType s p c (simple boolean) = refused 11 p
@@ -119,7 +119,7 @@ castType s p c (simple (class d)) =
 castType s p c (around l t) = refused 11 p
 
 -- forms with one strict operand, of type t
-unfoldable pub unaryType : Model → ℕ → Unary → Ty → Answer
+unfoldable pub unaryType : Schema → ℕ → Unary → Ty → Answer
 unaryType s p negation t = below s p t Boolean (typed Boolean)
 unaryType s p sizeOf t = onCollection t (refused 11 p) (λ l u. typed Integer)
 -- the new kind around the member type
@@ -127,11 +127,11 @@ unaryType s p (convert k) t = onCollection t (refused 11 p) (λ l u. wrap p (exa
 unaryType s p (castTo c) t = castType s p c t
 
 -- t and u are below w; the type is r
-unfoldable pub bothBelow : Model → ℕ → Ty → Ty → Ty → Ty → Answer
+unfoldable pub bothBelow : Schema → ℕ → Ty → Ty → Ty → Ty → Answer
 bothBelow s p w r t u = below s p t w (below s p u w (typed r))
 
 -- forms with two strict operands, of types t and u
-unfoldable pub binaryType : Model → ℕ → Binary → Ty → Ty → Answer
+unfoldable pub binaryType : Schema → ℕ → Binary → Ty → Ty → Answer
 -- `eq`: a common type must exist
 binaryType s p equal t u = common p (join (s .parent) t u) (λ w. typed Boolean)
 binaryType s p less t u = bothBelow s p Integer Boolean t u
@@ -148,11 +148,11 @@ binaryType s p union t u =
     if sameKind j k then common p (join (s .parent) m n) (wrap p (exactly j)) else refused 11 p))))
 
 -- `if`: a condition below Bool (11), then the branches' common type (10)
-unfoldable pub conditionalType : Model → ℕ → Ty → Ty → Ty → Answer
+unfoldable pub conditionalType : Schema → ℕ → Ty → Ty → Ty → Answer
 conditionalType s p c t u = below s p c Boolean (common p (join (s .parent) t u) typed)
 
 -- the row found, which is marked; none is 12
-unfoldable pub rowType : Model → ℕ → (ℕ → Mark) → (Ty → Answer) → Option ℕ → Typed
+unfoldable pub rowType : Schema → ℕ → (ℕ → Mark) → (Ty → Answer) → Option ℕ → Typed
 rowType s p mark k none = pure (refused 12 p)
 rowType s p mark k (some i) = record { answer = k (s .row i .type); marks = (p, mark i) ∷ [] }
 
@@ -165,7 +165,7 @@ collectKind (exactly bag) = bag
 
 -- `attr`: of a class; `collect`: of a collection whose member type is a class (11). The row is the nearest declaration from that static
 -- class upward (12); what `collect` puts around its type is at most three deep (13)
-unfoldable pub attributeType : Model → ℕ → Access → ℕ → Ty → Typed
+unfoldable pub attributeType : Schema → ℕ → Access → ℕ → Ty → Typed
 attributeType s p ofObject name t = onClass t (pure (refused 11 p)) (λ c. rowType s p ofRow typed (rowRead s c name))
 attributeType s p ofMembers name t =
     onCollection t (pure (refused 11 p)) (λ l m. onClass m (pure (refused 11 p)) (λ c.
@@ -176,20 +176,20 @@ attributeType s p ofMembers name t =
 unfoldable pub leafTyping : ℕ → Leaf → Typing
 leafTyping p l Γ = pure (leafType p l Γ)
 
-unfoldable pub unaryTyping : Model → ℕ → Unary → Typing → Typing
+unfoldable pub unaryTyping : Schema → ℕ → Unary → Typing → Typing
 unaryTyping s p op f Γ = andThen (f Γ) (λ t. pure (unaryType s p op t))
 
-unfoldable pub binaryTyping : Model → ℕ → Binary → Typing → Typing → Typing
+unfoldable pub binaryTyping : Schema → ℕ → Binary → Typing → Typing → Typing
 binaryTyping s p op f g Γ = andThen (f Γ) (λ t. andThen (g Γ) (λ u. pure (binaryType s p op t u)))
 
 -- `and`, `or`: both below Bool
-unfoldable pub connectiveTyping : Model → ℕ → Typing → Typing → Typing
+unfoldable pub connectiveTyping : Schema → ℕ → Typing → Typing → Typing
 connectiveTyping s p f g Γ = andThen (f Γ) (λ t. andThen (g Γ) (λ u. pure (bothBelow s p Boolean Boolean t u)))
 
 unfoldable pub isUndefTyping : Typing → Typing
 isUndefTyping f Γ = andThen (f Γ) (λ t. pure (typed Boolean))
 
-unfoldable pub conditionalTyping : Model → ℕ → Typing → Typing → Typing → Typing
+unfoldable pub conditionalTyping : Schema → ℕ → Typing → Typing → Typing → Typing
 conditionalTyping s p f g h Γ =
     andThen (f Γ) (λ c. andThen (g Γ) (λ t. andThen (h Γ) (λ u. pure (conditionalType s p c t u))))
 
@@ -197,17 +197,17 @@ conditionalTyping s p f g h Γ =
 unfoldable pub letTyping : ℕ → Typing → Typing → Typing
 letTyping i f g Γ = andThen (f Γ) (λ t. g (extend Γ i t))
 
-unfoldable pub attributeTyping : Model → ℕ → Access → ℕ → Typing → Typing
+unfoldable pub attributeTyping : Schema → ℕ → Access → ℕ → Typing → Typing
 attributeTyping s p x name f Γ = andThen (f Γ) (attributeType s p x name)
 
 -- `forAll`, `exists`: the source is checked (11) before the body is typed; the body is below Bool
-unfoldable pub quantifiedTyping : Model → ℕ → ℕ → Typing → Typing → Typing
+unfoldable pub quantifiedTyping : Schema → ℕ → ℕ → Typing → Typing → Typing
 quantifiedTyping s p i f g Γ =
     andThen (f Γ) (λ t. onCollection t (pure (refused 11 p)) (λ l m.
     andThen (g (extend Γ i m)) (λ b. pure (below s p b Boolean (typed Boolean)))))
 
 -- `iter`: source and start are typed and checked (11) before the body is typed; the start and the body are below T
-unfoldable pub iterateTyping : Model → ℕ → ℕ → ℕ → Ty → Typing → Typing → Typing → Typing
+unfoldable pub iterateTyping : Schema → ℕ → ℕ → ℕ → Ty → Typing → Typing → Typing → Typing
 iterateTyping s p i j t f g h Γ =
     andThen (f Γ) (λ c. andThen (g Γ) (λ e. onCollection c (pure (refused 11 p)) (λ l m.
     if subtype (s .parent) e t
@@ -219,7 +219,7 @@ unfoldable pub noOperandTyping : Typing
 noOperandTyping Γ = pure (typed void)
 
 -- all members are typed before their common type is taken (10)
-unfoldable pub operandTyping : Model → ℕ → Typing → Typing → Typing
+unfoldable pub operandTyping : Schema → ℕ → Typing → Typing → Typing
 operandTyping s p f g Γ = andThen (f Γ) (λ t. andThen (g Γ) (λ u. pure (common p (join (s .parent) t u) typed)))
 
 unfoldable pub assembleTyping : ℕ → Kind → Typing → Typing
@@ -227,10 +227,10 @@ assembleTyping p k f Γ = andThen (f Γ) (λ t. pure (wrap p (exactly k) t))
 
 -- a node's refusals name that node
 unfoldable mutual
-  pub typing : Model → Expr → Typing
+  pub typing : Schema → Expr → Typing
   typing s (node p f) = formTyping s p f
 
-  pub formTyping : Model → ℕ → Form → Typing
+  pub formTyping : Schema → ℕ → Form → Typing
   formTyping s p (leaf l) = leafTyping p l
   formTyping s p (unary op a) = unaryTyping s p op (typing s a)
   formTyping s p (binary op a b) = binaryTyping s p op (typing s a) (typing s b)
@@ -243,12 +243,12 @@ unfoldable mutual
   formTyping s p (iterate i j t a e b) = iterateTyping s p i j t (typing s a) (typing s e) (typing s b)
   formTyping s p (assemble k es) = assembleTyping p k (operandsTyping s p es)
 
-  pub operandsTyping : Model → ℕ → Operands → Typing
+  pub operandsTyping : Schema → ℕ → Operands → Typing
   operandsTyping s p noOperand = noOperandTyping
   operandsTyping s p (operand e es) = operandTyping s p (typing s e) (operandsTyping s p es)
 
 -- a rule with context class c: `self` has that class
-unfoldable pub typeRule : Model → ℕ → Expr → Typed
+unfoldable pub typeRule : Schema → ℕ → Expr → Typed
 typeRule s c e = typing s e (start (Class c))
 
 -- what node p is marked with, and d where it is not; no node of a rule is marked twice
@@ -257,5 +257,5 @@ markOr d [] p = d
 markOr d (x ∷ m) p = markOr (if eqb p (x .0) then x .1 else d) m p
 
 -- the marks as evaluation reads them; it reads them at `attr` and `collect` nodes, and typing marks each of those
-unfoldable pub markOf : Typed → ℕ → Mark
-markOf x p = markOr (ofRow 0) (x .marks) p
+unfoldable pub markIn : Marks → ℕ → Mark
+markIn m p = markOr (ofRow 0) m p

@@ -44,7 +44,7 @@ module _ (text : Bytes) (w0 w1 w2 : List ℕ) (out : Bytes) (long0 : length w0 �
 
   module _ {r : Answer} {v0 v1 v2 : List ℕ} {after : Bytes} (told : AnswersWith (reportCall text w0 w1 w2 out) r w0 w1 w2 out v0 v1 v2 after) where
     is : r ≡ answerOf (reportOf text 65536)
-    is = told .answers .is ∙ ap answerOf lent
+    is = told .is ∙ ap answerOf lent
 
     pub report-printed : r .number ≡ 0 → Front (program text) after (r .length)
     unfolding program

@@ -1,4 +1,4 @@
--- Laws of how long a rule's lines can be. Assumes nothing.
+-- Laws of how long a rule's lines, and those of all rules, can be. Assumes nothing.
 use mathlib.Core.Path.{_≡_, refl, sym, ap, _∙_}
 use mathlib.Core.Bool.{Bool, true, false}
 use mathlib.Core.List.{List}
@@ -6,19 +6,26 @@ use Prim.Native.Nat.{ℕ, _+_, _*_, _≤_, _<_}
 use native.Mathlib.Omega.{arith}
 use native.Mathlib.Nat.{mul-le-mul}
 use native.Mathlib.Numerals.{add-one}
+use lib.ListN.{length, getD}
 use Rattle.laws.specs.Choice.{if_then_else_}
 use Rattle.ocl.specs.Types.{Ty}
 use Rattle.ocl.specs.Model.{Model}
+use Rattle.sheet.specs.Sheet.{Rule, Sheet, modelOf}
 use Rattle.types.specs.declared.Base.{Base}
 use Rattle.types.specs.declared.FlatType.{FlatType}
 use Rattle.types.specs.Flat.{baseType, tyOf}
+use Rattle.types.specs.Word.{typeIn}
 use Rattle.types.proofs.Members.{ends, goes-on}
 use Rattle.tables.specs.declared.Counts.{Counts}
 use Rattle.tables.specs.Stored.{HoldsModel}
-use Rattle.operations.specs.Tables.{IsA}
+use Rattle.operations.specs.Tables.{Bounds, IsA}
+use Rattle.rules.specs.Accepted.{Accepted, TypesIn}
 use Rattle.rules.specs.Width.{width}
 use Rattle.rules.proofs.Lengths.{width-within}
-use Rattle.report.specs.Bound.{objectsOf, CountsObjects, BoundsLines}
+use Rattle.rules.proofs.Ready.{ready}
+use Rattle.report.specs.Bound.{objectsOf, CountsObjects, lineWidth, BoundsLines, linesBound, rulesBound, BoundsReport}
+use Rattle.report.specs.Passes.{TypedRule}
+use Rattle.report.proofs.ReportLaws.{rule-of, boundTo, bound-rule, bound-all}
 
 -- ---- the width of a type
 
@@ -66,4 +73,43 @@ module _ {st : Counts} {w0 : List ℕ} {c n w : ℕ} (t : Ty) (count : CountsObj
       omega (arith, mul-le-mul (count .few) h)
 
   pub bounds-lines : BoundsLines st w0 c t (n * (15 + w))
+  unfolding lineWidth
   bounds-lines = record { is = λ m h. rw (wide, count .is m h); few = bound-few }
+
+-- a rule of an accepted sheet, by its words
+lines-bound-is : {st : Counts} {w0 w1 : List ℕ} {r n : ℕ} {s : Sheet} {x : Rule} {t : Ty} → TypedRule st w0 w1 r s x t
+    → BoundsLines st w0 (getD w0 (4448 + r) 0) t n → n ≡ linesBound s x t (length (s .objects))
+unfolding linesBound
+lines-bound-is {r} {s} {x} m b =
+    let all = ready (m .lies) in
+    b .is (modelOf s) (all .model) ∙ rw (all .rule r x (m .rule) .context, m .lies .holds .counted .objects)
+
+-- ---- all rules: the bound of the first r
+
+pub record BoundedTo (st : Counts) (w0 w2 : List ℕ) (bound r : ℕ) : Type 0 where
+  pub is : (w1 : List ℕ) (s : Sheet) (ts : List Ty) → Accepted st w0 w1 s ts → TypesIn w2 ts → bound ≡ boundTo s ts r
+  pub few : bound ≤ r * 148896
+  pub within : r ≤ st .rules
+
+module _ {st : Counts} {w0 w2 : List ℕ} where
+  pub bounded-none : BoundedTo st w0 w2 0 0
+  unfolding rulesBound
+  bounded-none = record { is = λ w1 s ts a w. refl; few = omega arith; within = omega arith }
+
+  pub bounded-next : {rules bound r n : ℕ} {t : Ty} → rules ≡ st .rules → BoundedTo st w0 w2 bound r → r < rules → t ≡ typeIn (getD w2 (768 + r) 0)
+      → BoundsLines st w0 (getD w0 (4448 + r) 0) t n → BoundedTo st w0 w2 (bound + n) (r + 1)
+  bounded-next {rules} {bound} {r} {n} {t} count so h e b = record {
+    is = λ w1 s ts a w.
+        let there : r < st .rules = omega arith in
+        let y = rule-of a there in
+        let q : t ≡ y .type = e ∙ w .at r (y .type) (y .listed) in
+        rw (add-one r, bound-rule y, so .is w1 s ts a w, lines-bound-is (y .is) (rw q at b));
+    few = omega (arith, so .few, b .few);
+    within = omega arith;
+  }
+
+  pub bounded-all : {rules bound r words : ℕ} → Bounds st words → rules ≡ st .rules → BoundedTo st w0 w2 bound r → rules ≤ r → BoundsReport st w0 w2 bound
+  bounded-all {r = r} lent count so h = let e : r ≡ st .rules = omega (arith, so .within) in record {
+    is = λ w1 s ts a w. so .is w1 s ts a w ∙ bound-all s ts r (e ∙ a .lies .holds .counted .rules);
+    few = omega (arith, so .few, lent .fine .rules);
+  }

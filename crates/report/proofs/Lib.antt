@@ -1,7 +1,6 @@
 mod LineLaws
-pub mod BoundLaws
 pub mod ReportLaws
-pub mod TypingLaws
+pub mod BoundLaws
 pub mod PassLaws
 pub mod RuleLaws
 pub mod SheetLaws

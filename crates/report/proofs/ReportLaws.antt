@@ -1,30 +1,28 @@
--- Laws of the report's lines and of typing all rules, rule by rule. Assumes nothing.
-use mathlib.Core.Path.{_≡_, refl, sym, ap, _∙_}
+-- Laws of the report's lines and of their bound, rule by rule. Assumes nothing.
+use mathlib.Core.Path.{_≡_, refl, sym, ap, subst, _∙_}
 use mathlib.Core.Bool.{Bool, true, false}
-use mathlib.Core.Option.{some}
+use mathlib.Core.Option.{some, Option·some-injective, Option·none-ne-some}
 use mathlib.Core.List.{List, [], _∷_, _++_, append-nil, append-assoc}
 use Prim.Native.Nat.{ℕ, zero, suc, _+_, _*_, _≤_, _<_}
 use native.Mathlib.Omega.{arith}
 use native.Mathlib.Nat.{add-mul}
 use native.Mathlib.Decide.{decLt}
-use lib.ListN.{length, getD, getElem?, take, drop, length-append}
-use lib.Seq.{drop-cons, take-length}
+use lib.ListN.{length, getElem?, take, length-append}
+use lib.Seq.{take-length}
 use Rattle.laws.specs.Choice.{if_then_else_}
 use Rattle.ocl.specs.Types.{class, Ty}
 use Rattle.ocl.specs.Model.{isA}
-use Rattle.ocl.specs.Typing.{typed, refused as untyped}
+use Rattle.ocl.specs.Typing.{typed}
 use Rattle.sheet.specs.Text.{Bytes}
 use Rattle.sheet.specs.Sheet.{Rule, Sheet, modelOf}
-use Rattle.sheet.specs.Calls.{Verdict, refusalAt, typingOf, onType}
-use Rattle.sheet.specs.Report.{objectLines, ruleLines, onTypes}
-use Rattle.laws.proofs.Elements.{elem-at}
+use Rattle.sheet.specs.Calls.{typingOf}
+use Rattle.sheet.specs.Report.{objectLines, ruleLines}
+use Rattle.sheet.specs.Laws.{AllTyped, none-typed, one-typed}
+use Rattle.tables.specs.declared.Counts.{Counts}
+use Rattle.rules.specs.Accepted.{Accepted}
+use Rattle.rules.proofs.Ready.{ready}
 use Rattle.report.specs.Bound.{objectsOf, lineWidth, linesBound, rulesBound}
-use Rattle.report.specs.Passes.{objectLine, lineBound}
-
--- ---- lists and sums
-
-pub drop-elem : {A : Type 0} (l : List A) (i : ℕ) (x : A) → getElem? l i ≡ some x → drop i l ≡ x ∷ drop (suc i) l
-drop-elem l i x e = let h = elem-at l i x e in drop-cons l i x (h .0) ∙ ap (λ y. y ∷ drop (suc i) l) (h .1)
+use Rattle.report.specs.Passes.{TypedRule, objectLine, lineBound}
 
 -- a part of a sum is no more than the sum
 sum-before : (f g : ℕ → ℕ) → ((i : ℕ) → f (suc i) ≡ f i + g i) → (o n : ℕ) → o < n → f o + g o ≤ f n
@@ -35,17 +33,30 @@ sum-before f g step o (suc n) h = by (decLt o n) (sum-before f g step o n)
     by (yes k) ih = omega (arith, step n, ih k)
     by (no k) ih = let e : o ≡ n = omega arith in rw e (omega (arith, step n))
 
--- ---- typing all rules
+-- ---- a rule of an accepted sheet, and its type
 
-module _ (s : Sheet) (r : ℕ) (x : Rule) (at : getElem? (s .rules) r ≡ some x) (v : Verdict) where
-  -- a rule that has a type
-  pub types-next : (t : Ty) → typingOf s x .answer ≡ typed t → onTypes s (drop r (s .rules)) v ≡ onTypes s (drop (suc r) (s .rules)) v
-  unfolding onTypes onType
-  types-next t e = rw (drop-elem (s .rules) r x at, e)
+pub record RuleOf (st : Counts) (w0 w1 : List ℕ) (r : ℕ) (s : Sheet) (ts : List Ty) : Type 0 where
+  pub rule : Rule
+  pub type : Ty
+  pub is : TypedRule st w0 w1 r s rule type
+  pub listed : getElem? ts r ≡ some type
 
-  pub types-end : (n p : ℕ) → typingOf s x .answer ≡ untyped n p → onTypes s (drop r (s .rules)) v ≡ refusalAt n (getD (s .lines) p 0)
-  unfolding onTypes onType
-  types-end n p e = rw (drop-elem (s .rules) r x at, e)
+type-listed : {s : Sheet} {xs : List Rule} {ts : List Ty} → AllTyped s xs ts → (r : ℕ) (x : Rule) → getElem? xs r ≡ some x
+    → (t : Ty) × ((typingOf s x .answer ≡ typed t) × (getElem? ts r ≡ some t))
+type-listed none-typed r x e = absurd (Option·none-ne-some _ e)
+type-listed {s} (one-typed {t} a h) zero x e = (t, (subst (λ y. typingOf s y .answer ≡ typed t) (Option·some-injective _ _ e) a, refl))
+type-listed (one-typed a h) (suc r) x e = type-listed h r x e
+
+pub rule-of : {st : Counts} {w0 w1 : List ℕ} {r : ℕ} {s : Sheet} {ts : List Ty} → Accepted st w0 w1 s ts → r < st .rules → RuleOf st w0 w1 r s ts
+rule-of {r} a h =
+    let x = ready (a .lies) .some-rule r h in
+    let t = type-listed (a .typed) r (x .0) (x .1) in
+    record {
+      rule = x .0;
+      type = t .0;
+      is = record { lies = a .lies; marks = a .marks; rule = x .1; type = t .1 .0 };
+      listed = t .1 .1;
+    }
 
 -- ---- the lines of one rule, and their bound
 
@@ -59,20 +70,23 @@ module _ (s : Sheet) (r : ℕ) (x : Rule) where
   lines-before = sum-before (λ i. length (objectLines s r x i)) (λ i. length (objectLine r i s x))
       (λ i. ap length (lines-object i) ∙ length-append (objectLines s r x i) (objectLine r i s x))
 
-module _ (s : Sheet) (x : Rule) where
-  pub bound-object : (o : ℕ) → linesBound s x (suc o) ≡ linesBound s x o + lineBound o s x
+module _ (s : Sheet) (x : Rule) (t : Ty) where
+  pub bound-object : (o : ℕ) → linesBound s x t (suc o) ≡ linesBound s x t o + lineBound o s x t
   unfolding linesBound lineBound objectsOf
   bound-object o = by (isA (modelOf s) o (class (x .context)))
     where
+      n : ℕ
+      n = objectsOf (modelOf s) (x .context) o
+
       w : ℕ
-      w = lineWidth (typingOf s x .answer)
+      w = lineWidth t
 
-      by : (b : Bool) → (objectsOf (modelOf s) (x .context) o + (if b then 1 else 0)) * w ≡ objectsOf (modelOf s) (x .context) o * w + (if b then w else 0)
-      by true = add-mul (objectsOf (modelOf s) (x .context) o) 1 w ∙ omega arith
-      by false = add-mul (objectsOf (modelOf s) (x .context) o) 0 w ∙ omega arith
+      by : (b : Bool) → (n + (if b then 1 else 0)) * w ≡ n * w + (if b then w else 0)
+      by true = add-mul n 1 w ∙ omega arith
+      by false = add-mul n 0 w ∙ omega arith
 
-  pub bound-before : (o n : ℕ) → o < n → linesBound s x o + lineBound o s x ≤ linesBound s x n
-  bound-before = sum-before (linesBound s x) (λ i. lineBound i s x) bound-object
+  pub bound-before : (o n : ℕ) → o < n → linesBound s x t o + lineBound o s x t ≤ linesBound s x t n
+  bound-before = sum-before (linesBound s x t) (λ i. lineBound i s x t) bound-object
 
 -- ---- the lines of the first rules, and their bound
 
@@ -118,28 +132,34 @@ module _ (s : Sheet) where
       let a = ap length (lines-rule r x e) ∙ length-append (linesTo r) (objectLines s r x (length (s .objects))) in
       omega (arith, lines-more 0 (suc r) (s .rules))
 
-  -- the bound of the first r rules
+-- the bound of the first r rules, of the types ts
+module _ (s : Sheet) (ts : List Ty) where
   abbrev pub boundTo : ℕ → ℕ
-  boundTo r = rulesBound s (take r (s .rules))
+  boundTo r = rulesBound s (take r (s .rules)) ts
 
-  bound-take : (xs : List Rule) (i : ℕ) (x : Rule) → getElem? xs i ≡ some x → rulesBound s (take (suc i) xs) ≡ rulesBound s (take i xs) + linesBound s x (length (s .objects))
+  pub bound-all : (r : ℕ) → r ≡ length (s .rules) → boundTo r ≡ rulesBound s (s .rules) ts
+  bound-all r e = ap (λ (xs : List Rule). rulesBound s xs ts) (ap (λ (n : ℕ). take n (s .rules)) e ∙ take-length (s .rules))
+
+module _ (s : Sheet) where
+  bound-take : (xs : List Rule) (ts : List Ty) (i : ℕ) (x : Rule) (t : Ty) → getElem? xs i ≡ some x → getElem? ts i ≡ some t
+      → rulesBound s (take (suc i) xs) ts ≡ rulesBound s (take i xs) ts + linesBound s x t (length (s .objects))
   unfolding rulesBound
-  bound-take [] i x e = absurd (let z : _≡_ {A = ℕ} 0 1 = cc in omega arith)
-  bound-take (y ∷ xs) zero x e = let q : y ≡ x = cc in rw q (omega arith)
-  bound-take (y ∷ xs) (suc i) x e = omega (arith, bound-take xs i x e)
+  bound-take [] ts i x t e q = absurd (Option·none-ne-some _ e)
+  bound-take (y ∷ xs) [] i x t e q = absurd (Option·none-ne-some _ q)
+  bound-take (y ∷ xs) (u ∷ ts) zero x t e q = rw (Option·some-injective _ _ e, Option·some-injective _ _ q) (omega arith)
+  bound-take (y ∷ xs) (u ∷ ts) (suc i) x t e q = omega (arith, bound-take xs ts i x t e q)
 
-  pub bound-rule : (r : ℕ) (x : Rule) → getElem? (s .rules) r ≡ some x → boundTo (suc r) ≡ boundTo r + linesBound s x (length (s .objects))
-  bound-rule = bound-take (s .rules)
-
-  pub bound-all : (r : ℕ) → r ≡ length (s .rules) → boundTo r ≡ rulesBound s (s .rules)
-  bound-all r e = ap (rulesBound s) (ap (λ (n : ℕ). take n (s .rules)) e ∙ take-length (s .rules))
-
-  bound-more : (n : ℕ) (xs : List Rule) → rulesBound s (take n xs) ≤ rulesBound s xs
+  bound-more : (n : ℕ) (xs : List Rule) (ts : List Ty) → rulesBound s (take n xs) ts ≤ rulesBound s xs ts
   unfolding rulesBound
-  bound-more zero [] = omega arith
-  bound-more zero (x ∷ xs) = omega arith
-  bound-more (suc n) [] = omega arith
-  bound-more (suc n) (x ∷ xs) = omega (arith, bound-more n xs)
+  bound-more zero [] ts = omega arith
+  bound-more zero (x ∷ xs) ts = omega arith
+  bound-more (suc n) [] ts = omega arith
+  bound-more (suc n) (x ∷ xs) [] = omega arith
+  bound-more (suc n) (x ∷ xs) (t ∷ ts) = omega (arith, bound-more n xs ts)
 
-  pub bound-rule-before : (r : ℕ) (x : Rule) → getElem? (s .rules) r ≡ some x → boundTo r + linesBound s x (length (s .objects)) ≤ rulesBound s (s .rules)
-  bound-rule-before r x e = omega (arith, bound-rule r x e, bound-more (suc r) (s .rules))
+module _ {st : Counts} {w0 w1 : List ℕ} {r : ℕ} {s : Sheet} {ts : List Ty} (y : RuleOf st w0 w1 r s ts) where
+  pub bound-rule : boundTo s ts (suc r) ≡ boundTo s ts r + linesBound s (y .rule) (y .type) (length (s .objects))
+  bound-rule = bound-take s (s .rules) ts r (y .rule) (y .type) (y .is .rule) (y .listed)
+
+  pub bound-rule-before : boundTo s ts r + linesBound s (y .rule) (y .type) (length (s .objects)) ≤ rulesBound s (s .rules) ts
+  bound-rule-before = omega (arith, bound-rule, bound-more s (suc r) (s .rules) ts)

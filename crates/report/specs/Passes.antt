@@ -1,4 +1,4 @@
--- The report's lines, written one behind the other, or only counted: for every accepted sheet that lies in the words.
+-- The report's lines, written one behind the other, or only counted: for every accepted sheet in the words.
 use mathlib.Core.Path.{_≡_}
 use mathlib.Core.Logic.{_⊎_}
 use mathlib.Core.Bool.{Bool, true}
@@ -7,8 +7,9 @@ use mathlib.Core.List.{List, []}
 use Prim.Native.Nat.{ℕ, _+_, _≤_}
 use lib.ListN.{length, getElem?}
 use Rattle.laws.specs.Choice.{if_then_else_}
-use Rattle.ocl.specs.Types.{class}
+use Rattle.ocl.specs.Types.{class, Ty}
 use Rattle.ocl.specs.Model.{isA}
+use Rattle.ocl.specs.Typing.{typed}
 use Rattle.sheet.specs.Text.{Bytes}
 use Rattle.sheet.specs.Sheet.{Rule, Sheet, modelOf}
 use Rattle.sheet.specs.Calls.{typingOf, outcomeOf}
@@ -16,8 +17,8 @@ use Rattle.sheet.specs.Report.{reportLine, objectLines, ruleLines}
 use Rattle.text.specs.Written.{putBytes}
 use Rattle.tables.specs.declared.Counts.{Counts}
 use Rattle.tables.specs.Layout.{Kept}
-use Rattle.rules.specs.Accepted.{Accepted, MarksIn}
-use Rattle.report.specs.Bound.{lineWidth, linesBound, rulesBound, HasType, AllTyped}
+use Rattle.rules.specs.Accepted.{InWords, MarksIn, Accepted}
+use Rattle.report.specs.Bound.{lineWidth, linesBound, rulesBound}
 
 -- b comes behind `total` bytes: it is put there where it is to be kept
 pub record AddsBytes (keep : Bool) (total : ℕ) (b before after : Bytes) (r : ℕ) : Type 0 where
@@ -34,17 +35,12 @@ pub record HasRoom (keep : Bool) (total n b room : ℕ) : Type 0 where
 
 -- ---- one rule
 
--- rule r of the sheet that lies in the words is x, and its marks are in w1
-pub record Marked (st : Counts) (w0 w1 : List ℕ) (r : ℕ) (s : Sheet) (x : Rule) : Type 0 where
-  pub accepted : Accepted st w0 w1 s
+-- rule r of an accepted sheet is x, and has type t
+pub record TypedRule (st : Counts) (w0 w1 : List ℕ) (r : ℕ) (s : Sheet) (x : Rule) (t : Ty) : Type 0 where
+  pub lies : InWords st w0 w1 s
+  pub marks : MarksIn w1 s
   pub rule : getElem? (s .rules) r ≡ some x
-  pub marks : MarksIn w1 (typingOf s x)
-
--- w1 was `before`
-pub record MarksRule (st : Counts) (w0 before after : List ℕ) (r : ℕ) : Type 0 where
-  pub still : (s : Sheet) → Accepted st w0 before s → Accepted st w0 after s
-  pub marks : (s : Sheet) → Accepted st w0 before s → (x : Rule) → getElem? (s .rules) r ≡ some x → MarksIn after (typingOf s x)
-  pub kept : Kept before after
+  pub type : typingOf s x .answer ≡ typed t
 
 -- its line for object o, if there is one, and its lines for all objects
 unfoldable pub objectLine : ℕ → ℕ → Sheet → Rule → Bytes
@@ -54,25 +50,25 @@ abbrev pub allObjects : ℕ → Sheet → Rule → Bytes
 allObjects r s x = objectLines s r x (length (s .objects))
 
 -- how many bytes they can take
-unfoldable pub lineBound : ℕ → Sheet → Rule → ℕ
-lineBound o s x = if isA (modelOf s) o (class (x .context)) then lineWidth (typingOf s x .answer) else 0
+unfoldable pub lineBound : ℕ → Sheet → Rule → Ty → ℕ
+lineBound o s x t = if isA (modelOf s) o (class (x .context)) then lineWidth t else 0
 
-abbrev pub allBound : Sheet → Rule → ℕ
-allBound s x = linesBound s x (length (s .objects))
+abbrev pub allBound : Sheet → Rule → Ty → ℕ
+allBound s x t = linesBound s x t (length (s .objects))
 
--- a sheet and its rule r, which has a type, with room for f, which takes at most g
-pub record RoomFor (f : Sheet → Rule → Bytes) (g : Sheet → Rule → ℕ) (st : Counts) (w0 w1 : List ℕ) (r : ℕ) (keep : Bool) (total room : ℕ) : Type 0 where
+-- a sheet and its rule r, with room for f, which takes at most g
+pub record RoomFor (f : Sheet → Rule → Bytes) (g : Sheet → Rule → Ty → ℕ) (st : Counts) (w0 w1 : List ℕ) (r : ℕ) (keep : Bool) (total room : ℕ) : Type 0 where
   pub sheet : Sheet
   pub rule : Rule
-  pub marked : Marked st w0 w1 r sheet rule
-  pub type : HasType sheet rule
-  pub space : HasRoom keep total (length (f sheet rule)) (g sheet rule) room
+  pub type : Ty
+  pub typed : TypedRule st w0 w1 r sheet rule type
+  pub space : HasRoom keep total (length (f sheet rule)) (g sheet rule type) room
 
 -- f is added; w2 was `before`
-pub record AddsLines (f : Sheet → Rule → Bytes) (g : Sheet → Rule → ℕ) (st : Counts) (w0 w1 : List ℕ) (r : ℕ) (keep : Bool) (total : ℕ)
+pub record AddsLines (f : Sheet → Rule → Bytes) (g : Sheet → Rule → Ty → ℕ) (st : Counts) (w0 w1 : List ℕ) (r : ℕ) (keep : Bool) (total : ℕ)
     (before after : List ℕ) (out now : Bytes) (n : ℕ) : Type 0 where
-  pub is : (s : Sheet) (x : Rule) → Marked st w0 w1 r s x → AddsBytes keep total (f s x) out now n
-  pub bounded : (s : Sheet) (x : Rule) → Marked st w0 w1 r s x → HasType s x → n ≤ total + g s x
+  pub is : (s : Sheet) (x : Rule) (t : Ty) → TypedRule st w0 w1 r s x t → AddsBytes keep total (f s x) out now n
+  pub bounded : (s : Sheet) (x : Rule) (t : Ty) → TypedRule st w0 w1 r s x t → n ≤ total + g s x t
   pub size : length now ≡ length out
   pub kept : Kept before after
 
@@ -80,15 +76,13 @@ pub record AddsLines (f : Sheet → Rule → Bytes) (g : Sheet → Rule → ℕ)
 
 pub record RoomForAll (st : Counts) (w0 w1 : List ℕ) (keep : Bool) (room : ℕ) : Type 0 where
   pub sheet : Sheet
-  pub accepted : Accepted st w0 w1 sheet
-  pub types : AllTyped sheet
-  pub space : HasRoom keep 0 (length (ruleLines sheet 0 (sheet .rules))) (rulesBound sheet (sheet .rules)) room
+  pub types : List Ty
+  pub accepted : Accepted st w0 w1 sheet types
+  pub space : HasRoom keep 0 (length (ruleLines sheet 0 (sheet .rules))) (rulesBound sheet (sheet .rules) types) room
 
--- the report is added from the first byte on; w1 and w2 were u1 and u2, and are v1 and v2
-pub record AddsAll (st : Counts) (w0 u1 u2 v1 v2 : List ℕ) (keep : Bool) (out now : Bytes) (n : ℕ) : Type 0 where
-  pub is : (s : Sheet) → Accepted st w0 u1 s → AddsBytes keep 0 (ruleLines s 0 (s .rules)) out now n
-  pub bounded : (s : Sheet) → Accepted st w0 u1 s → AllTyped s → n ≤ rulesBound s (s .rules)
+-- the report is added from the first byte on; w2 was `before`
+pub record AddsAll (st : Counts) (w0 w1 before after : List ℕ) (keep : Bool) (out now : Bytes) (n : ℕ) : Type 0 where
+  pub is : (s : Sheet) (ts : List Ty) → Accepted st w0 w1 s ts → AddsBytes keep 0 (ruleLines s 0 (s .rules)) out now n
+  pub bounded : (s : Sheet) (ts : List Ty) → Accepted st w0 w1 s ts → n ≤ rulesBound s (s .rules) ts
   pub size : length now ≡ length out
-  pub still : (s : Sheet) → Accepted st w0 u1 s → Accepted st w0 v1 s
-  pub kept1 : Kept u1 v1
-  pub kept2 : Kept u2 v2
+  pub kept : Kept before after

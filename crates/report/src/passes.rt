@@ -2,26 +2,12 @@
 // counted overwrite one another, so room for one is enough. `total` is the number of bytes so far.
 ghost use Prim.Native.Nat.{_≤_, _<_};
 ghost use lib.ListN.{length};
-ghost use Rattle.tables.specs.Layout.{Kept};
-ghost use Rattle.rules.specs.Accepted.{Known};
-ghost use Rattle.report.specs.Passes.{MarksRule, objectLine, allObjects, lineBound, allBound, RoomFor, AddsLines, RoomForAll, AddsAll};
+ghost use Rattle.report.specs.Passes.{objectLine, allObjects, lineBound, allBound, RoomFor, AddsLines, RoomForAll, AddsAll};
 use crate::lines::put_line;
 use operations::lookup::is_a;
 use rules::evaluated::evaluate_numbered;
-use rules::evaluated::keep_marks;
-use rules::typed::type_numbered;
 use tables::Counts;
 use types::classes::wide;
-
-// Types rule r once more, for its marks: evaluation reads them in w1.
-fn mark_rule(w0: &[u64], st: Counts, w1: &mut [u64], w2: &mut [u64], r: usize)
-    requires { ⌜ (8192 ≤ length (now w0)) × (8192 ≤ length (now w1)) × (8192 ≤ length (now w2)) ⌝ }
-    requires { ⌜ Known st (now w0) (now w1) × (r < st .rules) ⌝ }
-    ensures { λ _. ⌜ MarksRule st (now (w0 .entry)) (now (w1 .entry)) (now (w1 .exit)) r × Kept (now (w2 .entry)) (now (w2 .exit)) ⌝ }
-{
-    type_numbered(w0, st, w1, w2, r);
-    keep_marks(w2, w1);
-}
 
 // The line of rule r for object o, if it is of the rule's class or below.
 fn object_line(
@@ -77,20 +63,19 @@ fn object_lines(
 pub fn rule_lines(
     w0: &[u64],
     st: Counts,
-    w1: &mut [u64],
+    w1: &[u64],
     w2: &mut [u64],
     out: &mut [u8],
     keep: bool,
 ) -> usize
     requires { ⌜ (8192 ≤ length (now w0)) × (8192 ≤ length (now w1)) × (8192 ≤ length (now w2)) ⌝ }
     requires { ⌜ RoomForAll st (now w0) (now w1) keep (length (now out)) ⌝ }
-    ensures { λ n. ⌜ AddsAll st (now (w0 .entry)) (now (w1 .entry)) (now (w2 .entry)) (now (w1 .exit)) (now (w2 .exit)) keep (now (out .entry)) (now (out .exit)) n ⌝ }
+    ensures { λ n. ⌜ AddsAll st (now (w0 .entry)) (now (w1 .entry)) (now (w2 .entry)) (now (w2 .exit)) keep (now (out .entry)) (now (out .exit)) n ⌝ }
 {
     let rules = wide(st.rules);
     let mut total: usize = 0;
     let mut r: usize = 0;
     while r < rules {
-        mark_rule(w0, st, w1, w2, r);
         total = object_lines(w0, st, w1, w2, r, out, total, keep);
         r += 1;
     }

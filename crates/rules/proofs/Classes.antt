@@ -9,7 +9,7 @@ use lib.Dec.{leb}
 use borrow.Author.Tests.{le-leb}
 use Rattle.laws.specs.Choice.{if_then_else_}
 use Rattle.ocl.specs.Model.{Row}
-use Rattle.sheet.specs.Sheet.{Sheet, noRow, modelOf}
+use Rattle.sheet.specs.Sheet.{Sheet, noRow, schemaIn}
 use Rattle.types.specs.Flat.{parentWord, parentOf, parentsIn}
 use Rattle.types.specs.Word.{typeIn}
 use Rattle.nodes.specs.Classes.{HoldsClasses}
@@ -46,8 +46,7 @@ module _ {w0 : List ℕ} {s : Sheet} (h : HoldsTables w0 s) where
       ) refl
 
   pub classes-held : ((c p : ℕ) → getD (s .parents) c none ≡ some p → p < c) → (c n : ℕ) → c ≡ length (s .parents) → length (s .rows) ≤ n
-      → HoldsClasses (tab 0 c w0) (tab 64 n w0) (tab 128 n w0) (tab 192 n w0) (modelOf s)
-  unfolding modelOf
+      → HoldsClasses (tab 0 c w0) (tab 64 n w0) (tab 128 n w0) (tab 192 n w0) (schemaIn s)
   classes-held g c n e l = record {
     parent = rw (e, h .parents) (fun-ext (parents-back (s .parents) g));
     row = λ i k. row-back n i l k;

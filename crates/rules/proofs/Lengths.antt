@@ -33,7 +33,7 @@ use Rattle.values.specs.Cells.{Fits, fits-int, fits-coll, AllFit, fit-nil, fit-
 use Rattle.tables.specs.declared.Counts.{Counts}
 use Rattle.operations.specs.declared.Ended.{Ended}
 use Rattle.operations.specs.Answers.{Ends, ends-value, ends-undefined, ends-stuck, ends-stop}
-use Rattle.rules.specs.Accepted.{Accepted}
+use Rattle.rules.specs.Accepted.{InWords}
 use Rattle.rules.specs.Width.{width}
 
 -- ---- the parts of a value that belongs to a type, in a model with few objects
@@ -137,7 +137,7 @@ line-by r o n x a b h l =
     let e = length-laws .number-length 2 o (omega arith) (omega arith) in
     simp length-append (omega arith)
 
-module _ {st : Counts} {w0 w1 : List ℕ} {s : Sheet} (a : Accepted st w0 w1 s) (r o : ℕ) {x : Rule} {t : Ty} (is : getElem? (s .rules) r ≡ some x)
+module _ {st : Counts} {w0 w1 : List ℕ} {s : Sheet} (a : InWords st w0 w1 s) (r o : ℕ) {x : Rule} {t : Ty} (is : getElem? (s .rules) r ≡ some x)
     (type : typingOf s x .answer ≡ typed t) (of : T (isA (modelOf s) o (class (x .context)))) {sp : ℕ} {A : List ℕ} {e : Ended} (ends : Ends sp A (outcomeOf s x o) e) where
   few-objects : (i c : ℕ) → modelOf s .classOf i ≡ some c → i < 96
   unfolding modelOf

@@ -5,4 +5,6 @@ pub mod Ready
 pub mod Lengths
 pub mod Typings
 pub mod Marks
+pub mod RuleByRule
+pub mod AllLaws
 pub mod Evaluations

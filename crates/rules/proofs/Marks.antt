@@ -1,22 +1,29 @@
--- Marks kept in w1: the sheet still lies in the words, and the marks are the typing's. Assumes nothing.
+-- Marks kept in w1: the sheet still lies in the words, and the marks are those of its rules. Assumes nothing.
 use mathlib.Core.Path.{_≡_, refl, sym, ap, _∙_}
-use mathlib.Core.Option.{Option, some}
+use mathlib.Core.Bool.{Bool, true, false}
+use mathlib.Core.Option.{Option}
 use mathlib.Core.List.{List, [], _∷_, map}
 use Prim.Native.Nat.{ℕ, zero, suc, _+_, _*_, _≤_, _<_}
 use native.Mathlib.Omega.{arith}
-use lib.ListN.{length, getD, getElem?, take, drop, set, length-set}
+use lib.ListN.{length, getD, take, drop, replicate, set, length-set, length-replicate, getD-replicate}
 use lib.Seq.{drop-drop, getD-take, getD-drop, take-set-le, drop-set-lt, getD-set-same, getD-set-other}
 use borrow.Author.Count.{below-more}
+use lib.Dec.{eqb}
+use borrow.Author.Tests.{eqb-true, eqb-false}
+use Rattle.laws.specs.Choice.{if_then_else_}
 use Rattle.laws.specs.Lists.{Each, each-nil, each-cons}
-use Rattle.sheet.specs.Sheet.{Rule, Current, Sheet}
-use Rattle.sheet.specs.Calls.{typingOf}
+use Rattle.ocl.specs.Types.{kindCode, sameKind}
+use Rattle.ocl.specs.Typing.{Mark, ofRow, rowMarked, kindMarked, Marks, markOr, markIn}
+use Rattle.sheet.specs.Sheet.{Current, Sheet, schemaIn}
+use Rattle.sheet.specs.Calls.{ruleMarks, marksOf}
 use Rattle.nodes.specs.Nodes.{treeAt}
+use Rattle.nodes.specs.Marks.{markWord}
 use Rattle.nodes.proofs.Keep.{tree-keep}
 use Rattle.tables.specs.declared.Counts.{Counts}
 use Rattle.tables.specs.Layout.{tab, linesIn, HoldsCurrent, HoldsOpen, closed, opened, Kept}
-use Rattle.judgements.specs.declared.Reply.{Reply}
-use Rattle.rules.specs.Accepted.{Accepted, Known, MarksIn}
-use Rattle.rules.specs.Numbered.{TypesNumbered, KeepsMarks}
+use Rattle.judgements.specs.Replies.{writeMarks}
+use Rattle.rules.specs.Accepted.{InWords, MarksIn}
+use Rattle.rules.specs.All.{KeepsMarks}
 
 -- ---- copying, of which i words are done
 
@@ -85,7 +92,7 @@ module _ {w2 w1 v1 : List ℕ} (k : KeepsMarks w2 w1 v1) where
     open-same (closed e) = closed e
     open-same (opened h) = opened (current-same h)
 
-  pub accepted-same : {st : Counts} {w0 : List ℕ} {s : Sheet} → Accepted st w0 w1 s → Accepted st w0 v1 s
+  pub accepted-same : {st : Counts} {w0 : List ℕ} {s : Sheet} → InWords st w0 w1 s → InWords st w0 v1 s
   accepted-same {st} {w0} {s} a =
       let small : length (s .lines) ≤ 768 = omega (arith, a .fine .nodes, a .holds .counted .nodes) in
       let h = a .holds .rules in
@@ -105,14 +112,34 @@ module _ {w2 w1 v1 : List ℕ} (k : KeepsMarks w2 w1 v1) where
         };
       }
 
-  pub known-same : {st : Counts} {w0 : List ℕ} → Known st w0 w1 → Known st w0 v1
-  known-same g = record { sheet = g .sheet; accepted = accepted-same (g .accepted) }
-
 pub marks-kept : {w2 w1 v1 : List ℕ} → KeepsMarks w2 w1 v1 → Kept w1 v1
 marks-kept {w2} {w1} {v1} k = record { size = k .size; rest = sym (drop-drop 1280 6912 v1) ∙ ap (drop 1280) (k .above) ∙ drop-drop 1280 6912 w1 }
 
--- ---- the marks that typing left
+-- ---- each word of a table of marks is that of the last mark made there
 
-pub marks-in : {st : Counts} {w0 w1 v1 before w2 : List ℕ} {r : ℕ} {a : Reply} → TypesNumbered st w0 w1 r before w2 a → KeepsMarks w2 w1 v1
-    → (s : Sheet) → Accepted st w0 w1 s → (x : Rule) → getElem? (s .rules) r ≡ some x → MarksIn v1 (typingOf s x)
-marks-in t k s g x q = record { at = λ p h. k .at p h ∙ t .marked s g x q p h }
+set-at : (l : List ℕ) (i p v : ℕ) → p < length l → (b : Bool) → eqb p i ≡ b → getD (set l i v) p 0 ≡ (if b then v else getD l p 0)
+set-at l i p v h true e = let q = eqb-true p i e in rw q (getD-set-same l i v 0 (omega arith))
+set-at l i p v h false e = getD-set-other l i p v 0 (eqb-false p i e)
+
+word-of : (b : Bool) (x d : Mark) → (if b then markWord x else markWord d) ≡ markWord (if b then x else d)
+word-of true x d = refl
+word-of false x d = refl
+
+mark-at : (m : Marks) (l : List ℕ) (p : ℕ) (d : Mark) → p < length l → getD l p 0 ≡ markWord d → getD (writeMarks l m) p 0 ≡ markWord (markOr d m p)
+unfolding writeMarks markOr
+mark-at [] l p d h e = e
+mark-at (x ∷ m) l p d h e =
+    mark-at m (set l (x .0) (markWord (x .1))) p (if eqb p (x .0) then x .1 else d) (simp length-set (omega arith))
+    (set-at l (x .0) p (markWord (x .1)) h (eqb p (x .0)) refl ∙ ap (λ (n : ℕ). if eqb p (x .0) then markWord (x .1) else n) e ∙ word-of (eqb p (x .0)) (x .1) d)
+
+-- ---- the marks that typing left, over a cleared table
+
+pub zeros-length : length (replicate {A = ℕ} 768 0) ≡ 768
+zeros-length = length-replicate {A = ℕ} 768 0
+
+pub marks-in : {w2 w1 v1 : List ℕ} (s : Sheet) → take 768 w2 ≡ writeMarks (replicate 768 0) (ruleMarks (schemaIn s) (s .rules)) → KeepsMarks w2 w1 v1 → MarksIn v1 s
+unfolding marksOf markIn markWord kindMarked rowMarked sameKind kindCode
+marks-in {w2} s e k = record {
+  at = λ p h. k .at p h ∙ sym (getD-take 768 w2 p 0 h) ∙ ap (λ (l : List ℕ). getD l p 0) e
+      ∙ mark-at (ruleMarks (schemaIn s) (s .rules)) (replicate 768 0) p (ofRow 0) (rw zeros-length h) (getD-replicate 768 p 0 0 h);
+}

@@ -15,13 +15,13 @@ use Rattle.ocl.specs.Model.{Row}
 use Rattle.sheet.specs.Sheet.{Slot, Sheet, noRow, modelOf}
 use Rattle.sheet.proofs.Good.{Good}
 use Rattle.sheet.proofs.Acceptance.{accepted-good, good-model}
-use Rattle.sheet.proofs.Soundness.{type-refusals}
+use Rattle.sheet.proofs.Soundness.{good-refusals}
 use Rattle.tables.specs.declared.Counts.{Counts}
 use Rattle.tables.specs.Layout.{Holds, Fine}
 use Rattle.tables.specs.Stored.{HoldsModel}
 use Rattle.tables.proofs.Tables.{tab-at}
 use Rattle.operations.specs.Tables.{Plain}
-use Rattle.rules.specs.Accepted.{Accepted, Ready}
+use Rattle.rules.specs.Accepted.{InWords, Ready}
 use Rattle.rules.proofs.Classes.{classes-held}
 use Rattle.rules.proofs.Slots.{LowRows, slots-ascend, slots-stored}
 use Rattle.rules.proofs.RulesIn.{node-line, rule-in, rule-there, rule-past, mark-told}
@@ -55,7 +55,7 @@ module _ {st : Counts} {w0 w1 : List ℕ} {s : Sheet} (fine : Fine st) (holds : 
     small = good-model s good .values-small;
   }
 
-pub ready : {st : Counts} {w0 w1 : List ℕ} {s : Sheet} → Accepted st w0 w1 s → Ready st w0 w1 s
+pub ready : {st : Counts} {w0 w1 : List ℕ} {s : Sheet} → InWords st w0 w1 s → Ready st w0 w1 s
 unfolding modelOf
 ready {st} {s = s} a =
     let good = accepted-good (a .text) s (a .was) in
@@ -68,6 +68,6 @@ ready {st} {s = s} a =
       rule = rule-in (a .fine) (a .holds) good;
       some-rule = rule-there (a .fine) (a .holds);
       no-rule = rule-past (a .fine) (a .holds);
-      place = λ r x n p e h. node-line (a .fine) (a .holds) p (type-refusals (a .text) s (a .was) r x e n p h .on-sheet);
-      mark = λ r x e p. mark-told (a .fine) (a .holds) x p;
+      place = λ r x n p e h. node-line (a .fine) (a .holds) p (good-refusals s good r x e n p h .on-sheet);
+      mark = mark-told (a .fine) (a .holds);
     }

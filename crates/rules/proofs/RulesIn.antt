@@ -7,17 +7,16 @@ use native.Mathlib.Omega.{arith}
 use native.Mathlib.Decide.{decLt}
 use lib.ListN.{length, getD, getElem?, length-append, length-map, List·getD-append}
 use lib.Seq.{getD-at}
+use lib.Dec.{T, ltb→lt}
 use Rattle.laws.proofs.Elements.{elem-some, elem-none, elem-at, each-elem}
-use Rattle.ocl.specs.Types.{Class}
-use Rattle.ocl.specs.Environment.{start}
 use Rattle.ocl.specs.Forms.{undef, node, Form}
-use Rattle.ocl.specs.Typing.{typing, typeRule, markOf}
-use Rattle.ocl.proofs.Places.{mark-below, mark-no-set}
 use Rattle.nodes.specs.Marks.{markWord, Marked}
 use Rattle.nodes.proofs.Marks.{marked}
-use Rattle.sheet.specs.Sheet.{Rule, Sheet, modelOf}
-use Rattle.sheet.specs.Calls.{typingOf}
+use Rattle.sheet.specs.Sheet.{Rule, Sheet}
+use Rattle.sheet.specs.Refusals.{isClass}
+use Rattle.sheet.specs.Calls.{marksOf}
 use Rattle.sheet.proofs.Good.{Good}
+use Rattle.sheet.proofs.Marks.{mark-row, mark-kind}
 use Rattle.nodes.specs.Nodes.{word, treeAt}
 use Rattle.tables.specs.declared.Counts.{Counts}
 use Rattle.tables.specs.Layout.{tab, linesIn, Holds, Fine}
@@ -41,6 +40,10 @@ line-at w1 (suc n) p h = by (decLt p n) (line-at w1 n p)
     by (no l) k =
         let z : n ≡ p = omega arith in
         getD-at (linesIn w1 n) (word w1 n 7) [] 0 p (lines-length w1 n ∙ z) ∙ ap (λ (i : ℕ). word w1 i 7) z
+
+low-class : (c : ℕ) → T (isClass c) → c < 64
+unfolding isClass
+low-class c h = ltb→lt c 64 h
 
 module _ {st : Counts} {w0 w1 : List ℕ} {s : Sheet} (fine : Fine st) (holds : Holds st w0 w1 s) where
   pub node-line : (p : ℕ) → p < length (s .lines) → (p < 768) × (getD (s .lines) p 0 ≡ word w1 p 7)
@@ -69,7 +72,7 @@ module _ {st : Counts} {w0 w1 : List ℕ} {s : Sheet} (fine : Fine st) (holds : 
         body = entry-by (treeAt w1) (λ (y : Rule). y .body) 4512 w0 (s .rules) x (holds .rules .bodies) r (a .0) ∙ ap (λ (y : Rule). y .body) (a .1);
         root = root-below r (a .0);
         shallow = each-elem r (good .rules) e .shallow;
-        low-context = each-elem r (good .rules) e .low-context;
+        low-context = low-class (x .context) (each-elem r (good .rules) e .context);
       }
 
   pub rule-there : (r : ℕ) → r < st .rules → (x : Rule) × (getElem? (s .rules) r ≡ some x)
@@ -80,12 +83,10 @@ module _ {st : Counts} {w0 w1 : List ℕ} {s : Sheet} (fine : Fine st) (holds : 
   pub rule-past : (r : ℕ) → st .rules ≤ r → getElem? (s .rules) r ≡ none
   rule-past r h = elem-none (s .rules) r (let c = holds .counted .rules in omega arith)
 
-  -- ---- a rule's marks
+  -- ---- the marks of all rules
 
-  pub mark-told : (x : Rule) (p : ℕ) → Marked (markWord (markOf (typingOf s x) p)) (markOf (typingOf s x) p)
-  unfolding typingOf typeRule modelOf
-  mark-told x p =
+  pub mark-told : (p : ℕ) → Marked (markWord (marksOf s p)) (marksOf s p)
+  mark-told p =
       let c = holds .counted .rows in
       let f = fine .rows in
-      let Γ = start (Class (x .context)) in
-      marked (markOf (typing (modelOf s) (x .body) Γ) p) (mark-below (modelOf s) (x .body) Γ 64 p (omega arith) (omega arith)) (mark-no-set (modelOf s) (x .body) Γ p)
+      marked (marksOf s p) (mark-row s p (omega arith) (omega arith)) (mark-kind s p)

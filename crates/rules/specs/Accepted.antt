@@ -1,16 +1,18 @@
--- An accepted sheet in the lent words, and what typing and evaluation find there (proofs/Ready.antt: the second follows from
--- the first).
+-- A sheet in the lent words, read and then typed, and what typing and evaluation find there (proofs/Ready.antt: it follows).
 use mathlib.Core.Path.{_≡_}
 use mathlib.Core.Option.{none, some}
 use mathlib.Core.List.{List}
 use Prim.Native.Nat.{ℕ, _+_, _≤_, _<_}
 use lib.ListN.{getD, getElem?, take}
+use Rattle.ocl.specs.Types.{Ty}
 use Rattle.ocl.specs.Forms.{levels}
-use Rattle.ocl.specs.Typing.{refused as untyped, Typed, markOf}
+use Rattle.ocl.specs.Typing.{refused as untyped}
 use Rattle.sheet.specs.Text.{Bytes}
-use Rattle.sheet.specs.Sheet.{Rule, Sheet, modelOf, mostLevels}
+use Rattle.sheet.specs.Sheet.{Rule, Sheet, schemaIn, modelOf, mostLevels}
 use Rattle.sheet.specs.Reading.{accepted, readText}
-use Rattle.sheet.specs.Calls.{typingOf}
+use Rattle.sheet.specs.Calls.{typingOf, marksOf}
+use Rattle.sheet.specs.Laws.{AllTyped}
+use Rattle.types.specs.Word.{typeIn}
 use Rattle.nodes.specs.Nodes.{word, treeAt}
 use Rattle.nodes.specs.Marks.{markWord, Marked}
 use Rattle.tables.specs.declared.Counts.{Counts}
@@ -19,17 +21,38 @@ use Rattle.tables.specs.Stored.{HoldsModel}
 use Rattle.judgements.specs.Replies.{ReadsRows as TypingReads}
 use Rattle.operations.specs.Tables.{Plain}
 
--- the sheet of an accepted text lies in the words
-pub record Accepted (st : Counts) (w0 w1 : List ℕ) (s : Sheet) : Type 0 where
+-- the sheet of a text that is read lies in the words
+pub record InWords (st : Counts) (w0 w1 : List ℕ) (s : Sheet) : Type 0 where
   pub text : Bytes
   pub was : readText text ≡ accepted s
   pub fine : Fine st
   pub holds : Holds st w0 w1 s
 
--- some accepted sheet does
+-- some sheet does
 pub record Known (st : Counts) (w0 w1 : List ℕ) : Type 0 where
   pub sheet : Sheet
-  pub accepted : Accepted st w0 w1 sheet
+  pub lies : InWords st w0 w1 sheet
+
+-- the marks of a sheet's nodes are in w1 from 6144 on
+pub record MarksIn (w1 : List ℕ) (s : Sheet) : Type 0 where
+  pub at : (p : ℕ) → p < 768 → getD w1 (6144 + p) 0 ≡ markWord (marksOf s p)
+
+-- a sheet is accepted only if all its rules type (document 02, F-6): it lies in the words with its marks, and its rules have the types ts
+pub record Accepted (st : Counts) (w0 w1 : List ℕ) (s : Sheet) (ts : List Ty) : Type 0 where
+  pub lies : InWords st w0 w1 s
+  pub typed : AllTyped s (s .rules) ts
+  pub marks : MarksIn w1 s
+
+-- the rules' types wait in w2 from 768 on, as words
+pub record TypesIn (w2 : List ℕ) (ts : List Ty) : Type 0 where
+  pub at : (r : ℕ) (t : Ty) → getElem? ts r ≡ some t → typeIn (getD w2 (768 + r) 0) ≡ t
+
+-- some sheet is accepted
+pub record KnownTyped (st : Counts) (w0 w1 w2 : List ℕ) : Type 0 where
+  pub sheet : Sheet
+  pub types : List Ty
+  pub accepted : Accepted st w0 w1 sheet types
+  pub waiting : TypesIn w2 types
 
 -- ---- what follows
 
@@ -43,7 +66,7 @@ pub record RuleIn (w0 w1 : List ℕ) (r : ℕ) (x : Rule) : Type 0 where
 
 pub record Ready (st : Counts) (w0 w1 : List ℕ) (s : Sheet) : Type 0 where
   -- classes and rows, for typing
-  pub classes : TypingReads (take (st .classes) w0) w0 (st .rows) (modelOf s)
+  pub classes : TypingReads (take (st .classes) w0) w0 (st .rows) (schemaIn s)
   -- objects and values, for evaluation
   pub model : HoldsModel st w0 (modelOf s)
   pub plain : Plain st (modelOf s)
@@ -55,8 +78,4 @@ pub record Ready (st : Counts) (w0 w1 : List ℕ) (s : Sheet) : Type 0 where
   pub place : (r : ℕ) (x : Rule) (n p : ℕ) → getElem? (s .rules) r ≡ some x → typingOf s x .answer ≡ untyped n p
       → (p < 768) × (getD (s .lines) p 0 ≡ word w1 p 7)
   -- the word of each mark tells what evaluation reads
-  pub mark : (r : ℕ) (x : Rule) → getElem? (s .rules) r ≡ some x → (p : ℕ) → Marked (markWord (markOf (typingOf s x) p)) (markOf (typingOf s x) p)
-
--- the marks of a rule's typing in w1, from 6144 on
-pub record MarksIn (w1 : List ℕ) (t : Typed) : Type 0 where
-  pub at : (p : ℕ) → p < 768 → getD w1 (6144 + p) 0 ≡ markWord (markOf t p)
+  pub mark : (p : ℕ) → Marked (markWord (marksOf s p)) (marksOf s p)

@@ -1,3 +1,4 @@
 pub mod Accepted
 pub mod Numbered
+pub mod All
 pub mod Width

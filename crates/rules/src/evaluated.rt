@@ -1,25 +1,12 @@
-// The evaluation of the rule with a number for an object. Typing leaves its marks, of `attr` and `collect` nodes, in w2,
-// which evaluation needs for its values: so they are copied to w1 first.
+// The evaluation of the rule with a number for an object, on a sheet whose marks are kept in w1.
 ghost use Prim.Native.Nat.{_≤_, _<_};
 ghost use lib.ListN.{length};
 ghost use Rattle.rules.specs.Accepted.{Known};
-ghost use Rattle.rules.specs.Numbered.{KeepsMarks, EvaluatesNumbered};
+ghost use Rattle.rules.specs.Numbered.{EvaluatesNumbered};
 use evaluation::rule::evaluate_rule;
 use operations::Ended;
 use tables::Counts;
 use types::classes::wide;
-
-// The marks that typing left in w2, put into w1.
-pub fn keep_marks(w2: &[u64], w1: &mut [u64])
-    requires { ⌜ (8192 ≤ length (now w1)) × (8192 ≤ length (now w2)) ⌝ }
-    ensures { λ _. ⌜ KeepsMarks (now (w2 .entry)) (now (w1 .entry)) (now (w1 .exit)) ⌝ }
-{
-    let mut i = 0;
-    while i < 768 {
-        w1[6144 + i] = w2[i];
-        i += 1;
-    }
-}
 
 // Rule r for object o: a value's cells lie in w2 from 1 on.
 pub fn evaluate_numbered(

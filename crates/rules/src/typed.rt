@@ -11,7 +11,7 @@ use tables::Counts;
 use types::classes::wide;
 use typing::rules::type_rule;
 
-// The type of rule r, or its refusal and the node. The marks of its nodes are left in the first 768 words of w2.
+// The type of rule r, or its refusal and the node. The marks of its nodes are added to those in the first 768 words of w2.
 pub fn type_numbered(w0: &[u64], st: Counts, w1: &[u64], w2: &mut [u64], r: usize) -> Reply
     requires { ⌜ (8192 ≤ length (now w0)) × (8192 ≤ length (now w1)) × (8192 ≤ length (now w2)) ⌝ }
     requires { ⌜ Known st (now w0) (now w1) × (r < st .rules) ⌝ }

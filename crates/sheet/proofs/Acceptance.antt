@@ -1,10 +1,10 @@
 -- What every sheet that reading accepts has: parents that are smaller, slots that ascend, values that belong to their rows' types and are
--- formed, rules whose trees have no node twice and at most 19 levels, Integers in range. The induction over the lines, over the laws of
--- proofs/Good.antt. Assumes nothing.
-use mathlib.Core.Path.{_≡_, refl, subst}
+-- formed, rules whose trees share no node and have at most 19 levels, Integers and types within their limits. The induction over the
+-- lines, over the laws of proofs/Good.antt. Assumes nothing.
+use mathlib.Core.Path.{_≡_, refl, sym, ap, _∙_, subst}
 use mathlib.Core.Bool.{Bool, true, false, _&&_}
 use mathlib.Core.Option.{Option, none, some}
-use mathlib.Core.List.{List, [], _∷_}
+use mathlib.Core.List.{List, [], _∷_, _++_, map, append-nil, append-assoc}
 use Prim.Native.Nat.{ℕ, suc, _+_, _-_, _<_, _≤_}
 use native.Mathlib.Omega.{arith}
 use lib.ListN.{length, getD}
@@ -12,7 +12,7 @@ use lib.Dec.{T, eqb, eqb→eq, ltb, leb, leb→le}
 use Rattle.laws.specs.Choice.{if_then_else_, onSome}
 use Rattle.laws.specs.Lists.{Each, each-nil, each-cons, Distinct}
 use Rattle.laws.proofs.Tests.{and-r, by-if, All?, all-none, all-some}
-use Rattle.laws.proofs.Lists.{each-append}
+use Rattle.laws.proofs.Lists.{length-more, each-imp, each-append, distinct-append}
 use Rattle.ocl.specs.Values.{Value, size}
 use Rattle.ocl.specs.Model.{Model, belongs}
 use Rattle.ocl.specs.Forms.{Expr, levels}
@@ -20,11 +20,13 @@ use Rattle.ocl.specs.Laws.{integersInRange, Formed, numbers, literals}
 use Rattle.ocl.specs.Soundness.{AcceptedModel}
 use Rattle.sheet.specs.Text.{Bytes, fieldsOf, linesOf}
 use Rattle.sheet.specs.Lines.{Line, lineOf, firstIsN}
-use Rattle.sheet.specs.Sheet.{Slot, Current, Sheet, empty, lookup, noRow, modelOf, treeOf, lastTree, allUsed, withRule, mostLevels, endOf, endFor, endRule}
+use Rattle.sheet.specs.Sheet.{Slot, Rule, Current, Sheet, empty, lookup, noRow, modelOf, treeOf, lastTree, allUsed, withRule, mostLevels, endOf, endFor, endRule}
 use Rattle.sheet.specs.Refusals.{withinLimits, inOrder, partsKnown, suits, treeHolds}
 use Rattle.sheet.specs.Reading.{Step, taken, refuse, must, stepLine, stepSpelled, step, Reading, accepted, rejected, onStep, onEnd, closing, readLast, readLines, readText}
+use Rattle.sheet.proofs.Belonging.{belongs-same}
 use Rattle.sheet.proofs.InRange.{InRange, tree-in-range}
-use Rattle.sheet.proofs.Good.{CurrentOk, Good, OpenOk, RuleOk, SlotOk, belongs-same, good-added, good-empty, no-rule, open-rule, plain}
+use Rattle.sheet.proofs.TypeFits.{NamesFit, tree-names}
+use Rattle.sheet.proofs.Good.{CurrentOk, Good, OpenOk, RuleOk, SlotOk, bodyNumbers, good-added, good-empty, no-rule, open-rule, plain, sheetNumbers}
 
 -- ---- a rule's end
 
@@ -42,40 +44,56 @@ last-tree (x ∷ y ∷ trees) body e = let r = last-tree (y ∷ trees) body e in
 
 rule-ok : (n : ℕ) (c : Current) (body : Expr) → CurrentOk n c → lastTree (c .trees) ≡ some body → levels body ≤ mostLevels → RuleOk n (record { context = c .context; body = body })
 rule-ok n c body h e l = let r = last-tree (c .trees) body e in record {
-  distinct = subst (λ x. Distinct (numbers x)) (r .is) (h .forest .distinct (r .index) (r .inside));
+  context = h .context;
   on-sheet = subst (λ i. Each (λ p. p < i) (numbers body)) (h .count) (subst (λ x. Each (λ p. p < c .first + length (c .trees)) (numbers x)) (r .is) (h .forest .below (r .index) (r .inside)));
   shallow = l;
   in-range = subst (λ x. InRange (literals x)) (r .is) (tree-in-range (h .in-range) (r .index));
-  low-context = h .low-context;
+  names = subst NamesFit (r .is) (tree-names (h .names) (r .index));
 }
 
-good-body : (s : Sheet) (c : Current) → Good s → CurrentOk (length (s .lines)) c → (o : Option Expr) → lastTree (c .trees) ≡ o
+-- its nodes come after all others
+rule-distinct : (n : ℕ) (c : Current) (body : Expr) → CurrentOk n c → lastTree (c .trees) ≡ some body → {ns : List ℕ} → Distinct ns → Each (λ p. p < c .first) ns → Distinct (ns ++ numbers body)
+rule-distinct n c body h e d l = let r = last-tree (c .trees) body e in
+    distinct-append d (subst (λ x. Distinct (numbers x)) (r .is) (h .forest .distinct (r .index) (r .inside)))
+    (each-imp (λ n k. each-imp (λ m i q. omega arith) (subst (λ x. Each (λ p. c .first ≤ p) (numbers x)) (r .is) (h .forest .above (r .index) (r .inside)))) l)
+
+-- the nodes of one rule more
+bodies-more : (rs : List Rule) (x : Rule) → bodyNumbers (map (λ r. r .body) (rs ++ (x ∷ []))) ≡ bodyNumbers (map (λ r. r .body) rs) ++ numbers (x .body)
+unfolding bodyNumbers
+bodies-more [] x = append-nil (numbers (x .body))
+bodies-more (y ∷ rs) x = ap (λ l. numbers (y .body) ++ l) (bodies-more rs x) ∙ sym (append-assoc (numbers (y .body)) (bodyNumbers (map (λ r. r .body) rs)) (numbers (x .body)))
+
+good-body : (s : Sheet) (c : Current) → Good s → s .current ≡ some c → CurrentOk (length (s .lines)) c → (o : Option Expr) → lastTree (c .trees) ≡ o
     → All? Good (onSome o (λ body. if allUsed (c .used) (length (c .trees) - 1) && leb (levels body) mostLevels then some (withRule s (c .context) body) else none))
-unfolding onSome withRule plain
-good-body s c g h none e = all-none
-good-body s c g h (some body) e =
+unfolding onSome withRule plain sheetNumbers
+good-body s c g q h none e = all-none
+good-body s c g q h (some body) e =
     by-if (All? Good) (allUsed (c .used) (length (c .trees) - 1) && leb (levels body) mostLevels) _ none
     (λ t. all-some (record {
       parents = g .parents;
+      rows = g .rows;
       early = g .early;
       slots = g .slots;
       ascending = g .ascending;
       rules =
           each-append (g .rules)
           (each-cons (rule-ok (length (s .lines)) c body h e (leb→le (levels body) mostLevels (and-r (allUsed (c .used) (length (c .trees) - 1)) _ t))) each-nil);
+      distinct = subst Distinct (sym (bodies-more (s .rules) (record { context = c .context; body = body }))) (rule-distinct (length (s .lines)) c body h e (g .distinct) (g .earlier c q));
+      earlier = λ d e. absurd (let z : _≡_ {A = ℕ} 0 1 = cc in omega arith);
+      few = omega (arith, g .room c q, length-more (s .rules) (record { context = c .context; body = body }));
       current = no-rule;
       room = λ d e. absurd (let z : _≡_ {A = ℕ} 0 1 = cc in omega arith);
     }))
     (λ t. all-none)
 
-good-close : (s : Sheet) → Good s → (o : Option Current) → OpenOk (length (s .lines)) o → All? Good (endFor s o)
+good-close : (s : Sheet) → Good s → (o : Option Current) → s .current ≡ o → OpenOk (length (s .lines)) o → All? Good (endFor s o)
 unfolding endFor endOf
-good-close s g none no-rule = all-some g
-good-close s g (some c) (open-rule h) = good-body s c g h (lastTree (c .trees)) refl
+good-close s g none q no-rule = all-some g
+good-close s g (some c) q (open-rule h) = good-body s c g q h (lastTree (c .trees)) refl
 
 pub good-endRule : (s : Sheet) → Good s → All? Good (endRule s)
 unfolding endRule
-good-endRule s g = good-close s g (s .current) (g .current)
+good-endRule s g = good-close s g (s .current) refl (g .current)
 
 -- ---- a line, and a whole text
 

@@ -7,7 +7,7 @@ use Rattle.ocl.specs.Values.{size, add, addAll, insert, put, order, headOrder, 
 use Rattle.ocl.specs.Model.{classIsA, isA, every, belongs, declared, nearest, rowRead}
 use Rattle.ocl.specs.Environment.{extend, start}
 use Rattle.ocl.specs.Forms.{levels}
-use Rattle.ocl.specs.Typing.{thenFor, andThen, common, wrap, onCollection, onKind, boundType, leafType, castType, unaryType, bothBelow, binaryType, conditionalType, onClass, rowMarked, kindMarked, collectKind, rowType, attributeType, leafTyping, unaryTyping, binaryTyping, connectiveTyping, isUndefTyping, conditionalTyping, letTyping, attributeTyping, quantifiedTyping, iterateTyping, noOperandTyping, operandTyping, assembleTyping, typing, typeRule, markOr, markOf}
+use Rattle.ocl.specs.Typing.{thenFor, andThen, common, wrap, onCollection, onKind, boundType, leafType, castType, unaryType, bothBelow, binaryType, conditionalType, onClass, rowMarked, kindMarked, collectKind, rowType, attributeType, leafTyping, unaryTyping, binaryTyping, connectiveTyping, isUndefTyping, conditionalTyping, letTyping, attributeTyping, quantifiedTyping, iterateTyping, noOperandTyping, operandTyping, assembleTyping, typing, typeRule, markOr, markIn}
 use Rattle.ocl.specs.Evaluation.{stepsOf, tick, form, isLess, inRange, ranged, unlessZero, quotient, remainder, arithmetic, instances, leafRun, cast, unaryApply, unaryRun, leftFits, binaryApply, binaryRun, decides, connectiveRun, isUndefRun, conditionalRun, letRun, hasRow, valueInRow, valuesInRow, access, attributeRun, endsAt, seek, quantifiedRun, fold, iterateRun, noOperandRun, operandRun, assembleRun, evaluation, evaluateRule}
 use Rattle.sheet.specs.Text.{bytes, onto, split, linesOf, fieldsOf, nothing, after, literal, behind, _or_, _then_, mapped, atEnd, whole, isDigit, digits, afterDigits, plain, valueOfDigits, numberParser, negative, integerParser, spellDigits, spellNumber, spellInteger}
 use Rattle.sheet.specs.Spelling.{collectionType, typeParser, readType, letterByte, spellSimple, spellType, valueParser, readValue, kindByte, spellBool, spellValue}
@@ -15,12 +15,12 @@ use Rattle.sheet.specs.Lines.{is, next, done, each, aNumber, anInteger, 
 use Rattle.sheet.specs.Sheet.{empty, lookup, noRow, modelOf, operandsOf, growAll, grow, treeOf, withNode, added, lastTree, allUsed, withRule, endOf, endFor, endRule}
 use Rattle.sheet.specs.Refusals.{simpleClassBelow, objectBelow, partWithin, nesting, mayFollow, followed, ordered, isClass, isVariable, isNode, leafWithin, unaryWithin, formWithin, parentWithin, totalSize, withinLimits, blockOf, declares, afterSlots, nextNode, twoVariables, numbered, inOrder, parentSmaller, leafKnown, unaryKnown, formKnown, partsKnown, suits, fresh, operandsFresh, treeHolds, classBelow, typeWithin, valueWithin}
 use Rattle.sheet.specs.Reading.{must, stepLine, stepSpelled, step, onStep, onEnd, closing, readLast, readLines, readText}
-use Rattle.sheet.specs.Calls.{answer, refusalAt, refusal, onSheet, onRule, typingOf, onType, onObject, outcomeOf, ended}
-use Rattle.sheet.specs.Report.{spellOutcome, reportLine, objectLines, ruleLines, onTypes, fitting, reportOf, printed, program}
-use Rattle.sheet.specs.Examples.{tabbed, lines, prints, nots, Examples}
+use Rattle.sheet.specs.Calls.{answer, refusalAt, refusal, shortWords, shortOutput, onSheet, onRule, typingOf, onType, onTypes, onAccepted, typeLines, readCall, onObject, ruleMarks, marksOf, outcomeOf, ended, evaluateOn, evaluateCall}
+use Rattle.sheet.specs.Report.{spellOutcome, reportLine, objectLines, ruleLines, fitting, reportOf, printed, program}
+use Rattle.sheet.specs.Examples.{tabbed, lines, prints, words, readsInto, evaluates, secondUntyped, nots, Examples}
 
 pub examples : Examples
-unfolding orElse onSome mapSome allOf member concat join simpleJoin firstAbove simpleSubtype climbs sameSimple simpleCode up parentOr height letterJoin letterSubtype sameKind kindCode aroundSome subtype depth size add addAll insert put order headOrder thenOrder sort rank ofBool orderInt members count append same has classIsA isA every belongs declared nearest rowRead extend start levels thenFor andThen common wrap onCollection onKind boundType leafType castType unaryType bothBelow binaryType conditionalType onClass rowMarked kindMarked collectKind rowType attributeType leafTyping unaryTyping binaryTyping connectiveTyping isUndefTyping conditionalTyping letTyping attributeTyping quantifiedTyping iterateTyping noOperandTyping operandTyping assembleTyping typing typeRule markOr markOf tick form isLess inRange ranged unlessZero quotient remainder arithmetic instances leafRun cast unaryApply unaryRun leftFits binaryApply binaryRun decides connectiveRun isUndefRun conditionalRun letRun hasRow valueInRow valuesInRow access attributeRun endsAt seek quantifiedRun fold iterateRun noOperandRun operandRun assembleRun evaluation evaluateRule stepsOf bytes onto split linesOf fieldsOf nothing after literal behind _or_ _then_ mapped atEnd whole isDigit digits afterDigits plain valueOfDigits numberParser negative integerParser spellDigits spellNumber spellInteger collectionType typeParser readType letterByte spellSimple spellType valueParser readValue kindByte spellBool spellValue is next done each aNumber anInteger aParent aKind oneOperand twoOperands threeNumbers iterateFields atMostFour assembleFields shapeOf aWord lineOf firstIsN empty lookup noRow modelOf operandsOf growAll grow treeOf withNode added lastTree allUsed withRule endOf endFor endRule simpleClassBelow everyPart objectBelow partWithin nesting mayFollow followed ordered isClass isVariable isNode leafWithin unaryWithin formWithin parentWithin totalSize withinLimits blockOf declares afterSlots nextNode twoVariables numbered inOrder parentSmaller leafKnown unaryKnown formKnown partsKnown suits fresh operandsFresh treeHolds classBelow typeWithin valueWithin must stepLine stepSpelled step onStep onEnd closing readLast readLines readText answer refusalAt refusal onSheet onRule typingOf onType onObject outcomeOf ended spellOutcome reportLine objectLines ruleLines onTypes fitting reportOf printed program tabbed lines prints nots
+unfolding orElse onSome mapSome allOf member concat join simpleJoin firstAbove simpleSubtype climbs sameSimple simpleCode up parentOr height letterJoin letterSubtype sameKind kindCode aroundSome subtype depth size add addAll insert put order headOrder thenOrder sort rank ofBool orderInt members count append same has classIsA isA every belongs declared nearest rowRead extend start levels thenFor andThen common wrap onCollection onKind boundType leafType castType unaryType bothBelow binaryType conditionalType onClass rowMarked kindMarked collectKind rowType attributeType leafTyping unaryTyping binaryTyping connectiveTyping isUndefTyping conditionalTyping letTyping attributeTyping quantifiedTyping iterateTyping noOperandTyping operandTyping assembleTyping typing typeRule markOr markIn tick form isLess inRange ranged unlessZero quotient remainder arithmetic instances leafRun cast unaryApply unaryRun leftFits binaryApply binaryRun decides connectiveRun isUndefRun conditionalRun letRun hasRow valueInRow valuesInRow access attributeRun endsAt seek quantifiedRun fold iterateRun noOperandRun operandRun assembleRun evaluation evaluateRule stepsOf bytes onto split linesOf fieldsOf nothing after literal behind _or_ _then_ mapped atEnd whole isDigit digits afterDigits plain valueOfDigits numberParser negative integerParser spellDigits spellNumber spellInteger collectionType typeParser readType letterByte spellSimple spellType valueParser readValue kindByte spellBool spellValue is next done each aNumber anInteger aParent aKind oneOperand twoOperands threeNumbers iterateFields atMostFour assembleFields shapeOf aWord lineOf firstIsN empty lookup noRow modelOf operandsOf growAll grow treeOf withNode added lastTree allUsed withRule endOf endFor endRule simpleClassBelow everyPart objectBelow partWithin nesting mayFollow followed ordered isClass isVariable isNode leafWithin unaryWithin formWithin parentWithin totalSize withinLimits blockOf declares afterSlots nextNode twoVariables numbered inOrder parentSmaller leafKnown unaryKnown formKnown partsKnown suits fresh operandsFresh treeHolds classBelow typeWithin valueWithin must stepLine stepSpelled step onStep onEnd closing readLast readLines readText answer refusalAt refusal shortWords shortOutput onSheet onRule typingOf onType onObject ruleMarks marksOf outcomeOf ended evaluateOn evaluateCall spellOutcome reportLine objectLines ruleLines onTypes onAccepted typeLines readCall fitting reportOf printed program tabbed lines prints words readsInto evaluates secondUntyped nots
 examples = record {
   paper = refl;
   nothing = refl;
@@ -56,6 +56,14 @@ examples = record {
   collect-no-class = refl;
   too-deep-type = refl;
   source-first = refl;
+  two-types = refl;
+  second-untyped = refl;
+  no-rules = refl;
+  short-output = refl;
+  other-untyped = refl;
+  untyped-first = refl;
+  no-such-rule = refl;
+  other-class = refl;
   static-row = refl;
   sum = refl;
   decided = refl;

@@ -4,7 +4,7 @@ use mathlib.Core.Path.{_≡_, refl, sym, ap, _∙_, subst}
 use mathlib.Core.Logic.{_≢_}
 use mathlib.Core.Bool.{Bool, true, false, not, _&&_, _||_}
 use mathlib.Core.List.{List, [], _∷_, _++_, append-nil}
-use Prim.Native.Nat.{ℕ, suc, _+_, _<_}
+use Prim.Native.Nat.{ℕ, suc, _+_, _<_, _≤_}
 use native.Mathlib.Omega.{arith}
 use lib.ListN.{length, List·getD-append}
 use lib.Seq.{getD-at}
@@ -90,9 +90,10 @@ pub record Forest (first : ℕ) (trees : List Expr) (used : List ℕ) : Type 0 w
   pub distinct : (a : ℕ) → a < length trees → Distinct (numbers (treeOf trees a))
   pub apart : (a b : ℕ) → a < length trees → b < length trees → a ≢ b → Free used a → Free used b → Apart (numbers (treeOf trees a)) (numbers (treeOf trees b))
   pub below : (a : ℕ) → a < length trees → Each (λ n. n < first + length trees) (numbers (treeOf trees a))
+  pub above : (a : ℕ) → a < length trees → Each (λ n. first ≤ n) (numbers (treeOf trees a))
 
 pub forest-empty : (first : ℕ) → Forest first [] []
-forest-empty first = record { distinct = λ a h. absurd (omega arith); apart = λ a b h. absurd (omega arith); below = λ a h. absurd (omega arith) }
+forest-empty first = record { distinct = λ a h. absurd (omega arith); apart = λ a b h. absurd (omega arith); below = λ a h. absurd (omega arith); above = λ a h. absurd (omega arith) }
 
 -- ---- what fresh operands are
 
@@ -160,6 +161,11 @@ module _ {first : ℕ} {trees : List Expr} {used : List ℕ} (forest : Forest fi
   unfolding numbersAll
   below-all each-nil = each-nil
   below-all (each-cons {n = e} p h) = each-append (forest .below e (p .smaller)) (below-all h)
+
+  above-all : {es : List ℕ} → Each (Fresh (length trees) used) es → Each (λ n. first ≤ n) (numbersAll (treeOf trees) es)
+  unfolding numbersAll
+  above-all each-nil = each-nil
+  above-all (each-cons {n = e} p h) = each-append (forest .above e (p .smaller)) (above-all h)
 
 -- ---- one node more
 
@@ -239,10 +245,15 @@ module _ (first : ℕ) (trees : List Expr) (used : List ℕ) (x : Shape) (forest
       (each-append (each-imp (λ n l. omega arith) operands-below) (each-cons (omega arith) each-nil))
   below-at a (earlier l) = rw (tree-earlier trees (newTree first trees x) a l) (each-imp (λ n k. omega arith) (forest .below a l))
 
+  above-at : (a : ℕ) → Place a (length trees) → Each (λ n. first ≤ n) (numbers (treeOf (trees ++ (newTree first trees x ∷ [])) a))
+  above-at a (last e) = rw (tree-last trees (newTree first trees x) a e, own-numbers) (each-append (above-all forest operands-fresh) (each-cons (omega arith) each-nil))
+  above-at a (earlier l) = rw (tree-earlier trees (newTree first trees x) a l) (forest .above a l)
+
   -- a node whose operands are fresh keeps the forest one
   pub forest-more : Forest first (trees ++ (newTree first trees x ∷ [])) (used ++ operandsOf x)
   forest-more = let z = length-more trees (newTree first trees x) in record {
     distinct = λ a l. distinct-at a (place a (length trees) (omega arith));
     apart = λ a b l m q u v. apart-at a b (place a (length trees) (omega arith)) (place b (length trees) (omega arith)) q u v;
     below = λ a l. each-imp (λ n k. omega arith) (below-at a (place a (length trees) (omega arith)));
+    above = λ a l. above-at a (place a (length trees) (omega arith));
   }

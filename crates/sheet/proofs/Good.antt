@@ -1,56 +1,34 @@
 -- What holds of a sheet after every line that is taken: parents that are smaller, slots that ascend, values that belong to their rows'
--- types and are formed, rules of at most 19 levels, a forest of the open rule's nodes, room for that rule, and Integers in range. One law
--- for each line kind. Assumes nothing.
+-- types and are formed, rules of at most 19 levels, no node twice, a forest of the open rule's nodes, room for that rule, and Integers and
+-- types within their limits. One law for each line kind. Assumes nothing.
 use mathlib.Core.Path.{_≡_, refl, sym, ap, subst}
-use mathlib.Core.Bool.{Bool, true, false, _&&_}
-use mathlib.Core.Option.{Option, none, some}
-use mathlib.Core.List.{List, [], _∷_, _++_}
+use mathlib.Core.Bool.{_&&_}
+use mathlib.Core.Option.{Option, none, some, Option·some-injective}
+use mathlib.Core.List.{List, [], _∷_, _++_, map}
 use Prim.Native.Nat.{ℕ, suc, _+_, _<_, _≤_}
 use native.Mathlib.Omega.{arith}
-use borrow.Author.Tests.{ltb-true, ltb-false}
-use lib.ListN.{length, getD, getElem?, List·getD-append, List·getD-eq-default}
-use lib.Seq.{getD-at}
+use lib.ListN.{length, getD, getElem?}
 use lib.Dec.{T, eqb→eq, ltb, ltb→lt, leb, leb→le}
 use Rattle.laws.specs.Choice.{onSome}
-use Rattle.laws.specs.Lists.{allOf, Each, each-nil, each-cons, Distinct}
+use Rattle.laws.specs.Lists.{allOf, Each, each-nil, each-cons, Distinct, distinct-nil}
 use Rattle.laws.proofs.Tests.{and-l, and-r}
 use Rattle.laws.proofs.Lists.{length-more, each-imp, each-append}
-use Rattle.ocl.specs.Types.{Simple, Ty, void, simple, around, letterSubtype, exactly}
-use Rattle.ocl.specs.Values.{Value, bool, int, obj, coll, Values, nil, cons, size, everyPart}
-use Rattle.ocl.specs.Model.{Model, every, isA, belongs}
-use Rattle.ocl.specs.Forms.{node, levels}
+use Rattle.ocl.specs.Types.{Ty}
+use Rattle.ocl.specs.Values.{Value, size, everyPart}
+use Rattle.ocl.specs.Model.{Row, Model, isA, belongs}
+use Rattle.ocl.specs.Forms.{Expr, node, levels}
 use Rattle.ocl.specs.Laws.{integersInRange, Formed, numbers, literals}
+use Rattle.ocl.proofs.Answered.{Named}
 use Rattle.sheet.specs.Lines.{Line, classLine, rowLine, objectLine, valueLine, ruleLine, nodeLine, Shape}
 use Rattle.sheet.specs.Sheet.{Slot, Rule, Current, Sheet, empty, noRow, modelOf, operandsOf, grow, treeOf, withNode, added, mostLevels}
 use Rattle.sheet.specs.Refusals.{isClass, partWithin, valueWithin, isNode, formWithin, withinLimits, blockOf, numbered, inOrder, afterSlots, ordered, parentSmaller, partsKnown, suits, operandsFresh, treeHolds}
+use Rattle.sheet.proofs.Belonging.{belongs-same}
+use Rattle.sheet.proofs.Parents.{parent-more}
 use Rattle.sheet.proofs.Ascending.{Ascending, ascending-nil, ascending-more}
 use Rattle.sheet.proofs.InRange.{InRange, value-in-range, tree-in-range, grown-in-range}
+use Rattle.sheet.proofs.TypeFits.{Fits, within-fits, NamesFit, tree-names, grown-names}
 use Rattle.sheet.proofs.Formed.{value-formed}
 use Rattle.sheet.proofs.Forest.{Forest, forest-empty, forest-more}
-
--- ---- belonging looks at classes alone
-
-module _ (m n : Model) (p : m .parent ≡ n .parent) (q : m .classOf ≡ n .classOf) where
-  isA-same : (o : ℕ) (b : Simple) → isA m o b ≡ isA n o b
-  unfolding isA
-  isA-same o b = rw (p, q)
-
-  every-same : (f g : Value → Bool) → ((v : Value) → f v ≡ g v) → (vs : Values) → every f vs ≡ every g vs
-  unfolding every
-  every-same f g h nil = refl
-  every-same f g h (cons v vs) = rw (h v, every-same f g h vs)
-
-  pub belongs-same : (t : Ty) (v : Value) → belongs m t v ≡ belongs n t v
-  unfolding belongs
-  belongs-same void v = refl
-  belongs-same (simple b) (bool x) = rw p
-  belongs-same (simple b) (int z) = rw p
-  belongs-same (simple b) (obj o) = isA-same o b
-  belongs-same (simple b) (coll k vs) = refl
-  belongs-same (around l t) (bool x) = refl
-  belongs-same (around l t) (int z) = refl
-  belongs-same (around l t) (obj o) = refl
-  belongs-same (around l t) (coll k vs) = ap (λ x. letterSubtype (exactly k) l && x) (every-same (belongs m t) (belongs n t) (belongs-same t) vs)
 
 -- ---- what holds after every line
 
@@ -72,79 +50,72 @@ pub record SlotOk (m : Model) (x : Slot) : Type 0 where
   pub formed : Formed (x .value)
   pub low-row : x .row < 64
 
--- an ended rule, on a sheet with n nodes
+-- an ended rule's tree, on a sheet with n nodes
 pub record RuleOk (n : ℕ) (r : Rule) : Type 0 where
-  pub distinct : Distinct (numbers (r .body))
+  pub context : T (isClass (r .context))
   pub on-sheet : Each (λ p. p < n) (numbers (r .body))
   pub shallow : levels (r .body) ≤ mostLevels
   pub in-range : InRange (literals (r .body))
-  pub low-context : r .context < 64
+  pub names : NamesFit (r .body)
 
 pub record CurrentOk (n : ℕ) (c : Current) : Type 0 where
+  pub context : T (isClass (c .context))
   pub forest : Forest (c .first) (c .trees) (c .used)
   pub count : c .first + length (c .trees) ≡ n
   pub in-range : Each (λ e. InRange (literals e)) (c .trees)
-  pub low-context : c .context < 64
+  pub names : Each NamesFit (c .trees)
 
 pub data OpenOk (n : ℕ) : Option Current → Type 0 where
   no-rule : OpenOk n none
   open-rule : {c : Current} → CurrentOk n c → OpenOk n (some c)
 
+-- the nodes of several trees
+unfoldable pub bodyNumbers : List Expr → List ℕ
+bodyNumbers [] = []
+bodyNumbers (e ∷ es) = numbers e ++ bodyNumbers es
+
+-- those of the rules that have ended
+unfoldable pub sheetNumbers : Sheet → List ℕ
+sheetNumbers s = bodyNumbers (map (λ r. r .body) (s .rules))
+
 pub record Good (s : Sheet) : Type 0 where
   pub parents : (c p : ℕ) → getD (s .parents) c none ≡ some p → p < c
+  pub rows : Each (λ (x : Row). Fits 3 (x .type)) (s .rows)
   -- no value stands on the sheet before its block
   pub early : s .block < 3 → s .slots ≡ []
   pub slots : Each (SlotOk (plain s)) (s .slots)
   pub ascending : Ascending (s .slots)
   pub rules : Each (RuleOk (length (s .lines))) (s .rules)
+  -- no node twice, and those of the open rule come after the others
+  pub distinct : Distinct (sheetNumbers s)
+  pub earlier : (c : Current) → s .current ≡ some c → Each (λ p. p < c .first) (sheetNumbers s)
+  pub few : length (s .rules) ≤ 64
   pub current : OpenOk (length (s .lines)) (s .current)
   -- there is room for the rule that is open
   pub room : (c : Current) → s .current ≡ some c → length (s .rules) < 64
 
 pub good-empty : Good empty
-unfolding empty
+unfolding empty sheetNumbers bodyNumbers
 good-empty = record {
   parents = λ c p e. absurd (let z : _≡_ {A = ℕ} 0 1 = cc in omega arith);
+  rows = each-nil;
   early = λ h. refl;
   slots = each-nil;
   ascending = ascending-nil;
   rules = each-nil;
+  distinct = distinct-nil;
+  earlier = λ c e. absurd (let z : _≡_ {A = ℕ} 0 1 = cc in omega arith);
+  few = omega arith;
   current = no-rule;
   room = λ c e. absurd (let z : _≡_ {A = ℕ} 0 1 = cc in omega arith);
 }
 
+bodies-below : {n : ℕ} {rs : List Rule} → Each (RuleOk n) rs → Each (λ p. p < n) (bodyNumbers (map (λ r. r .body) rs))
+unfolding bodyNumbers
+bodies-below each-nil = each-nil
+bodies-below (each-cons p h) = each-append (p .on-sheet) (bodies-below h)
+
 -- ---- each line kind
-
--- a table with one entry more
-module _ {A : Type 0} (l : List A) (x d : A) where
-  data Entry (i : ℕ) : A → Type 0 where
-    old : i < length l → Entry i (getD l i d)
-    new : i ≡ length l → Entry i x
-    past : Entry i d
-
-  entry-by : (i : ℕ) (p q : Bool) → ltb i (length l) ≡ p → ltb (length l) i ≡ q → Entry i (getD (l ++ (x ∷ [])) i d)
-  entry-by i true q e f = let h = ltb-true i (length l) e in rw (List·getD-append l (x ∷ []) d i h) (old h)
-  entry-by i false true e f = let h = ltb-true (length l) i f in rw (List·getD-eq-default (l ++ (x ∷ [])) d {n = i} (omega (arith, length-more l x))) past
-  entry-by i false false e f =
-      let g = ltb-false i (length l) e in let h = ltb-false (length l) i f in
-      let z : i ≡ length l = omega arith in rw (getD-at l x [] d i (sym z)) (new z)
-
-  entry : (i : ℕ) → Entry i (getD (l ++ (x ∷ [])) i d)
-  entry i = entry-by i (ltb i (length l)) (ltb (length l) i) refl refl
-
-parent-more : (l : List (Option ℕ)) (x : Option ℕ) → ((c p : ℕ) → getD l c none ≡ some p → p < c) → T (parentSmaller (length l) x)
-    → (c p : ℕ) → getD (l ++ (x ∷ [])) c none ≡ some p → p < c
-unfolding parentSmaller
-parent-more l x h g c p e = at (entry l x none c) e
-  where
-    smaller : (y : Option ℕ) → T (parentSmaller (length l) y) → y ≡ some p → p < length l
-    smaller none t e = absurd (let z : _≡_ {A = ℕ} 0 1 = cc in omega arith)
-    smaller (some q) t e = let z : q ≡ p = cc in omega (arith, ltb→lt q (length l) t)
-
-    at : {y : Option ℕ} → Entry l x none c y → y ≡ some p → p < c
-    at (old k) e = h c p e
-    at (new k) e = omega (arith, smaller x g e)
-    at past e = absurd (let z : _≡_ {A = ℕ} 0 1 = cc in omega arith)
 
 -- what a line has met when it is added
 pub record Met (s : Sheet) (l : Line) : Type 0 where
@@ -170,37 +141,49 @@ each-none : {A : Type 0} {P : A → Type 0} {l : List A} → l ≡ [] → Each P
 each-none {P} e = subst (Each P) (sym e) each-nil
 
 good-class : (s : Sheet) (k n : ℕ) (p : Option ℕ) → Good s → Met s (classLine n p) → Good (added s k (classLine n p))
-unfolding added blockOf numbered partsKnown
+unfolding added sheetNumbers blockOf numbered partsKnown
 good-class s k n p g m = let e = no-slot s (classLine n p) g m (omega arith) in record {
   parents = parent-more (s .parents) p (g .parents) (subst (λ i. T (parentSmaller i p)) (eqb→eq n (length (s .parents)) (met-numbered s (classLine n p) m)) (m .parts));
+  rows = g .rows;
   early = λ h. e;
   slots = each-none e;
   ascending = g .ascending;
   rules = g .rules;
+  distinct = g .distinct;
+  earlier = g .earlier;
+  few = g .few;
   current = g .current;
   room = g .room;
 }
 
 good-row : (s : Sheet) (k n c name : ℕ) (t : Ty) → Good s → Met s (rowLine n c name t) → Good (added s k (rowLine n c name t))
-unfolding added blockOf
+unfolding added sheetNumbers blockOf withinLimits
 good-row s k n c name t g m = let e = no-slot s (rowLine n c name t) g m (omega arith) in record {
   parents = g .parents;
+  rows = each-append (g .rows) (each-cons (within-fits t (and-r (ltb n 64 && isClass c && ltb name 256) _ (m .limits))) each-nil);
   early = λ h. e;
   slots = each-none e;
   ascending = g .ascending;
   rules = g .rules;
+  distinct = g .distinct;
+  earlier = g .earlier;
+  few = g .few;
   current = g .current;
   room = g .room;
 }
 
 good-object : (s : Sheet) (k n c : ℕ) → Good s → Met s (objectLine n c) → Good (added s k (objectLine n c))
-unfolding added blockOf
+unfolding added sheetNumbers blockOf
 good-object s k n c g m = let e = no-slot s (objectLine n c) g m (omega arith) in record {
   parents = g .parents;
+  rows = g .rows;
   early = λ h. e;
   slots = each-none e;
   ascending = g .ascending;
   rules = g .rules;
+  distinct = g .distinct;
+  earlier = g .earlier;
+  few = g .few;
   current = g .current;
   room = g .room;
 }
@@ -220,62 +203,80 @@ slot-ok s o a v m =
     }
 
 good-value : (s : Sheet) (k o a : ℕ) (v : Value) → Good s → Met s (valueLine o a v) → Good (added s k (valueLine o a v))
-unfolding added plain numbered
+unfolding added sheetNumbers plain numbered
 good-value s k o a v g m = record {
   parents = g .parents;
+  rows = g .rows;
   early = λ h. absurd (omega arith);
   slots = each-append (g .slots) (each-cons (slot-ok s o a v m) each-nil);
   ascending = ascending-more (s .slots) (record { object = o; row = a; value = v }) (g .ascending) (and-l (afterSlots (s .slots) o a) (ordered v) (met-numbered s (valueLine o a v) m));
   rules = g .rules;
+  distinct = g .distinct;
+  earlier = g .earlier;
+  few = g .few;
   current = g .current;
   room = g .room;
 }
 
 good-rule : (s : Sheet) (k n c : ℕ) → Good s → Met s (ruleLine n c) → Good (added s k (ruleLine n c))
-unfolding added plain withinLimits isClass numbered
+unfolding added sheetNumbers plain withinLimits numbered
 good-rule s k n c g m = record {
   parents = g .parents;
+  rows = g .rows;
   early = λ h. absurd (omega arith);
   slots = g .slots;
   ascending = g .ascending;
   rules = g .rules;
-  current = open-rule (record { forest = forest-empty (length (s .lines)); count = omega arith; in-range = each-nil; low-context = ltb→lt c 64 (and-r (ltb n 64) _ (m .limits)) });
+  distinct = g .distinct;
+  earlier = λ d e. subst (λ i. Each (λ p. p < i) (sheetNumbers s)) (ap (λ (x : Current). x .first) (Option·some-injective _ _ e)) (bodies-below (g .rules));
+  few = g .few;
+  current = open-rule (record { context = and-r (ltb n 64) _ (m .limits); forest = forest-empty (length (s .lines)); count = omega arith; in-range = each-nil; names = each-nil });
   room = λ d e. omega (arith, eqb→eq n (length (s .rules)) (met-numbered s (ruleLine n c) m), ltb→lt n 64 (and-l (ltb n 64) _ (m .limits)));
 }
 
 -- ---- a node line
 
 rules-more : {n : ℕ} {l : List Rule} → Each (RuleOk n) l → Each (RuleOk (suc n)) l
-rules-more h = each-imp (λ r x. record { distinct = x .distinct; on-sheet = each-imp (λ p l. omega arith) (x .on-sheet); shallow = x .shallow; in-range = x .in-range; low-context = x .low-context }) h
+rules-more h = each-imp (λ r x. record { context = x .context; on-sheet = each-imp (λ p l. omega arith) (x .on-sheet); shallow = x .shallow; in-range = x .in-range; names = x .names }) h
 
 current-more : (n : ℕ) (x : Shape) {o : Option Current} → OpenOk n o → T (formWithin x) → T (operandsFresh o x) → OpenOk (suc n) (onSome o (λ c. some (withNode c x)))
-unfolding onSome withNode operandsFresh literals
+unfolding onSome withNode operandsFresh literals Named
 current-more n x no-rule w h = no-rule
 current-more n x (open-rule {c} r) w h = open-rule (record {
+  context = r .context;
   forest = forest-more (c .first) (c .trees) (c .used) x (r .forest) h;
   count = omega (arith, r .count, length-more (c .trees) (node (c .first + length (c .trees)) (grow (treeOf (c .trees)) x)));
   in-range = each-append (r .in-range) (each-cons (grown-in-range (treeOf (c .trees)) (tree-in-range (r .in-range)) x w) each-nil);
-  low-context = r .low-context;
+  names = each-append (r .names) (each-cons (grown-names (treeOf (c .trees)) (tree-names (r .names)) x w) each-nil);
 })
 
--- a rule was open already
-was-open : (o : Option Current) (f : Current → Current) (c : Current) → onSome o (λ d. some (f d)) ≡ some c → (d : Current) × (o ≡ some d)
+-- a rule was open already, with the same first node
+record WasOpen (x : Shape) (o : Option Current) (c : Current) : Type 0 where
+  before : Current
+  is : o ≡ some before
+  more : withNode before x ≡ c
+
+was-open : (x : Shape) (o : Option Current) (c : Current) → onSome o (λ d. some (withNode d x)) ≡ some c → WasOpen x o c
 unfolding onSome
-was-open none f c e = absurd (let z : _≡_ {A = ℕ} 0 1 = cc in omega arith)
-was-open (some d) f c e = (d, refl)
+was-open x none c e = absurd (let z : _≡_ {A = ℕ} 0 1 = cc in omega arith)
+was-open x (some d) c e = record { before = d; is = refl; more = Option·some-injective _ _ e }
 
 good-node : (s : Sheet) (k n : ℕ) (x : Shape) → Good s → Met s (nodeLine n x) → Good (added s k (nodeLine n x))
-unfolding added plain treeHolds withinLimits
+unfolding added sheetNumbers plain treeHolds withinLimits withNode
 good-node s k n x g m =
     let e = length-more (s .lines) k in
     let w = and-r (isNode n) _ (and-l (isNode n && formWithin x) _ (and-l (isNode n && formWithin x && allOf isNode (operandsOf x)) _ (m .limits))) in record {
       parents = g .parents;
+      rows = g .rows;
       early = λ h. absurd (omega arith);
       slots = g .slots;
       ascending = g .ascending;
       rules = subst (λ i. Each (RuleOk i) (s .rules)) (sym e) (rules-more (g .rules));
+      distinct = g .distinct;
+      earlier = λ c q. let d = was-open x (s .current) c q in subst (λ i. Each (λ p. p < i) (sheetNumbers s)) (ap (λ (y : Current). y .first) (d .more)) (g .earlier (d .before) (d .is));
+      few = g .few;
       current = subst (λ i. OpenOk i (onSome (s .current) (λ c. some (withNode c x)))) (sym e) (current-more (length (s .lines)) x (g .current) w (m .tree));
-      room = λ c q. let d = was-open (s .current) (λ d. withNode d x) c q in g .room (d .0) (d .1);
+      room = λ c q. let d = was-open x (s .current) c q in g .room (d .before) (d .is);
     }
 
 pub good-added : (s : Sheet) (k : ℕ) (l : Line) → Good s → Met s l → Good (added s k l)

@@ -2,9 +2,15 @@ pub mod Forest
 pub mod Ascending
 pub mod InRange
 pub mod Formed
+pub mod Belonging
+pub mod Parents
+pub mod TypeFits
 pub mod Good
 pub mod Acceptance
 pub mod Listed
+pub mod Marks
+pub mod TypeLines
+pub mod Accepted
 pub mod Soundness
 pub mod NeverStuck
 pub mod Examples
@@ -13,3 +19,4 @@ pub mod Parsers
 pub mod Spelling
 pub mod Split
 pub mod Lengths
+pub mod ReadLength

@@ -2,7 +2,7 @@
 use mathlib.Core.Path.{_≡_, refl, subst}
 use mathlib.Core.Logic.{_≢_}
 use mathlib.Core.Bool.{Bool, true, false, not, _||_}
-use mathlib.Core.Option.{Option, none, some}
+use mathlib.Core.Option.{Option, none, some, Option·some-injective, Option·none-ne-some}
 use mathlib.Core.List.{List, [], _∷_, _++_}
 use Prim.Native.Nat.{ℕ, zero, suc, _≤_}
 use native.Mathlib.Omega.{arith}
@@ -12,7 +12,6 @@ use lib.Dec.{T, T-not, eqb, eqb-refl, ltb}
 use Rattle.laws.specs.Choice.{if_then_else_}
 use Rattle.laws.specs.Lists.{Each, each-nil, each-cons}
 use Rattle.laws.proofs.Tests.{by-if}
-use Rattle.laws.proofs.Elements.{each-elem}
 use Rattle.ocl.specs.Types.{class, Kind, set, sequence, bag, Ty, Class}
 use Rattle.ocl.specs.Values.{Value, bool, int, obj, coll, Values, nil, cons}
 use Rattle.ocl.specs.Model.{Model, isA}
@@ -25,17 +24,17 @@ use Rattle.ocl.proofs.Places.{typing-places}
 use Rattle.ocl.proofs.Stops.{stop-within}
 use Rattle.sheet.specs.Text.{Bytes, byte, bytes, isDigit, spellDigits, spellNumber, spellInteger}
 use Rattle.sheet.specs.Spelling.{letterByte, kindByte, spellBool, spellValue, spellMembers, spellMore}
-use Rattle.sheet.specs.Sheet.{Rule, Sheet, modelOf}
+use Rattle.sheet.specs.Sheet.{Rule, Sheet, schemaIn, modelOf}
 use Rattle.sheet.specs.Reading.{Reading, accepted, rejected, readText}
-use Rattle.sheet.specs.Calls.{Verdict, answer, refusalAt, refusal, shortWords, shortOutput, onSheet, readCall, onRule, typingOf, onType, typeOn, typeCall, onObject, outcomeOf, ended, evaluateOn, evaluateCall}
-use Rattle.sheet.specs.Report.{spellOutcome, reportLine, objectLines, ruleLines, onTypes, fitting, reportOf, reportCall, printed, program}
-use Rattle.sheet.specs.Laws.{ReadRefusal, over-length, at-line}
+use Rattle.sheet.specs.Calls.{Verdict, answer, refusalAt, refusal, shortWords, shortOutput, onSheet, typingOf, onType, onTypes, onAccepted, typeLines, readCall, onRule, onObject, outcomeOf, ended, evaluateOn, evaluateCall}
+use Rattle.sheet.specs.Report.{spellOutcome, reportLine, objectLines, ruleLines, fitting, reportOf, reportCall, printed, program}
+use Rattle.sheet.specs.Laws.{ReadRefusal, over-length, at-line, AllTyped, none-typed, one-typed}
 use Rattle.sheet.specs.Soundness.{NeverStuckLaw}
 use Rattle.sheet.proofs.Numbers.{digit-from, spell-digits}
 use Rattle.sheet.proofs.Listed.{read-refusals}
-use Rattle.sheet.proofs.Good.{Good, RuleOk}
+use Rattle.sheet.proofs.Good.{Good}
 use Rattle.sheet.proofs.Acceptance.{accepted-good}
-use Rattle.sheet.proofs.Soundness.{sound-body}
+use Rattle.sheet.proofs.Soundness.{sound-rule}
 
 -- ---- bytes in which `!` stands only before a space, or before 1 and another byte than 0
 
@@ -145,25 +144,35 @@ module _ (m : Model) (t : Ty) (k : ℕ) where
 
 -- ---- the lines of a report, on a sheet whose rules have types
 
--- a rule has a type
-abbrev HasType : Sheet → Rule → Type 0
-HasType s x = (t : Ty) × (typingOf s x .answer ≡ typed t)
+-- a rule has a type, and its outcomes are sound for it
+abbrev SoundRule : Sheet → Rule → Type 0
+SoundRule s x = (t : Ty) × ((o : ℕ) → T (isA (modelOf s) o (class (x .context))) → Sound (modelOf s) t (reach (x .body)) (outcomeOf s x o))
 
-clean-objects : (s : Sheet) → Good s → (r : ℕ) (x : Rule) → RuleOk (length (s .lines)) x → (t : Ty) → typingOf s x .answer ≡ typed t → (n : ℕ) → Clean (objectLines s r x n)
+abbrev SoundRules : Sheet → List Rule → Type 0
+SoundRules s xs = (i : ℕ) (x : Rule) → getElem? xs i ≡ some x → SoundRule s x
+
+clean-objects : (s : Sheet) (r : ℕ) (x : Rule) → SoundRule s x → (n : ℕ) → Clean (objectLines s r x n)
 unfolding objectLines
-clean-objects s g r x k t e zero = clean-end
-clean-objects s g r x k t e (suc n) =
-    clean-objects s g r x k t e n
+clean-objects s r x h zero = clean-end
+clean-objects s r x h (suc n) =
+    clean-objects s r x h n
     next (by-if Clean (isA (modelOf s) n (class (x .context))) (reportLine r n (outcomeOf s x n)) []
-    (λ a. clean-line (modelOf s) t (reach (x .body)) r n (outcomeOf s x n) (sound-body s g n x t k e a)) (λ a. clean-end))
+    (λ a. clean-line (modelOf s) (h .0) (reach (x .body)) r n (outcomeOf s x n) (h .1 n a)) (λ a. clean-end))
 
-clean-rules : (s : Sheet) → Good s → (r : ℕ) (xs : List Rule) → Each (RuleOk (length (s .lines))) xs → Each (HasType s) xs → Clean (ruleLines s r xs)
+clean-rules : (s : Sheet) (r : ℕ) (xs : List Rule) → SoundRules s xs → Clean (ruleLines s r xs)
 unfolding ruleLines
-clean-rules s g r [] k h = clean-end
-clean-rules s g r (x ∷ xs) (each-cons k ks) (each-cons h hs) =
-    clean-objects s g r x k (h .0) (h .1) (length (s .objects)) next clean-rules s g (suc r) xs ks hs
+clean-rules s r [] h = clean-end
+clean-rules s r (x ∷ xs) h = clean-objects s r x (h 0 x refl) (length (s .objects)) next clean-rules s (suc r) xs (λ i. h (suc i))
 
--- ---- the calls: what holds of every refusal that the documents list, and of what follows a sheet, a type and a rule
+-- ---- the calls: what holds of every refusal that the documents list, and of what follows an accepted sheet and a rule
+
+type-of : {s : Sheet} {xs : List Rule} {ts : List Ty} → AllTyped s xs ts → (r : ℕ) (x : Rule) → getElem? xs r ≡ some x → (t : Ty) × (typingOf s x .answer ≡ typed t)
+type-of none-typed r x e = absurd (Option·none-ne-some _ e)
+type-of {s} (one-typed {t} a h) zero x e = (t, subst (λ y. typingOf s y .answer ≡ typed t) (Option·some-injective _ _ e) a)
+type-of (one-typed a h) (suc r) x e = type-of h r x e
+
+sound-rules : (s : Sheet) → Good s → {ts : List Ty} → AllTyped s (s .rules) ts → SoundRules s (s .rules)
+sound-rules s g k r x e = let h = type-of k r x e in (h .0, λ o a. sound-rule s g r o x (h .0) e (h .1) a)
 
 module _ (P : Verdict → Type 0) (p : (n k : ℕ) → n ≤ 19 → P (refusalAt n k)) where
   on-reading : (text : Bytes) (f : Sheet → Verdict) → ((s : Sheet) → Good s → P (f s)) → P (onSheet (readText text) f)
@@ -184,20 +193,24 @@ module _ (P : Verdict → Type 0) (p : (n k : ℕ) → n ≤ 19 → P (refusalAt
     where
       by : (a : Answer) → typingOf s x .answer ≡ a → P (onType s a f)
       by (typed t) e = h t e
-      by (refused n q) e = p n _ (omega (arith, typing-places (modelOf s) (x .body) (start (Class (x .context))) .refusals n q e .high))
+      by (refused n q) e = p n _ (omega (arith, typing-places (schemaIn s) (x .body) (start (Class (x .context))) .refusals n q e .high))
 
-  on-types : (s : Sheet) (xs : List Rule) (v : Verdict) → (Each (HasType s) xs → P v) → P (onTypes s xs v)
+  on-types : (s : Sheet) (xs : List Rule) (f : List Ty → Verdict) → ((ts : List Ty) → AllTyped s xs ts → P (f ts)) → P (onTypes s xs f)
   unfolding onTypes
-  on-types s [] v h = h each-nil
-  on-types s (x ∷ xs) v h = on-type s x (λ t. onTypes s xs v) (λ t e. on-types s xs v (λ k. h (each-cons (t, e) k)))
+  on-types s [] f h = h [] none-typed
+  on-types s (x ∷ xs) f h = on-type s x _ (λ t e. on-types s xs _ (λ ts k. h (t ∷ ts) (one-typed e k)))
 
-  on-rule : (s : Sheet) → Good s → (r : ℕ) (f : Rule → Verdict) → ((x : Rule) → RuleOk (length (s .lines)) x → P (f x)) → P (onRule (getElem? (s .rules) r) f)
+  on-text : (text : Bytes) (f : Sheet → List Ty → Verdict) → ((s : Sheet) (ts : List Ty) → SoundRules s (s .rules) → P (f s ts)) → P (onAccepted text f)
+  unfolding onAccepted
+  on-text text f h = on-reading text _ (λ s g. on-types s (s .rules) (f s) (λ ts k. h s ts (sound-rules s g k)))
+
+  on-rule : (xs : List Rule) (r : ℕ) (f : Rule → Verdict) → ((x : Rule) → getElem? xs r ≡ some x → P (f x)) → P (onRule (getElem? xs r) f)
   unfolding onRule refusal
-  on-rule s g r f h = by (getElem? (s .rules) r) refl
+  on-rule xs r f h = by (getElem? xs r) refl
     where
-      by : (x : Option Rule) → getElem? (s .rules) r ≡ x → P (onRule x f)
+      by : (x : Option Rule) → getElem? xs r ≡ x → P (onRule x f)
       by none e = p 14 0 (omega arith)
-      by (some x) e = h x (each-elem r (g .rules) e)
+      by (some x) e = h x e
 
   on-object : (m : Model) (d : Option ℕ) (o c : ℕ) (v : Verdict) → (T (isA m o (class c)) → P v) → P (onObject m d o c v)
   unfolding onObject refusal
@@ -220,11 +233,11 @@ lent-by : (P : Verdict → Type 0) (b : Bool) (v : Verdict) → P (refusalAt 1 0
 unfolding refusal
 lent-by P b v h k = by-if P b (refusal 1) v (λ t. h) (λ t. k)
 
-evaluate-low : (s : Sheet) → Good s → (r o : ℕ) → Low (evaluateOn s r o)
+evaluate-low : (s : Sheet) → SoundRules s (s .rules) → (r o : ℕ) → Low (evaluateOn s r o)
 unfolding evaluateOn
-evaluate-low s g r o = on-rule Low low s g r _ (λ x k.
+evaluate-low s h r o = on-rule Low low (s .rules) r _ (λ x e.
     on-object Low low (modelOf s) (modelOf s .classOf o) o (x .context) _ (λ a.
-    on-type Low low s x _ (λ t e. ended-number (modelOf s) t (reach (x .body)) (outcomeOf s x o) (sound-body s g o x t k e a))))
+    ended-number (modelOf s) (h r x e .0) (reach (x .body)) (outcomeOf s x o) (h r x e .1 o a)))
 
 -- a number of the documents, and no `!100`
 record Listed (v : Verdict) : Type 0 where
@@ -237,10 +250,9 @@ listed n k h = record { number = h; clean = clean-end }
 
 report-listed : (text : Bytes) (room : ℕ) → Listed (reportOf text room)
 unfolding reportOf fitting answer refusal
-report-listed text room = on-reading Listed listed text _ (λ s g.
-    on-types Listed listed s (s .rules) _ (λ h.
+report-listed text room = on-text Listed listed text _ (λ s ts h.
     by-if Listed (ltb room (length (ruleLines s 0 (s .rules)))) (refusalAt 18 0) (answer (ruleLines s 0 (s .rules)))
-    (λ t. listed 18 0 (omega arith)) (λ t. record { number = omega arith; clean = clean-rules s g 0 (s .rules) (g .rules) h })))
+    (λ t. listed 18 0 (omega arith)) (λ t. record { number = omega arith; clean = clean-rules s 0 (s .rules) h }))
 
 clean-printed : (v : Verdict) → Listed v → Clean (printed v)
 unfolding printed bytes
@@ -249,16 +261,13 @@ clean-printed v h =
     (λ t. clean-space clean-end next clean-number (v .number) next space next clean-number (v .place) next feed)
 
 pub never-stuck : NeverStuckLaw
-unfolding readCall typeCall evaluateCall reportCall typeOn program bytes
+unfolding readCall evaluateCall reportCall program bytes
 never-stuck text w0 w1 w2 out =
-    let reported = lent-by Listed (shortWords w0 w1 w2 || shortOutput out) _ (listed 1 0 (omega arith)) (report-listed text (length out)) in
+    let short = shortWords w0 w1 w2 || shortOutput out in
+    let reported = lent-by Listed short _ (listed 1 0 (omega arith)) (report-listed text (length out)) in
     record {
-      read-number = lent-by Low (shortWords w0 w1 w2) _ (low 1 0 (omega arith)) (on-reading Low low text _ (λ s g. low-answer []));
-      type-number = λ r.
-          lent-by Low (shortWords w0 w1 w2 || shortOutput out) _ (low 1 0 (omega arith))
-          (on-reading Low low text _ (λ s g. on-rule Low low s g r _ (λ x k. on-type Low low s x _ (λ t e. low-answer _))));
-      evaluate-number = λ r o.
-          lent-by Low (shortWords w0 w1 w2 || shortOutput out) _ (low 1 0 (omega arith)) (on-reading Low low text _ (λ s g. evaluate-low s g r o));
+      read-number = lent-by Low short _ (low 1 0 (omega arith)) (on-text Low low text _ (λ s ts h. low-answer (typeLines ts)));
+      evaluate-number = λ r o. lent-by Low short _ (low 1 0 (omega arith)) (on-text Low low text _ (λ s ts h. evaluate-low s h r o));
       report-number = reported .number;
       report-bytes = λ a b. clean-free a b (reported .clean);
       program-bytes = λ a b. clean-free a b (clean-printed (reportOf text 65536) (report-listed text 65536));

@@ -1,18 +1,18 @@
--- Document 01, Calls: what read, type and evaluate answer, for all texts, numbers and lengths of what is lent.
+-- Document 01, Calls, as document 02, F-6 has it: what read and evaluate answer, for all texts, numbers and lengths of what is lent.
 use Prim.Native.Nat.{ℕ}
 use mathlib.Core.Bool.{Bool, _||_}
 use mathlib.Core.Option.{Option, none, some}
-use mathlib.Core.List.{List, [], _++_}
+use mathlib.Core.List.{List, [], _∷_, _++_}
 use lib.ListN.{length, getD, getElem?, drop, replicate}
 use lib.Dec.{eqb, ltb}
 use Rattle.laws.specs.Choice.{if_then_else_}
 use Rattle.ocl.specs.Types.{class, Ty}
-use Rattle.ocl.specs.Model.{Model, isA}
-use Rattle.ocl.specs.Typing.{Answer, typed, refused, Typed, typeRule, markOf}
+use Rattle.ocl.specs.Model.{Schema, Model, isA}
+use Rattle.ocl.specs.Typing.{Answer, typed, refused, Mark, Marks, Typed, typeRule, markIn}
 use Rattle.ocl.specs.Evaluation.{Outcome, value, undefined, stuck, stop, evaluateRule}
-use Rattle.sheet.specs.Text.{Bytes, bytes}
+use Rattle.sheet.specs.Text.{Bytes, byte, bytes}
 use Rattle.sheet.specs.Spelling.{spellType, spellValue}
-use Rattle.sheet.specs.Sheet.{Rule, Sheet, modelOf}
+use Rattle.sheet.specs.Sheet.{Rule, Sheet, schemaIn, modelOf}
 use Rattle.sheet.specs.Reading.{Reading, accepted, rejected, readText}
 
 -- what a call comes to: its number, steps and place (document 01's word: the line that is to blame), and the bytes that it writes, none
@@ -54,47 +54,61 @@ shortWords w0 w1 w2 = ltb (length w0) 8192 || ltb (length w1) 8192 || ltb (lengt
 unfoldable pub shortOutput : Bytes → Bool
 shortOutput out = ltb (length out) 2048
 
--- ---- read
+-- ---- read: the sheet is read, and all its rules are typed in order
 
 -- 2 to 8, or what follows for a sheet
 unfoldable pub onSheet : Reading → (Sheet → Verdict) → Verdict
 onSheet (accepted s) f = f s
 onSheet (rejected n k) f = refusalAt n k
 
-unfoldable pub readCall : Bytes → List ℕ → List ℕ → List ℕ → Verdict
-readCall text w0 w1 w2 = if shortWords w0 w1 w2 then refusal 1 else onSheet (readText text) (λ s. answer [])
-
--- ---- type a rule
-
--- 14 where there is no such rule
-unfoldable pub onRule : Option Rule → (Rule → Verdict) → Verdict
-onRule none f = refusal 14
-onRule (some r) f = f r
-
 unfoldable pub typingOf : Sheet → Rule → Typed
-typingOf s r = typeRule (modelOf s) (r .context) (r .body)
+typingOf s r = typeRule (schemaIn s) (r .context) (r .body)
 
 -- 9 to 13 at the node's line, or what follows for a type
 unfoldable pub onType : Sheet → Answer → (Ty → Verdict) → Verdict
 onType s (typed t) f = f t
 onType s (refused n p) f = refusalAt n (getD (s .lines) p 0)
 
-unfoldable pub typeOn : Sheet → ℕ → Verdict
-typeOn s r = onRule (getElem? (s .rules) r) (λ x. onType s (typingOf s x .answer) (λ t. answer (spellType t)))
+-- the first refusal, or what follows for the rules' types
+unfoldable pub onTypes : Sheet → List Rule → (List Ty → Verdict) → Verdict
+onTypes s [] f = f []
+onTypes s (x ∷ xs) f = onType s (typingOf s x .answer) (λ t. onTypes s xs (λ ts. f (t ∷ ts)))
 
-unfoldable pub typeCall : Bytes → ℕ → List ℕ → List ℕ → List ℕ → Bytes → Verdict
-typeCall text r w0 w1 w2 out =
-    if shortWords w0 w1 w2 || shortOutput out then refusal 1 else onSheet (readText text) (λ s. typeOn s r)
+-- a sheet is accepted only if all its rules type: 2 to 13, or what follows for an accepted sheet and its rules' types
+unfoldable pub onAccepted : Bytes → (Sheet → List Ty → Verdict) → Verdict
+onAccepted text f = onSheet (readText text) (λ s. onTypes s (s .rules) (f s))
 
--- ---- evaluate a rule for an object
+-- one type a line, each ended by a line feed
+unfoldable pub typeLines : List Ty → Bytes
+typeLines [] = []
+typeLines (t ∷ ts) = spellType t ++ byte "\n" ∷ typeLines ts
+
+unfoldable pub readCall : Bytes → List ℕ → List ℕ → List ℕ → Bytes → Verdict
+readCall text w0 w1 w2 out =
+    if shortWords w0 w1 w2 || shortOutput out then refusal 1 else onAccepted text (λ s ts. answer (typeLines ts))
+
+-- ---- evaluate a rule for an object: it rests on an accepted sheet
+
+-- 14 where there is no such rule
+unfoldable pub onRule : Option Rule → (Rule → Verdict) → Verdict
+onRule none f = refusal 14
+onRule (some r) f = f r
 
 -- 14 where there is no such object, 15 where it is not of the class or below
 unfoldable pub onObject : Model → Option ℕ → ℕ → ℕ → Verdict → Verdict
 onObject m none o c v = refusal 14
 onObject m (some d) o c v = if isA m o (class c) then v else refusal 15
 
+-- the marks of all rules, whose nodes are numbered through all of them, so that no node has two
+unfoldable pub ruleMarks : Schema → List Rule → Marks
+ruleMarks k [] = []
+ruleMarks k (x ∷ xs) = typeRule k (x .context) (x .body) .marks ++ ruleMarks k xs
+
+unfoldable pub marksOf : Sheet → ℕ → Mark
+marksOf s = markIn (ruleMarks (schemaIn s) (s .rules))
+
 unfoldable pub outcomeOf : Sheet → Rule → ℕ → Outcome
-outcomeOf s r o = evaluateRule (modelOf s) (markOf (typingOf s r)) (r .body) o
+outcomeOf s r o = evaluateRule (modelOf s) (marksOf s) (r .body) o
 
 -- stuck has no number of document 01, and 100 stands for it; no call ends so (`NeverStuck`, Soundness.antt)
 unfoldable pub ended : Outcome → Verdict
@@ -105,8 +119,8 @@ ended (stop c n) = record { number = c; steps = n; place = 0; output = [] }
 
 unfoldable pub evaluateOn : Sheet → ℕ → ℕ → Verdict
 evaluateOn s r o = onRule (getElem? (s .rules) r) (λ x.
-    onObject (modelOf s) (modelOf s .classOf o) o (x .context) (onType s (typingOf s x .answer) (λ t. ended (outcomeOf s x o))))
+    onObject (modelOf s) (modelOf s .classOf o) o (x .context) (ended (outcomeOf s x o)))
 
 unfoldable pub evaluateCall : Bytes → ℕ → ℕ → List ℕ → List ℕ → List ℕ → Bytes → Verdict
 evaluateCall text r o w0 w1 w2 out =
-    if shortWords w0 w1 w2 || shortOutput out then refusal 1 else onSheet (readText text) (λ s. evaluateOn s r o)
+    if shortWords w0 w1 w2 || shortOutput out then refusal 1 else onAccepted text (λ s ts. evaluateOn s r o)

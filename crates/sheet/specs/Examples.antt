@@ -1,11 +1,13 @@
--- Small sheets and what the program prints for each, as one table. Document 01's own sheet is the first.
+-- Small sheets and what the program prints for each, or a call answers, as one table. Document 01's own sheet is the first.
 use mathlib.Core.Path.{_≡_}
 use mathlib.Core.List.{List, [], _∷_, _++_}
 use Prim.Native.Nat.{ℕ, zero, suc}
 use Prim.Native.String.{String}
+use lib.ListN.{replicate}
 use lib.Dec.{eqb}
 use Rattle.laws.specs.Choice.{if_then_else_}
 use Rattle.sheet.specs.Text.{Bytes, bytes, spellNumber}
+use Rattle.sheet.specs.Calls.{Verdict, answer, refusalAt, refusal, readCall, evaluateCall}
 use Rattle.sheet.specs.Report.{program}
 
 -- a space stands for the tab between two fields
@@ -26,6 +28,20 @@ prints ls = program (lines ls)
 unfoldable pub nots : ℕ → Bytes
 nots zero = lines ("C 0 -" ∷ "R 0 0" ∷ "N 0 true" ∷ [])
 nots (suc n) = nots n ++ bytes "N\t" ++ spellNumber (suc n) ++ bytes "\tnot\t" ++ spellNumber n ++ bytes "\n"
+
+-- what reading them answers, into an output of so many bytes, and what evaluating a rule for an object does
+unfoldable pub words : List ℕ
+words = replicate 8192 0
+
+unfoldable pub readsInto : ℕ → List String → Verdict
+readsInto n ls = readCall (lines ls) words words words (replicate n 0)
+
+unfoldable pub evaluates : ℕ → ℕ → List String → Verdict
+evaluates r o ls = evaluateCall (lines ls) r o words words words (replicate 2048 0)
+
+-- two rules of class 0, the second of which asks `not` of an Integer, on a sheet with an object of another class
+unfoldable pub secondUntyped : List String
+secondUntyped = "C 0 -" ∷ "C 1 -" ∷ "O 0 1" ∷ "R 0 0" ∷ "N 0 true" ∷ "R 1 0" ∷ "N 0 int 1" ∷ "N 1 not 0" ∷ []
 
 pub record Examples : Type 0 where
   pub paper : prints ("C 0 -" ∷ "C 1 0" ∷ "A 0 0 5 Int" ∷ "O 0 1" ∷ "O 1 0" ∷ "V 0 0 9" ∷ "R 0 0"
@@ -69,6 +85,16 @@ pub record Examples : Type 0 where
   pub too-deep-type : prints ("C 0 -" ∷ "R 0 0" ∷ "N 0 coll S" ∷ "N 1 coll S 0" ∷ "N 2 coll S 1" ∷ "N 3 coll S 2" ∷ []) ≡ bytes "! 13 6\n"
   -- the source is checked before the body is typed
   pub source-first : prints ("C 0 -" ∷ "R 0 0" ∷ "N 0 var 2" ∷ "N 1 int 1" ∷ "N 2 forAll 1 1 0" ∷ []) ≡ bytes "! 11 5\n"
+  -- reading writes one type a line; where a rule does not type it writes none; no rule, no line
+  pub two-types : readsInto 2048 ("C 0 -" ∷ "R 0 0" ∷ "N 0 self" ∷ "R 1 0" ∷ "N 0 int 1" ∷ "N 1 coll S 0" ∷ []) ≡ answer (bytes "#0\nS(Int)\n")
+  pub second-untyped : readsInto 2048 secondUntyped ≡ refusalAt 11 8
+  pub no-rules : readsInto 2048 ("C 0 -" ∷ "O 0 0" ∷ []) ≡ answer []
+  pub short-output : readsInto 2047 [] ≡ refusal 1
+  -- evaluate refuses where another rule does not type, before an absent rule or object and an object of another class
+  pub other-untyped : evaluates 0 0 secondUntyped ≡ refusalAt 11 8
+  pub untyped-first : evaluates 7 7 secondUntyped ≡ refusalAt 11 8
+  pub no-such-rule : evaluates 1 0 ("C 0 -" ∷ "O 0 0" ∷ "R 0 0" ∷ "N 0 true" ∷ []) ≡ refusal 14
+  pub other-class : evaluates 0 0 ("C 0 -" ∷ "C 1 -" ∷ "O 0 1" ∷ "R 0 0" ∷ "N 0 true" ∷ []) ≡ refusal 15
   -- the static class decides the row; two rules, and objects of the class or below it alone
   pub static-row : prints ("C 0 -" ∷ "C 1 0" ∷ "A 0 0 5 Int" ∷ "A 1 1 5 Bool" ∷ "O 0 0" ∷ "O 1 1" ∷ "V 1 0 7" ∷ "V 1 1 t"
       ∷ "R 0 0" ∷ "N 0 self" ∷ "N 1 attr 0 5" ∷ "R 1 1" ∷ "N 0 self" ∷ "N 1 attr 0 5" ∷ []) ≡ bytes "0 0 u 2\n0 1 7 2\n1 1 t 2\n"

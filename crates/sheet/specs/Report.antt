@@ -11,8 +11,7 @@ use Rattle.ocl.specs.Evaluation.{Outcome, value, undefined, stuck, stop, stepsO
 use Rattle.sheet.specs.Text.{Bytes, byte, bytes, spellNumber}
 use Rattle.sheet.specs.Spelling.{spellValue}
 use Rattle.sheet.specs.Sheet.{Rule, Sheet, modelOf}
-use Rattle.sheet.specs.Reading.{readText}
-use Rattle.sheet.specs.Calls.{Verdict, answer, refusal, shortWords, shortOutput, onSheet, typingOf, onType, outcomeOf}
+use Rattle.sheet.specs.Calls.{Verdict, answer, refusal, shortWords, shortOutput, onAccepted, outcomeOf}
 
 -- the value, or a stop's number behind `!`; stuck would be `!100`, which is in no report (`NeverStuck`, Soundness.antt)
 unfoldable pub spellOutcome : Outcome → Bytes
@@ -37,19 +36,13 @@ unfoldable pub ruleLines : Sheet → ℕ → List Rule → Bytes
 ruleLines s r [] = []
 ruleLines s r (x ∷ xs) = objectLines s r x (length (s .objects)) ++ ruleLines s (suc r) xs
 
--- all rules are typed in order: the first refusal, or what follows
-unfoldable pub onTypes : Sheet → List Rule → Verdict → Verdict
-onTypes s [] v = v
-onTypes s (x ∷ xs) v = onType s (typingOf s x .answer) (λ t. onTypes s xs v)
-
 -- 18 where the output is too short for it
 unfoldable pub fitting : ℕ → Bytes → Verdict
 fitting room b = if ltb room (length b) then refusal 18 else answer b
 
--- the report of a text into an output of so many bytes
+-- the report of a text into an output of so many bytes; it rests on an accepted sheet
 unfoldable pub reportOf : Bytes → ℕ → Verdict
-reportOf text room =
-    onSheet (readText text) (λ s. onTypes s (s .rules) (fitting room (ruleLines s 0 (s .rules))))
+reportOf text room = onAccepted text (λ s ts. fitting room (ruleLines s 0 (s .rules)))
 
 unfoldable pub reportCall : Bytes → List ℕ → List ℕ → List ℕ → Bytes → Verdict
 reportCall text w0 w1 w2 out =

@@ -9,7 +9,7 @@ use Rattle.laws.specs.Choice.{if_then_else_, onSome}
 use Rattle.laws.specs.Lists.{member}
 use Rattle.ocl.specs.Types.{void}
 use Rattle.ocl.specs.Values.{Value}
-use Rattle.ocl.specs.Model.{Row, Model}
+use Rattle.ocl.specs.Model.{Row, Schema, Model}
 use Rattle.ocl.specs.Forms.{undef, Expr, node, Form, Operands, noOperand, operand, levels}
 use Rattle.sheet.specs.Lines.{Shape, leaf, unary, binary, connective, isUndef, conditional, letIn, attribute, quantified, iterate, assemble, Line, classLine, rowLine, objectLine, valueLine, ruleLine, nodeLine}
 
@@ -60,6 +60,10 @@ lookup (x ∷ xs) o i = if eqb o (x .object) && eqb i (x .row) then some (x .val
 -- a row that is not there is never asked for
 unfoldable pub noRow : Row
 noRow = record { owner = 0; name = 0; type = void }
+
+-- all that typing reads
+abbrev pub schemaIn : Sheet → Schema
+schemaIn s = record { parent = λ c. getD (s .parents) c none; rowCount = length (s .rows); row = λ i. getD (s .rows) i noRow }
 
 unfoldable pub modelOf : Sheet → Model
 modelOf s = record {

@@ -13,11 +13,11 @@ use Rattle.ocl.specs.Model.{Model, isA, belongs}
 use Rattle.ocl.specs.Forms.{reach}
 use Rattle.ocl.specs.Evaluation.{stuck, Stop}
 use Rattle.ocl.specs.Laws.{integersInRange, Formed}
-use Rattle.sheet.specs.Text.{Bytes, bytes}
+use Rattle.sheet.specs.Text.{Bytes, bytes, linesOf}
 use Rattle.sheet.specs.Spelling.{spellType, spellValue}
 use Rattle.sheet.specs.Sheet.{Rule, Sheet, empty, modelOf}
 use Rattle.sheet.specs.Reading.{Reading, accepted, rejected, readText}
-use Rattle.sheet.specs.Calls.{Verdict, answer, readCall, typeCall, outcomeOf, evaluateCall}
+use Rattle.sheet.specs.Calls.{Verdict, readCall, outcomeOf, evaluateCall}
 use Rattle.sheet.specs.Report.{reportCall, program}
 
 -- every lent slice (document 01's word for the words and the output that a caller hands over) is at its minimum or above
@@ -69,20 +69,19 @@ pub record SoundCall (text : Bytes) (r o : ℕ) (t : Ty) (v : Verdict) : Type 0 
   -- no step stop where the reach is within the limit
   pub no-step-stop : reachOf text r ≤ 1000000 → v .number ≢ 16
 
--- the text is accepted, rule r gets type t, and object o is of its context class or below
+-- the text is accepted, rule r's type, which is its line, is t, and object o is of its context class or below
 abbrev pub Demand3 : Type 0
 Demand3 =
     (text : Bytes) (w0 w1 w2 : List ℕ) (out : Bytes) → Lent w0 w1 w2 out → (r o : ℕ) (t : Ty)
-    → readCall text w0 w1 w2 .number ≡ 0
-    → typeCall text r w0 w1 w2 out ≡ answer (spellType t)
+    → readCall text w0 w1 w2 out .number ≡ 0
+    → getElem? (linesOf (readCall text w0 w1 w2 out .output)) r ≡ some (spellType t)
     → T (ofContext text r o)
     → SoundCall text r o t (evaluateCall text r o w0 w1 w2 out)
 
 -- what stands for stuck, 100 in `ended` and `!100` in a report, is never seen: each call's number is 0 or one of the documents', and
 -- `!100` is nowhere in a report or in what the program prints
 pub record NeverStuck (text : Bytes) (w0 w1 w2 : List ℕ) (out : Bytes) : Type 0 where
-  pub read-number : readCall text w0 w1 w2 .number ≤ 19
-  pub type-number : (r : ℕ) → typeCall text r w0 w1 w2 out .number ≤ 19
+  pub read-number : readCall text w0 w1 w2 out .number ≤ 19
   pub evaluate-number : (r o : ℕ) → evaluateCall text r o w0 w1 w2 out .number ≤ 19
   pub report-number : reportCall text w0 w1 w2 out .number ≤ 19
   pub report-bytes : (a b : Bytes) → reportCall text w0 w1 w2 out .output ≢ a ++ (bytes "!100" ++ b)

@@ -8,7 +8,7 @@ use lib.Seq.{slice}
 use lib.Dec.{ltb, eqb}
 use Rattle.laws.specs.Choice.{if_then_else_}
 use Rattle.ocl.specs.Values.{Value}
-use Rattle.ocl.specs.Model.{Model}
+use Rattle.ocl.specs.Model.{Model, schemaOf}
 use Rattle.values.specs.Cells.{enc, Fits}
 use Rattle.nodes.specs.Classes.{HoldsClasses}
 use Rattle.tables.specs.declared.Counts.{Counts}
@@ -32,7 +32,7 @@ pub data Stored (st : Counts) (w0 : List ℕ) (o i : ℕ) : Option Value → Typ
       → slice (startAt w0 j) (endAt st w0 j) w0 ≡ enc v → Fits v → Stored st w0 o i (some v)
 
 pub record HoldsModel (st : Counts) (w0 : List ℕ) (m : Model) : Type 0 where
-  pub classes : HoldsClasses (tab 0 (st .classes) w0) (tab 64 (st .rows) w0) (tab 128 (st .rows) w0) (tab 192 (st .rows) w0) m
+  pub classes : HoldsClasses (tab 0 (st .classes) w0) (tab 64 (st .rows) w0) (tab 128 (st .rows) w0) (tab 192 (st .rows) w0) (schemaOf m)
   pub rowCount : m .rowCount ≡ st .rows
   pub objectCount : m .objectCount ≡ st .objects
   pub classOf : (o : ℕ) → m .classOf o ≡ (if ltb o (st .objects) then some (getD w0 (256 + o) 0) else none)

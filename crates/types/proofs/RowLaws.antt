@@ -10,7 +10,7 @@ use lib.Dec.{eqb, ltb}
 use borrow.Author.Tests.{eq-eqb, ne-eqb, ltb-true, ltb-false}
 use Rattle.laws.specs.Choice.{if_then_else_, orElse, onSome}
 use Rattle.ocl.specs.Types.{Parents}
-use Rattle.ocl.specs.Model.{Model, declared, nearest, rowRead}
+use Rattle.ocl.specs.Model.{Schema, declared, nearest, rowRead}
 use Rattle.types.specs.declared.Found.{Found}
 use Rattle.types.specs.declared.Found.the-variants as f
 use Rattle.types.specs.Flat.{parentWord, parentsIn}
@@ -129,13 +129,13 @@ module _ (ps owners names : List ℕ) (name : ℕ) {low high : ℕ} (h : low ≤
 
 -- ---- a model whose parents and rows are these tables finds the same rows
 
-pub record ReadsTables (s : Model) (ps owners names : List ℕ) (rows : ℕ) : Type 0 where
+pub record ReadsTables (s : Schema) (ps owners names : List ℕ) (rows : ℕ) : Type 0 where
   pub parents : s .parent ≡ parentsIn ps
   pub count : s .rowCount ≡ rows
   pub owner : (i : ℕ) → i < rows → s .row i .owner ≡ getD owners i 0
   pub name : (i : ℕ) → i < rows → s .row i .name ≡ getD names i 0
 
-module _ (s : Model) (ps owners names : List ℕ) (rows : ℕ) (to : ReadsTables s ps owners names rows) where
+module _ (s : Schema) (ps owners names : List ℕ) (rows : ℕ) (to : ReadsTables s ps owners names rows) where
   declared-law : (c name n : ℕ) → n ≤ rows → declared s c name n ≡ declaredIn owners names c name n
   unfolding declared declaredIn
   declared-law c name zero h = refl

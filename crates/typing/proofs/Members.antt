@@ -9,7 +9,7 @@ use borrow.Author.Tests.{lt-ltb, le-ltb}
 use Rattle.laws.specs.Choice.{onSome}
 use Rattle.ocl.specs.Types.{exactly, Letter, Ty, void, join}
 use Rattle.ocl.specs.Environment.{Env}
-use Rattle.ocl.specs.Model.{Model}
+use Rattle.ocl.specs.Model.{Schema}
 use Rattle.ocl.specs.Typing.{typed, Typed, pure, thenFor, andThen, common, wrap, noOperandTyping, operandTyping, assembleTyping, operandsTyping}
 use Rattle.types.specs.declared.FlatType.{FlatType}
 use Rattle.types.specs.Flat.{parentsIn, letterOf, tyOf}
@@ -44,11 +44,11 @@ kind-letter k l h =
 unfoldable pub lettered : ℕ → ℕ → Option Ty → Typed
 lettered n k o = pure (common n o (wrap n (letterOf (k - 25))))
 
-unfoldable pub membersLeft : Model → List ℕ → ℕ → ℕ → ℕ → ℕ → Option Ty → Env Ty → Typed
+unfoldable pub membersLeft : Schema → List ℕ → ℕ → ℕ → ℕ → ℕ → Option Ty → Env Ty → Typed
 membersLeft m t n k c d o Γ = andThen (membersAt t n c d m Γ) (λ u. lettered n k (joinMore (m .parent) o u))
 
 -- i of the c members are typed
-pub record Left (m : Model) (t : List ℕ) (n k c i : ℕ) (o : Option Ty) (Γ : Env Ty) (before now : List ℕ) : Type 0 where
+pub record Left (m : Schema) (t : List ℕ) (n k c i : ℕ) (o : Option Ty) (Γ : Env Ty) (before now : List ℕ) : Type 0 where
   pub goes : {after : List ℕ} {r : Reply} → Tells (membersLeft m t n k (c - i) (i + 1) o Γ) now after r → Tells (assembleAt t n k m Γ) before after r
 
 -- ---- the definition, member by member
@@ -59,18 +59,18 @@ unfolding andThen thenFor common lettered onSome
 common-then n k none f = refl
 common-then n k (some w) f = refl
 
-members-by : (m : Model) (t : List ℕ) (n c k d : ℕ) → c ≡ suc d → membersAt t n c k m ≡ operandTyping m n (operandAt t n k m) (membersAt t n d (k + 1) m)
+members-by : (m : Schema) (t : List ℕ) (n c k d : ℕ) → c ≡ suc d → membersAt t n c k m ≡ operandTyping m n (operandAt t n k m) (membersAt t n d (k + 1) m)
 unfolding membersAt operandsIn operandsTyping operandAt
 members-by m t n c k d e = rw e
 
-members-none : (m : Model) (t : List ℕ) (n c k : ℕ) (Γ : Env Ty) → c ≡ 0 → membersAt t n c k m Γ ≡ pure (typed void)
+members-none : (m : Schema) (t : List ℕ) (n c k : ℕ) (Γ : Env Ty) → c ≡ 0 → membersAt t n c k m Γ ≡ pure (typed void)
 unfolding membersAt operandsIn operandsTyping noOperandTyping
 members-none m t n c k Γ e = rw e
 
-two-more : (m : Model) (ps : List ℕ) → m .parent ≡ parentsIn ps → (o : Option Ty) (s u : Ty) → onSome (join (m .parent) s u) (joinMore (m .parent) o) ≡ joinMore (m .parent) (joinMore (m .parent) o s) u
+two-more : (m : Schema) (ps : List ℕ) → m .parent ≡ parentsIn ps → (o : Option Ty) (s u : Ty) → onSome (join (m .parent) s u) (joinMore (m .parent) o) ≡ joinMore (m .parent) (joinMore (m .parent) o s) u
 two-more m ps q o s u = rw q (more-two (parentsIn ps) (parents-small ps) o s u)
 
-module _ (m : Model) (t : List ℕ) (n k : ℕ) (Γ : Env Ty) (c : ℕ) where
+module _ (m : Schema) (t : List ℕ) (n k : ℕ) (Γ : Env Ty) (c : ℕ) where
   -- the members after member i
   abbrev others : ℕ → Typed
   others i = membersAt t n (c - (i + 1)) (i + 1 + 1) m Γ

@@ -12,7 +12,7 @@ use Rattle.laws.specs.Choice.{if_then_else_}
 use Rattle.ocl.specs.Types.{Letter, Ty, void, Parents, subtype}
 use Rattle.ocl.specs.Environment.{Env, extend}
 use Rattle.ocl.specs.Forms.{undef}
-use Rattle.ocl.specs.Model.{Model}
+use Rattle.ocl.specs.Model.{Schema}
 use Rattle.ocl.specs.Typing.{typed, refused, Typed, pure, andThen, onCollection, leafType, leafTyping, unaryTyping, isUndefTyping, attributeTyping, iterateTyping}
 use Rattle.types.specs.declared.FlatType.{FlatType}
 use Rattle.types.specs.Flat.{parentsIn, letterOf, tyOf}
@@ -30,7 +30,7 @@ use Rattle.judgements.proofs.Composition.{done}
 
 -- ---- a node by its code
 
-module _ (m : Model) (t : List ℕ) (n k : ℕ) (e : k ≡ word t n 0) where
+module _ (m : Schema) (t : List ℕ) (n k : ℕ) (e : k ≡ word t n 0) where
   pub leaf-node : k < 7 → nodeAt t n m ≡ leafTyping n (leafOf k (word t n))
   leaf-node h = leaf-typing m t n k e h
 
@@ -100,7 +100,7 @@ from-33 k h a b c = omega arith
 
 -- ---- operands
 
-module _ (m : Model) (t : List ℕ) (n k a : ℕ) (e : a ≡ word t n k) where
+module _ (m : Schema) (t : List ℕ) (n k a : ℕ) (e : a ≡ word t n k) where
   pub operand-node : a < n → operandAt t n k m ≡ nodeAt t a m
   unfolding operandAt operandTyping
   operand-node h = operand-typing m t n k a e h
@@ -116,7 +116,7 @@ undef-done n Γ h = done (ap typed h)
 
 -- ---- a body, in the environment that the code made for it
 
-pub in-env : {B A : List ℕ} {r : Reply} (t : List ℕ) (n k : ℕ) (m : Model) (Γ Δ : Env Ty) {i j : ℕ} {x y : Ty} → Δ ≡ extend Γ i x → i ≡ j → x ≡ y
+pub in-env : {B A : List ℕ} {r : Reply} (t : List ℕ) (n k : ℕ) (m : Schema) (Γ Δ : Env Ty) {i j : ℕ} {x y : Ty} → Δ ≡ extend Γ i x → i ≡ j → x ≡ y
     → Tells (operandAt t n k m Δ) B A r → Tells (operandAt t n k m (extend Γ j y)) B A r
 in-env t n k m Γ Δ h p q d = rw (h, p, q) at d
 
@@ -134,16 +134,16 @@ if-yes y b h d = rw (← h) d
 
 -- ---- `iter`, once source and start are typed: their checks, then the body
 
-unfoldable pub iterRest : Model → List ℕ → ℕ → Env Ty → Ty → Ty → Typed
+unfoldable pub iterRest : Schema → List ℕ → ℕ → Env Ty → Ty → Ty → Typed
 iterRest m t n Γ c e = onCollection c (pure (refused 11 n)) (λ l x.
     if subtype (m .parent) e (typeIn (word t n 6)) then bodyAt t n (typeIn (word t n 6)) m (extend Γ (variable (word t n 4)) x) else pure (refused 11 n))
 
-pub iter-rest : {B A : List ℕ} {r : Reply} (m : Model) (t : List ℕ) (n : ℕ) (Γ : Env Ty)
+pub iter-rest : {B A : List ℕ} {r : Reply} (m : Schema) (t : List ℕ) (n : ℕ) (Γ : Env Ty)
     → Tells (andThen (operandAt t n 1 m Γ) (λ c. andThen (operandAt t n 2 m Γ) (iterRest m t n Γ c))) B A r → Tells (iterateAt t n m Γ) B A r
 unfolding iterateTyping iterRest bodyAt
 iter-rest m t n Γ d = d
 
-module _ (m : Model) (ps : List ℕ) (q : m .parent ≡ parentsIn ps) (t : List ℕ) (n : ℕ) (Γ : Env Ty) (s e : Ty) {c : ℕ} (h : c ≡ outerCode s) where
+module _ (m : Schema) (ps : List ℕ) (q : m .parent ≡ parentsIn ps) (t : List ℕ) (n : ℕ) (Γ : Env Ty) (s e : Ty) {c : ℕ} (h : c ≡ outerCode s) where
   pub iter-source : {B : List ℕ} → c ≡ 0 → Tells (iterRest m t n Γ s e) B B (reply.No 11 n)
   unfolding iterRest
   iter-source z = no-source _ s h n z

@@ -8,7 +8,7 @@ use Rattle.laws.specs.Choice.{if_then_else_}
 use Rattle.ocl.specs.Types.{Ty}
 use Rattle.ocl.specs.Environment.{extend}
 use Rattle.ocl.specs.Forms.{undef}
-use Rattle.ocl.specs.Model.{Model}
+use Rattle.ocl.specs.Model.{Schema}
 use Rattle.ocl.specs.Typing.{typed, Typed, Typing, pure, andThen, below, typing, leafTyping, binaryTyping, connectiveTyping, conditionalTyping, letTyping, quantifiedTyping, iterateTyping, assembleTyping, operandsTyping}
 use Rattle.types.specs.Flat.{tyOf}
 use Rattle.types.specs.Word.{typeIn}
@@ -34,54 +34,54 @@ pub record TellsTwo (f g : Typed) (before after : List ℕ) (r : PairReply) : Ty
   pub goes : {t u : _} → r ≡ two.Are t u → (k : Ty → Ty → Typed) {last : List ℕ} {x : Reply}
       → Tells (k (tyOf t) (tyOf u)) after last x → Tells (andThen f (λ t. andThen g (k t))) before last x
 
-abbrev pub Types : List ℕ → List ℕ → ℕ → (Model → Typing) → TypeEnv → List ℕ → List ℕ → Reply → Type 0
-Types parents tables rows f env before after r = (m : Model) → ReadsRows parents tables rows m → Tells (f m (envOf env)) before after r
+abbrev pub Types : List ℕ → List ℕ → ℕ → (Schema → Typing) → TypeEnv → List ℕ → List ℕ → Reply → Type 0
+Types parents tables rows f env before after r = (m : Schema) → ReadsRows parents tables rows m → Tells (f m (envOf env)) before after r
 
-abbrev pub TypesTwo : List ℕ → List ℕ → ℕ → (Model → Typing) → (Model → Typing) → TypeEnv → List ℕ → List ℕ → PairReply → Type 0
+abbrev pub TypesTwo : List ℕ → List ℕ → ℕ → (Schema → Typing) → (Schema → Typing) → TypeEnv → List ℕ → List ℕ → PairReply → Type 0
 TypesTwo parents tables rows f g env before after r =
-    (m : Model) → ReadsRows parents tables rows m → TellsTwo (f m (envOf env)) (g m (envOf env)) before after r
+    (m : Schema) → ReadsRows parents tables rows m → TellsTwo (f m (envOf env)) (g m (envOf env)) before after r
 
 -- ---- the typing of node n of the table t, by what its form is
 
-abbrev pub nodeAt : List ℕ → ℕ → Model → Typing
+abbrev pub nodeAt : List ℕ → ℕ → Schema → Typing
 nodeAt t n m = typing m (treeAt t n)
 
 -- operand k of node n
-unfoldable pub operandAt : List ℕ → ℕ → ℕ → Model → Typing
+unfoldable pub operandAt : List ℕ → ℕ → ℕ → Schema → Typing
 operandAt t n k m = typing m (treesBelow t n (word t n k))
 
 -- c operands from word k on
-unfoldable pub membersAt : List ℕ → ℕ → ℕ → ℕ → Model → Typing
+unfoldable pub membersAt : List ℕ → ℕ → ℕ → ℕ → Schema → Typing
 membersAt t n c k m = operandsTyping m n (operandsIn (treesBelow t n) (word t n) c k)
 
 -- a single operand: its type, and what that leads to
-unfoldable pub singleAt : List ℕ → ℕ → ℕ → Model → Typing
+unfoldable pub singleAt : List ℕ → ℕ → ℕ → Schema → Typing
 singleAt t n form m Γ = andThen (operandAt t n 1 m Γ) (singleType m n form (word t n))
 
-abbrev pub binaryAt : List ℕ → ℕ → ℕ → Model → Typing
+abbrev pub binaryAt : List ℕ → ℕ → ℕ → Schema → Typing
 binaryAt t n form m = binaryTyping m n (binaryOf form) (operandAt t n 1 m) (operandAt t n 2 m)
 
-abbrev pub connectiveAt : List ℕ → ℕ → Model → Typing
+abbrev pub connectiveAt : List ℕ → ℕ → Schema → Typing
 connectiveAt t n m = connectiveTyping m n (operandAt t n 1 m) (operandAt t n 2 m)
 
-abbrev pub conditionalAt : List ℕ → ℕ → Model → Typing
+abbrev pub conditionalAt : List ℕ → ℕ → Schema → Typing
 conditionalAt t n m = conditionalTyping m n (operandAt t n 1 m) (operandAt t n 2 m) (operandAt t n 3 m)
 
-abbrev pub letAt : List ℕ → ℕ → Model → Typing
+abbrev pub letAt : List ℕ → ℕ → Schema → Typing
 letAt t n m = letTyping (variable (word t n 3)) (operandAt t n 1 m) (operandAt t n 2 m)
 
-abbrev pub quantifiedAt : List ℕ → ℕ → Model → Typing
+abbrev pub quantifiedAt : List ℕ → ℕ → Schema → Typing
 quantifiedAt t n m = quantifiedTyping m n (variable (word t n 3)) (operandAt t n 1 m) (operandAt t n 2 m)
 
-abbrev pub iterateAt : List ℕ → ℕ → Model → Typing
+abbrev pub iterateAt : List ℕ → ℕ → Schema → Typing
 iterateAt t n m =
     iterateTyping m n (variable (word t n 4)) (variable (word t n 5)) (typeIn (word t n 6)) (operandAt t n 1 m) (operandAt t n 2 m) (operandAt t n 3 m)
 
 -- what follows in `iter` once its source and start are checked: the body, below t, in an environment that has the member
-unfoldable pub bodyAt : List ℕ → ℕ → Ty → Model → Typing
+unfoldable pub bodyAt : List ℕ → ℕ → Ty → Schema → Typing
 bodyAt t n w m Γ = andThen (operandAt t n 3 m (extend Γ (variable (word t n 5)) w)) (λ b. pure (below m n b w (typed w)))
 
 -- over four operands, which no accepted sheet has, count as `undef`
-unfoldable pub assembleAt : List ℕ → ℕ → ℕ → Model → Typing
+unfoldable pub assembleAt : List ℕ → ℕ → ℕ → Schema → Typing
 assembleAt t n form m =
     if ltb 4 (word t n 5) then leafTyping n undef else assembleTyping n (kindOf form) (membersAt t n (word t n 5) 1 m)

@@ -1,8 +1,7 @@
-// A rule's typing on a cleared table of marks.
-ghost use mathlib.Core.Path.{_≡_};
+// A rule's typing, whose marks are added to those of other rules.
 ghost use Prim.Native.Nat.{_<_};
-ghost use lib.ListN.{length, replicate};
-ghost use Rattle.ocl.specs.Model.{Model};
+ghost use lib.ListN.{length};
+ghost use Rattle.ocl.specs.Model.{Schema};
 ghost use Rattle.ocl.specs.Typing.{typeRule};
 ghost use Rattle.nodes.specs.Nodes.{treeAt};
 ghost use Rattle.judgements.specs.Replies.{Tells, ReadsRows};
@@ -11,17 +10,6 @@ ghost use Rattle.typing.specs.Rules.{LentTables, TypesRule};
 use super::walk::node;
 use judgements::Reply;
 use judgements::environment::start_env;
-
-// Sets every word to 0, so that no node is marked.
-fn clear(marks: &mut [u64])
-    ensures { λ _. ⌜ now (marks .exit) ≡ replicate (length (now (marks .entry))) 0 ⌝ }
-{
-    let mut i = 0;
-    while i < marks.len() {
-        marks[i] = 0;
-        i += 1;
-    }
-}
 
 // The type of the tree at root, where nothing is bound but `self`, which has the context class.
 fn root_type(
@@ -34,9 +22,8 @@ fn root_type(
     marks: &mut [u64],
 ) -> Reply
     requires { ⌜ NodeRoom root rows (length (now tables)) (length (now nodes)) (length (now marks)) ⌝ }
-    ensures { λ r. ⌜ ((m : Model) → ReadsRows (now (parents .entry)) (now (tables .entry)) rows m → Tells (typeRule m context (treeAt (now (nodes .entry)) root)) (replicate (length (now (marks .entry))) 0) (now (marks .exit)) r) ⌝ }
+    ensures { λ r. ⌜ ((k : Schema) → ReadsRows (now (parents .entry)) (now (tables .entry)) rows k → Tells (typeRule k context (treeAt (now (nodes .entry)) root)) (now (marks .entry)) (now (marks .exit)) r) ⌝ }
 {
-    clear(marks);
     let env = start_env(context);
     node(nodes, parents, tables, rows, root, env, marks)
 }

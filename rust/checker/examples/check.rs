@@ -5,8 +5,8 @@
 //! Its exit status is 0 after a report, 1 after a refusal and 2 if the file
 //! could not be read.
 
-use ocl_checker::{evaluate_rule, read, report, type_rule};
-use ocl_checker::{Evaluated, Memory, Refusal, Refused, REPORT_OUTPUT};
+use ocl_checker::{evaluate_rule, read_types, report};
+use ocl_checker::{Evaluated, Memory, Refusal, Refused, LEAST_OUTPUT, REPORT_OUTPUT};
 use std::path::PathBuf;
 use std::process::ExitCode;
 
@@ -29,14 +29,11 @@ fn evaluate_for_all(text: &[u8], rule: u64, memory: &mut Memory, output: &mut [u
 fn check(text: &[u8]) -> Result<(), Refused> {
     let mut memory = Box::new(Memory::new());
     let mut output = vec![0; REPORT_OUTPUT];
-    read(text, &mut memory)?;
-    for rule in 0.. {
-        match type_rule(text, rule, &mut memory, &mut output) {
-            Ok(ty) => println!("rule {rule}: {ty}"),
-            // The rule before this one was the last.
-            Err(refused) if refused.refusal() == Some(Refusal::NotFound) => break,
-            Err(refused) => return Err(refused),
-        }
+    // The types have an output of their own, so that they last while the rules
+    // are evaluated.
+    let mut types = [0; LEAST_OUTPUT];
+    for (rule, ty) in (0..).zip(read_types(text, &mut memory, &mut types)?) {
+        println!("rule {rule}: {ty}");
         evaluate_for_all(text, rule, &mut memory, &mut output);
     }
     let lines = report(text, &mut memory, &mut output)?;

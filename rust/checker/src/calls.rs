@@ -24,21 +24,9 @@ pub type Words<'w> = [&'w mut [u64]; 3];
 
 // A slice is a pointer and a length in elements.
 extern "C" {
-    fn ocl_read_sheet(
+    fn ocl_read_types(
         text: *const u8,
         text_length: usize,
-        words0: *mut u64,
-        words0_length: usize,
-        words1: *mut u64,
-        words1_length: usize,
-        words2: *mut u64,
-        words2_length: usize,
-    ) -> Answer;
-
-    fn ocl_type_rule(
-        text: *const u8,
-        text_length: usize,
-        rule: u64,
         words0: *mut u64,
         words0_length: usize,
         words1: *mut u64,
@@ -78,9 +66,9 @@ extern "C" {
     ) -> Answer;
 }
 
-/// A call: its text, its numbers, the words and, where it has one, the output.
+/// A call: its text, its numbers, the words and the output.
 macro_rules! call {
-    ($call:ident, $text:ident, [$($number:ident)*], $words:ident, [$($output:ident)?]) => {{
+    ($call:ident, $text:ident, [$($number:ident)*], $words:ident, $output:ident) => {{
         let [words0, words1, words2] = $words;
         // SAFETY: each pointer and length are those of a slice that lives as long
         // as the call, and no two of them overlap, since all but the text are
@@ -96,23 +84,19 @@ macro_rules! call {
                 words1.len(),
                 words2.as_mut_ptr(),
                 words2.len(),
-                $($output.as_mut_ptr(), $output.len(),)?
+                $output.as_mut_ptr(),
+                $output.len(),
             )
         }
     }};
 }
 
-/// Reads a sheet.
-pub fn read_sheet(text: &[u8], words: Words) -> Answer {
-    call!(ocl_read_sheet, text, [], words, [])
+/// Reads a sheet, types all its rules and writes the types, one a line.
+pub fn read_types(text: &[u8], words: Words, output: &mut [u8]) -> Answer {
+    call!(ocl_read_types, text, [], words, output)
 }
 
-/// Types a rule and writes its type.
-pub fn type_rule(text: &[u8], rule: u64, words: Words, output: &mut [u8]) -> Answer {
-    call!(ocl_type_rule, text, [rule], words, [output])
-}
-
-/// Types a rule, evaluates it for an object and writes its value.
+/// Reads and types, evaluates a rule for an object and writes its value.
 pub fn evaluate_rule(
     text: &[u8],
     rule: u64,
@@ -120,10 +104,10 @@ pub fn evaluate_rule(
     words: Words,
     output: &mut [u8],
 ) -> Answer {
-    call!(ocl_evaluate_rule, text, [rule object], words, [output])
+    call!(ocl_evaluate_rule, text, [rule object], words, output)
 }
 
-/// Types all rules, evaluates them and writes the report.
+/// Reads and types, evaluates all rules and writes the report.
 pub fn report(text: &[u8], words: Words, output: &mut [u8]) -> Answer {
-    call!(ocl_report, text, [], words, [output])
+    call!(ocl_report, text, [], words, output)
 }

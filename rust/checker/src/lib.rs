@@ -7,13 +7,14 @@
 //! function allocates, and none touches anything but what it is lent.
 //!
 //! ```
-//! use ocl_checker::{evaluate_rule, report, type_rule, Memory, LEAST_OUTPUT};
+//! use ocl_checker::{evaluate_rule, read_types, report, Memory, LEAST_OUTPUT};
 //!
 //! // A class, two objects of it, and the rule "1 is less than 2".
 //! let sheet = b"C\t0\t-\nO\t0\t0\nO\t1\t0\nR\t0\t0\nN\t0\tint\t1\nN\t1\tint\t2\nN\t2\tless\t0\t1\n";
 //! let mut memory = Box::new(Memory::new());
 //! let mut output = [0; LEAST_OUTPUT];
-//! assert_eq!(type_rule(sheet, 0, &mut memory, &mut output), Ok("Bool"));
+//! let types = read_types(sheet, &mut memory, &mut output).unwrap();
+//! assert_eq!(types.collect::<Vec<_>>(), ["Bool"]);
 //! let evaluated = evaluate_rule(sheet, 0, 1, &mut memory, &mut output).unwrap();
 //! assert_eq!((evaluated.value, evaluated.steps), ("t", 3));
 //! assert_eq!(report(sheet, &mut memory, &mut output), Ok("0 0 t 3\n0 1 t 3\n"));
@@ -25,11 +26,13 @@ pub mod calls;
 mod refusal;
 
 use calls::{Answer, Words};
+use core::str::Lines;
 pub use refusal::{Refusal, Refused};
 
 /// The fewest words of each of the three slices that a call is lent.
 pub const LEAST_WORDS: usize = 8_192;
-/// The fewest bytes of an output. Every type and every value fits.
+/// The fewest bytes of an output. Every value fits, and so do the types of all
+/// rules.
 pub const LEAST_OUTPUT: usize = 2_048;
 /// The most bytes of a sheet.
 pub const LONGEST_TEXT: usize = 49_152;
@@ -74,50 +77,47 @@ pub struct Evaluated<'o> {
     pub steps: u64,
 }
 
-/// Reads a sheet and says whether it is valid.
+/// Reads a sheet and types all its rules. Answers with their types in order, as
+/// `Bool` or `S(#2)`, which stand in the output, one a line. A sheet is accepted
+/// only if all its rules type.
 ///
 /// # Errors
 ///
-/// Why it is refused, by [`Refusal::SheetTooLong`] to [`Refusal::MalformedTree`].
+/// Why it is refused: [`Refusal::SheetTooLong`] to [`Refusal::MalformedTree`], or
+/// [`Refusal::UnboundVariable`] to [`Refusal::TypeTooDeep`] where a rule has no
+/// type; [`Refusal::ShortSlice`] where the output has fewer than [`LEAST_OUTPUT`]
+/// bytes.
 ///
 /// ```
-/// use ocl_checker::{read, Memory, Refusal};
+/// use ocl_checker::{read_types, Memory, Refusal, LEAST_OUTPUT};
 ///
 /// let mut memory = Box::new(Memory::new());
-/// assert!(read(b"C\t0\t-\n", &mut memory).is_ok());
-/// let refused = read(b"C\t0\t-\nC\t1\t7\n", &mut memory).unwrap_err();
+/// let mut output = [0; LEAST_OUTPUT];
+/// let sheet = b"C\t0\t-\nR\t0\t0\nN\t0\tself\nR\t1\t0\nN\t0\tint\t7\n";
+/// let types = read_types(sheet, &mut memory, &mut output).unwrap();
+/// assert_eq!(types.collect::<Vec<_>>(), ["#0", "Int"]);
+/// let refused = read_types(b"C\t0\t-\nC\t1\t7\n", &mut memory, &mut output).unwrap_err();
 /// assert_eq!((refused.refusal(), refused.place), (Some(Refusal::UnknownReference), 2));
 /// ```
-pub fn read(text: &[u8], memory: &mut Memory) -> Result<(), Refused> {
-    checked(calls::read_sheet(text, memory.lend())).map(|_| ())
-}
-
-/// Types a rule and answers with its type, as `Bool` or `S(#2)`, which stands in
-/// the output. Rules are counted from 0, as on the sheet.
-///
-/// # Errors
-///
-/// What [`read`] refuses; [`Refusal::NotFound`] where there is no such rule;
-/// [`Refusal::UnboundVariable`] to [`Refusal::TypeTooDeep`] where it has no type;
-/// [`Refusal::ShortSlice`] where the output is too short.
-pub fn type_rule<'o>(
+pub fn read_types<'o>(
     text: &[u8],
-    rule: u64,
     memory: &mut Memory,
     output: &'o mut [u8],
-) -> Result<&'o str, Refused> {
-    let answer = calls::type_rule(text, rule, memory.lend(), output);
-    checked(answer).map(|answer| written(output, answer))
+) -> Result<Lines<'o>, Refused> {
+    let answer = calls::read_types(text, memory.lend(), output);
+    checked(answer).map(|answer| written(output, answer).lines())
 }
 
-/// Types a rule and evaluates it for an object. The value stands in the output.
+/// Evaluates a rule for an object, both counted from 0, as on the sheet. The value
+/// stands in the output.
 ///
 /// # Errors
 ///
-/// What [`type_rule`] refuses; [`Refusal::NotFound`] where there is no such
-/// object, [`Refusal::OtherClass`] where the rule does not apply to it, before the
-/// rule is typed; [`Refusal::StepStop`], [`Refusal::SizeStop`] and
-/// [`Refusal::OverRange`], with the steps.
+/// What [`read_types`] refuses, whichever rule is asked for; then
+/// [`Refusal::NotFound`] where there is no such rule or object, and
+/// [`Refusal::OtherClass`] where the rule does not apply to it;
+/// [`Refusal::StepStop`], [`Refusal::SizeStop`] and [`Refusal::OverRange`], with
+/// the steps.
 ///
 /// ```
 /// use ocl_checker::{evaluate_rule, Memory, Refusal, LEAST_OUTPUT};
@@ -150,10 +150,8 @@ pub fn evaluate_rule<'o>(
 ///
 /// # Errors
 ///
-/// What [`read`] refuses; [`Refusal::UnboundVariable`] to [`Refusal::TypeTooDeep`]
-/// where a rule has no type; [`Refusal::ReportTooLong`] where the report is longer
-/// than the output; [`Refusal::ShortSlice`] where the output has fewer than
-/// [`LEAST_OUTPUT`] bytes.
+/// What [`read_types`] refuses; [`Refusal::ReportTooLong`] where the report is
+/// longer than the output.
 pub fn report<'o>(
     text: &[u8],
     memory: &mut Memory,

@@ -1,7 +1,7 @@
 //! What the crate adds to the calls: lent memory, results and words.
 
 use ocl_checker::calls::{self, Answer, Words};
-use ocl_checker::{evaluate_rule, read, report, type_rule};
+use ocl_checker::{evaluate_rule, read_types, report};
 use ocl_checker::{Evaluated, Memory, Refusal, Refused, LEAST_OUTPUT, LEAST_WORDS};
 
 fn sheet(lines: &str) -> Vec<u8> {
@@ -25,8 +25,9 @@ fn refused(refusal: Refusal, steps: u64, place: u64) -> Refused {
 fn answers_are_ok() {
     let (text, mut memory) = (small(), Box::new(Memory::new()));
     let mut output = [b'~'; LEAST_OUTPUT];
-    assert_eq!(read(&text, &mut memory), Ok(()));
-    assert_eq!(type_rule(&text, 0, &mut memory, &mut output), Ok("Q(#1)"));
+    let types = read_types(&text, &mut memory, &mut output).unwrap();
+    assert_eq!(types.collect::<Vec<_>>(), ["Q(#1)", "Int"]);
+    assert_eq!(&output[..11], b"Q(#1)\nInt\n~");
     let evaluated = evaluate_rule(&text, 0, 1, &mut memory, &mut output);
     assert_eq!(
         evaluated,
@@ -38,23 +39,59 @@ fn answers_are_ok() {
     let lines = report(&text, &mut memory, &mut output);
     assert_eq!(lines, Ok("0 1 Q(@1) 2\n1 0 5 1\n1 1 5 1\n"));
     assert_eq!(output[35], b'~');
-    // One memory serves all calls; the empty sheet has an empty report.
+    // One memory serves all calls; the empty sheet has no types and an empty
+    // report.
     assert_eq!(report(b"", &mut memory, &mut output), Ok(""));
+    let mut none = read_types(b"", &mut memory, &mut output).unwrap();
+    assert_eq!(none.next(), None);
 }
 
 #[test]
 fn refusals_are_errors() {
     let (text, mut memory) = (small(), Box::new(Memory::default()));
     let mut output = [0; LEAST_OUTPUT];
-    let off = type_rule(&text, 2, &mut memory, &mut output);
+    let off = evaluate_rule(&text, 2, 0, &mut memory, &mut output);
     assert_eq!(off, Err(refused(Refusal::NotFound, 0, 0)));
     let stranger = evaluate_rule(&text, 0, 0, &mut memory, &mut output);
     assert_eq!(stranger, Err(refused(Refusal::OtherClass, 0, 0)));
-    let unbound = sheet("C 0 -|R 0 0|N 0 var 1");
-    let unbound = report(&unbound, &mut memory, &mut output);
-    assert_eq!(unbound, Err(refused(Refusal::UnboundVariable, 0, 3)));
+    // Every call refuses a sheet with a rule that has no type.
+    let unbound = sheet("C 0 -|O 0 0|R 0 0|N 0 true|R 1 0|N 0 var 1");
+    let loose = refused(Refusal::UnboundVariable, 0, 6);
+    let types = read_types(&unbound, &mut memory, &mut output);
+    assert_eq!(types.unwrap_err(), loose);
+    let value = evaluate_rule(&unbound, 0, 0, &mut memory, &mut output);
+    assert_eq!(value, Err(loose));
+    let lines = report(&unbound, &mut memory, &mut output);
+    assert_eq!(lines, Err(loose));
     let short = report(&text, &mut memory, &mut output[1..]);
     assert_eq!(short, Err(refused(Refusal::ShortSlice, 0, 0)));
+}
+
+#[test]
+fn reading_types_every_rule() {
+    let mut memory = Box::new(Memory::new());
+    let mut output = [0; LEAST_OUTPUT];
+    let start = "C 0 -|C 1 0|A 0 0 5 Int|O 0 0|O 1 1|R 0 0|N 0 true|R 1 1|N 0 self";
+    let text = sheet(&format!("{start}|N 1 attr 0 5|R 2 0|N 0 coll S"));
+    let types = read_types(&text, &mut memory, &mut output).unwrap();
+    assert_eq!(types.collect::<Vec<_>>(), ["Bool", "Int", "S(Void)"]);
+    let value = evaluate_rule(&text, 1, 1, &mut memory, &mut output).unwrap();
+    assert_eq!((value.value, value.steps), ("u", 2));
+    // Of two rules that do not type the first is refused, before an absent rule.
+    let text = sheet(&format!("{start}|N 1 attr 0 9|R 2 0|N 0 int 1|N 1 not 0"));
+    let none = refused(Refusal::NoAttribute, 0, 10);
+    let types = read_types(&text, &mut memory, &mut output);
+    assert_eq!(types.unwrap_err(), none);
+    for (rule, object) in [(0, 0), (9, 0), (0, 9), (1, 0)] {
+        let value = evaluate_rule(&text, rule, object, &mut memory, &mut output);
+        assert_eq!(value, Err(none), "{rule} {object}");
+    }
+    // 64 rules with the longest spelling of a type.
+    let nodes = "N 0 coll S|N 1 coll Q 0|N 2 coll B 1";
+    let rules: String = (0..64).map(|rule| format!("|R {rule} 0|{nodes}")).collect();
+    let types = read_types(&sheet(&format!("C 0 -{rules}")), &mut memory, &mut output).unwrap();
+    assert_eq!(types.collect::<Vec<_>>(), ["B(Q(S(Void)))"; 64]);
+    assert_eq!((output[895], output[896]), (b'\n', 0));
 }
 
 #[test]
@@ -112,30 +149,20 @@ fn misused(lengths: [usize; 3], room: usize, call: impl Fn(Words, &mut [u8]) -> 
 #[test]
 fn short_slices_are_left_alone() {
     let text = small();
+    let mut lent = vec![([LEAST_WORDS; 3], 0), ([LEAST_WORDS; 3], LEAST_OUTPUT - 1)];
     for (slice, length) in [(0, 0), (0, 8_191), (1, 8_191), (2, 0), (2, 8_191)] {
         let mut lengths = [LEAST_WORDS; 3];
         lengths[slice] = length;
-        misused(lengths, LEAST_OUTPUT, |words, _| {
-            calls::read_sheet(&text, words)
-        });
-        misused(lengths, LEAST_OUTPUT, |words, output| {
-            calls::type_rule(&text, 0, words, output)
-        });
-        misused(lengths, LEAST_OUTPUT, |words, output| {
-            calls::evaluate_rule(&text, 0, 1, words, output)
-        });
-        misused(lengths, LEAST_OUTPUT, |words, output| {
-            calls::report(&text, words, output)
-        });
+        lent.push((lengths, LEAST_OUTPUT));
     }
-    for room in [0, LEAST_OUTPUT - 1] {
-        misused([LEAST_WORDS; 3], room, |words, output| {
-            calls::type_rule(&text, 0, words, output)
+    for (lengths, room) in lent {
+        misused(lengths, room, |words, output| {
+            calls::read_types(&text, words, output)
         });
-        misused([LEAST_WORDS; 3], room, |words, output| {
+        misused(lengths, room, |words, output| {
             calls::evaluate_rule(&text, 0, 1, words, output)
         });
-        misused([LEAST_WORDS; 3], room, |words, output| {
+        misused(lengths, room, |words, output| {
             calls::report(&text, words, output)
         });
     }

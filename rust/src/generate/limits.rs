@@ -21,7 +21,7 @@ pub fn limit(random: &mut Random, kind: usize) -> Vec<u8> {
             one_value("Q(Int)", &sequence(size)) + "R\t0\t0\nN\t0\tself\nN\t1\tattr\t0\t0\n"
         }
         6 => rules(64) + if over == 1 { "N\t12\tnot\t11\n" } else { "" },
-        7 => "C\t0\t-\n".to_string() + &lines(64 + over, |n| format!("R\t{n}\t0\nN\t0\tint\t{n}")),
+        7 => short_rules(random, 64 + over),
         8 => deep_rule(random, DEEPEST_RULE + over),
         9 => return full(49_152 + over, 128),
         10 => steps(random, 1_000_000 + over),
@@ -120,6 +120,31 @@ fn rules(count: usize) -> String {
         + &(0..count)
             .map(|n| format!("R\t{n}\t0\n{chain}"))
             .collect::<String>()
+}
+
+/// So many short rules of various types, the longest spelling among them; one of
+/// the rules may not type.
+fn short_rules(random: &mut Random, count: usize) -> String {
+    const NODES: [&str; 6] = [
+        "N\t0\ttrue\n",
+        "N\t0\tundef\n",
+        "N\t0\tself\n",
+        "N\t0\tall\t0\n",
+        "N\t0\tint\t7\nN\t1\tcoll\tQ\t0\n",
+        "N\t0\tcoll\tS\nN\t1\tcoll\tQ\t0\nN\t2\tcoll\tB\t1\n",
+    ];
+    let longest = random.one_in(3);
+    let untyped = random.one_in(3).then(|| random.below(count));
+    let mut text = "C\t0\t-\nO\t0\t0\n".to_string();
+    for rule in 0..count {
+        let nodes = match untyped {
+            Some(untyped) if untyped == rule => "N\t0\tvar\t1\n",
+            _ if longest => NODES[5],
+            _ => random.pick(&NODES),
+        };
+        text += &format!("R\t{rule}\t0\n{nodes}");
+    }
+    text
 }
 
 /// Three quantifiers inside each other and a few nodes around them, so that

@@ -20,6 +20,7 @@ use crate::types::{Type, DEEPEST};
 use draft::Draft;
 use random::Random;
 use rules::Growth;
+use std::iter;
 use world::{any_type, world, Scale};
 
 /// A sheet for a seed: most type, some are damaged, some stand at a limit.
@@ -99,7 +100,6 @@ fn rule(random: &mut Random, model: &Model, budget: usize, faulty: bool) -> (u8,
 #[derive(Clone, Copy, PartialEq, Eq, Debug)]
 pub enum Call {
     Read,
-    Type { rule: u64 },
     Evaluate { rule: u64, object: u64 },
     Report,
 }
@@ -119,12 +119,8 @@ pub fn asks(seed: u64, text: &[u8]) -> Vec<Ask> {
         Ok(sheet) => (sheet.rules.len(), sheet.model.objects.len()),
         Err(_) => (1, 1),
     };
-    let mut calls = vec![Call::Read, Call::Report];
-    for _ in 0..3 {
-        let rule = number(&mut random, rules);
-        calls.push(Call::Type { rule });
-    }
-    for _ in 0..4 {
+    let mut calls = vec![Call::Read, Call::Read, Call::Report];
+    for _ in 0..5 {
         let rule = number(&mut random, rules);
         let object = number(&mut random, objects);
         calls.push(Call::Evaluate { rule, object });
@@ -142,8 +138,8 @@ pub fn asks(seed: u64, text: &[u8]) -> Vec<Ask> {
     asks
 }
 
-/// What is asked about a vector: as well, each rule's type and, within reason,
-/// its value for each object.
+/// What is asked about a vector: as well, its types with the least that can be
+/// lent and, within reason, each rule's value for each object.
 pub fn vector_asks(seed: u64, text: &[u8]) -> Vec<Ask> {
     const MOST_PAIRS: usize = 64;
     let mut asks = asks(seed, text);
@@ -152,10 +148,9 @@ pub fn vector_asks(seed: u64, text: &[u8]) -> Vec<Ask> {
     };
     let rules = 0..sheet.rules.len() as u64;
     let objects = sheet.model.objects.len() as u64;
-    let types = rules.clone().map(|rule| Call::Type { rule });
     let pairs = rules.flat_map(|rule| (0..objects).map(move |object| (rule, object)));
     let values = (pairs.take(MOST_PAIRS)).map(|(rule, object)| Call::Evaluate { rule, object });
-    asks.extend(types.chain(values).map(|call| Ask {
+    asks.extend(iter::once(Call::Read).chain(values).map(|call| Ask {
         call,
         words: [LEAST_WORDS; 3],
         out: LEAST_OUTPUT,

@@ -17,8 +17,7 @@ impl Calls for Linked {
 
     fn call(&self, call: Call, text: &[u8], words: Words, out: &mut [u8]) -> Answer {
         let answer = match call {
-            Call::Read => product::read_sheet(text, words),
-            Call::Type { rule } => product::type_rule(text, rule, words, out),
+            Call::Read => product::read_types(text, words, out),
             Call::Evaluate { rule, object } => {
                 product::evaluate_rule(text, rule, object, words, out)
             }

@@ -1,5 +1,6 @@
 //! Compares the product's calls and program with the second evaluator's.
 
+pub mod cases;
 pub mod clock;
 pub mod compare;
 #[cfg(feature = "linked")]
@@ -14,21 +15,19 @@ pub mod tally;
 use crate::calls::{self, Answer, Words};
 use crate::generate::Call;
 
-/// An implementation of the four calls.
+/// An implementation of the three calls.
 pub trait Calls: Sync {
     /// The stack the calls must do with.
     fn stack(&self) -> usize;
 
-    /// The call, which reads nothing but the text and what is lent. Read gets
-    /// no output.
+    /// The call, which reads nothing but the text and what is lent.
     fn call(&self, call: Call, text: &[u8], words: Words, out: &mut [u8]) -> Answer;
 }
 
 /// The second evaluator's own answer.
 pub fn second(call: Call, text: &[u8], words: Words, out: &mut [u8]) -> Answer {
     match call {
-        Call::Read => calls::read_sheet(text, words),
-        Call::Type { rule } => calls::type_rule(text, rule, words, out),
+        Call::Read => calls::read_types(text, words, out),
         Call::Evaluate { rule, object } => calls::evaluate_rule(text, rule, object, words, out),
         Call::Report => calls::report(text, words, out),
     }

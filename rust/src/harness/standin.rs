@@ -1,6 +1,7 @@
 //! Stands in for the product: the second evaluator itself, with a fault or
 //! without, to show that the comparison finds what it must.
 
+use super::cases::{Case, Rules};
 use super::{second, Calls};
 use crate::calls::{Answer, Words, LEAST_OUTPUT, LEAST_WORDS};
 use crate::generate::Call;
@@ -42,10 +43,26 @@ pub enum Fault {
     ObjectCut,
     /// A report that just fits refused, or one that just does not, cut.
     ReportRoom,
+    /// The last of the types without its line feed.
+    LastLineFeed,
+    /// Types written as rules are typed, also where a later one does not type.
+    TypesOfRefusal,
+    /// An answer though an earlier rule than the one asked for does not type.
+    EarlierRule,
+    /// An answer though a later rule than the one asked for does not type.
+    LaterRule,
+    /// The rule asked for refused before an earlier one that does not type.
+    AskedFirst,
+    /// 14 for a rule before 9 to 13.
+    AbsentRuleFirst,
+    /// 14 for an object before 9 to 13.
+    AbsentObjectFirst,
+    /// 15 before 9 to 13.
+    OtherClassFirst,
 }
 
 impl Fault {
-    pub const ALL: [Fault; 17] = [
+    pub const ALL: [Fault; 25] = [
         Fault::Place,
         Fault::PlaceOfStop,
         Fault::Steps,
@@ -63,6 +80,14 @@ impl Fault {
         Fault::RuleCut,
         Fault::ObjectCut,
         Fault::ReportRoom,
+        Fault::LastLineFeed,
+        Fault::TypesOfRefusal,
+        Fault::EarlierRule,
+        Fault::LaterRule,
+        Fault::AskedFirst,
+        Fault::AbsentRuleFirst,
+        Fault::AbsentObjectFirst,
+        Fault::OtherClassFirst,
     ];
 }
 
@@ -84,6 +109,8 @@ impl Calls for StandIn {
         let number = answer.number;
         let length = answer.length as usize;
         match self.fault {
+            // Timed too, so nothing more is done.
+            Fault::None => {}
             Fault::Place if answer.place > 0 => answer.place += 1,
             Fault::PlaceOfStop if matches!(number, 16 | 17 | 19) => answer.place = 1,
             Fault::Steps if answer.steps > 0 => answer.steps += 1,
@@ -93,10 +120,14 @@ impl Calls for StandIn {
             Fault::WordLeft if number != 1 => middle[LEAST_WORDS - 1] = left.unwrap_or(0),
             Fault::WordBeyond if number != 1 && last.len() > LEAST_WORDS => last[LEAST_WORDS] = 0,
             Fault::WipedWhenShort if number == 1 => first.fill(0),
-            Fault::OutputOfRefusal if number > 1 && call != Call::Read => out[0] ^= 1,
+            Fault::OutputOfRefusal if number > 1 => out[0] ^= 1,
             Fault::OutputBeyond if length > 0 && length < out.len() => out[length] ^= 1,
             Fault::OutputWrong if length > 0 => out[length - 1] ^= 1,
-            _ => {}
+            Fault::LastLineFeed if call == Call::Read && length > 0 => answer.length -= 1,
+            Fault::TypesOfRefusal if call == Call::Read && matches!(number, 9..=13) => {
+                out[..5].copy_from_slice(b"Bool\n");
+            }
+            _ => self.reorder(call, text, &mut answer),
         }
         answer
     }
@@ -106,14 +137,33 @@ impl StandIn {
     /// The call with its numbers as the fault reads them.
     fn cut(&self, call: Call) -> Call {
         match (self.fault, call) {
-            (Fault::RuleCut, Call::Type { rule }) => Call::Type {
+            (Fault::RuleCut, Call::Evaluate { rule, object }) => Call::Evaluate {
                 rule: rule as u32 as u64,
+                object,
             },
             (Fault::ObjectCut, Call::Evaluate { rule, object }) => Call::Evaluate {
                 rule,
                 object: object as u8 as u64,
             },
             _ => call,
+        }
+    }
+
+    /// The answer as if rules were typed in another order, or fewer of them.
+    fn reorder(&self, call: Call, text: &[u8], answer: &mut Answer) {
+        let refusal = |number| Answer {
+            number,
+            ..Answer::default()
+        };
+        let case = Rules::of(text).and_then(|rules| rules.case(call, *answer));
+        match (self.fault, case) {
+            (Fault::EarlierRule, Some(Case::EarlierRule)) => *answer = refusal(0),
+            (Fault::LaterRule, Some(Case::LaterRule)) => *answer = refusal(0),
+            (Fault::AskedFirst, Some(Case::TwoRules)) => answer.place += 1,
+            (Fault::AbsentRuleFirst, Some(Case::AbsentRule)) => *answer = refusal(14),
+            (Fault::AbsentObjectFirst, Some(Case::AbsentObject)) => *answer = refusal(14),
+            (Fault::OtherClassFirst, Some(Case::OtherClass)) => *answer = refusal(15),
+            _ => {}
         }
     }
 

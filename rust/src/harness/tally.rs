@@ -1,19 +1,22 @@
-//! Which answers each call was compared in.
+//! Which answers each call was compared in, and which cases of several rules.
 
+use super::cases::Case;
 use crate::calls::Answer;
 use crate::generate::Call;
 use std::fmt;
 
-const NAMES: [&str; 4] = ["read", "type", "evaluate", "report"];
+const NAMES: [&str; 3] = ["read", "evaluate", "report"];
 
-/// Answers by call and number.
+/// Answers by call and number, and cases in the order of `Case::ALL`.
 #[derive(Default)]
-pub struct Tally([[u64; 20]; 4]);
+pub struct Tally {
+    answers: [[u64; 20]; 3],
+    cases: [u64; Case::ALL.len()],
+}
 
 /// The calls in the order of `NAMES`, whatever their numbers.
-const CALLS: [Call; 4] = [
+const CALLS: [Call; 3] = [
     Call::Read,
-    Call::Type { rule: 0 },
     Call::Evaluate { rule: 0, object: 0 },
     Call::Report,
 ];
@@ -21,49 +24,51 @@ const CALLS: [Call; 4] = [
 fn position(call: Call) -> usize {
     match call {
         Call::Read => 0,
-        Call::Type { .. } => 1,
-        Call::Evaluate { .. } => 2,
-        Call::Report => 3,
+        Call::Evaluate { .. } => 1,
+        Call::Report => 2,
     }
 }
 
 /// Whether a call can answer with the number.
 fn relevant(call: Call, number: usize) -> bool {
-    match (call, number) {
-        (_, 0..=8) => true,
-        (Call::Read, _) => false,
-        (_, 9..=13) => true,
-        (Call::Type { .. }, 14) => true,
-        (Call::Evaluate { .. }, 14..=17 | 19) => true,
-        (Call::Report, 18) => true,
-        _ => false,
+    match call {
+        Call::Read => number <= 13,
+        Call::Evaluate { .. } => number != 18,
+        Call::Report => number <= 13 || number == 18,
     }
 }
 
 impl Tally {
     pub fn add(&mut self, call: Call, answer: Answer) {
-        self.0[position(call)][answer.number as usize] += 1;
+        self.answers[position(call)][answer.number as usize] += 1;
+    }
+
+    pub fn add_case(&mut self, case: Case) {
+        self.cases[case as usize] += 1;
     }
 
     /// Adds what another one has counted.
     pub fn join(&mut self, other: Tally) {
-        let counts = self.0.iter_mut().flatten();
-        for (count, more) in counts.zip(other.0.into_iter().flatten()) {
+        let counts = self.answers.iter_mut().flatten().chain(&mut self.cases);
+        let more = other.answers.into_iter().flatten().chain(other.cases);
+        for (count, more) in counts.zip(more) {
             *count += more;
         }
     }
 
-    /// The numbers a call can answer with and never did.
+    /// The numbers a call can answer with and never did, and the cases never met.
     pub fn missing(&self) -> Vec<String> {
         let mut missing = Vec::new();
         for call in CALLS {
             let row = position(call);
-            for (number, count) in self.0[row].iter().enumerate() {
+            for (number, count) in self.answers[row].iter().enumerate() {
                 if relevant(call, number) && *count == 0 {
                     missing.push(format!("{} {number}", NAMES[row]));
                 }
             }
         }
+        let unmet = (Case::ALL.iter().zip(self.cases)).filter(|(_, count)| *count == 0);
+        missing.extend(unmet.map(|(case, _)| case.name().to_string()));
         missing
     }
 }
@@ -78,12 +83,15 @@ impl fmt::Display for Tally {
         for number in 0..20 {
             write!(out, "{number:>6}")?;
             for call in CALLS {
-                match self.0[position(call)][number] {
+                match self.answers[position(call)][number] {
                     0 if !relevant(call, number) => write!(out, " {:>10}", "-")?,
                     count => write!(out, " {count:>10}")?,
                 }
             }
             writeln!(out)?;
+        }
+        for (case, count) in Case::ALL.iter().zip(self.cases) {
+            writeln!(out, "{count:>8} {}", case.name())?;
         }
         Ok(())
     }

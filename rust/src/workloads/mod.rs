@@ -67,7 +67,6 @@ pub fn workloads() -> Vec<Workload> {
         jobs,
     };
     let one = |small: Vec<u8>, large: Vec<u8>| [vec![small], vec![large]];
-    let typing = Call::Type { rule: 0 };
     vec![
         workload(
             "reading, values",
@@ -87,7 +86,7 @@ pub fn workloads() -> Vec<Workload> {
             Call::Read,
             one([values(2, 50), nodes_of(12, 1)].concat(), full(49_152, 128)),
         ),
-        workload("typing", Unit::Node, typing, one(types(10), types(96))),
+        workload("typing", Unit::Node, Call::Read, one(types(10), types(96))),
         workload(
             "a day of 400 cap sheets",
             Unit::Line,

@@ -8,18 +8,15 @@ slice-aggregate-rule-lines : tie.Need-slice-aggregate-rule-lines
 slice-aggregate-rule-lines c = search needs
 
 rule-lines-requires : tie.Need-rule-lines-requires
-rule-lines-requires c κs = (c .before .before .before .before .before .before .pre .0, counted-room (c .before .before .before .before .before .before .pre .1))
+rule-lines-requires c κs = search counted-room
 
 same-length : tie.Need-same-length
 same-length c = search needs
 
-same-length-2 : tie.Need-same-length-2
-same-length-2 c = search needs
-
 returns : tie.Need-returns
-returns c = measures (c .before .before .before .before .before .rule-lines .ensures)
+returns c = search measures
 
 pub measured-spec : {M : Type 1} → statement M
 measured-spec =
     tie.close
-    (tie.spec slice-aggregate-rule-lines rule-lines-requires same-length same-length-2 returns)
+    (tie.spec slice-aggregate-rule-lines rule-lines-requires same-length returns)

@@ -13,12 +13,9 @@ measured-requires c κs = search needs
 same-length : tie.Need-same-length
 same-length c = search needs
 
-same-length-2 : tie.Need-same-length-2
-same-length-2 c = search needs
-
 returns-2 : tie.Need-returns-2
-returns-2 c = tells-length (c .before .before .before .before .measured .ensures)
+returns-2 c = search tells-length
 
 pub report-fits-spec : {M : Type 1} → statement M
 report-fits-spec =
-    tie.close (tie.spec returns measured-requires same-length same-length-2 returns-2)
+    tie.close (tie.spec returns measured-requires same-length returns-2)

@@ -1,19 +1,18 @@
+-- `evaluate_answer` meets its contract. Assumes nothing.
 use borrow.Author.Needs.{needs}
-use mathlib.Core.Path.{refl}
-use Rattle.tables.proofs.Tables.{kept-refl, kept-then}
 use Rattle.checker.proofs.Answers.{still-lent}
-use Rattle.checker.proofs.Readings.{known-on, gives-on, gives-stop}
+use Rattle.checker.proofs.Readings.{known-on, leaves-on, leaves-stop}
 use Rattle.checker.proofs.evaluate_call.evaluate_answer.Statement.{statement}
 use Rattle.checker.proofs.evaluate_call.evaluate_answer.Tie as tie
 
-read-text-requires : tie.Need-read-text-requires
-read-text-requires c κs = search needs
+open-text-requires : tie.Need-open-text-requires
+open-text-requires c κs = search needs
 
 enum-known-st : tie.Need-enum-known-st
 enum-known-st c = search needs
 
 evaluate-on-requires : tie.Need-evaluate-on-requires
-evaluate-on-requires c κs = (still-lent (c .before .before .before .before .before .before .before .before .before .before .before .before .before .before .before .before .before .before .before .pre) (c .before .before .before .before .before .before .before .before .before .before .before .read-text .ensures .kept0) (c .before .before .before .before .before .before .before .before .before .before .before .read-text .ensures .kept1), known-on (rw (c .before .before .before .before .before .st .given .1) at (c .before .before .before .before .before .before .before .before .before .before .before .read-text .ensures .is)) _ refl)
+evaluate-on-requires c κs = (still-lent (c .before .before .before .before .before .before .before .before .before .before .before .before .before .before .before .before .before .before .before .before .before .before .pre) (c .before .before .before .before .before .before .before .before .before .before .before .before .before .open-text .ensures), search known-on)
 
 enum-known-n : tie.Need-enum-known-n
 enum-known-n c = search needs
@@ -34,7 +33,7 @@ same-length-4 : tie.Need-same-length-4
 same-length-4 c = search needs
 
 returns : tie.Need-returns
-returns c = record { gives = gives-on (rw (c .before .before .before .before .before .before .before .before .before .before .before .before .st .given .1) at (c .before .before .before .before .before .before .before .before .before .before .before .before .before .before .before .before .before .before .read-text .ensures .is)) _ refl (c .before .before .before .before .before .before .evaluate-on .ensures .0); kept0 = c .before .before .before .before .before .before .before .before .before .before .before .before .before .before .before .before .before .before .read-text .ensures .kept0; kept1 = kept-then (c .before .before .before .before .before .before .before .before .before .before .before .before .before .before .before .before .before .before .read-text .ensures .kept1) (c .before .before .before .before .before .before .evaluate-on .ensures .1); kept2 = c .before .before .before .before .before .before .evaluate-on .ensures .2 }
+returns c = search leaves-on
 
 same-length-5 : tie.Need-same-length-5
 same-length-5 c = search needs
@@ -42,14 +41,17 @@ same-length-5 c = search needs
 same-length-6 : tie.Need-same-length-6
 same-length-6 c = search needs
 
+same-length-7 : tie.Need-same-length-7
+same-length-7 c = search needs
+
 returns-2 : tie.Need-returns-2
-returns-2 c = record { gives = gives-stop (rw (c .before .before .n .given .1) at (c .before .before .before .before .before .before .before .before .read-text .ensures .is)) _ _ (c .no-output .ensures); kept0 = c .before .before .before .before .before .before .before .before .read-text .ensures .kept0; kept1 = c .before .before .before .before .before .before .before .before .read-text .ensures .kept1; kept2 = kept-refl _ }
+returns-2 c = search leaves-stop
 
 pub evaluate-answer-spec : {M : Type 1} → statement M
 evaluate-answer-spec =
     tie.close
     (tie.spec
-    read-text-requires
+    open-text-requires
     enum-known-st
     evaluate-on-requires
     enum-known-n
@@ -61,4 +63,5 @@ evaluate-answer-spec =
     returns
     same-length-5
     same-length-6
+    same-length-7
     returns-2)

@@ -1,7 +1,8 @@
+-- `evaluate_on` meets its contract. Assumes nothing.
 use borrow.Author.Needs.{needs}
 use native.Mathlib.Omega.{arith}
 use Rattle.tables.proofs.Tables.{kept-refl}
-use Rattle.checker.proofs.EvaluateCalls.{evaluate-no-rule, no-object, other-class}
+use Rattle.checker.proofs.EvaluateCalls.{no-rule, no-object, other-class}
 use Rattle.checker.proofs.evaluate_call.evaluate_on.Statement.{statement}
 use Rattle.checker.proofs.evaluate_call.evaluate_on.Tie as tie
 
@@ -9,13 +10,13 @@ no-output-requires : tie.Need-no-output-requires
 no-output-requires c κs = search needs
 
 returns : tie.Need-returns
-returns c = (evaluate-no-rule _ _ _ (c .before .if1 .taken) (c .no-output .ensures), kept-refl _, kept-refl _)
+returns c = (no-rule _ _ _ (c .before .if1 .taken) (c .no-output .ensures), kept-refl _)
 
 no-output-requires-2 : tie.Need-no-output-requires-2
 no-output-requires-2 c κs = search needs
 
 returns-2 : tie.Need-returns-2
-returns-2 c = (no-object _ (c .before .before .before .if1 .left) (c .before .if2 .taken) (c .no-output2 .ensures), kept-refl _, kept-refl _)
+returns-2 c = (no-object _ (c .before .before .before .if1 .left) (c .before .if2 .taken) (c .no-output2 .ensures), kept-refl _)
 
 wide-requires : tie.Need-wide-requires
 wide-requires c κs = search needs
@@ -33,7 +34,7 @@ is-a-requires : tie.Need-is-a-requires
 is-a-requires c κs = search needs
 
 evaluate-typed-requires : tie.Need-evaluate-typed-requires
-evaluate-typed-requires c κs = ((c .before .before .before .before .before .before .before .before .before .before .before .before .before .before .before .pre .0, c .before .before .before .before .before .before .before .before .before .before .before .before .before .before .before .pre .1), (omega (arith, c .before .before .before .before .before .before .wide .ensures, c .before .before .before .before .before .before .before .before .before .if1 .left), c .before .before .before .before .before .before .before .if2 .left, rw (c .before .before .before .if3 .taken) at (c .before .before .before .before .is-a .ensures)))
+evaluate-typed-requires c κs = ((c .before .before .before .before .before .before .before .before .before .before .before .before .before .before .pre .0, c .before .before .before .before .before .before .before .before .before .before .before .before .before .before .pre .1), (omega (arith, c .before .before .before .before .before .wide .ensures, c .before .before .before .before .before .before .before .before .if1 .left), c .before .before .before .before .before .before .if2 .left, rw (c .before .before .if3 .taken) at (c .before .before .before .is-a .ensures)))
 
 same-length : tie.Need-same-length
 same-length c = search needs
@@ -41,17 +42,14 @@ same-length c = search needs
 same-length-2 : tie.Need-same-length-2
 same-length-2 c = search needs
 
-same-length-3 : tie.Need-same-length-3
-same-length-3 c = search needs
-
 returns-3 : tie.Need-returns-3
-returns-3 c = rw (c .before .before .before .before .before .before .before .before .before .before .before .before .before .wide .ensures) at (c .before .before .before .before .before .before .evaluate-typed .ensures)
+returns-3 c = rw (c .before .before .before .before .before .before .before .before .before .before .wide .ensures) at (c .before .before .before .before .evaluate-typed .ensures)
 
 no-output-requires-3 : tie.Need-no-output-requires-3
 no-output-requires-3 c κs = search needs
 
 returns-4 : tie.Need-returns-4
-returns-4 c = (other-class _ (c .before .before .before .before .before .before .before .if1 .left) (c .before .before .before .before .before .if2 .left) (rw (c .before .if3 .left, c .before .before .before .before .wide .ensures) at (c .before .before .is-a .ensures)) (c .no-output3 .ensures), kept-refl _, kept-refl _)
+returns-4 c = (other-class _ (c .before .before .before .before .before .before .before .if1 .left) (c .before .before .before .before .before .if2 .left) (rw (c .before .if3 .left, c .before .before .before .before .wide .ensures) at (c .before .before .is-a .ensures)) (c .no-output3 .ensures), kept-refl _)
 
 pub evaluate-on-spec : {M : Type 1} → statement M
 evaluate-on-spec =
@@ -69,7 +67,6 @@ evaluate-on-spec =
     evaluate-typed-requires
     same-length
     same-length-2
-    same-length-3
     returns-3
     no-output-requires-3
     returns-4)

@@ -1,24 +1,31 @@
+-- `read_answer` meets its contract. Assumes nothing.
 use borrow.Author.Needs.{needs}
-use mathlib.Core.Path.{sym, ap, _∙_}
-use Rattle.checker.specs.Answers.{answerOf}
-use Rattle.checker.proofs.Readings.{sheet-on, refusal-on}
+use Rattle.checker.proofs.Answers.{still-lent}
+use Rattle.checker.proofs.Readings.{leaves-stop}
+use Rattle.checker.proofs.ReadCalls.{types-wait, reads-types}
 use Rattle.checker.proofs.read_call.read_answer.Statement.{statement}
 use Rattle.checker.proofs.read_call.read_answer.Tie as tie
 
-read-text-requires : tie.Need-read-text-requires
-read-text-requires c κs = search needs
+open-text-requires : tie.Need-open-text-requires
+open-text-requires c κs = search needs
 
-enum-told : tie.Need-enum-told
-enum-told c = search needs
+enum-known-st : tie.Need-enum-known-st
+enum-known-st c = search needs
 
-no-output-requires : tie.Need-no-output-requires
-no-output-requires c κs = search needs
+wide-requires : tie.Need-wide-requires
+wide-requires c κs = search needs
+
+put-types-requires : tie.Need-put-types-requires
+put-types-requires c κs = let l = still-lent (c .before .before .before .before .before .before .before .before .before .before .before .before .before .before .before .before .before .before .before .before .before .pre) (c .before .before .before .before .before .before .before .before .before .before .before .before .open-text .ensures) in (l .words2, l .output, types-wait (c .before .before .before .before .before .before .before .before .before .before .before .before .open-text .ensures) (c .before .before .before .before .st .given .1) (c .before .wide .ensures) l)
+
+written-requires : tie.Need-written-requires
+written-requires c κs = search needs
 
 enum-known-n : tie.Need-enum-known-n
 enum-known-n c = search needs
 
-no-output-requires-2 : tie.Need-no-output-requires-2
-no-output-requires-2 c κs = search needs
+no-output-requires : tie.Need-no-output-requires
+no-output-requires c κs = search needs
 
 same-length : tie.Need-same-length
 same-length c = search needs
@@ -26,30 +33,44 @@ same-length c = search needs
 same-length-2 : tie.Need-same-length-2
 same-length-2 c = search needs
 
-returns : tie.Need-returns
-returns c = (c .no-output .ensures ∙ ap answerOf (sym (sheet-on (rw (c .before .enum-told .given .1) at (c .before .before .before .before .before .before .before .read-text .ensures .is)))), c .before .before .before .before .before .before .before .read-text .ensures .kept0, c .before .before .before .before .before .before .before .read-text .ensures .kept1)
-
 same-length-3 : tie.Need-same-length-3
 same-length-3 c = search needs
 
 same-length-4 : tie.Need-same-length-4
 same-length-4 c = search needs
 
+returns : tie.Need-returns
+returns c = search reads-types
+
+same-length-5 : tie.Need-same-length-5
+same-length-5 c = search needs
+
+same-length-6 : tie.Need-same-length-6
+same-length-6 c = search needs
+
+same-length-7 : tie.Need-same-length-7
+same-length-7 c = search needs
+
 returns-2 : tie.Need-returns-2
-returns-2 c = (c .no-output2 .ensures ∙ ap answerOf (sym (refusal-on (rw (c .before .before .n .given .1) at (c .before .before .before .before .before .before .before .before .read-text .ensures .is)) _)), c .before .before .before .before .before .before .before .before .read-text .ensures .kept0, c .before .before .before .before .before .before .before .before .read-text .ensures .kept1)
+returns-2 c = search leaves-stop
 
 pub read-answer-spec : {M : Type 1} → statement M
 read-answer-spec =
     tie.close
     (tie.spec
-    read-text-requires
-    enum-told
-    no-output-requires
+    open-text-requires
+    enum-known-st
+    wide-requires
+    put-types-requires
+    written-requires
     enum-known-n
-    no-output-requires-2
+    no-output-requires
     same-length
     same-length-2
-    returns
     same-length-3
     same-length-4
+    returns
+    same-length-5
+    same-length-6
+    same-length-7
     returns-2)

@@ -1,21 +1,19 @@
 -- `report_answer` meets its contract. Assumes nothing.
 use borrow.Author.Needs.{needs}
-use mathlib.Core.Path.{refl}
 use Rattle.checker.proofs.Answers.{still-lent}
 use Rattle.checker.proofs.Readings.{known-on}
 use Rattle.checker.proofs.ReportCalls.{report-given, report-stopped}
-use Rattle.tables.proofs.Tables.{kept-refl, kept-then}
 use Rattle.checker.proofs.report_call.report_answer.Statement.{statement}
 use Rattle.checker.proofs.report_call.report_answer.Tie as tie
 
-read-text-requires : tie.Need-read-text-requires
-read-text-requires c κs = search needs
+open-text-requires : tie.Need-open-text-requires
+open-text-requires c κs = search needs
 
 enum-known-st : tie.Need-enum-known-st
 enum-known-st c = search needs
 
 report-on-requires : tie.Need-report-on-requires
-report-on-requires c κs = (still-lent (c .before .before .before .before .before .before .before .before .before .before .before .before .before .before .before .before .before .before .before .pre) (c .before .before .before .before .before .before .before .before .before .before .before .read-text .ensures .kept0) (c .before .before .before .before .before .before .before .before .before .before .before .read-text .ensures .kept1), known-on (rw (c .before .before .before .before .before .st .given .1) at (c .before .before .before .before .before .before .before .before .before .before .before .read-text .ensures .is)) _ refl)
+report-on-requires c κs = (still-lent (c .before .before .before .before .before .before .before .before .before .before .before .before .before .before .before .before .before .before .before .before .before .before .pre) (c .before .before .before .before .before .before .before .before .before .before .before .before .before .open-text .ensures), search known-on)
 
 enum-known-n : tie.Need-enum-known-n
 enum-known-n c = search needs
@@ -36,7 +34,7 @@ same-length-4 : tie.Need-same-length-4
 same-length-4 c = search needs
 
 returns : tie.Need-returns
-returns c = record { gives = report-given _ (rw (c .before .before .before .before .before .before .before .before .before .before .before .before .st .given .1) at (c .before .before .before .before .before .before .before .before .before .before .before .before .before .before .before .before .before .before .read-text .ensures .is)) (c .before .before .before .before .before .before .report-on .ensures .0); kept0 = c .before .before .before .before .before .before .before .before .before .before .before .before .before .before .before .before .before .before .read-text .ensures .kept0; kept1 = kept-then (c .before .before .before .before .before .before .before .before .before .before .before .before .before .before .before .before .before .before .read-text .ensures .kept1) (c .before .before .before .before .before .before .report-on .ensures .1); kept2 = c .before .before .before .before .before .before .report-on .ensures .2 }
+returns c = search report-given
 
 same-length-5 : tie.Need-same-length-5
 same-length-5 c = search needs
@@ -44,14 +42,17 @@ same-length-5 c = search needs
 same-length-6 : tie.Need-same-length-6
 same-length-6 c = search needs
 
+same-length-7 : tie.Need-same-length-7
+same-length-7 c = search needs
+
 returns-2 : tie.Need-returns-2
-returns-2 c = record { gives = report-stopped _ _ (rw (c .before .before .n .given .1) at (c .before .before .before .before .before .before .before .before .read-text .ensures .is)) (c .no-output .ensures); kept0 = c .before .before .before .before .before .before .before .before .read-text .ensures .kept0; kept1 = c .before .before .before .before .before .before .before .before .read-text .ensures .kept1; kept2 = kept-refl _ }
+returns-2 c = search report-stopped
 
 pub report-answer-spec : {M : Type 1} → statement M
 report-answer-spec =
     tie.close
     (tie.spec
-    read-text-requires
+    open-text-requires
     enum-known-st
     report-on-requires
     enum-known-n
@@ -63,4 +64,5 @@ report-answer-spec =
     returns
     same-length-5
     same-length-6
+    same-length-7
     returns-2)

@@ -20,13 +20,13 @@ is-a-requires : tie.Need-is-a-requires Inv-loop μ-loop
 is-a-requires c κs = c .before .before .before .before .pre
 
 add-n : tie.Need-add-n Inv-loop μ-loop
-add-n c = omega (arith, c .before .before .before .before .before .before .pre .fine .objects)
+add-n c = omega arith
 
 add-o : tie.Need-add-o Inv-loop μ-loop
-add-o c = omega (arith, c .before .before .before .before .before .before .pre .fine .objects)
+add-o c = omega arith
 
 loop-less : tie.Need-loop-less Inv-loop μ-loop
-loop-less c = omega (arith, c .before .before .before .before .before .before .pre .fine .objects)
+loop-less c = omega arith
 
 loop-again : tie.Need-loop-again Inv-loop μ-loop
 loop-again c = count-next (c .before .before .before .before .loop .inv) (c .before .is-a .ensures) (c .before .before .if1 .taken) (⊎-elim (λ w. rw (w .0 .taken) (w .1)) (λ w. rw (w .0 .left) (w .1 ∙ omega arith)) (c .if2 .came))

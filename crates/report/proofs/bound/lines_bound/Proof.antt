@@ -20,7 +20,7 @@ mul-result : tie.Need-mul-result
 mul-result c = omega (arith, bound-few _ (c .before .count-objects .ensures) (c .width .ensures))
 
 returns : tie.Need-returns
-returns c = bounds-lines _ (c .before .count-objects .ensures) (c .width .ensures)
+returns c = search bounds-lines
 
 pub lines-bound-spec : {M : Type 1} → statement M
 lines-bound-spec =

@@ -6,7 +6,7 @@ use Rattle.report.proofs.bound.width.Statement.{statement}
 use Rattle.report.proofs.bound.width.Tie as tie
 
 returns : tie.Need-returns
-returns c = width-on (c .before .before .args .t) (c .if1 .taken)
+returns c = search width-on
 
 enum-told : tie.Need-enum-told
 enum-told c = search needs

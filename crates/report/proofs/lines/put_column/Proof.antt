@@ -1,5 +1,4 @@
 -- `put_column` meets its contract. Assumes nothing.
-use native.Mathlib.Omega.{arith}
 use Rattle.text.proofs.WrittenLaws.{puts-then}
 use borrow.Author.Needs.{needs}
 use Rattle.report.proofs.lines.put_column.Statement.{statement}
@@ -15,7 +14,7 @@ same-length : tie.Need-same-length
 same-length c = search needs
 
 returns : tie.Need-returns
-returns c = puts-then (c .before .before .before .before .before .before .put-number .ensures) (c .before .before .put-byte .ensures) (omega (arith, c .before .before .before .before .before .before .before .before .before .pre))
+returns c = search puts-then
 
 pub put-column-spec : {M : Type 1} → statement M
 put-column-spec = tie.close (tie.spec put-number-requires put-byte-requires same-length returns)

@@ -7,7 +7,7 @@ use Rattle.report.proofs.lines.put_line.Statement.{statement}
 use Rattle.report.proofs.lines.put_line.Tie as tie
 
 put-column-requires : tie.Need-put-column-requires
-put-column-requires c κs = rule-room (c .before .before .before .pre)
+put-column-requires c κs = search rule-room
 
 put-column-requires-2 : tie.Need-put-column-requires-2
 put-column-requires-2 c κs = omega (arith, c .before .before .before .put-column .kept .0, object-room (c .before .before .before .before .before .before .before .pre) (c .before .before .before .put-column .ensures))
@@ -25,7 +25,7 @@ same-length : tie.Need-same-length
 same-length c = search needs
 
 returns : tie.Need-returns
-returns c = puts-line (c .before .before .before .before .before .before .before .before .before .before .before .before .before .before .before .before .before .before .before .pre) (c .before .before .before .before .before .before .before .before .before .before .before .before .before .before .before .put-column .ensures) (c .before .before .before .before .before .before .before .before .before .before .before .put-column2 .ensures) (c .before .before .before .before .before .before .before .before .before .before .before .before .before .before .before .put-column .kept .0) (c .before .before .before .before .before .before .before .before .before .before .before .put-column2 .kept .0) (c .before .before .before .before .before .before .before .put-outcome .ensures) (c .before .before .before .before .before .before .before .put-outcome .kept .0) (c .before .before .before .steps-of .ensures) (c .before .before .put-steps .ensures) (c .before .before .put-steps .kept .0)
+returns c = search puts-line
 
 pub put-line-spec : {M : Type 1} → statement M
 put-line-spec =

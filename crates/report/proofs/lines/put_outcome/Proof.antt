@@ -15,7 +15,7 @@ add-put-value : tie.Need-add-put-value
 add-put-value c = omega (arith, value-fits (c .before .before .e .given .1) (c .before .before .before .before .before .before .pre) .within)
 
 put-value-requires : tie.Need-put-value-requires
-put-value-requires c κs = value-fits (c .before .before .e .given .1) (c .before .before .before .before .before .before .pre)
+put-value-requires c κs = search value-fits
 
 enum-told : tie.Need-enum-told
 enum-told c = search needs
@@ -45,7 +45,7 @@ same-length : tie.Need-same-length
 same-length c = search needs
 
 returns : tie.Need-returns
-returns c = puts-value (c .before .before .before .before .before .e .given .1) (c .before .before .put-value .ensures)
+returns c = search puts-value
 
 same-length-2 : tie.Need-same-length-2
 same-length-2 c = search needs

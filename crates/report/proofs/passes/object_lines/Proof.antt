@@ -19,19 +19,19 @@ object-line-requires : tie.Need-object-line-requires Inv-loop μ-loop
 object-line-requires c κs = ((c .before .before .before .before .before .before .before .before .before .pre .0 .0, c .before .before .before .before .before .before .before .before .before .pre .0 .1, omega (arith, c .before .before .before .before .before .before .before .before .before .pre .0 .2, c .before .before .before .before .loop .inv .kept .size)), (lines-room (c .before .before .before .before .loop .inv) (c .before .before .if1 .taken) (c .before .before .before .before .before .before .before .before .before .pre .1) refl refl, c .before .before .if1 .taken))
 
 add-o : tie.Need-add-o Inv-loop μ-loop
-add-o c = omega (arith, c .before .before .before .before .before .before .before .if1 .taken, c .before .before .before .before .before .before .before .before .before .before .before .before .before .before .pre .1 .marked .accepted .fine .objects)
+add-o c = omega arith
 
 loop-less : tie.Need-loop-less Inv-loop μ-loop
-loop-less c = omega (arith, c .before .before .before .before .before .before .before .if1 .taken)
+loop-less c = omega arith
 
 loop-again : tie.Need-loop-again Inv-loop μ-loop
-loop-again c = lines-next (c .before .before .before .before .before .before .before .before .before .loop .inv) (c .before .before .before .before .before .before .before .if1 .taken) (lines-room (c .before .before .before .before .before .before .before .before .before .loop .inv) (c .before .before .before .before .before .before .before .if1 .taken) (c .before .before .before .before .before .before .before .before .before .before .before .before .before .before .pre .1) refl refl) refl (c .before .before .before .before .object-line .ensures)
+loop-again c = search (lines-next, lines-room)
 
 same-length : tie.Need-same-length Inv-loop μ-loop
-same-length c = c .before .before .loop .inv .kept .size
+same-length c = cc
 
 same-length-2 : tie.Need-same-length-2 Inv-loop μ-loop
-same-length-2 c = c .before .before .loop .inv .size
+same-length-2 c = cc
 
 returns : tie.Need-returns Inv-loop μ-loop
 returns c = lines-end (c .before .before .loop .inv) (omega (arith, c .before .before .loop .inv .within, c .if1 .left))

@@ -1,5 +1,4 @@
 use borrow.Author.Needs.{needs}
-use mathlib.Core.Path.{sym}
 use native.Mathlib.Omega.{arith}
 use lib.Seq.{length-take-le}
 use Rattle.rules.proofs.Typings.{rule-known}
@@ -23,19 +22,19 @@ slice-relend-prefix-stack : tie.Need-slice-relend-prefix-stack
 slice-relend-prefix-stack c = search needs
 
 slice-aggregate-stack : tie.Need-slice-aggregate-stack
-slice-aggregate-stack c = sym (length-take-le 8192 (c .before .before .before .before .before .before .args .w2 .now) (omega arith))
+slice-aggregate-stack c = search length-take-le
 
 evaluate-rule-requires : tie.Need-evaluate-rule-requires
 evaluate-rule-requires c κs =
     let k = rule-known (c .before .before .before .before .before .before .pre .1 .0) (c .before .before .before .before .before .before .pre .1 .1) in
     let size = length-take-le 8192 (c .before .before .before .before .before .before .args .w2 .now) (omega arith) in
-    (record { fine = c .before .before .before .before .before .before .pre .1 .0 .accepted .fine; tables = c .before .before .before .before .before .before .pre .0 .0; nodes = c .before .before .before .before .before .before .pre .0 .1; stack = omega arith; node = omega (arith, k .1 .root); room = omega arith }, (rule-shallow (k .1) (c .before .wide .ensures), c .before .before .before .before .before .before .pre .1 .2))
+    (record { fine = c .before .before .before .before .before .before .pre .1 .0 .lies .fine; tables = c .before .before .before .before .before .before .pre .0 .0; nodes = c .before .before .before .before .before .before .pre .0 .1; stack = omega arith; node = omega (arith, k .1 .root); room = omega arith }, (rule-shallow (k .1) (c .before .wide .ensures), c .before .before .before .before .before .before .pre .1 .2))
 
 same-length : tie.Need-same-length
 same-length c = search needs
 
 returns : tie.Need-returns
-returns c = evaluates-numbered (c .before .before .before .before .before .before .before .before .before .pre .0 .2) (c .before .before .evaluate-rule .kept .1 .1 .1 .0) (c .before .before .before .before .wide .ensures) (c .before .before .evaluate-rule .ensures)
+returns c = search evaluates-numbered
 
 pub evaluate-numbered-spec : {M : Type 1} → statement M
 evaluate-numbered-spec =

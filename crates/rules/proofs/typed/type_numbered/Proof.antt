@@ -41,7 +41,7 @@ same-length : tie.Need-same-length
 same-length c = search needs
 
 returns : tie.Need-returns
-returns c = types-numbered (c .before .before .before .before .before .before .before .before .wide .ensures) (c .before .before .before .before .before .before .before .wide2 .ensures) (c .before .before .before .before .wide3 .ensures) (c .before .before .type-rule .ensures)
+returns c = search types-numbered
 
 pub type-numbered-spec : {M : Type 1} → statement M
 type-numbered-spec =

@@ -5,7 +5,7 @@ use Prim.Native.Nat.{ℕ, _-_}
 use native.Mathlib.Omega.{arith}
 use lib.ListN.{length}
 use borrow.Author.Needs.{needs}
-use Rattle.ocl.specs.Model.{Model}
+use Rattle.ocl.specs.Model.{Schema}
 use Rattle.types.specs.Flat.{joinedType}
 use Rattle.judgements.specs.Replies.{envOf, ReadsRows}
 use Rattle.typing.proofs.Members.{Left, assemble-over, left-all, left-refused, left-next, left-done}
@@ -25,7 +25,7 @@ module _ (t : ℕ) where
 
   abbrev Inv : lts.InvT-loop
   Inv nodes parents tables rows n form env marks₀ count common₀ i₀ marks common i =
-      (length marks ≡ length marks₀) × ((m : Model) → ReadsRows parents tables rows m → Left m nodes n form count i (joinedType common) (envOf env) marks₀ marks)
+      (length marks ≡ length marks₀) × ((m : Schema) → ReadsRows parents tables rows m → Left m nodes n form count i (joinedType common) (envOf env) marks₀ marks)
 
   abbrev μ : lts.MeasureT-loop
   μ nodes parents tables rows n form env marks₀ count common₀ i₀ marks common i = count - i

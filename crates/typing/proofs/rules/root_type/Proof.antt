@@ -4,9 +4,6 @@ use borrow.Author.Needs.{needs}
 use Rattle.typing.proofs.rules.root_type.Statement.{statement}
 use Rattle.typing.proofs.rules.root_type.Tie as tie
 
-clear-requires : tie.Need-clear-requires
-clear-requires c κs = search needs
-
 start-env-requires : tie.Need-start-env-requires
 start-env-requires c κs = search needs
 
@@ -17,13 +14,12 @@ same-length : tie.Need-same-length
 same-length c = search needs
 
 returns : tie.Need-returns
-returns c = λ m h. rw (c .before .before .before .before .before .before .before .clear .ensures) at (started m _ _ _ (c .before .before .before .before .start-env .ensures) (c .before .before .node .ensures m h))
+returns c = λ m h. started m _ _ _ (c .before .before .before .before .start-env .ensures) (c .before .before .node .ensures m h)
 
 pub root-type-spec : {M : Type 1} → statement M
 root-type-spec =
     tie.close
     (tie.spec
-    clear-requires
     start-env-requires
     node-requires
     same-length

@@ -1,0 +1,51 @@
+-- What the code promises of all rules typed in order.
+use mathlib.Core.Path.{_≡_}
+use mathlib.Core.List.{List, _++_}
+use Prim.Native.Nat.{ℕ, _+_, _<_}
+use lib.ListN.{length, getD, take, drop, replicate}
+use Rattle.ocl.specs.Types.{Ty}
+use Rattle.sheet.specs.Sheet.{Sheet, schemaIn}
+use Rattle.sheet.specs.Calls.{Verdict, refusalAt, onTypes, ruleMarks}
+use Rattle.sheet.specs.Laws.{AllTyped}
+use Rattle.tables.specs.declared.Counts.{Counts}
+use Rattle.tables.specs.Layout.{Kept}
+use Rattle.judgements.specs.Replies.{writeMarks}
+use Rattle.rules.specs.Accepted.{InWords, Accepted, TypesIn}
+use Rattle.rules.specs.declared.all.RulesTyped.{RulesTyped}
+use Rattle.rules.specs.declared.all.RulesTyped.the-variants as code
+
+-- the first 768 words are 0, and the others are as they were
+abbrev pub clearedMarks : List ℕ → List ℕ
+clearedMarks w = replicate 768 0 ++ drop 768 w
+
+-- whatever follows the types, the first refusal is the answer
+abbrev pub Refuses : Sheet → ℕ → ℕ → Type 0
+Refuses s n k = (f : List Ty → Verdict) → onTypes s (s .rules) f ≡ refusalAt n k
+
+-- the first refusal; or the types in w2 from 768 on, and the marks of all rules before them
+pub data TypesAs (s : Sheet) (before after : List ℕ) : RulesTyped → Type 0 where
+  a-refusal : {n k : ℕ} → Refuses s n k → TypesAs s before after (code.No n k)
+  all-typed : (ts : List Ty) → AllTyped s (s .rules) ts → TypesIn after ts
+      → take 768 after ≡ writeMarks (take 768 before) (ruleMarks (schemaIn s) (s .rules)) → TypesAs s before after code.Yes
+
+pub record TypesAll (st : Counts) (w0 w1 before after : List ℕ) (r : RulesTyped) : Type 0 where
+  pub is : (s : Sheet) → InWords st w0 w1 s → TypesAs s before after r
+  pub kept : Kept before after
+
+-- the first 768 words of w2 are put into w1 from 6144 on
+pub record KeepsMarks (w2 before after : List ℕ) : Type 0 where
+  pub at : (p : ℕ) → p < 768 → getD after (6144 + p) 0 ≡ getD w2 p 0
+  pub below : take 6144 after ≡ take 6144 before
+  pub above : drop 6912 after ≡ drop 6912 before
+  pub size : length after ≡ length before
+
+-- the first refusal; or the sheet is accepted, and its rules' types wait in w2
+pub data AcceptsAs (st : Counts) (w0 v1 v2 : List ℕ) (s : Sheet) : RulesTyped → Type 0 where
+  refused : {n k : ℕ} → Refuses s n k → AcceptsAs st w0 v1 v2 s (code.No n k)
+  accepted : (ts : List Ty) → Accepted st w0 v1 s ts → TypesIn v2 ts → AcceptsAs st w0 v1 v2 s code.Yes
+
+-- w1 and w2 were u1 and u2, and are v1 and v2
+pub record Accepts (st : Counts) (w0 u1 u2 v1 v2 : List ℕ) (r : RulesTyped) : Type 0 where
+  pub is : (s : Sheet) → InWords st w0 u1 s → AcceptsAs st w0 v1 v2 s r
+  pub kept1 : Kept u1 v1
+  pub kept2 : Kept u2 v2

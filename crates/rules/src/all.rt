@@ -1,0 +1,77 @@
+// All rules of a sheet typed in order: a sheet is accepted only if each has a type. Document 02, F-6. The marks of all rules share one
+// table, since nodes are numbered through all rules; the types wait in w2 until every rule has one.
+ghost use mathlib.Core.Path.{_≡_};
+ghost use Prim.Native.Nat.{_≤_};
+ghost use lib.ListN.{length};
+ghost use Rattle.rules.specs.Accepted.{Known};
+ghost use Rattle.rules.specs.All.{clearedMarks, TypesAll, KeepsMarks, Accepts};
+use crate::typed::node_line;
+use crate::typed::type_numbered;
+use judgements::Reply;
+use tables::Counts;
+use types::classes::wide;
+use types::word::pack;
+
+// What typing all rules comes to: each has a type; or the first refusal and its line.
+pub enum RulesTyped {
+    Yes,
+    No(u64, u64),
+}
+
+// No node is marked.
+fn clear_marks(w2: &mut [u64])
+    requires { ⌜ 8192 ≤ length (now w2) ⌝ }
+    ensures { λ _. ⌜ now (w2 .exit) ≡ clearedMarks (now (w2 .entry)) ⌝ }
+{
+    let mut i = 0;
+    while i < 768 {
+        w2[i] = 0;
+        i += 1;
+    }
+}
+
+// Types each rule: its marks are added to those in w2, and its type is put behind them.
+fn type_all(w0: &[u64], st: Counts, w1: &[u64], w2: &mut [u64]) -> RulesTyped
+    requires { ⌜ (8192 ≤ length (now w0)) × (8192 ≤ length (now w1)) × (8192 ≤ length (now w2)) ⌝ }
+    requires { ⌜ Known st (now w0) (now w1) ⌝ }
+    ensures { λ a. ⌜ TypesAll st (now (w0 .entry)) (now (w1 .entry)) (now (w2 .entry)) (now (w2 .exit)) a ⌝ }
+{
+    let rules = wide(st.rules);
+    let mut r: usize = 0;
+    while r < rules {
+        match type_numbered(w0, st, w1, w2, r) {
+            Reply::No(number, p) => {
+                return RulesTyped::No(number, node_line(w1, p));
+            }
+            Reply::Is(t) => {
+                w2[768 + r] = pack(t);
+            }
+        }
+        r += 1;
+    }
+    RulesTyped::Yes
+}
+
+// The marks that typing left in w2, put into w1: evaluation needs w2 for its values.
+fn keep_marks(w2: &[u64], w1: &mut [u64])
+    requires { ⌜ (8192 ≤ length (now w1)) × (8192 ≤ length (now w2)) ⌝ }
+    ensures { λ _. ⌜ KeepsMarks (now (w2 .entry)) (now (w1 .entry)) (now (w1 .exit)) ⌝ }
+{
+    let mut p = 0;
+    while p < 768 {
+        w1[6144 + p] = w2[p];
+        p += 1;
+    }
+}
+
+// Types all rules of the sheet that lies in the words, and keeps their marks.
+pub fn accept(w0: &[u64], st: Counts, w1: &mut [u64], w2: &mut [u64]) -> RulesTyped
+    requires { ⌜ (8192 ≤ length (now w0)) × (8192 ≤ length (now w1)) × (8192 ≤ length (now w2)) ⌝ }
+    requires { ⌜ Known st (now w0) (now w1) ⌝ }
+    ensures { λ a. ⌜ Accepts st (now (w0 .entry)) (now (w1 .entry)) (now (w2 .entry)) (now (w1 .exit)) (now (w2 .exit)) a ⌝ }
+{
+    clear_marks(w2);
+    let typed = type_all(w0, st, w1, w2);
+    keep_marks(w2, w1);
+    typed
+}
