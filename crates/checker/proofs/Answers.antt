@@ -1,5 +1,5 @@
 -- What all calls have in common: short slices leave everything as it was; long ones are wiped. Assumes nothing.
-use mathlib.Core.Path.{_≡_, refl, ap, _∙_}
+use mathlib.Core.Path.{_≡_, refl, sym, ap, _∙_}
 use mathlib.Core.Logic.{_≢_}
 use mathlib.Core.Bool.{Bool, true, false, _||_}
 use mathlib.Core.List.{List, _++_}
@@ -50,10 +50,10 @@ module _ (w0 w1 w2 : List ℕ) where
       let b = or-false (ltb (length w0) 8192) (ltb (length w1) 8192) (a .0) in
       (ltb-false (length w0) 8192 (b .0), ltb-false (length w1) 8192 (b .1), ltb-false (length w2) 8192 (a .1))
 
-pub all-lent : {w0 w1 w2 : List ℕ} {out : Bytes} → (shortWords w0 w1 w2 || shortOutput out) ≡ false → Lent w0 w1 w2 out
+pub all-lent : {w0 w1 w2 : List ℕ} {out : Bytes} {b : Bool} → b ≡ (shortWords w0 w1 w2 || shortOutput out) → b ≡ false → Lent w0 w1 w2 out
 unfolding shortOutput
-all-lent {w0} {w1} {w2} {out} e =
-    let a = or-false (shortWords w0 w1 w2) (shortOutput out) e in
+all-lent {w0} {w1} {w2} {out} e q =
+    let a = or-false (shortWords w0 w1 w2) (shortOutput out) (sym e ∙ q) in
     let l = long-words w0 w1 w2 (a .0) in
     record { words0 = l .0; words1 = l .1; words2 = l .2; output = ltb-false (length out) 2048 (a .1) }
 
@@ -109,10 +109,10 @@ finished {v} n l z =
 abbrev call : Verdict → List ℕ → List ℕ → List ℕ → Bytes → Verdict
 call v w0 w1 w2 out = if shortWords w0 w1 w2 || shortOutput out then refusal 1 else v
 
-module _ (v : Verdict) (w0 w1 w2 : List ℕ) (out : Bytes) {a : Answer} where
-  pub short-call : a ≡ answerOf (refusalAt 1 0) → (shortWords w0 w1 w2 || shortOutput out) ≡ true → AnswersWith (call v w0 w1 w2 out) a w0 w1 w2 out w0 w1 w2 out
-  short-call e q = rw q (untouched w0 w1 w2 out e)
+module _ (v : Verdict) (w0 w1 w2 : List ℕ) (out : Bytes) {a : Answer} {b : Bool} (is : b ≡ (shortWords w0 w1 w2 || shortOutput out)) where
+  pub short-call : b ≡ true → a ≡ answerOf (refusalAt 1 0) → AnswersWith (call v w0 w1 w2 out) a w0 w1 w2 out w0 w1 w2 out
+  short-call q e = rw (sym is ∙ q) (untouched w0 w1 w2 out e)
 
-  pub long-call : {v0 v1 v2 x0 x1 x2 : List ℕ} {after : Bytes} → v .number ≢ 1 → (shortWords w0 w1 w2 || shortOutput out) ≡ false
+  pub long-call : {v0 v1 v2 x0 x1 x2 : List ℕ} {after : Bytes} → b ≡ false → v .number ≢ 1
       → Leaves v a w0 w1 w2 out v0 v1 v2 after → Wipes v0 v1 v2 x0 x1 x2 → AnswersWith (call v w0 w1 w2 out) a w0 w1 w2 out x0 x1 x2 after
-  long-call n q d z = rw q (finished n d z)
+  long-call q n d z = rw (sym is ∙ q) (finished n d z)

@@ -1,6 +1,5 @@
 -- `open_text` meets its contract. Assumes nothing.
 use borrow.Author.Needs.{needs}
-use native.Mathlib.Omega.{arith}
 use Rattle.checker.proofs.Readings.{known-read, opens-sheet, opens-none}
 use Rattle.checker.proofs.open_text.Statement.{statement}
 use Rattle.checker.proofs.open_text.Tie as tie
@@ -12,7 +11,7 @@ enum-known-st : tie.Need-enum-known-st
 enum-known-st c = search needs
 
 accept-sheet-requires : tie.Need-accept-sheet-requires
-accept-sheet-requires c κs = ((omega (arith, c .before .before .before .before .before .before .before .before .before .before .read-text .ensures .kept0 .size), omega (arith, c .before .before .before .before .before .before .before .before .before .before .read-text .ensures .kept1 .size), omega arith), search known-read)
+accept-sheet-requires c κs = search (known-read, needs)
 
 enum-known-n : tie.Need-enum-known-n
 enum-known-n c = search needs
@@ -27,7 +26,7 @@ same-length-3 : tie.Need-same-length-3
 same-length-3 c = search needs
 
 returns : tie.Need-returns
-returns c = opens-sheet (c .before .before .before .before .before .before .before .before .before .before .before .before .before .before .before .read-text .ensures) (c .before .before .before .before .before .before .before .before .before .st .given .1) (c .before .before .before .before .accept-sheet .ensures)
+returns c = search opens-sheet
 
 same-length-4 : tie.Need-same-length-4
 same-length-4 c = search needs
@@ -36,7 +35,7 @@ same-length-5 : tie.Need-same-length-5
 same-length-5 c = search needs
 
 returns-2 : tie.Need-returns-2
-returns-2 c = opens-none (c .before .before .before .before .before .before .before .read-text .ensures) _ (c .before .n .given .1)
+returns-2 c = search opens-none
 
 pub open-text-spec : {M : Type 1} → statement M
 open-text-spec =

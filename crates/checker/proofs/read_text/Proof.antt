@@ -1,5 +1,4 @@
 use borrow.Author.Needs.{needs}
-use native.Mathlib.Omega.{arith}
 use Rattle.checker.proofs.Readings.{long-text, within-text}
 use Rattle.checker.proofs.read_text.Statement.{statement}
 use Rattle.checker.proofs.read_text.Tie as tie
@@ -17,7 +16,7 @@ same-length-2 : tie.Need-same-length-2
 same-length-2 c = search needs
 
 returns-2 : tie.Need-returns-2
-returns-2 c = within-text (c .before .before .before .before .before .before .before .before .before .before .before .args .text .now) (omega arith) (c .before .before .before .before .read .ensures)
+returns-2 c = search within-text
 
 pub read-text-spec : {M : Type 1} → statement M
 read-text-spec = tie.close (tie.spec returns read-requires same-length same-length-2 returns-2)

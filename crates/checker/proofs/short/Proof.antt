@@ -1,4 +1,3 @@
-use native.Mathlib.Omega.{arith}
 use Rattle.checker.proofs.Answers.{short0, short1, short2}
 use Rattle.checker.proofs.short.Statement.{statement}
 use Rattle.checker.proofs.short.Tie as tie
@@ -7,10 +6,10 @@ returns : tie.Need-returns
 returns c = short0 _ _ _ (c .if1 .taken)
 
 returns-2 : tie.Need-returns-2
-returns-2 c = short1 (c .before .before .args .w0 .now) _ _ (c .if2 .taken)
+returns-2 c = search short1
 
 returns-3 : tie.Need-returns-3
-returns-3 c = short2 (c .before .before .args .w0 .now) (c .before .before .args .w1 .now) (c .before .before .args .w2 .now) (omega arith) (omega arith)
+returns-3 c = search short2
 
 pub short-spec : {M : Type 1} → statement M
 short-spec = tie.close (tie.spec returns returns-2 returns-3)

@@ -12,7 +12,7 @@ enum-known-st : tie.Need-enum-known-st
 enum-known-st c = search needs
 
 evaluate-on-requires : tie.Need-evaluate-on-requires
-evaluate-on-requires c κs = (still-lent (c .before .before .before .before .before .before .before .before .before .before .before .before .before .before .before .before .before .before .before .before .before .before .pre) (c .before .before .before .before .before .before .before .before .before .before .before .before .before .open-text .ensures), known-on (c .before .before .before .before .before .before .before .before .before .before .before .before .before .open-text .ensures) (c .before .before .before .before .before .st .given .1))
+evaluate-on-requires c κs = (still-lent (c .before .before .before .before .before .before .before .before .before .before .before .before .before .before .before .before .before .before .before .before .before .before .pre) (c .before .before .before .before .before .before .before .before .before .before .before .before .before .open-text .ensures), search known-on)
 
 enum-known-n : tie.Need-enum-known-n
 enum-known-n c = search needs
@@ -33,7 +33,7 @@ same-length-4 : tie.Need-same-length-4
 same-length-4 c = search needs
 
 returns : tie.Need-returns
-returns c = leaves-on (c .before .before .before .before .before .before .before .before .before .before .before .before .before .before .before .before .before .before .open-text .ensures) _ (c .before .before .before .before .before .before .before .before .before .before .st .given .1) (c .before .before .before .before .evaluate-on .ensures .0) (c .before .before .before .before .evaluate-on .ensures .1)
+returns c = search leaves-on
 
 same-length-5 : tie.Need-same-length-5
 same-length-5 c = search needs
@@ -45,7 +45,7 @@ same-length-7 : tie.Need-same-length-7
 same-length-7 c = search needs
 
 returns-2 : tie.Need-returns-2
-returns-2 c = leaves-stop (c .before .before .before .before .before .before .before .before .before .before .open-text .ensures) _ _ (c .before .before .n .given .1) (c .no-output .ensures)
+returns-2 c = search leaves-stop
 
 pub evaluate-answer-spec : {M : Type 1} → statement M
 evaluate-answer-spec =

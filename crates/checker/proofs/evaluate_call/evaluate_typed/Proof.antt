@@ -9,7 +9,7 @@ evaluate-numbered-requires : tie.Need-evaluate-numbered-requires
 evaluate-numbered-requires c κs = ((c .before .before .before .before .before .pre .0 .0 .words0, c .before .before .before .before .before .pre .0 .0 .words1, c .before .before .before .before .before .pre .0 .0 .words2), (record { sheet = c .before .before .before .before .before .pre .0 .1 .sheet; lies = c .before .before .before .before .before .pre .0 .1 .accepted .lies }, c .before .before .before .before .before .pre .1 .0, omega (arith, c .before .before .before .before .before .pre .1 .1, c .before .before .before .before .before .pre .0 .1 .accepted .lies .fine .objects)))
 
 put-outcome-requires : tie.Need-put-outcome-requires
-put-outcome-requires c κs = (omega (arith, c .before .before .before .before .before .before .before .before .before .before .pre .0 .0 .words2, c .before .before .before .before .evaluate-numbered .ensures .kept .size), c .before .before .before .before .before .before .before .before .before .before .pre .0 .0 .output, fitting (c .before .before .before .before .before .before .before .before .before .before .pre .1 .0) (c .before .before .before .before .before .before .before .before .before .before .pre .1 .1) (c .before .before .before .before .before .before .before .before .before .before .pre .1 .2) (c .before .before .before .before .evaluate-numbered .ensures) (c .before .before .before .before .before .before .before .before .before .before .pre .0 .1))
+put-outcome-requires c κs = search (fitting, needs)
 
 same-length : tie.Need-same-length
 same-length c = search needs

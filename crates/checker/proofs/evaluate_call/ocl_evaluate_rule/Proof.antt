@@ -1,5 +1,4 @@
 use borrow.Author.Needs.{needs}
-use mathlib.Core.Path.{sym, _∙_}
 use Rattle.sheet.specs.Calls.{evaluateCall}
 use Rattle.checker.proofs.Answers.{all-lent, still-long, short-call, long-call}
 use Rattle.checker.proofs.EvaluateCalls.{evaluate-number}
@@ -26,13 +25,13 @@ same-length-4 c = search needs
 
 returns : tie.Need-returns
 unfolding evaluateCall
-returns c = short-call _ _ _ _ _ (c .no-output .ensures) (sym (c .before .before .short-lent .ensures) ∙ c .before .if1 .taken)
+returns c = search short-call
 
 evaluate-answer-requires : tie.Need-evaluate-answer-requires
-evaluate-answer-requires c κs = all-lent (sym (c .before .before .before .before .before .short-lent .ensures) ∙ c .before .before .before .before .if1 .left)
+evaluate-answer-requires c κs = all-lent (c .before .before .before .before .before .short-lent .ensures) (c .before .before .before .before .if1 .left)
 
 wipe-all-requires : tie.Need-wipe-all-requires
-wipe-all-requires c κs = still-long (all-lent (sym (c .before .before .before .before .before .before .before .before .before .before .before .before .before .before .before .before .before .short-lent .ensures) ∙ c .before .before .before .before .before .before .before .before .before .before .before .before .before .before .before .before .if1 .left)) (c .before .before .before .before .before .before .before .before .before .before .before .evaluate-answer .ensures)
+wipe-all-requires c κs = still-long (all-lent (c .before .before .before .before .before .before .before .before .before .before .before .before .before .before .before .before .before .short-lent .ensures) (c .before .before .before .before .before .before .before .before .before .before .before .before .before .before .before .before .if1 .left)) (c .before .before .before .before .before .before .before .before .before .before .before .evaluate-answer .ensures)
 
 same-length-5 : tie.Need-same-length-5
 same-length-5 c = search needs
@@ -48,7 +47,7 @@ same-length-8 c = search needs
 
 returns-2 : tie.Need-returns-2
 unfolding evaluateCall
-returns-2 c = long-call _ _ _ _ _ (evaluate-number _ _ _) (sym (c .before .before .before .before .before .before .before .before .before .before .before .before .before .before .before .before .before .before .before .before .before .before .before .before .short-lent .ensures) ∙ c .before .before .before .before .before .before .before .before .before .before .before .before .before .before .before .before .before .before .before .before .before .before .before .if1 .left) (c .before .before .before .before .before .before .before .before .before .before .before .before .before .before .before .before .before .before .evaluate-answer .ensures) (c .before .before .before .before .before .before .wipe-all .ensures)
+returns-2 c = long-call _ _ _ _ _ (c .before .before .before .before .before .before .before .before .before .before .before .before .before .before .before .before .before .before .before .before .before .before .before .before .short-lent .ensures) (c .before .before .before .before .before .before .before .before .before .before .before .before .before .before .before .before .before .before .before .before .before .before .before .if1 .left) (evaluate-number _ _ _) (c .before .before .before .before .before .before .before .before .before .before .before .before .before .before .before .before .before .before .evaluate-answer .ensures) (c .before .before .before .before .before .before .wipe-all .ensures)
 
 pub ocl-evaluate-rule-spec : {M : Type 1} → statement M
 ocl-evaluate-rule-spec =

@@ -1,5 +1,4 @@
 use borrow.Author.Needs.{needs}
-use mathlib.Core.Path.{refl}
 use native.Mathlib.Omega.{arith}
 use lib.ListN.{length}
 use Rattle.checker.proofs.OutcomeLaws.{value-fits, gives-value, gives-undefined, gives-stuck, gives-stopped}
@@ -40,19 +39,19 @@ same-length : tie.Need-same-length
 same-length c = search needs
 
 returns : tie.Need-returns
-returns c = gives-value (c .before .before .before .before .before .before .e .given .1) (c .before .before .before .put-value .ensures) (c .written .ensures)
+returns c = search gives-value
 
 same-length-2 : tie.Need-same-length-2
 same-length-2 c = search needs
 
 returns-2 : tie.Need-returns-2
-returns-2 c = gives-undefined (c .before .before .before .before .before .before .e2 .given .1) (c .before .before .before .put-byte .ensures) (c .written2 .ensures)
+returns-2 c = search gives-undefined
 
 returns-3 : tie.Need-returns-3
-returns-3 c = gives-stuck _ (c .before .enum-told .given .1) (c .no-output .ensures)
+returns-3 c = search gives-stuck
 
 returns-4 : tie.Need-returns-4
-returns-4 c = gives-stopped _ (c .before .e3 .given .1) refl
+returns-4 c = search gives-stopped
 
 pub put-outcome-spec : {M : Type 1} → statement M
 put-outcome-spec =

@@ -16,13 +16,13 @@ loop-holds : tie.Need-loop-holds Inv-loop μ-loop
 loop-holds c = lines-none _ _ _
 
 add-unpack : tie.Need-add-unpack Inv-loop μ-loop
-add-unpack c = omega (arith, c .before .before .before .before .before .pre .2 .few)
+add-unpack c = omega arith
 
 mul-unpack : tie.Need-mul-unpack Inv-loop μ-loop
-mul-unpack c = omega (arith, c .before .before .before .before .before .pre .2 .few)
+mul-unpack c = omega arith
 
 shared-slice-read-unpack : tie.Need-shared-slice-read-unpack Inv-loop μ-loop
-shared-slice-read-unpack c = omega (arith, c .before .before .before .before .before .before .pre .2 .few)
+shared-slice-read-unpack c = omega arith
 
 unpack-requires : tie.Need-unpack-requires Inv-loop μ-loop
 unpack-requires c κs = search needs
@@ -34,7 +34,7 @@ put-byte-requires : tie.Need-put-byte-requires Inv-loop μ-loop
 put-byte-requires c κs = search feed-room
 
 add-r : tie.Need-add-r Inv-loop μ-loop
-add-r c = omega (arith, c .before .before .before .before .before .before .before .before .before .before .before .before .before .before .pre .2 .few)
+add-r c = omega arith
 
 loop-less : tie.Need-loop-less Inv-loop μ-loop
 loop-less c = omega arith
@@ -43,7 +43,7 @@ loop-again : tie.Need-loop-again Inv-loop μ-loop
 loop-again c = search lines-next
 
 same-length : tie.Need-same-length Inv-loop μ-loop
-same-length c = c .before .loop .inv .size
+same-length c = search needs
 
 returns : tie.Need-returns Inv-loop μ-loop
 returns c = search lines-all

@@ -40,7 +40,7 @@ same-length-4 : tie.Need-same-length-4
 same-length-4 c = search needs
 
 returns : tie.Need-returns
-returns c = reads-types (c .before .before .before .before .before .before .before .before .before .before .before .before .before .before .before .before .open-text .ensures) (c .before .before .before .before .before .before .before .before .st .given .1) (c .before .before .before .before .before .wide .ensures) (c .before .before .before .put-types .ensures) (c .written .ensures)
+returns c = search reads-types
 
 same-length-5 : tie.Need-same-length-5
 same-length-5 c = search needs
@@ -52,7 +52,7 @@ same-length-7 : tie.Need-same-length-7
 same-length-7 c = search needs
 
 returns-2 : tie.Need-returns-2
-returns-2 c = leaves-stop (c .before .before .before .before .before .before .before .before .before .before .open-text .ensures) _ _ (c .before .before .n .given .1) (c .no-output .ensures)
+returns-2 c = search leaves-stop
 
 pub read-answer-spec : {M : Type 1} → statement M
 read-answer-spec =

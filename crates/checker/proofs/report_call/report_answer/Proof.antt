@@ -13,7 +13,7 @@ enum-known-st : tie.Need-enum-known-st
 enum-known-st c = search needs
 
 report-on-requires : tie.Need-report-on-requires
-report-on-requires c κs = (still-lent (c .before .before .before .before .before .before .before .before .before .before .before .before .before .before .before .before .before .before .before .before .before .before .pre) (c .before .before .before .before .before .before .before .before .before .before .before .before .before .open-text .ensures), known-on (c .before .before .before .before .before .before .before .before .before .before .before .before .before .open-text .ensures) (c .before .before .before .before .before .st .given .1))
+report-on-requires c κs = (still-lent (c .before .before .before .before .before .before .before .before .before .before .before .before .before .before .before .before .before .before .before .before .before .before .pre) (c .before .before .before .before .before .before .before .before .before .before .before .before .before .open-text .ensures), search known-on)
 
 enum-known-n : tie.Need-enum-known-n
 enum-known-n c = search needs
@@ -34,7 +34,7 @@ same-length-4 : tie.Need-same-length-4
 same-length-4 c = search needs
 
 returns : tie.Need-returns
-returns c = report-given (c .before .before .before .before .before .before .before .before .before .before .before .before .before .before .before .before .before .before .open-text .ensures) (c .before .before .before .before .before .before .before .before .before .before .st .given .1) (c .before .before .before .before .report-on .ensures .0) (c .before .before .before .before .report-on .ensures .1)
+returns c = search report-given
 
 same-length-5 : tie.Need-same-length-5
 same-length-5 c = search needs
@@ -46,7 +46,7 @@ same-length-7 : tie.Need-same-length-7
 same-length-7 c = search needs
 
 returns-2 : tie.Need-returns-2
-returns-2 c = report-stopped (c .before .before .before .before .before .before .before .before .before .before .open-text .ensures) _ (c .before .before .n .given .1) (c .no-output .ensures)
+returns-2 c = search report-stopped
 
 pub report-answer-spec : {M : Type 1} → statement M
 report-answer-spec =

@@ -26,7 +26,7 @@ same-length-2 : tie.Need-same-length-2
 same-length-2 c = search needs
 
 returns : tie.Need-returns
-returns c = (search report-written, c .before .before .before .before .before .before .before .before .report-sheet .ensures .kept)
+returns c = search report-written
 
 same-length-3 : tie.Need-same-length-3
 same-length-3 c = search needs
@@ -35,7 +35,7 @@ same-length-4 : tie.Need-same-length-4
 same-length-4 c = search needs
 
 returns-2 : tie.Need-returns-2
-returns-2 c = (search report-short, c .before .before .before .before .before .before .before .report-sheet .ensures .kept)
+returns-2 c = search report-short
 
 pub report-on-spec : {M : Type 1} → statement M
 report-on-spec =
