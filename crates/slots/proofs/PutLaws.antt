@@ -22,7 +22,7 @@ use Rattle.tables.specs.declared.Counts.{Counts}
 use Rattle.tables.specs.declared.Step.the-variants.{Next, Stop}
 use Rattle.tables.specs.Layout.{tab, slotKey, startsFrom, cellsOf, Holds, Fine, Kept, moved-next, moved-stop}
 use Rattle.tables.proofs.Tables.{kept-refl, kept-set, kept-then}
-use Rattle.tables.proofs.Entries.{holds-kept, spare-key, spare-start, tab-next, tab-more-of, open-kept}
+use Rattle.tables.proofs.Entries.{definitions-same, holds-kept, spare-key, spare-start, tab-next, tab-more-of, open-kept}
 use Rattle.tables.proofs.Steps.{over-limits, out-of-order, unknown-part, not-suited, steps-on}
 use Rattle.slots.specs.Slots.{SmallRows, ValueAt, SlotAnswer, slotCounts, SlotTook}
 
@@ -88,6 +88,7 @@ module _ (st : Counts) (k o a n : ℕ) (w0 w1 : List ℕ) (room : 8192 ≤ lengt
           slots = let z = length-more (s .slots) x in omega arith;
           cells = let z = size-more (s .slots) x in omega arith;
           nodes = h .counted .nodes;
+          definitions = h .counted .definitions;
           rules = h .counted .rules;
         };
         tables = record {
@@ -114,8 +115,9 @@ module _ (st : Counts) (k o a n : ℕ) (w0 w1 : List ℕ) (room : 8192 ≤ lengt
           fits = each-append (g .tables .fits) (each-cons (at .fits) each-nil);
           contexts = g .tables .contexts;
         };
+        definitions = definitions-same refl refl (g .definitions);
         rules = record { bodies = g .rules .bodies; roots = g .rules .roots; lines = g .rules .lines };
-        current = open-kept refl refl refl (g .current);
+        current = open-kept refl refl refl refl (g .current);
       }
 
   more-fine : Fine (slotCounts st n)
