@@ -16,7 +16,7 @@ use Rattle.ocl.specs.Values.{Value, size, everyPart}
 use Rattle.sheet.specs.Lines.{valueLine}
 use Rattle.sheet.specs.Sheet.{Slot, Sheet, added}
 use Rattle.sheet.specs.Limits.{totalSize, valueWithin, withinLimits}
-use Rattle.sheet.specs.Refusals.{objectBelow, inOrder, partsKnown, suits, treeHolds}
+use Rattle.sheet.specs.Refusals.{objectBelow, inOrder, partsKnown, callsSmaller, callsKnown, suits, treeHolds}
 use Rattle.values.specs.Cells.{enc}
 use Rattle.tables.specs.declared.Counts.{Counts}
 use Rattle.tables.specs.declared.Step.the-variants.{Next, Stop}
@@ -192,19 +192,20 @@ module _ (st : Counts) (k : ℕ) {o a n : ℕ} (w0 w1 : List ℕ) where
               a-row {s} v g m at = known-row st o a v g (sym (known .is w1 s v g m at) ∙ there)
 
               pub slot-unsuited : d ≡ false → SlotTook st k o a n (Stop 7) w0 w1 w0
+              unfolding callsSmaller callsKnown
               slot-unsuited z = record {
                 is = λ s p q v g m at e w eo ea.
-                    rw (same-number eo object, same-row ea row) (rw (not-suited s k (valueLine o a v) (within s v g e w) (sym (order .is w1 s v g m at) ∙ sorted) (sym (known .is w1 s v g m at) ∙ there) (sym (suit (a-row v g m at) .is w1 s v g m at) ∙ z)) moved-stop);
+                    rw (same-number eo object, same-row ea row) (rw (not-suited s k (valueLine o a v) refl refl (within s v g e w) (sym (order .is w1 s v g m at) ∙ sorted) (sym (known .is w1 s v g m at) ∙ there) (sym (suit (a-row v g m at) .is w1 s v g m at) ∙ z)) moved-stop);
                 kept0 = kept-refl w0;
               }
 
               pub slot-taken : (room : 8192 ≤ length w0) (fine : Fine st) {v0 : List ℕ} {su : Counts} → d ≡ true → su ≡ slotCounts st n
                   → v0 ≡ set (set w0 (352 + st .slots) (o * 64 + a)) (1376 + st .slots) (st .cells) → SlotTook st k o a n (Next su) w0 w1 v0
-              unfolding treeHolds
+              unfolding callsSmaller callsKnown treeHolds
               slot-taken room fine z ce ve = rw (ce, ve) (record {
                 is = λ s p q v g m at e w eo ea.
                     rw (same-number eo object, same-row ea row)
-                    (rw (steps-on s k (valueLine o a v) (within s v g e w) (sym (order .is w1 s v g m at) ∙ sorted) (sym (known .is w1 s v g m at) ∙ there) (sym (suit (a-row v g m at) .is w1 s v g m at) ∙ z) refl)
+                    (rw (steps-on s k (valueLine o a v) refl refl (within s v g e w) (sym (order .is w1 s v g m at) ∙ sorted) (sym (known .is w1 s v g m at) ∙ there) (sym (suit (a-row v g m at) .is w1 s v g m at) ∙ z) refl)
                     (moved-next {st = slotCounts st n} (more-fine st k o a n w0 w1 room fine few fits) (slot-held st k o a n w0 w1 room fine few fits s v g at e)));
                 kept0 = kept-words st k o a n w0 w1 room fine few fits;
               })
