@@ -12,6 +12,8 @@ use Rattle.evaluation.proofs.lazy.conditional.Reads as conditional
 use Rattle.evaluation.proofs.lazy.conditional.Kinds as conditional-kinds
 use Rattle.evaluation.proofs.lazy.connective.Reads as connective
 use Rattle.evaluation.proofs.lazy.connective.Kinds as connective-kinds
+use Rattle.evaluation.proofs.bind.call.Reads as call
+use Rattle.evaluation.proofs.bind.call.Kinds as call-kinds
 use Rattle.evaluation.proofs.bind.fold.Reads as fold
 use Rattle.evaluation.proofs.bind.fold.Kinds as fold-kinds
 use Rattle.evaluation.proofs.bind.iter.Reads as iter
@@ -48,6 +50,15 @@ binary-at t = and 3 binary-kinds.ps (is 3 binary-kinds.ps μ-binary t) binary.Pr
 
 abbrev pub binary-below : ℕ → In 3 binary-kinds.ps
 binary-below t = and 3 binary-kinds.ps (falls 3 binary-kinds.ps _<_ μ-binary t) binary.Pre
+
+abbrev pub μ-call : Measures 3 call-kinds.ps ℕ
+μ-call κs a = 5 * a .1 .1 .1 .0 + 2
+
+abbrev pub call-at : ℕ → In 3 call-kinds.ps
+call-at t = and 3 call-kinds.ps (is 3 call-kinds.ps μ-call t) call.Pre
+
+abbrev pub call-below : ℕ → In 3 call-kinds.ps
+call-below t = and 3 call-kinds.ps (falls 3 call-kinds.ps _<_ μ-call t) call.Pre
 
 abbrev pub μ-coll : Measures 3 coll-kinds.ps ℕ
 μ-coll κs a = 5 * a .1 .1 .1 .0 + 2

@@ -8,8 +8,8 @@ use Rattle.evaluation.proofs.walk.below.Reads as below
 use Rattle.evaluation.proofs.bind.quantified.Reads as quantified
 use Rattle.evaluation.proofs.bind.seek.Reads as seeking
 use Rattle.values.proofs.cells.sort_of.Reads as sort-of-reads
-use Rattle.evaluation.proofs.+bind-fold+bind-iter+bind-let_in+bind-quantified+bind-seek+lazy-conditional+lazy-connective+lazy-right+walk-below+walk-binary+walk-coll+walk-node+walk-unary+walk-word.Lts-bind-quantified as lts
-use Rattle.evaluation.proofs.+bind-fold+bind-iter+bind-let_in+bind-quantified+bind-seek+lazy-conditional+lazy-connective+lazy-right+walk-below+walk-binary+walk-coll+walk-node+walk-unary+walk-word.Proof.Base.{below-below, quantified-at, seek-below}
+use Rattle.evaluation.proofs.+bind-call+bind-fold+bind-iter+bind-let_in+bind-quantified+bind-seek+lazy-conditional+lazy-connective+lazy-right+walk-below+walk-binary+walk-coll+walk-node+walk-unary+walk-word.Lts-bind-quantified as lts
+use Rattle.evaluation.proofs.+bind-call+bind-fold+bind-iter+bind-let_in+bind-quantified+bind-seek+lazy-conditional+lazy-connective+lazy-right+walk-below+walk-binary+walk-coll+walk-node+walk-unary+walk-word.Proof.Base.{below-below, quantified-at, seek-below}
 
 module _ (t : ℕ) where
   abbrev calls : lts.Claims

@@ -5,8 +5,8 @@ use borrow.Author.Needs.{needs}
 use Rattle.operations.proofs.answers.pack.Reads as pack-reads
 use Rattle.evaluation.proofs.walk.node.Reads as node
 use Rattle.evaluation.proofs.walk.word.Reads as word
-use Rattle.evaluation.proofs.+bind-fold+bind-iter+bind-let_in+bind-quantified+bind-seek+lazy-conditional+lazy-connective+lazy-right+walk-below+walk-binary+walk-coll+walk-node+walk-unary+walk-word.Lts-walk-word as lts
-use Rattle.evaluation.proofs.+bind-fold+bind-iter+bind-let_in+bind-quantified+bind-seek+lazy-conditional+lazy-connective+lazy-right+walk-below+walk-binary+walk-coll+walk-node+walk-unary+walk-word.Proof.Base.{node-below, word-at}
+use Rattle.evaluation.proofs.+bind-call+bind-fold+bind-iter+bind-let_in+bind-quantified+bind-seek+lazy-conditional+lazy-connective+lazy-right+walk-below+walk-binary+walk-coll+walk-node+walk-unary+walk-word.Lts-walk-word as lts
+use Rattle.evaluation.proofs.+bind-call+bind-fold+bind-iter+bind-let_in+bind-quantified+bind-seek+lazy-conditional+lazy-connective+lazy-right+walk-below+walk-binary+walk-coll+walk-node+walk-unary+walk-word.Proof.Base.{node-below, word-at}
 
 module _ (t : ℕ) where
   abbrev calls : lts.Claims
