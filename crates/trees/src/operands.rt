@@ -29,7 +29,7 @@ pub fn operands_within(words: [u64; 8], count: usize) -> bool
     true
 }
 
-fn larger(a: u64, b: u64) -> u64
+pub fn larger(a: u64, b: u64) -> u64
     ensures { λ r. ⌜ r ≡ max a b ⌝ }
 {
     if a < b { b } else { a }
