@@ -7,7 +7,9 @@ use crate::calls::Answer;
 use crate::generate::full::full;
 use crate::generate::Call;
 use cap::cap;
-use sheets::{bags, collected, iterations, nodes, nodes_of, quantifiers, sets, types, values};
+use sheets::{
+    bags, calls, collected, iterations, nodes, nodes_of, quantifiers, sets, types, values,
+};
 
 /// What a workload's time is divided by.
 #[derive(Clone, Copy, PartialEq, Eq, Debug)]
@@ -104,6 +106,12 @@ pub fn workloads() -> Vec<Workload> {
             Unit::Step,
             EVALUATE,
             one(iterations(31), iterations(68)),
+        ),
+        workload(
+            "steps, call in forAll",
+            Unit::Step,
+            EVALUATE,
+            one(calls(26), calls(57)),
         ),
         workload(
             "values, Sets",
