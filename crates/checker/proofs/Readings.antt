@@ -46,7 +46,7 @@ pub within-text : {r : SheetRead} {w0 w1 v0 v1 : List ℕ} (text : Bytes) → le
 unfolding readText
 within-text text h t = record { is = rw (le-ltb 49152 (length text) h) (t .is); kept0 = t .kept0; kept1 = t .kept1 }
 
--- ---- a sheet that is read, and its rules typed
+-- ---- a sheet that is read, and its definitions and rules typed
 
 module _ {st : Counts} {w0 u1 u2 v1 v2 : List ℕ} {a : RulesTyped} (t : Accepts st w0 u1 u2 v1 v2 a) where
   pub accepts-sheet : a ≡ rules.Yes → AcceptsSheet st w0 u1 u2 v1 v2 (sheet.Sheet st)
@@ -129,19 +129,19 @@ definitions-number s (d ∷ ds) v h = by (typeDefinition (schemaIn s) d .answer)
   where
     by : (a : TypeAnswer) → typeDefinition (schemaIn s) d .answer ≡ a → (Defined s d → onDefinitions s ds v .number ≢ 1) → onType s a (λ t. onDefinitions s ds v) .number ≢ 1
     by (typed t) e ih = ih (record { typed-body = e ∙ ap typed (definition-type (schemaIn s) d t e) })
-    by (untyped n p) e ih z = let l = definition-places (schemaIn s) d n p e .low in omega arith
+    by (untyped n p) e ih = λ z. let l = definition-places (schemaIn s) d n p e .low in omega arith
 
 pub accepted-number : (text : Bytes) (f : Sheet → List Ty → Verdict)
     → ((s : Sheet) (ts : List Ty) → readText text ≡ accepted s → Each (Defined s) (s .definitions) → AllTyped s (s .rules) ts → f s ts .number ≢ 1) → onAccepted text f .number ≢ 1
 unfolding onAccepted onSheet refusalAt
 accepted-number text f h = by (readText text) refl
   where
-    refusal-number : {n k : ℕ} → ReadRefusal text n k → n ≢ 1
-    refusal-number (over-length a b) q = omega arith
-    refusal-number (at-line {n} a b c) q = omega (arith, listed-within n a .0)
+    refusal-number : (n k : ℕ) → ReadRefusal text n k → n ≢ 1
+    refusal-number n k (over-length a b) q = omega arith
+    refusal-number n k (at-line a b c) q = let h = listed-within n a .0 in omega arith
 
     by : (x : Reading) → readText text ≡ x → onSheet x (λ s. onDefinitions s (s .definitions) (onTypes s (s .rules) (f s))) .number ≢ 1
     by (accepted s) e z =
         definitions-number s (s .definitions) (onTypes s (s .rules) (f s))
         (λ d. types-number s (s .rules) (f s) (λ ts. h s ts e d) (λ r x q n p i z. omega (arith, type-refusals text s e r x q n p i .low))) z
-    by (rejected n k) e z = refusal-number (read-refusals text n k e) z
+    by (rejected n k) e z = refusal-number n k (read-refusals text n k e) z
