@@ -77,7 +77,7 @@ module _ {st : Counts} {w0 w1 : List ℕ} {r : ℕ} {s : Sheet} {x : Rule} {t : 
     -- a line takes no more than its bound
     module _ (yes : b ≡ true) {A : List ℕ} {e : Ended} (ends : Ends 1 A (outcomeOf s x o) e) where
       line-length : length (reportLine r o (outcomeOf s x o)) ≤ 15 + width t
-      line-length = length-of-line (m .lies) r o (m .rule) (m .type) (rw (class-is, yes) tt) ends
+      line-length = length-of-line (m .lies) (m .defined) r o (m .rule) (m .type) (rw (class-is, yes) tt) ends
 
       line-bounded : length (reportLine r o (outcomeOf s x o)) ≤ lineBound o s x t
       unfolding lineBound lineWidth

@@ -133,6 +133,14 @@ module _ {st : Counts} {f : Bytes} {n : ℕ} {A B : List ℕ} {r : Read} (got : 
           fits = h .tables .fits;
           contexts = high-tab 4448 (length (s .rules)) (omega arith) ∙ h .tables .contexts;
         };
+        definitions = record {
+          contexts = high-tab 4576 (length (s .definitions)) (omega arith) ∙ h .definitions .contexts;
+          classes = rw (high-tab 4576 (length (s .definitions)) (omega arith)) (h .definitions .classes);
+          types = ap (map typeIn) (high-tab 4608 (length (s .definitions)) (omega arith)) ∙ h .definitions .types;
+          bodies = ap (map (treeAt w1)) (high-tab 4640 (length (s .definitions)) (omega arith)) ∙ h .definitions .bodies;
+          roots = rw (high-tab 4640 (length (s .definitions)) (omega arith)) (h .definitions .roots);
+          depths = rw (high-tab 4640 (length (s .definitions)) (omega arith)) (h .definitions .depths);
+        };
         rules = record {
           bodies = ap (map (treeAt w1)) (high-tab 4512 (length (s .rules)) (omega arith)) ∙ h .rules .bodies;
           roots = rw (high-tab 4512 (length (s .rules)) (omega arith)) (h .rules .roots);

@@ -55,9 +55,11 @@ slotCounts st n = record {
   slots = st .slots + 1;
   cells = st .cells + n;
   nodes = st .nodes;
+  definitions = st .definitions;
   rules = st .rules;
   «open» = st .open;
   context = st .context;
+  result = st .result;
   first = st .first;
 }
 

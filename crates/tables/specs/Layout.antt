@@ -80,6 +80,7 @@ pub record HoldsRules (w0 w1 : List ℕ) (s : Sheet) : Type 0 where
 -- the definitions that have ended, and the depths of their bodies, which a call's depth counts
 pub record HoldsDefinitions (w0 w1 : List ℕ) (s : Sheet) : Type 0 where
   pub contexts : tab 4576 (length (s .definitions)) w0 ≡ map (λ (d : Definition). d .context) (s .definitions)
+  pub classes : Each (λ n. n < 64) (tab 4576 (length (s .definitions)) w0)
   pub types : map typeIn (tab 4608 (length (s .definitions)) w0) ≡ map (λ (d : Definition). d .type) (s .definitions)
   pub bodies : map (treeAt w1) (tab 4640 (length (s .definitions)) w0) ≡ map (λ (d : Definition). d .body) (s .definitions)
   pub roots : Each (λ n. n < length (s .lines)) (tab 4640 (length (s .definitions)) w0)
@@ -142,6 +143,7 @@ pub record Fine (st : Counts) : Type 0 where
   pub definitions : st .definitions ≤ 32
   pub rules : st .rules ≤ 64
   pub first : st .first ≤ st .nodes
+  pub context : st .context < 64
 
 -- the words from 8,192 on are as they were
 pub record Kept (before after : List ℕ) : Type 0 where

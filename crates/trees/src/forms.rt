@@ -129,6 +129,23 @@ fn attribute_form(line: &[u8], f: Fields, code: u64, k: u64) -> Parsed
     }
 }
 
+// `call e n`
+fn call_form(line: &[u8], f: Fields, k: u64) -> Parsed
+    requires { ⌜ Cut (now line) f × (3 ≤ f .count) ⌝ }
+    ensures { λ r. ⌜ FormRead k (shapeBy 36 (drop 3 (fieldsOf (now (line .entry))))) r ⌝ }
+{
+    let n = exactly(line, f, 2);
+    let at = n.at;
+    Parsed {
+        spelled: n.good,
+        words: [36, at[0], at[1], 0, 0, 0, 0, k],
+        count: 1,
+        within: at[1] < 32,
+        apart: true,
+        classes: 0,
+    }
+}
+
 // `let i e b`
 fn let_form(line: &[u8], f: Fields, k: u64) -> Parsed
     requires { ⌜ Cut (now line) f × (3 ≤ f .count) ⌝ }
@@ -262,6 +279,7 @@ pub(crate) fn read_form(line: &[u8], f: Fields, code: u64, k: u64) -> Parsed
         32 => let_form(line, f, k),
         33..=34 => attribute_form(line, f, code, k),
         35 => iterate_form(line, f, k),
+        36 => call_form(line, f, k),
         _ => misspelled(),
     }
 }
