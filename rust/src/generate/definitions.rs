@@ -24,17 +24,7 @@ impl Growth<'_> {
     /// A call that gives the type, where a definition does.
     pub fn call(&mut self, ty: &Type, depth: usize) -> Option<Grown> {
         if self.faulty && self.random.one_in(60) {
-            // Itself, a later one, or one that is not there.
-            let count = self.callable.len();
-            let number = count + self.random.below(3);
-            let node = if self.random.one_in(2) {
-                // An operand that is not there either.
-                self.draft.line(&format!("call 700 {number}"), &[])
-            } else {
-                let operand = self.draft.line("self", &[]);
-                self.draft.line(&format!("call % {number}"), &[operand])
-            };
-            return Some((node, ty.clone()));
+            return Some((self.bad_call(), ty.clone()));
         }
         let careless = self.faulty && self.random.one_in(8);
         let suits = |called: &Callable| {
@@ -50,24 +40,37 @@ impl Growth<'_> {
         let Callable { class, ty, .. } = &self.callable[number];
         let (class, ty) = (Type::Class(*class), ty.clone());
         let mark = self.draft.lines.len();
-        let operand = if careless {
-            // Of a class above, of Any, or undefined.
-            let others = [Type::Any, Type::Void, class.clone()];
-            let any = self.random.pick(&others).clone();
-            Some(self.grow(&any, depth - 1))
-        } else {
-            self.solid(&class, depth - 1)
-        };
-        let Some((operand, found)) = operand else {
+        let operand = self.callers(&class, depth - 1, careless);
+        let Some(operand) = operand else {
             self.draft.lines.truncate(mark);
             return None;
         };
-        if !self.faulty && !matches!(found, Type::Class(_)) {
-            self.draft.lines.truncate(mark);
-            return None;
-        }
         let node = self.draft.line(&format!("call % {number}"), &[operand]);
         Some((node, ty))
+    }
+
+    /// What a definition of the class is called for; a careless one may be of a
+    /// class above, of Any, or undefined.
+    fn callers(&mut self, class: &Type, depth: usize, careless: bool) -> Option<usize> {
+        if careless {
+            let others = [Type::Any, Type::Void, class.clone()];
+            let any = self.random.pick(&others).clone();
+            return Some(self.grow(&any, depth).0);
+        }
+        let (operand, found) = self.solid(class, depth)?;
+        let good = self.faulty || matches!(found, Type::Class(_));
+        good.then_some(operand)
+    }
+
+    /// A call of itself, of a later definition, or of one that is not there.
+    fn bad_call(&mut self) -> usize {
+        let number = self.callable.len() + self.random.below(3);
+        if self.random.one_in(2) {
+            // With an operand that is not there either.
+            return self.draft.line(&format!("call 700 {number}"), &[]);
+        }
+        let operand = self.draft.line("self", &[]);
+        self.draft.line(&format!("call % {number}"), &[operand])
     }
 }
 
