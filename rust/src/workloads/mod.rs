@@ -1,15 +1,15 @@
 //! What the benchmark runs: each workload small and about ten times as large.
 
+mod areas;
 mod cap;
 mod sheets;
 
 use crate::calls::Answer;
 use crate::generate::full::full;
 use crate::generate::Call;
+use areas::areas;
 use cap::cap;
-use sheets::{
-    bags, calls, collected, iterations, nodes, nodes_of, quantifiers, sets, types, values,
-};
+use sheets::{bags, collected, iterations, nodes, nodes_of, quantifiers, sets, types, values};
 
 /// What a workload's time is divided by.
 #[derive(Clone, Copy, PartialEq, Eq, Debug)]
@@ -96,6 +96,12 @@ pub fn workloads() -> Vec<Workload> {
             [40, 400].map(|sheets| (0..sheets).map(cap).collect()),
         ),
         workload(
+            "a day of 400 area sheets",
+            Unit::Line,
+            Call::Report,
+            [40, 400].map(|sheets| (0..sheets).map(areas).collect()),
+        ),
+        workload(
             "steps, forAll in forAll",
             Unit::Step,
             EVALUATE,
@@ -106,12 +112,6 @@ pub fn workloads() -> Vec<Workload> {
             Unit::Step,
             EVALUATE,
             one(iterations(31), iterations(68)),
-        ),
-        workload(
-            "steps, call in forAll",
-            Unit::Step,
-            EVALUATE,
-            one(calls(26), calls(57)),
         ),
         workload(
             "values, Sets",

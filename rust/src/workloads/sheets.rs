@@ -74,16 +74,6 @@ pub fn quantifiers(count: usize) -> Vec<u8> {
     sheet(format!("C 0 -|{}R 0 0|{nodes}", objects(count)))
 }
 
-/// Three quantifiers inside each other over this many objects, two in the rule and
-/// one in a body that it calls, which calls another one for each of its members.
-pub fn calls(count: usize) -> Vec<u8> {
-    let definitions = "D 0 0 Bool|N 0 self|N 1 self|N 2 eq 0 1|\
-        D 1 0 Bool|N 0 all 0|N 1 var 1|N 2 call 1 0|N 3 forAll 0 1 2|";
-    let nodes = "N 0 all 0|N 1 all 0|N 2 var 2|N 3 call 2 1|N 4 forAll 1 2 3|N 5 forAll 0 1 4|";
-    let objects = objects(count);
-    sheet(format!("C 0 -|{objects}{definitions}R 0 0|{nodes}"))
-}
-
 /// Three iterations inside each other over this many objects, counting them.
 pub fn iterations(count: usize) -> Vec<u8> {
     let nodes = "N 0 all 0|N 1 int 0|N 2 all 0|N 3 int 0|N 4 all 0|N 5 int 0|\
