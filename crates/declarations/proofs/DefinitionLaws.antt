@@ -1,5 +1,5 @@
 -- The definition of a line that is spelled well: each answer of `open_definition` is one of these. Assumes nothing.
-use mathlib.Core.Path.{_≡_, refl, sym, ap, _∙_}
+use mathlib.Core.Path.{_≡_, refl, sym, _∙_}
 use mathlib.Core.Bool.{Bool, true, false, not, and-false}
 use mathlib.Core.Option.{some, Option·some-injective}
 use mathlib.Core.List.{List, []}
@@ -13,7 +13,7 @@ use Rattle.ocl.specs.Types.{Ty}
 use Rattle.sheet.specs.Lines.{definitionLine}
 use Rattle.sheet.specs.Sheet.{Sheet, added}
 use Rattle.sheet.specs.Limits.{isClass, isDefinition, classBelow, typeWithin, withinLimits}
-use Rattle.sheet.specs.Refusals.{blockOf, numbered, inOrder, partsKnown, callsSmaller, callsKnown, suits, treeHolds}
+use Rattle.sheet.specs.Refusals.{blockOf, numbered, partsKnown, callsSmaller, callsKnown, suits, treeHolds}
 use Rattle.types.specs.Word.{typeIn}
 use Rattle.tables.specs.declared.Counts.{Counts}
 use Rattle.tables.specs.declared.Step.the-variants.{Next, Stop}

@@ -4,23 +4,20 @@ use mathlib.Core.Path.{_≡_, refl, sym, ap, _∙_}
 use mathlib.Core.Bool.{Bool, true, false, not, _&&_, and-false}
 use mathlib.Core.List.{List, [], _∷_}
 use Prim.Native.Nat.{ℕ, suc, _+_, _/_, _<_, _≤_, min}
-use native.Mathlib.Nat.{zero-add}
 use native.Mathlib.Omega.{arith}
 use native.Mathlib.Decide.{decLt}
 use borrow.Author.Tests.{eq-eqb, ne-eqb, lt-ltb, le-ltb, ltb-true, le-leb, lt-leb, eqb-true, not-true, not-false}
 use lib.Dec.{eqb, leb, ltb}
 use lib.ListN.{length, getD, take, drop}
 use Rattle.laws.specs.Choice.{if_then_else_}
-use Rattle.laws.specs.Lists.{allOf}
 use Rattle.laws.proofs.Cases.{zero-least}
-use Rattle.ocl.specs.Types.{Kind, set, sequence, bag, void}
-use Rattle.ocl.specs.Forms.{Access, ofObject, ofMembers, Unary, negation, sizeOf, convert, castTo, undef, node, Form, Definition, levels}
+use Rattle.ocl.specs.Types.{Kind, set, sequence, bag}
+use Rattle.ocl.specs.Forms.{Access, ofObject, ofMembers, Unary, negation, sizeOf, convert, castTo, Definition, levels}
 use Rattle.sheet.specs.Lines.{Shape, leaf, unary, binary, connective, isUndef, conditional, letIn, attribute, call, quantified, iterate, assemble}
 use Rattle.sheet.specs.Sheet.{Sheet, operandsOf, definitionOf}
-use Rattle.sheet.specs.Limits.{isNode}
 use Rattle.sheet.specs.Refusals.{callBelow}
 use Rattle.types.specs.Word.{typeIn}
-use Rattle.nodes.specs.Nodes.{Called, CallSaid, classIn, treesBelow, treeAt, unaryWords, accessCode, assembleCode, shapeWords}
+use Rattle.nodes.specs.Nodes.{Called, CallSaid, classIn, treeAt, unaryWords, accessCode, assembleCode, shapeWords}
 use Rattle.nodes.proofs.Keep.{tree-depth}
 use Rattle.tables.specs.Layout.{HoldsDefinitions}
 use Rattle.tables.proofs.Tables.{entry-of, entry-by, entry-each}

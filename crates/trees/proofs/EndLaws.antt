@@ -14,7 +14,7 @@ use Rattle.ocl.specs.Types.{Ty}
 use Rattle.ocl.specs.Forms.{Expr, levels}
 use Rattle.sheet.specs.Sheet.{Current, Sheet, treeOf, lastTree, allUsed, mostLevels, withBody, endOf, endFor, endRule}
 use Rattle.nodes.specs.Nodes.{treeAt}
-use Rattle.tables.specs.Layout.{openCode, usedBit, HoldsCurrent, HoldsOpen, closed, opened, Holds, Fine}
+use Rattle.tables.specs.Layout.{openCode, usedBit, HoldsCurrent, HoldsOpen, opened, Holds, Fine}
 use Rattle.tables.specs.declared.Counts.{Counts}
 use Rattle.tables.specs.declared.Step.the-variants as code
 use Rattle.tables.proofs.Tables.{kept-refl}
