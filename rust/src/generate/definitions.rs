@@ -27,8 +27,13 @@ impl Growth<'_> {
             // Itself, a later one, or one that is not there.
             let count = self.callable.len();
             let number = count + self.random.below(3);
-            let operand = self.draft.line("self", &[]);
-            let node = self.draft.line(&format!("call % {number}"), &[operand]);
+            let node = if self.random.one_in(2) {
+                // An operand that is not there either.
+                self.draft.line(&format!("call 700 {number}"), &[])
+            } else {
+                let operand = self.draft.line("self", &[]);
+                self.draft.line(&format!("call % {number}"), &[operand])
+            };
             return Some((node, ty.clone()));
         }
         let careless = self.faulty && self.random.one_in(8);
@@ -107,9 +112,10 @@ fn caller(random: &mut Random, sheet: &Sheet, class: u8) -> u8 {
     *random.pick(&below)
 }
 
-/// N lines that call a definition, some for every object of its class.
+/// N lines that call a definition, some for every object of its class, and some
+/// that look at `self` or a variable afterwards.
 fn calling(random: &mut Random, class: u8, called: usize, truth: bool) -> String {
-    match random.below(4) {
+    match random.below(5) {
         0 if truth => {
             let form = random.pick(&["forAll", "exists"]);
             format!("N\t0\tall\t{class}\nN\t1\tvar\t1\nN\t2\tcall\t1\t{called}\nN\t3\t{form}\t0\t1\t2\n")
@@ -117,6 +123,10 @@ fn calling(random: &mut Random, class: u8, called: usize, truth: bool) -> String
         1 => format!(
             "N\t0\tself\nN\t1\tvar\t1\nN\t2\tcall\t1\t{called}\nN\t3\tisUndef\t2\n\
             N\t4\tvar\t1\nN\t5\tcoll\tQ\t3\t4\nN\t6\tlet\t1\t0\t5\n"
+        ),
+        2 => format!(
+            "N\t0\tall\t{class}\nN\t1\tvar\t1\nN\t2\tcall\t1\t{called}\nN\t3\tisUndef\t2\n\
+            N\t4\tself\nN\t5\tvar\t1\nN\t6\teq\t4\t5\nN\t7\teq\t3\t6\nN\t8\texists\t0\t1\t7\n"
         ),
         _ => format!("N\t0\tself\nN\t1\tcall\t0\t{called}\n"),
     }
