@@ -7,7 +7,7 @@ use Prim.Native.Nat.{ℕ, suc, _+_, _≤_, _<_}
 use native.Mathlib.Omega.{arith}
 use native.Mathlib.Numerals.{add-one}
 use lib.ListN.{length, getElem?, set, take, drop, replicate, length-append, length-drop}
-use lib.Seq.{take-length, take-at, drop-at, drop-drop, take-set-le}
+use lib.Seq.{take-length, take-at, drop-at, take-set-le}
 use Rattle.ocl.specs.Types.{Ty}
 use Rattle.ocl.specs.Typing.{refused as untyped}
 use Rattle.sheet.specs.Sheet.{Rule, Sheet, schemaIn}

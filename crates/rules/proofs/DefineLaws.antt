@@ -5,7 +5,7 @@ use mathlib.Core.List.{List, [], _∷_, _++_, append-nil, append-assoc}
 use Prim.Native.Nat.{ℕ, suc, _+_, _≤_, _<_}
 use native.Mathlib.Omega.{arith}
 use native.Mathlib.Numerals.{add-one}
-use lib.ListN.{length, getD, getElem?, take, drop}
+use lib.ListN.{getD, getElem?, take, drop}
 use lib.Seq.{take-length}
 use Rattle.laws.specs.Lists.{Each, each-nil, each-cons}
 use Rattle.laws.proofs.Lists.{each-append}

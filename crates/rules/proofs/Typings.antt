@@ -38,6 +38,13 @@ module _ {st : Counts} {w0 w1 : List ℕ} {r : ℕ} where
       let x = a .some-rule r h in
       (x .0, a .rule r (x .0) (x .1))
 
+  -- its class fits a byte
+  pub rule-low : Known st w0 w1 → r < st .rules → getD w0 (4448 + r) 0 < 256
+  rule-low k h = let x = rule-known k h .1 in omega (arith, x .context, x .low-context)
+
+  pub rule-root : {root : ℕ} → Known st w0 w1 → r < st .rules → root ≡ getD w0 (4512 + r) 0 → root < 768
+  rule-root k h e = omega (arith, rule-known k h .1 .root)
+
   pub types-numbered : {classes rows root : ℕ} {before after : List ℕ} {a : Reply} → classes ≡ st .classes → rows ≡ st .rows → root ≡ getD w0 (4512 + r) 0
       → TypesRule w0 classes rows w1 (getD w0 (4448 + r) 0) root before after a → TypesNumbered st w0 w1 r before after a
   types-numbered {before = before} c n e t =
@@ -61,7 +68,6 @@ module _ {st : Counts} {w0 w1 : List ℕ} {d : ℕ} where
       let x = a .some-definition d h in
       (x .0, a .definition d (x .0) (x .1))
 
-  -- its class fits a byte
   pub definition-low : Known st w0 w1 → d < st .definitions → getD w0 (4576 + d) 0 < 256
   definition-low k h = let x = definition-known k h .1 in omega (arith, x .context, x .low-context)
 

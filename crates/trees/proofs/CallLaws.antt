@@ -103,14 +103,6 @@ module _ (w0 words : List ℕ) (count : ℕ) (size : length words ≡ 8) where
       go true e false = refl
       go false e c = refl
 
-  pub resolved-size : length (resolvedIn w0 words count) ≡ 8
-  unfolding resolvedIn
-  resolved-size = go (isCall words count)
-    where
-      go : (b : Bool) → length (if b then 36 ∷ getD words 1 0 ∷ getD w0 (4640 + getD words 2 0) 0 ∷ getD w0 (4576 + getD words 2 0) 0 ∷ getD w0 (4608 + getD words 2 0) 0 ∷ 0 ∷ 0 ∷ getD words 7 0 ∷ [] else words) ≡ 8
-      go true = refl
-      go false = size
-
 -- ---- what the words say of the form
 
 pub record NoCall (x : Shape) : Type 0 where
