@@ -51,7 +51,7 @@ typedef struct ocl_answer {
     uint64_t length; /* bytes written to the output; 0 unless the number is 0 */
 } ocl_answer;
 
-/* The numbers. In brackets: who gives it, R read, E evaluate, P report; and whether with a place. */
+/* The numbers; 20 to 22 are not given. In brackets: who gives it, R read, E evaluate, P report; and whether with a place. */
 enum ocl_number {
     OCL_ANSWERED = 0,            /* an answer (REP) */
     OCL_SHORT_SLICE = 1,         /* a word slice or the output is too short; nothing was touched (REP) */
@@ -61,7 +61,7 @@ enum ocl_number {
     OCL_OUT_OF_ORDER = 5,        /* lines, numbers or members out of order; a name or variable twice (REP, place) */
     OCL_UNKNOWN_REFERENCE = 6,   /* a class, row or object that the sheet does not have by then (REP, place) */
     OCL_VALUE_MISMATCH = 7,      /* a value that its row, or a row that its object, does not take (REP, place) */
-    OCL_MALFORMED_TREE = 8,      /* the nodes of a rule make no tree, or one that is too deep (REP, place) */
+    OCL_MALFORMED_TREE = 8,      /* the nodes of a rule or a definition make no tree, or one too deep (REP, place) */
     OCL_UNBOUND_VARIABLE = 9,    /* a variable that nothing binds (REP, place) */
     OCL_NO_COMMON_TYPE = 10,     /* two types without a common one; a cast between unrelated classes (REP, place) */
     OCL_WRONG_OPERAND_TYPE = 11, /* a form does not take an operand of this type (REP, place) */
@@ -72,13 +72,15 @@ enum ocl_number {
     OCL_STEP_STOP = 16,          /* stopped: over OCL_MOST_STEPS steps are due (E, with the steps) */
     OCL_SIZE_STOP = 17,          /* stopped: a value of a size over 128 would be formed (E, with the steps) */
     OCL_REPORT_TOO_LONG = 18,    /* the output is too short for the report (P) */
-    OCL_OVER_RANGE = 19          /* stopped: an exact result leaves the Integer range (E, with the steps) */
+    OCL_OVER_RANGE = 19,         /* stopped: an exact result leaves the Integer range (E, with the steps) */
+    OCL_CALL_UPWARD = 23,        /* a definition calls itself or a larger one (REP, place) */
+    OCL_UNKNOWN_DEFINITION = 24  /* a rule calls a definition that the sheet does not have (REP, place) */
 };
 
 /*
- * Reads a sheet, types all its rules in order, and writes the types, one a line, as `Bool` or `S(#2)`, with a line feed at the
- * end of each. A sheet is accepted only if all its rules type. The other two read and type it too, and refuse it with the same
- * number and place.
+ * Reads a sheet, types its definitions and then all its rules, in order, and writes the rules' types, one a line, as `Bool` or
+ * `S(#2)`, with a line feed at the end of each. A sheet is accepted only if all its definitions and rules type. The other two
+ * read and type it too, and refuse it with the same number and place.
  */
 ocl_answer ocl_read_types(
     const uint8_t *text, size_t text_length,
@@ -89,7 +91,8 @@ ocl_answer ocl_read_types(
 
 /*
  * Evaluates a rule for an object, both counted from 0 as on the sheet, and writes the value, as `t` or `S(@1,@4)`; `u` is
- * undefined. The sheet is read and typed first: one with a rule that has no type is refused, whichever rule is asked for.
+ * undefined. The sheet is read and typed first: one with a rule or a definition that has no type is refused, whichever rule is
+ * asked for.
  */
 ocl_answer ocl_evaluate_rule(
     const uint8_t *text, size_t text_length,

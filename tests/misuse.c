@@ -88,6 +88,10 @@ int main(void)
     static const char sheet[] = "C\t0\t-\nO\t0\t0\nR\t0\t0\nN\t0\ttrue\n";
     static const char bad[] = "C\t0\t-\nC\t1\t1\n";
     static const char untyped[] = "C\t0\t-\nO\t0\t0\nR\t0\t0\nN\t0\ttrue\nR\t1\t0\nN\t0\tvar\t1\n";
+    static const char called[] = "C\t0\t-\nO\t0\t0\nD\t0\t0\tBool\nN\t0\ttrue\nR\t0\t0\nN\t0\tself\nN\t1\tcall\t0\t0\n";
+    static const char upward[] = "C\t0\t-\nD\t0\t0\tBool\nN\t0\tself\nN\t1\tcall\t0\t0\n";
+    static const char unknown[] = "C\t0\t-\nR\t0\t0\nN\t0\tself\nN\t1\tcall\t0\t0\n";
+    static const char body[] = "C\t0\t-\nO\t0\t0\nD\t0\t0\tBool\nN\t0\tself\nR\t0\t0\nN\t0\ttrue\n";
     static const uint8_t longer[OCL_LONGEST_TEXT + 1];
     static const size_t little[] = {0, 1, OCL_LEAST_WORDS - 1};
     const size_t most = OCL_LEAST_WORDS, sheet_length = sizeof sheet - 1;
@@ -113,11 +117,17 @@ int main(void)
     }
     for (enum call which = READ; which <= REPORT; which++) {
         static const char *const written[] = {"Bool\n", "t", "0 0 t 1\n"};
+        static const char *const of_call[] = {"Bool\n", "t", "0 0 t 3\n"};
         lend(most, most, most, OCL_LEAST_OUTPUT);
         expect(which, sheet, sheet_length, OCL_ANSWERED, written[which]);
         expect(which, bad, sizeof bad - 1, OCL_UNKNOWN_REFERENCE, "");
         /* every call types all rules */
         expect(which, untyped, sizeof untyped - 1, OCL_UNBOUND_VARIABLE, "");
+        /* and all definitions, called or not */
+        expect(which, called, sizeof called - 1, OCL_ANSWERED, of_call[which]);
+        expect(which, upward, sizeof upward - 1, OCL_CALL_UPWARD, "");
+        expect(which, unknown, sizeof unknown - 1, OCL_UNKNOWN_DEFINITION, "");
+        expect(which, body, sizeof body - 1, OCL_WRONG_OPERAND_TYPE, "");
         expect(which, longer, sizeof longer, OCL_SHEET_TOO_LONG, "");
         /* the text of no bytes is a sheet without rules */
         expect(which, NULL, 0, which == EVALUATE ? OCL_NOT_FOUND : OCL_ANSWERED, "");

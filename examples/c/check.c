@@ -34,7 +34,7 @@ static const char *const meanings[][2] = {
     [OCL_OUT_OF_ORDER] = {"out of row", "something is out of order, or there twice"},
     [OCL_UNKNOWN_REFERENCE] = {"unknown part", "the sheet has no such class, row or object"},
     [OCL_VALUE_MISMATCH] = {"wrong thread", "the value does not suit its row, or the row its object"},
-    [OCL_MALFORMED_TREE] = {"broken tree", "the rule's nodes make no tree, or one that is too deep"},
+    [OCL_MALFORMED_TREE] = {"broken tree", "the nodes make no tree, or one that is too deep"},
     [OCL_UNBOUND_VARIABLE] = {"loose end", "nothing binds the variable"},
     [OCL_NO_COMMON_TYPE] = {"no match", "there is no common type, or the cast is between unrelated classes"},
     [OCL_WRONG_OPERAND_TYPE] = {"wrong piece", "the form does not take an operand of this type"},
@@ -46,6 +46,8 @@ static const char *const meanings[][2] = {
     [OCL_SIZE_STOP] = {"size stop", "a value of a size over 128 would be formed"},
     [OCL_REPORT_TOO_LONG] = {"slip too long", "the report is longer than the output"},
     [OCL_OVER_RANGE] = {"over the range", "an exact result leaves the Integer range"},
+    [OCL_CALL_UPWARD] = {"call upward", "the definition calls itself or a larger one"},
+    [OCL_UNKNOWN_DEFINITION] = {"unknown definition", "the sheet has no such definition"},
 };
 
 static void print_refusal(ocl_answer answer)

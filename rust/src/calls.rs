@@ -45,14 +45,14 @@ pub fn read_types(text: &[u8], words: Words, out: &mut [u8]) -> Answer {
 
 pub fn evaluate_rule(text: &[u8], rule: u64, object: u64, words: Words, out: &mut [u8]) -> Answer {
     lent(words, out, |_| {
-        let (Sheet { model, rules }, _) = accepted(text)?;
-        let rule = listed(rule, rules.len())?;
-        let object = listed(object, model.objects.len())?;
-        let (rule, object) = (&rules[rule], object as u8);
-        if !model.is_of(object, rule.context) {
+        let (sheet, _) = accepted(text)?;
+        let rule = listed(rule, sheet.rules.len())?;
+        let object = listed(object, sheet.model.objects.len())?;
+        let (rule, object) = (&sheet.rules[rule], object as u8);
+        if !sheet.model.is_of(object, rule.context) {
             return Err((Refusal::OtherClass.at(0), 0));
         }
-        let (outcome, steps) = evaluate(&model, rule, object);
+        let (outcome, steps) = evaluate(&sheet, rule, object);
         let value = outcome.map_err(|stop| (stop.refusal().at(0), steps))?;
         let mut spelt = Vec::new();
         report::spell(value.as_ref(), &mut spelt);
@@ -82,7 +82,8 @@ pub fn program(text: &[u8]) -> Vec<u8> {
     out
 }
 
-/// The sheet and its rules' types: it is accepted only if all of them type.
+/// The sheet and its rules' types: it is accepted only if its definitions and all
+/// of its rules type.
 fn accepted(text: &[u8]) -> Result<(Sheet, Vec<Type>), (Refused, u64)> {
     if text.len() > LONGEST_SHEET {
         return Err((Refusal::SheetTooLong.at(0), 0));

@@ -1,9 +1,10 @@
 //! The evaluation of a rule. It reads no types, only the rows typing marked.
 
-use crate::model::{Model, Rule};
+use crate::model::{Definition, Model, Rule, Sheet};
 use crate::tree::{Form, Node};
 use crate::types::Kind;
 use crate::values::{Collection, Value};
+use std::mem;
 use std::rc::Rc;
 
 pub const MOST_STEPS: u64 = 1_000_000;
@@ -32,6 +33,8 @@ type Outcome = Result<Value, End>;
 
 struct Evaluation<'m> {
     model: &'m Model,
+    definitions: &'m [Definition],
+    /// What `self` is.
     object: u8,
     steps: u64,
     /// The values of the variables, by number.
@@ -39,9 +42,10 @@ struct Evaluation<'m> {
 }
 
 /// What a rule ends with for an object (`None` is undefined), and the steps begun.
-pub fn evaluate(model: &Model, rule: &Rule, object: u8) -> (Result<Option<Value>, Stop>, u64) {
+pub fn evaluate(sheet: &Sheet, rule: &Rule, object: u8) -> (Result<Option<Value>, Stop>, u64) {
     let mut evaluation = Evaluation {
-        model,
+        model: &sheet.model,
+        definitions: &sheet.definitions,
         object,
         steps: 0,
         environment: Default::default(),
@@ -179,7 +183,24 @@ impl Evaluation<'_> {
             }
             Form::ForAll(variable) => self.quantifier(operands, *variable, false),
             Form::Exists(variable) => self.quantifier(operands, *variable, true),
+            Form::Call(number) => self.call(*number, &operands[0]),
         }
+    }
+
+    /// A definition's body, in which `self` is the operand and no variable is
+    /// bound; the caller's are put back.
+    fn call(&mut self, number: u8, operand: &Node) -> Outcome {
+        let called = &self.definitions[usize::from(number)];
+        let object = match self.node(operand)? {
+            Value::Object(object) if self.model.is_of(object, called.class) => object,
+            _ => return Err(STUCK),
+        };
+        let caller = mem::replace(&mut self.object, object);
+        let hidden = mem::take(&mut self.environment);
+        let outcome = self.node(&called.root);
+        self.object = caller;
+        self.environment = hidden;
+        outcome
     }
 
     /// A body's outcome with the variable bound; the outer binding is put back.

@@ -1,4 +1,5 @@
-//! What a sheet declares: classes, attribute rows, objects, their values, rules.
+//! What a sheet declares: classes, attribute rows, objects, their values, named
+//! definitions, rules.
 
 use crate::tree::Node;
 use crate::types::Type;
@@ -91,6 +92,15 @@ impl Model {
     }
 }
 
+/// A named definition: what it is called for, what it gives, and its body.
+pub struct Definition {
+    pub class: u8,
+    pub ty: Type,
+    pub root: Node,
+    /// The depth of the body, those that it calls counted in.
+    pub depth: usize,
+}
+
 pub struct Rule {
     pub context: u8,
     pub root: Node,
@@ -99,5 +109,6 @@ pub struct Rule {
 #[derive(Default)]
 pub struct Sheet {
     pub model: Model,
+    pub definitions: Vec<Definition>,
     pub rules: Vec<Rule>,
 }

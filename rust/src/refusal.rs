@@ -21,6 +21,8 @@ pub enum Refusal {
     SizeStop,
     ReportTooLong,
     OverRange,
+    CallUpward = 23,
+    UnknownDefinition,
 }
 
 /// A refusal with its line from 1, or 0 where no line is to blame.

@@ -11,7 +11,7 @@ pub fn report(sheet: &Sheet, room: usize) -> Result<Vec<u8>, Refused> {
     for (number, rule) in sheet.rules.iter().enumerate() {
         for object in sheet.model.objects_of(rule.context) {
             out.extend(format!("{number} {object} ").as_bytes());
-            let (outcome, steps) = evaluate(&sheet.model, rule, object);
+            let (outcome, steps) = evaluate(sheet, rule, object);
             match outcome {
                 Ok(value) => spell(value.as_ref(), &mut out),
                 Err(stop) => out.extend(format!("!{}", stop.refusal() as u8).as_bytes()),

@@ -4,6 +4,7 @@ use crate::calls::{Answer, LEAST_WORDS, LONGEST_SHEET};
 use crate::eval::{evaluate, Stop};
 use crate::generate::{asks, sheet, Ask};
 use crate::harness::second;
+use crate::harness::tally::NUMBERS;
 use crate::read::read;
 use crate::tree::Node;
 use crate::types::Kind;
@@ -12,7 +13,7 @@ use crate::values::Value;
 use std::collections::BTreeMap;
 use std::fmt;
 
-const FORMS: [&str; 34] = [
+const FORMS: [&str; 35] = [
     "true",
     "false",
     "undef",
@@ -47,6 +48,7 @@ const FORMS: [&str; 34] = [
     "iter",
     "forAll",
     "exists",
+    "call",
 ];
 const OUTCOMES: [&str; 6] = ["value", "undefined", "16", "17", "19", "stuck"];
 const KINDS: [&str; 7] = ["f", "t", "Integer", "object", "Set", "Sequence", "Bag"];
@@ -55,8 +57,8 @@ const KINDS: [&str; 7] = ["f", "t", "Integer", "object", "Set", "Sequence", "Bag
 const OBJECTS: usize = 4;
 
 pub struct Statistics {
-    /// Answers by number, 0 to 19.
-    pub numbers: [u64; 20],
+    /// Answers by number.
+    pub numbers: [u64; NUMBERS],
     pub forms: BTreeMap<&'static str, u64>,
     pub outcomes: BTreeMap<&'static str, u64>,
     pub kinds: BTreeMap<&'static str, u64>,
@@ -66,7 +68,7 @@ impl Statistics {
     pub fn over(seeds: std::ops::Range<u64>) -> Statistics {
         let zeros = |names: &[&'static str]| names.iter().map(|name| (*name, 0)).collect();
         let mut statistics = Statistics {
-            numbers: [0; 20],
+            numbers: [0; NUMBERS],
             forms: zeros(&FORMS),
             outcomes: zeros(&OUTCOMES),
             kinds: zeros(&KINDS),
@@ -88,10 +90,13 @@ impl Statistics {
         if text.len() > LONGEST_SHEET || type_rules(&mut sheet).is_err() {
             return;
         }
+        for definition in &sheet.definitions {
+            self.forms(&definition.root);
+        }
         for rule in &sheet.rules {
             self.forms(&rule.root);
             for object in sheet.model.objects_of(rule.context).take(OBJECTS) {
-                let outcome = match evaluate(&sheet.model, rule, object).0 {
+                let outcome = match evaluate(&sheet, rule, object).0 {
                     Ok(Some(value)) => {
                         *self.kinds.entry(kind(&value)).or_default() += 1;
                         "value"
@@ -122,7 +127,7 @@ impl Statistics {
             .map(|(name, _)| name.to_string())
             .collect();
         for (number, count) in self.numbers.iter().enumerate() {
-            if *count == 0 {
+            if *count == 0 && !matches!(number, 20..=22) {
                 missing.push(format!("number {number}"));
             }
         }

@@ -1,8 +1,9 @@
-//! A rule's nodes as a tree that owns its operands.
+//! The nodes of a rule or of a definition's body, as a tree that owns its operands.
 
+use crate::model::Definition;
 use crate::types::{Kind, Type};
 
-/// The greatest depth of a rule, its root being depth 1.
+/// The greatest depth of a rule and of a body, the root being depth 1.
 pub const DEEPEST_RULE: usize = 19;
 
 /// What a node does, without its operands.
@@ -53,6 +54,8 @@ pub enum Form {
     },
     ForAll(u8),
     Exists(u8),
+    /// The definition with this number.
+    Call(u8),
 }
 
 impl Form {
@@ -93,6 +96,7 @@ impl Form {
             Form::Iter { .. } => "iter",
             Form::ForAll(_) => "forAll",
             Form::Exists(_) => "exists",
+            Form::Call(_) => "call",
         }
     }
 }
@@ -105,7 +109,14 @@ pub struct Node {
 }
 
 impl Node {
-    pub fn depth(&self) -> usize {
-        1 + self.operands.iter().map(Node::depth).max().unwrap_or(0)
+    /// A called body stands below the call, as its operand does.
+    pub fn depth(&self, definitions: &[Definition]) -> usize {
+        let operands = self.operands.iter();
+        let below = operands.map(|operand| operand.depth(definitions)).max();
+        let body = match self.form {
+            Form::Call(number) => definitions[usize::from(number)].depth,
+            _ => 0,
+        };
+        1 + body.max(below.unwrap_or(0))
     }
 }

@@ -1,6 +1,6 @@
-//! The types of rules, and the row each `attr` and `collect` reads.
+//! The types of definitions and rules, and the row each `attr` and `collect` reads.
 
-use crate::model::{Model, Rule, Sheet};
+use crate::model::{Definition, Model, Rule, Sheet};
 use crate::refusal::{Refusal, Refused};
 use crate::tree::{Form, Node};
 use crate::types::{Kind, Type, DEEPEST};
@@ -10,26 +10,64 @@ type Environment = [Option<Type>; 16];
 
 struct Typing<'m> {
     model: &'m Model,
+    /// The definitions that may be called.
+    definitions: &'m [Definition],
+    /// The class of `self`.
     context: u8,
     environment: Environment,
 }
 
-/// The types of all rules, in order, or the first refusal.
+/// The types of all rules, in order, or the first refusal: definitions go before
+/// the rules.
 pub fn type_rules(sheet: &mut Sheet) -> Result<Vec<Type>, Refused> {
-    let rules = sheet.rules.iter_mut();
-    rules.map(|rule| type_rule(&sheet.model, rule)).collect()
-}
-
-pub fn type_rule(model: &Model, rule: &mut Rule) -> Result<Type, Refused> {
-    let mut typing = Typing {
+    let Sheet {
         model,
-        context: rule.context,
-        environment: Environment::default(),
-    };
-    typing.node(&mut rule.root)
+        definitions,
+        rules,
+    } = sheet;
+    for number in 0..definitions.len() {
+        type_definition(model, definitions, number)?;
+    }
+    let rules = rules.iter_mut();
+    rules
+        .map(|rule| type_rule(model, definitions, rule))
+        .collect()
 }
 
-impl Typing<'_> {
+/// A body has its own fault first, and then that it is not below what the
+/// definition gives.
+pub fn type_definition(
+    model: &Model,
+    definitions: &mut [Definition],
+    number: usize,
+) -> Result<(), Refused> {
+    let (smaller, rest) = definitions.split_at_mut(number);
+    let definition = &mut rest[0];
+    let mut typing = Typing::new(model, smaller, definition.class);
+    let body = typing.node(&mut definition.root)?;
+    let line = definition.root.line;
+    let below = typing.below(&body, &definition.ty);
+    below.map_err(|refusal| refusal.at(line))
+}
+
+pub fn type_rule(
+    model: &Model,
+    definitions: &[Definition],
+    rule: &mut Rule,
+) -> Result<Type, Refused> {
+    Typing::new(model, definitions, rule.context).node(&mut rule.root)
+}
+
+impl<'m> Typing<'m> {
+    fn new(model: &'m Model, definitions: &'m [Definition], context: u8) -> Typing<'m> {
+        Typing {
+            model,
+            definitions,
+            context,
+            environment: Environment::default(),
+        }
+    }
+
     /// The node's type: what an operand refuses goes before what the node does.
     fn node(&mut self, node: &mut Node) -> Result<Type, Refused> {
         let here = |refusal: Refusal| refusal.at(node.line);
@@ -165,6 +203,15 @@ impl Typing<'_> {
                 }
                 _ => Err(Refusal::WrongOperandType),
             },
+            Form::Call(number) => {
+                let called = &self.definitions[usize::from(*number)];
+                match types[0] {
+                    Type::Class(class) if self.model.classes.is_below(class, called.class) => {
+                        Ok(called.ty.clone())
+                    }
+                    _ => Err(Refusal::WrongOperandType),
+                }
+            }
             Form::Let(_) | Form::Iter { .. } | Form::ForAll(_) | Form::Exists(_) => {
                 unreachable!("a form that binds a variable")
             }

@@ -1,6 +1,9 @@
 //! What the three calls answer, beyond what a report can show.
 
-use second_evaluator::calls::{self, Answer, Words};
+mod common;
+
+use common::{answer, evaluate_on, lent, lent_with, read, text};
+use second_evaluator::calls::{self, Answer};
 
 const SHEET: &str = "C 0 -|C 1 0|C 2 -|A 0 0 5 Int|O 0 1|O 1 0|O 2 2|V 0 0 9|\
     R 0 0|N 0 self|N 1 attr 0 5|N 2 int 12|N 3 less 1 2|\
@@ -8,53 +11,6 @@ const SHEET: &str = "C 0 -|C 1 0|C 2 -|A 0 0 5 Int|O 0 1|O 1 0|O 2 2|V 0 0 9|\
     R 2 0|N 0 all 0|N 1 int 1|N 2 including 0 1";
 /// Behind it, two rules that do not type: an unbound variable, and no attribute.
 const UNTYPED: &str = "|R 3 0|N 0 var 1|R 4 0|N 0 self|N 1 attr 0 6";
-
-fn text(sheet: &str) -> Vec<u8> {
-    let lines = sheet.split('|').map(|line| line.replace(' ', "\t") + "\n");
-    lines.collect::<String>().into_bytes()
-}
-
-/// The answer and what was written, with all that was lent checked.
-fn lent(call: impl Fn(Words, &mut [u8]) -> Answer) -> (Answer, String) {
-    lent_with([8_192, 8_193, 9_000], 2_048, call)
-}
-
-fn lent_with(
-    lengths: [usize; 3],
-    room: usize,
-    call: impl Fn(Words, &mut [u8]) -> Answer,
-) -> (Answer, String) {
-    let mut slices = lengths.map(|length| vec![7; length]);
-    let mut out = vec![b'~'; room];
-    let answer = call(slices.each_mut().map(Vec::as_mut_slice), &mut out);
-    let wiped = if answer.number == 1 { 0 } else { 8_192 };
-    for slice in &slices {
-        assert!(slice[..wiped].iter().all(|word| *word == 0));
-        assert!(slice[wiped..].iter().all(|word| *word == 7));
-    }
-    let length = answer.length as usize;
-    assert!(out[length..].iter().all(|byte| *byte == b'~'));
-    (answer, String::from_utf8(out[..length].to_vec()).unwrap())
-}
-
-fn answer(number: u64, steps: u64, place: u64, written: &str) -> (Answer, String) {
-    let length = written.len() as u64;
-    let answer = Answer {
-        number,
-        steps,
-        place,
-        length,
-    };
-    (answer, written.to_string())
-}
-
-fn read(sheet: &str) -> (Answer, String) {
-    lent(|words, out| calls::read_types(&text(sheet), words, out))
-}
-
-fn evaluate_on(sheet: &str, rule: u64, object: u64) -> (Answer, String) {
-    lent(|words, out| calls::evaluate_rule(&text(sheet), rule, object, words, out))
-}
 
 fn evaluate(rule: u64, object: u64) -> (Answer, String) {
     evaluate_on(SHEET, rule, object)
@@ -204,6 +160,9 @@ fn a_stop_has_steps_and_no_place() {
     let range = text("C 0 -|O 0 0|R 0 0|N 0 int 2147483647|N 1 int 1|N 2 plus 0 1|N 3 isUndef 2");
     let stop = lent(|words, out| calls::evaluate_rule(&range, 0, 0, words, out));
     assert_eq!(stop, answer(19, 4, 0, ""));
+    let body = "C 0 -|O 0 0|D 0 0 Int|N 0 int 2147483647|N 1 int 1|N 2 plus 0 1|\
+        R 0 0|N 0 self|N 1 call 0 0|N 2 isUndef 1";
+    assert_eq!(evaluate_on(body, 0, 0), answer(19, 6, 0, ""));
 }
 
 #[test]

@@ -9,18 +9,19 @@ use native.Mathlib.Omega.{arith}
 use borrow.Author.Tests.{lt-ltb, le-ltb}
 use lib.ListN.{getD, getElem?}
 use Rattle.laws.specs.Choice.{if_then_else_}
+use Rattle.laws.specs.Lists.{Each}
 use Rattle.laws.proofs.Tests.{by-if}
 use Rattle.ocl.specs.Types.{class, Ty}
 use Rattle.ocl.specs.Model.{Model, isA}
 use Rattle.ocl.specs.Typing.{typed}
-use Rattle.ocl.specs.Evaluation.{Outcome, value, undefined, stuck, stop}
+use Rattle.ocl.specs.Operations.{Outcome, value, undefined, stuck, stop}
 use Rattle.ocl.specs.Soundness.{Sound}
 use Rattle.ocl.proofs.Stops.{stop-within}
 use Rattle.sheet.specs.Text.{Bytes}
 use Rattle.sheet.specs.Sheet.{Rule, Sheet, modelOf}
 use Rattle.sheet.specs.Reading.{accepted, readText}
 use Rattle.sheet.specs.Calls.{Verdict, refusalAt, refusal, typingOf, onAccepted, onRule, onObject, outcomeOf, ended, evaluateOn}
-use Rattle.sheet.specs.Laws.{AllTyped, none-typed, one-typed}
+use Rattle.sheet.specs.Laws.{AllTyped, none-typed, one-typed, Defined}
 use Rattle.sheet.proofs.Soundness.{sound-rule}
 use Rattle.sheet.proofs.Acceptance.{accepted-good}
 use Rattle.tables.specs.declared.Counts.{Counts}
@@ -115,7 +116,7 @@ module _ {st : Counts} {w0 w1 w2 : List ℕ} where
           outcome = outcomeOf s (x .0) o;
           ends = z;
           short = λ v n q.
-              let l = value-length (g .lies) r o (x .1) (t .1) (rw (object-is r k i s g (x .0) (x .1)) tt) z q in
+              let l = value-length (g .lies) (g .defined) r o (x .1) (t .1) (rw (object-is r k i s g (x .0) (x .1)) tt) z q in
               omega arith;
         }
 
@@ -132,14 +133,14 @@ outcome-number (undefined n) h q = omega arith
 outcome-number stuck h q = omega arith
 outcome-number (stop c n) h q = omega (arith, stop-within (h .known-stop c n refl))
 
-module _ (text : Bytes) (s : Sheet) {ts : List Ty} (r o : ℕ) (was : readText text ≡ accepted s) (all : AllTyped s (s .rules) ts) where
+module _ (text : Bytes) (s : Sheet) {ts : List Ty} (r o : ℕ) (was : readText text ≡ accepted s) (defined : Each (Defined s) (s .definitions)) (all : AllTyped s (s .rules) ts) where
   object-number : (x : Rule) → getElem? (s .rules) r ≡ some x → (d : Option ℕ) → onObject (modelOf s) d o (x .context) (ended (outcomeOf s x o)) .number ≢ 1
   unfolding onObject refusal refusalAt
   object-number x q none z = omega arith
   object-number x q (some d) z =
       let t = type-of all r x q in
       by-if (λ (v : Verdict). v .number ≢ 1) (isA (modelOf s) o (class (x .context))) _ _
-      (λ i. outcome-number (outcomeOf s x o) (sound-rule s (accepted-good text s was) r o x (t .0) q (t .1) i)) (λ i z. omega arith) z
+      (λ i. outcome-number (outcomeOf s x o) (sound-rule s (accepted-good text s was) defined r o x (t .0) q (t .1) i)) (λ i z. omega arith) z
 
   rule-number : (x : Option Rule) → getElem? (s .rules) r ≡ x → onRule x (forObject o s) .number ≢ 1
   unfolding onRule refusal refusalAt
@@ -151,4 +152,4 @@ module _ (text : Bytes) (s : Sheet) {ts : List Ty} (r o : ℕ) (was : readText t
   evaluate-on-number = rule-number (getElem? (s .rules) r) refl
 
 pub evaluate-number : (text : Bytes) (r o : ℕ) → onAccepted text (λ s ts. evaluateOn s r o) .number ≢ 1
-evaluate-number text r o = accepted-number text (λ s ts. evaluateOn s r o) (λ s ts e h. evaluate-on-number text s r o e h)
+evaluate-number text r o = accepted-number text (λ s ts. evaluateOn s r o) (λ s ts e d h. evaluate-on-number text s r o e d h)

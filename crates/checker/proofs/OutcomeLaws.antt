@@ -7,7 +7,7 @@ use native.Mathlib.Nat.{zero-add}
 use lib.ListN.{length}
 use lib.Seq.{slice}
 use Rattle.ocl.specs.Values.{Value}
-use Rattle.ocl.specs.Evaluation.{Outcome, value}
+use Rattle.ocl.specs.Operations.{Outcome, value}
 use Rattle.sheet.specs.Text.{Bytes, bytes}
 use Rattle.sheet.specs.Spelling.{spellValue}
 use Rattle.sheet.specs.Calls.{refusalAt, refusal, outputAfter, ended}

@@ -8,6 +8,7 @@ use native.Mathlib.Omega.{arith}
 use native.Mathlib.Numerals.{add-one}
 use lib.ListN.{length, getD, getElem?, take, drop, length-append, take-append-drop}
 use lib.Seq.{take-length}
+use Rattle.laws.specs.Lists.{Each}
 use Rattle.laws.proofs.Elements.{elem-some}
 use Rattle.ocl.specs.Types.{Ty, void}
 use Rattle.sheet.specs.Text.{Bytes}
@@ -15,7 +16,7 @@ use Rattle.sheet.specs.Spelling.{spellType}
 use Rattle.sheet.specs.Sheet.{Rule, Sheet}
 use Rattle.sheet.specs.Reading.{accepted, readText}
 use Rattle.sheet.specs.Calls.{Verdict, answer, onAccepted, typeLines}
-use Rattle.sheet.specs.Laws.{AllTyped, none-typed, one-typed}
+use Rattle.sheet.specs.Laws.{AllTyped, none-typed, one-typed, Defined}
 use Rattle.sheet.specs.Soundness.{Lent}
 use Rattle.sheet.proofs.Accepted.{AcceptedSheet, on-accepted}
 use Rattle.sheet.proofs.Soundness.{read-lent}
@@ -143,7 +144,7 @@ module _ {text : Bytes} {w0 w1 w2 v0 v1 v2 : List ℕ} {z : SheetRead} {st : Cou
     where
       by : OpensAs text v0 v1 v2 (sheet.Sheet st) → Waiting v2 n
       by (opened s ts q h i) =
-          let a : AcceptedSheet text = record { sheet = s; is = q; typing = record { types = ts; all = h .typed } } in
+          let a : AcceptedSheet text = record { sheet = s; is = q; defined = h .defined; typing = record { types = ts; all = h .typed } } in
           let r = read-lent text v0 v1 v2 out l ∙ on-accepted text a (λ s ts. answer (typeLines ts)) in
           record {
             types = ts;
@@ -164,5 +165,5 @@ pub read-number : (text : Bytes) → onAccepted text (λ s ts. answer (typeLines
 unfolding answer
 read-number text = accepted-number text (λ s ts. answer (typeLines ts)) no-number
   where
-    no-number : (s : Sheet) (ts : List Ty) → readText text ≡ accepted s → AllTyped s (s .rules) ts → answer (typeLines ts) .number ≢ 1
-    no-number s ts e h q = omega arith
+    no-number : (s : Sheet) (ts : List Ty) → readText text ≡ accepted s → Each (Defined s) (s .definitions) → AllTyped s (s .rules) ts → answer (typeLines ts) .number ≢ 1
+    no-number s ts e d h q = omega arith

@@ -1,5 +1,5 @@
 -- A text of any length opened, and what follows in a call. Assumes nothing.
-use mathlib.Core.Path.{_≡_, refl}
+use mathlib.Core.Path.{_≡_, refl, ap, _∙_}
 use mathlib.Core.Logic.{_≢_}
 use mathlib.Core.Option.{some}
 use mathlib.Core.List.{List, [], _∷_}
@@ -7,14 +7,18 @@ use Prim.Native.Nat.{ℕ, suc, _≤_, _<_}
 use native.Mathlib.Omega.{arith}
 use borrow.Author.Tests.{lt-ltb, le-ltb}
 use lib.ListN.{length, getElem?}
+use Rattle.laws.specs.Lists.{Each, each-nil, each-cons}
 use Rattle.ocl.specs.Types.{Ty}
-use Rattle.ocl.specs.Typing.{Answer as TypeAnswer, typed, refused as untyped}
+use Rattle.ocl.specs.Forms.{Definition}
+use Rattle.ocl.specs.Typing.{Answer as TypeAnswer, typed, refused as untyped, typeDefinition}
+use Rattle.ocl.proofs.Places.{definition-places}
+use Rattle.ocl.proofs.Means.{definition-type}
 use Rattle.sheet.specs.Text.{Bytes}
-use Rattle.sheet.specs.Sheet.{Rule, Sheet}
+use Rattle.sheet.specs.Sheet.{Rule, Sheet, schemaIn}
 use Rattle.sheet.specs.Reading.{Reading, accepted, rejected, readText}
-use Rattle.sheet.specs.Calls.{Verdict, refusalAt, onSheet, typingOf, onType, onTypes, onAccepted}
-use Rattle.sheet.specs.Laws.{ReadRefusal, over-length, at-line, AllTyped, none-typed, one-typed}
-use Rattle.sheet.proofs.Listed.{read-refusals}
+use Rattle.sheet.specs.Calls.{Verdict, refusalAt, onSheet, typingOf, onType, onTypes, onDefinitions, onAccepted}
+use Rattle.sheet.specs.Laws.{ReadRefusal, over-length, at-line, AllTyped, none-typed, one-typed, Defined}
+use Rattle.sheet.proofs.Listed.{listed-within, read-refusals}
 use Rattle.sheet.proofs.Accepted.{on-accepted}
 use Rattle.sheet.proofs.Soundness.{type-refusals}
 use Rattle.tables.specs.declared.Counts.{Counts}
@@ -42,7 +46,7 @@ pub within-text : {r : SheetRead} {w0 w1 v0 v1 : List ℕ} (text : Bytes) → le
 unfolding readText
 within-text text h t = record { is = rw (le-ltb 49152 (length text) h) (t .is); kept0 = t .kept0; kept1 = t .kept1 }
 
--- ---- a sheet that is read, and its rules typed
+-- ---- a sheet that is read, and its definitions and rules typed
 
 module _ {st : Counts} {w0 u1 u2 v1 v2 : List ℕ} {a : RulesTyped} (t : Accepts st w0 u1 u2 v1 v2 a) where
   pub accepts-sheet : a ≡ rules.Yes → AcceptsSheet st w0 u1 u2 v1 v2 (sheet.Sheet st)
@@ -87,7 +91,7 @@ module _ {text : Bytes} {v0 v1 v2 : List ℕ} where
 
   gives-as : {st : Counts} {a : Answer} {before after : Bytes} (f : Sheet → List Ty → Verdict) → OpensAs text v0 v1 v2 (sheet.Sheet st) → GivesFor st v0 v1 v2 f a before after
       → GivesAnswer (onAccepted text f) a before after
-  gives-as f (opened s ts q h i) d = rw (on-accepted text (record { sheet = s; is = q; typing = record { types = ts; all = h .typed } }) f) (d .for s ts h i)
+  gives-as f (opened s ts q h i) d = rw (on-accepted text (record { sheet = s; is = q; defined = h .defined; typing = record { types = ts; all = h .typed } }) f) (d .for s ts h i)
 
   stops-as : {n k : ℕ} {a : Answer} (f : Sheet → List Ty → Verdict) (out : Bytes) → OpensAs text v0 v1 v2 (sheet.Refused n k) → a ≡ answerOf (refusalAt n k)
       → GivesAnswer (onAccepted text f) a out out
@@ -118,15 +122,26 @@ types-number s (x ∷ xs) f h g = by (typingOf s x .answer) refl (λ t e. types-
     by (typed t) e ih = ih t e
     by (untyped n p) e ih = g 0 x refl n p e
 
-pub accepted-number : (text : Bytes) (f : Sheet → List Ty → Verdict) → ((s : Sheet) (ts : List Ty) → readText text ≡ accepted s → AllTyped s (s .rules) ts → f s ts .number ≢ 1)
-    → onAccepted text f .number ≢ 1
+definitions-number : (s : Sheet) (ds : List Definition) (v : Verdict) → (Each (Defined s) ds → v .number ≢ 1) → onDefinitions s ds v .number ≢ 1
+unfolding onDefinitions onType refusalAt
+definitions-number s [] v h = h each-nil
+definitions-number s (d ∷ ds) v h = by (typeDefinition (schemaIn s) d .answer) refl (λ q. definitions-number s ds v (λ k. h (each-cons q k)))
+  where
+    by : (a : TypeAnswer) → typeDefinition (schemaIn s) d .answer ≡ a → (Defined s d → onDefinitions s ds v .number ≢ 1) → onType s a (λ t. onDefinitions s ds v) .number ≢ 1
+    by (typed t) e ih = ih (record { typed-body = e ∙ ap typed (definition-type (schemaIn s) d t e) })
+    by (untyped n p) e ih = λ z. let l = definition-places (schemaIn s) d n p e .low in omega arith
+
+pub accepted-number : (text : Bytes) (f : Sheet → List Ty → Verdict)
+    → ((s : Sheet) (ts : List Ty) → readText text ≡ accepted s → Each (Defined s) (s .definitions) → AllTyped s (s .rules) ts → f s ts .number ≢ 1) → onAccepted text f .number ≢ 1
 unfolding onAccepted onSheet refusalAt
 accepted-number text f h = by (readText text) refl
   where
-    refusal-number : {n k : ℕ} → ReadRefusal text n k → n ≢ 1
-    refusal-number (over-length a b) q = omega arith
-    refusal-number (at-line a b c d) q = omega arith
+    refusal-number : (n k : ℕ) → ReadRefusal text n k → n ≢ 1
+    refusal-number n k (over-length a b) q = omega arith
+    refusal-number n k (at-line a b c) q = let h = listed-within n a .0 in omega arith
 
-    by : (x : Reading) → readText text ≡ x → onSheet x (λ s. onTypes s (s .rules) (f s)) .number ≢ 1
-    by (accepted s) e z = types-number s (s .rules) (f s) (λ ts. h s ts e) (λ r x q n p i z. omega (arith, type-refusals text s e r x q n p i .low)) z
-    by (rejected n k) e z = refusal-number (read-refusals text n k e) z
+    by : (x : Reading) → readText text ≡ x → onSheet x (λ s. onDefinitions s (s .definitions) (onTypes s (s .rules) (f s))) .number ≢ 1
+    by (accepted s) e z =
+        definitions-number s (s .definitions) (onTypes s (s .rules) (f s))
+        (λ d. types-number s (s .rules) (f s) (λ ts. h s ts e d) (λ r x q n p i z. omega (arith, type-refusals text s e r x q n p i .low))) z
+    by (rejected n k) e z = refusal-number n k (read-refusals text n k e) z

@@ -70,4 +70,4 @@ fitting-number room b = by (ltb room (length b))
 
 pub report-number : (text : Bytes) (room : ℕ) → reportOf text room .number ≢ 1
 unfolding reportOf
-report-number text room = accepted-number text (λ s ts. reportOn s room) (λ s ts e h. fitting-number room (ruleLines s 0 (s .rules)))
+report-number text room = accepted-number text (λ s ts. reportOn s room) (λ s ts e d h. fitting-number room (ruleLines s 0 (s .rules)))

@@ -56,8 +56,8 @@ pub never-stuck-of-call : NeverStuckOfCall
 never-stuck-of-call text w0 w1 w2 out a v0 v1 v2 after =
     let n = never-stuck text w0 w1 w2 out in
     record {
-      read = λ z. subst⁻¹ (λ (b : Answer). b .number ≤ 19) (z .is) (n .read-number);
-      evaluated = λ r o z. subst⁻¹ (λ (b : Answer). b .number ≤ 19) (z .is) (n .evaluate-number r o);
-      reported = λ z. subst⁻¹ (λ (b : Answer). b .number ≤ 19) (z .is) (n .report-number);
+      read = λ z. subst⁻¹ (λ (b : Answer). b .number ≤ 24) (z .is) (n .read-number);
+      evaluated = λ r o z. subst⁻¹ (λ (b : Answer). b .number ≤ 24) (z .is) (n .evaluate-number r o);
+      reported = λ z. subst⁻¹ (λ (b : Answer). b .number ≤ 24) (z .is) (n .report-number);
       report-bytes = λ z b c e. n .report-bytes b c (sym (written (reportCall text w0 w1 w2 out) z) ∙ e);
     }

@@ -4,7 +4,7 @@ use mathlib.Core.List.{List}
 use Prim.Native.Nat.{ℕ, _≤_}
 use lib.ListN.{length}
 use Rattle.ocl.specs.Values.{Value}
-use Rattle.ocl.specs.Evaluation.{Outcome, value}
+use Rattle.ocl.specs.Operations.{Outcome, value}
 use Rattle.sheet.specs.Text.{Bytes}
 use Rattle.sheet.specs.Spelling.{spellValue}
 use Rattle.sheet.specs.Calls.{ended}

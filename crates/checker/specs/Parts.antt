@@ -23,7 +23,8 @@ pub record ReadsText (text : Bytes) (r : SheetRead) (w0 w1 v0 v1 : List ℕ) : T
   pub kept0 : Kept w0 v0
   pub kept1 : Kept w1 v1
 
--- a text that is read and whose rules are typed: its sheet is accepted, and the types wait in w2; or, whatever follows, it is refused
+-- a text that is read and whose definitions and rules are typed: its sheet is accepted, and the rules' types wait in w2; or, whatever
+-- follows, it is refused
 pub data OpensAs (text : Bytes) (v0 v1 v2 : List ℕ) : SheetRead → Type 0 where
   opened : {st : Counts} (s : Sheet) (ts : List Ty) → readText text ≡ accepted s → Accepted st v0 v1 s ts → TypesIn v2 ts
       → OpensAs text v0 v1 v2 (code.Sheet st)

@@ -10,7 +10,7 @@ use lib.Dec.{T}
 use Rattle.ocl.specs.Types.{Ty}
 use Rattle.ocl.specs.Values.{Value, size}
 use Rattle.ocl.specs.Model.{Model, belongs}
-use Rattle.ocl.specs.Evaluation.{Stop}
+use Rattle.ocl.specs.Operations.{Stop}
 use Rattle.ocl.specs.Laws.{integersInRange, Formed}
 use Rattle.sheet.specs.Text.{Bytes, bytes, linesOf}
 use Rattle.sheet.specs.Spelling.{spellType, spellValue}
@@ -60,9 +60,9 @@ Demand3OfCall =
 
 -- whatever the text and whatever is lent: the calls answer 0 or a number of the documents, and the report that is written has no `!100`
 pub record NeverStuckAnswer (text : Bytes) (w0 w1 w2 : List ℕ) (out : Bytes) (a : Answer) (v0 v1 v2 : List ℕ) (after : Bytes) : Type 0 where
-  pub read : AnswersWith (readCall text w0 w1 w2 out) a w0 w1 w2 out v0 v1 v2 after → a .number ≤ 19
-  pub evaluated : (r o : ℕ) → AnswersWith (evaluateCall text r o w0 w1 w2 out) a w0 w1 w2 out v0 v1 v2 after → a .number ≤ 19
-  pub reported : AnswersWith (reportCall text w0 w1 w2 out) a w0 w1 w2 out v0 v1 v2 after → a .number ≤ 19
+  pub read : AnswersWith (readCall text w0 w1 w2 out) a w0 w1 w2 out v0 v1 v2 after → a .number ≤ 24
+  pub evaluated : (r o : ℕ) → AnswersWith (evaluateCall text r o w0 w1 w2 out) a w0 w1 w2 out v0 v1 v2 after → a .number ≤ 24
+  pub reported : AnswersWith (reportCall text w0 w1 w2 out) a w0 w1 w2 out v0 v1 v2 after → a .number ≤ 24
   pub report-bytes : AnswersWith (reportCall text w0 w1 w2 out) a w0 w1 w2 out v0 v1 v2 after
       → (b c : Bytes) → take (a .length) after ≢ b ++ (bytes "!100" ++ c)
 

@@ -85,7 +85,7 @@ fn read_text(text: &[u8], w0: &mut [u64], w1: &mut [u64]) -> SheetRead
     read(text, w0, w1)
 }
 
-// The sheet that lies in the words, once all its rules are typed, or the first refusal.
+// The sheet that lies in the words, once all its definitions and rules are typed, or the first refusal.
 fn accept_sheet(w0: &[u64], st: Counts, w1: &mut [u64], w2: &mut [u64]) -> SheetRead
     requires { ⌜ (8192 ≤ length (now w0)) × (8192 ≤ length (now w1)) × (8192 ≤ length (now w2)) ⌝ }
     requires { ⌜ Known st (now w0) (now w1) ⌝ }
@@ -97,7 +97,7 @@ fn accept_sheet(w0: &[u64], st: Counts, w1: &mut [u64], w2: &mut [u64]) -> Sheet
     }
 }
 
-// Opens a text for a call: it is read, and all its rules are typed. Every call begins so, and refuses alike.
+// Opens a text for a call: it is read, and all its definitions and rules are typed. Every call begins so, and refuses alike.
 fn open_text(text: &[u8], w0: &mut [u64], w1: &mut [u64], w2: &mut [u64]) -> SheetRead
     requires { ⌜ (8192 ≤ length (now w0)) × (8192 ≤ length (now w1)) × (8192 ≤ length (now w2)) ⌝ }
     ensures { λ r. ⌜ OpensText (now (text .entry)) r (now (w0 .entry)) (now (w1 .entry)) (now (w2 .entry)) (now (w0 .exit)) (now (w1 .exit)) (now (w2 .exit)) ⌝ }

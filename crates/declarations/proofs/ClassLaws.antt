@@ -13,7 +13,8 @@ use Rattle.laws.proofs.Lists.{length-more}
 use Rattle.sheet.specs.Text.{Bytes, bytes, fieldsOf}
 use Rattle.sheet.specs.Lines.{classLine, is, next, done, aNumber, aParent, lineOf}
 use Rattle.sheet.specs.Sheet.{Sheet, added}
-use Rattle.sheet.specs.Refusals.{isClass, parentWithin, withinLimits, blockOf, numbered, inOrder, partsKnown, suits, treeHolds}
+use Rattle.sheet.specs.Limits.{isClass, parentWithin, withinLimits}
+use Rattle.sheet.specs.Refusals.{blockOf, numbered, inOrder, partsKnown, callsSmaller, callsKnown, suits, treeHolds}
 use Rattle.types.specs.Flat.{parentOf}
 use Rattle.text.specs.Numbers.{cutNum}
 use Rattle.text.specs.declared.parts.Fields.{Fields}
@@ -24,7 +25,7 @@ use Rattle.tables.specs.declared.Counts.{Counts}
 use Rattle.tables.specs.declared.Step.the-variants.{Next, Stop}
 use Rattle.tables.specs.Layout.{parentCode, Holds, Fine}
 use Rattle.tables.proofs.Tables.{kept-set}
-use Rattle.tables.proofs.Entries.{tab-more-of, holds-kept, spare-parent, open-kept}
+use Rattle.tables.proofs.Entries.{definitions-same, tab-more-of, holds-kept, spare-parent, open-kept}
 use Rattle.tables.proofs.Steps.{over-limits, steps-on}
 use Rattle.tables.proofs.LineFields.{word-is, takes-none, takes-more, field-bad, field-some, fields-done, the, num-some, num-exact}
 use Rattle.declarations.specs.Fields.{parentNum}
@@ -97,9 +98,11 @@ classCounts st n = record {
   slots = st .slots;
   cells = st .cells;
   nodes = st .nodes;
+  definitions = st .definitions;
   rules = st .rules;
   «open» = st .open;
   context = st .context;
+  result = st .result;
   first = st .first;
 }
 
@@ -118,6 +121,7 @@ class-held st k n p w0 w1 s b e room at h =
         slots = h .counted .slots;
         cells = h .counted .cells;
         nodes = h .counted .nodes;
+        definitions = h .counted .definitions;
         rules = h .counted .rules;
       };
       tables = record {
@@ -132,8 +136,9 @@ class-held st k n p w0 w1 s b e room at h =
         fits = h .tables .fits;
         contexts = h .tables .contexts;
       };
+      definitions = definitions-same refl refl (h .definitions);
       rules = record { bodies = h .rules .bodies; roots = h .rules .roots; lines = h .rules .lines };
-      current = open-kept refl refl refl (h .current);
+      current = open-kept refl refl refl refl (h .current);
     }
 
 module _ (st : Counts) (k : ℕ) (w0 w1 : List ℕ) (n q : ℕ) (low : n < 64) (high : q ≤ 64) where
@@ -165,10 +170,10 @@ module _ (st : Counts) (k : ℕ) (w0 w1 : List ℕ) (n q : ℕ) (low : n < 64) (
       class-unknown u = unknown st k w0 w1 (classLine n (parentOf q)) within in-block its-number (λ s h. code-not-smaller n q u)
 
       pub class-put : Fine st → 8192 ≤ length w0 → q ≤ n → TookSpelled st k (classLine n (parentOf q)) (Next (classCounts st n)) w0 w1 (set w0 n q) w1
-      unfolding partsKnown suits treeHolds
+      unfolding partsKnown callsSmaller callsKnown suits treeHolds
       class-put fine room smaller =
           passed st k w0 w1 _ (classCounts st n) _ (kept-set w0 n q (omega arith)) (search needs) (λ s h. (
-            steps-on s k (classLine n (parentOf q)) (within s) (in-order s h) (code-smaller n q smaller) refl refl,
+            steps-on s k (classLine n (parentOf q)) refl refl (within s) (in-order s h) (code-smaller n q smaller) refl refl,
             class-held st k n (parentOf q) (set w0 n q) w1 s in-block is-next (rw length-set (omega arith))
                 (getD-set-same w0 n q 0 (omega arith) ∙ sym (code-of q))
                 (holds-kept q (rw is-next (spare-parent fine (h .counted) (omega arith))) h),

@@ -9,7 +9,8 @@ use lib.Dec.{eqb, ltb}
 use lib.ListN.{length, getD, drop, drop-of-length-le}
 use Rattle.laws.proofs.Parts.{at-next}
 use Rattle.ocl.specs.Model.{Row}
-use Rattle.sheet.specs.Refusals.{isClass, simpleClassBelow, classBelow, declares}
+use Rattle.sheet.specs.Limits.{isClass, simpleClassBelow, classBelow}
+use Rattle.sheet.specs.Refusals.{declares}
 use Rattle.types.specs.declared.Base.{Base}
 use Rattle.types.specs.declared.Base.the-variants as b
 use Rattle.types.specs.declared.FlatType.{FlatType}

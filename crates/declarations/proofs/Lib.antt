@@ -7,3 +7,5 @@ pub mod ClassLaws
 pub mod KnownLaws
 pub mod RowFields
 pub mod RowLaws
+pub mod DefinitionFields
+pub mod DefinitionLaws

@@ -12,12 +12,13 @@ use lib.Seq.{getD-set-same}
 use Rattle.laws.proofs.Lists.{length-more}
 use Rattle.sheet.specs.Lines.{objectLine}
 use Rattle.sheet.specs.Sheet.{Sheet, added}
-use Rattle.sheet.specs.Refusals.{isClass, withinLimits, blockOf, numbered, inOrder, partsKnown, suits, treeHolds}
+use Rattle.sheet.specs.Limits.{isClass, withinLimits}
+use Rattle.sheet.specs.Refusals.{blockOf, numbered, inOrder, partsKnown, callsSmaller, callsKnown, suits, treeHolds}
 use Rattle.tables.specs.declared.Counts.{Counts}
 use Rattle.tables.specs.declared.Step.the-variants.{Next, Stop}
 use Rattle.tables.specs.Layout.{Holds, Fine}
 use Rattle.tables.proofs.Tables.{kept-set}
-use Rattle.tables.proofs.Entries.{tab-next, holds-kept, spare-object, open-kept}
+use Rattle.tables.proofs.Entries.{definitions-same, tab-next, holds-kept, spare-object, open-kept}
 use Rattle.tables.proofs.Steps.{steps-on}
 use Rattle.declarations.specs.Taken.{TookSpelled}
 use Rattle.declarations.proofs.TakenLaws.{passed, past-block, order-by-number, misnumbered, unknown}
@@ -32,9 +33,11 @@ objectCounts st n = record {
   slots = st .slots;
   cells = st .cells;
   nodes = st .nodes;
+  definitions = st .definitions;
   rules = st .rules;
   «open» = st .open;
   context = st .context;
+  result = st .result;
   first = st .first;
 }
 
@@ -54,6 +57,7 @@ object-held st k n c w0 w1 s e room at h =
         slots = h .counted .slots;
         cells = h .counted .cells;
         nodes = h .counted .nodes;
+        definitions = h .counted .definitions;
         rules = h .counted .rules;
       };
       tables = record {
@@ -68,8 +72,9 @@ object-held st k n c w0 w1 s e room at h =
         fits = h .tables .fits;
         contexts = h .tables .contexts;
       };
+      definitions = definitions-same refl refl (h .definitions);
       rules = record { bodies = h .rules .bodies; roots = h .rules .roots; lines = h .rules .lines };
-      current = open-kept refl refl refl (h .current);
+      current = open-kept refl refl refl refl (h .current);
     }
 
 pub object-limits : (s : Sheet) (n c : ℕ) → withinLimits s (objectLine n c) ≡ (ltb n 96 && isClass c)
@@ -105,10 +110,10 @@ module _ (st : Counts) (k : ℕ) (w0 w1 : List ℕ) (n c : ℕ) (low : n < 96) (
           unknown st k w0 w1 (objectLine n c) within in-block its-number (λ s h. le-ltb c (length (s .parents)) (omega (arith, h .counted .classes)))
 
       pub object-put : Fine st → 8192 ≤ length w0 → c < st .classes → TookSpelled st k (objectLine n c) (Next (objectCounts st n)) w0 w1 (set w0 (256 + n) c) w1
-      unfolding partsKnown suits treeHolds
+      unfolding partsKnown callsSmaller callsKnown suits treeHolds
       object-put fine room known =
           passed st k w0 w1 _ (objectCounts st n) _ (kept-set w0 (256 + n) c (omega arith)) (search needs) (λ s h. (
-            steps-on s k (objectLine n c) (within s) (in-order s h) (lt-ltb c (length (s .parents)) (omega (arith, h .counted .classes))) refl refl,
+            steps-on s k (objectLine n c) refl refl (within s) (in-order s h) (lt-ltb c (length (s .parents)) (omega (arith, h .counted .classes))) refl refl,
             object-held st k n c (set w0 (256 + n) c) w1 s is-next (rw length-set (omega arith)) (getD-set-same w0 (256 + n) c 0 (omega arith))
                 (holds-kept c (rw is-next (spare-object fine (h .counted) (omega arith))) h),
           ))

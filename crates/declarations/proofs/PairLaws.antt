@@ -12,7 +12,7 @@ use Rattle.laws.specs.Choice.{if_then_else_, onSome, mapSome}
 use Rattle.sheet.specs.Text.{Bytes, bytes, fieldsOf}
 use Rattle.sheet.specs.Lines.{Line, objectLine, ruleLine, is, next, done, aNumber, lineOf}
 use Rattle.sheet.specs.Sheet.{Sheet}
-use Rattle.sheet.specs.Refusals.{isClass, withinLimits}
+use Rattle.sheet.specs.Limits.{isClass, withinLimits}
 use Rattle.text.specs.Numbers.{cutNum}
 use Rattle.text.specs.Parts.{Cut}
 use Rattle.text.specs.declared.parts.Fields.{Fields}

@@ -9,7 +9,8 @@ use lib.Dec.{eqb}
 use Rattle.laws.specs.Choice.{mapSome}
 use Rattle.sheet.specs.Text.{Bytes, bytes}
 use Rattle.sheet.specs.Lines.{is, aNumber, aParent}
-use Rattle.sheet.specs.Refusals.{isClass, parentWithin, parentSmaller}
+use Rattle.sheet.specs.Limits.{isClass, parentWithin}
+use Rattle.sheet.specs.Refusals.{parentSmaller}
 use Rattle.types.specs.Flat.{parentOf}
 use Rattle.text.specs.Numbers.{cutNum}
 use Rattle.text.specs.Words.{onlyByte}

@@ -15,13 +15,14 @@ use Rattle.ocl.specs.Types.{Ty}
 use Rattle.ocl.specs.Model.{Row}
 use Rattle.sheet.specs.Lines.{rowLine}
 use Rattle.sheet.specs.Sheet.{Sheet, added}
-use Rattle.sheet.specs.Refusals.{isClass, classBelow, typeWithin, declares, withinLimits, blockOf, numbered, inOrder, partsKnown, suits, treeHolds}
+use Rattle.sheet.specs.Limits.{isClass, classBelow, typeWithin, withinLimits}
+use Rattle.sheet.specs.Refusals.{declares, blockOf, numbered, inOrder, partsKnown, callsSmaller, callsKnown, suits, treeHolds}
 use Rattle.types.specs.Word.{typeIn}
 use Rattle.tables.specs.declared.Counts.{Counts}
 use Rattle.tables.specs.declared.Step.the-variants.{Next, Stop}
 use Rattle.tables.specs.Layout.{tab, Holds, Fine, Kept}
 use Rattle.tables.proofs.Tables.{kept-set, kept-then}
-use Rattle.tables.proofs.Entries.{tab-more-of, tab-more-by, holds-kept, spare-owner, spare-name, spare-type, open-kept}
+use Rattle.tables.proofs.Entries.{definitions-same, tab-more-of, tab-more-by, holds-kept, spare-owner, spare-name, spare-type, open-kept}
 use Rattle.tables.proofs.Steps.{over-limits, steps-on}
 use Rattle.declarations.specs.Fields.{namedIn}
 use Rattle.declarations.specs.Taken.{TookSpelled}
@@ -74,9 +75,11 @@ rowCounts st n = record {
   slots = st .slots;
   cells = st .cells;
   nodes = st .nodes;
+  definitions = st .definitions;
   rules = st .rules;
   «open» = st .open;
   context = st .context;
+  result = st .result;
   first = st .first;
 }
 
@@ -97,6 +100,7 @@ row-held st k n c name t w0 w1 s e room at1 at2 at3 h =
         slots = h .counted .slots;
         cells = h .counted .cells;
         nodes = h .counted .nodes;
+        definitions = h .counted .definitions;
         rules = h .counted .rules;
       };
       tables = record {
@@ -111,8 +115,9 @@ row-held st k n c name t w0 w1 s e room at1 at2 at3 h =
         fits = h .tables .fits;
         contexts = h .tables .contexts;
       };
+      definitions = definitions-same refl refl (h .definitions);
       rules = record { bodies = h .rules .bodies; roots = h .rules .roots; lines = h .rules .lines };
-      current = open-kept refl refl refl (h .current);
+      current = open-kept refl refl refl refl (h .current);
     }
 
 -- the three words written
@@ -192,11 +197,11 @@ module _ (st : Counts) (k : ℕ) (w0 w1 : List ℕ) (n c name : ℕ) (t : Ty) (l
 
           pub row-put : (p : ℕ) → b ≡ true → typeIn p ≡ t → Fine st → 8192 ≤ length w0
               → TookSpelled st k (rowLine n c name t) (Next (rowCounts st n)) w0 w1 (rowWords w0 n c name p) w1
-          unfolding partsKnown suits treeHolds
+          unfolding partsKnown callsSmaller callsKnown suits treeHolds
           row-put p y packed fine room =
               let small : n < 64 = are-low n c name low .number in
               passed st k w0 w1 _ (rowCounts st n) _ (words-kept w0 n c name p small room) (search needs) (λ s h. (
-                steps-on s k (rowLine n c name t) (within s) (in-order s h)
+                steps-on s k (rowLine n c name t) refl refl (within s) (in-order s h)
                     (rw (lt-ltb c (length (s .parents)) (omega (arith, h .counted .classes)), ← h .counted .classes, ← told, y)) refl refl,
                 row-held st k n c name t (rowWords w0 n c name p) w1 s is-next
                     (rw (words-long w0 n c name p small room) (omega arith))

@@ -1,6 +1,7 @@
 -- The rule of a line that is spelled well and within its limits: each answer of `open_rule` is one of these. Assumes nothing.
 use mathlib.Core.Path.{_≡_, refl, sym, _∙_}
 use mathlib.Core.Bool.{true, _&&_}
+use mathlib.Core.Option.{none, Option·none-ne-some}
 use mathlib.Core.List.{List, []}
 use Prim.Native.Nat.{ℕ, _≤_, _<_}
 use native.Mathlib.Omega.{arith}
@@ -11,12 +12,13 @@ use lib.ListN.{length}
 use Rattle.laws.specs.Lists.{each-nil}
 use Rattle.sheet.specs.Lines.{ruleLine}
 use Rattle.sheet.specs.Sheet.{Sheet, added}
-use Rattle.sheet.specs.Refusals.{isClass, withinLimits, blockOf, numbered, inOrder, partsKnown, suits, treeHolds}
+use Rattle.sheet.specs.Limits.{isClass, withinLimits}
+use Rattle.sheet.specs.Refusals.{blockOf, numbered, inOrder, partsKnown, callsSmaller, callsKnown, suits, treeHolds}
 use Rattle.tables.specs.declared.Counts.{Counts}
 use Rattle.tables.specs.declared.Step.the-variants.{Next, Stop}
-use Rattle.tables.specs.Layout.{HoldsCurrent, opened, Holds, Fine}
+use Rattle.tables.specs.Layout.{openCode, HoldsCurrent, opened, Holds, Fine}
 use Rattle.tables.proofs.Tables.{kept-refl}
-use Rattle.tables.proofs.Entries.{tables-same}
+use Rattle.tables.proofs.Entries.{definitions-same, tables-same}
 use Rattle.tables.proofs.Steps.{steps-on}
 use Rattle.declarations.specs.Taken.{TookSpelled}
 use Rattle.declarations.proofs.TakenLaws.{passed, past-block, order-by-number, misnumbered, unknown}
@@ -24,16 +26,18 @@ use Rattle.declarations.proofs.TakenLaws.{passed, past-block, order-by-
 -- the counts with a rule of context c open
 abbrev pub ruleCounts : Counts → ℕ → Counts
 ruleCounts st c = record {
-  block = 4;
+  block = 5;
   classes = st .classes;
   rows = st .rows;
   objects = st .objects;
   slots = st .slots;
   cells = st .cells;
   nodes = st .nodes;
+  definitions = st .definitions;
   rules = st .rules;
   «open» = 1;
   context = c;
+  result = st .result;
   first = st .nodes;
 }
 
@@ -42,10 +46,12 @@ unfolding withinLimits
 rule-limits s n c = refl
 
 -- a rule that has no node yet
-rule-open : (st : Counts) (c : ℕ) (w1 : List ℕ) (m : ℕ) → st .nodes ≡ m → HoldsCurrent (ruleCounts st c) w1 m (record { context = c; first = m; trees = []; used = [] })
+rule-open : (st : Counts) (c : ℕ) (w1 : List ℕ) (m : ℕ) → st .nodes ≡ m → HoldsCurrent (ruleCounts st c) w1 m (record { context = c; result = none; first = m; trees = []; used = [] })
+unfolding openCode
 rule-open st c w1 m e = record {
   is-open = refl;
   context = refl;
+  result = λ t q. absurd (Option·none-ne-some t q);
   first = e;
   count = omega arith;
   trees = λ a l. absurd (omega arith);
@@ -64,9 +70,11 @@ rule-held st k n c w0 w1 s h = record {
     slots = h .counted .slots;
     cells = h .counted .cells;
     nodes = h .counted .nodes;
+    definitions = h .counted .definitions;
     rules = h .counted .rules;
   };
   tables = tables-same refl refl refl refl refl (h .tables);
+  definitions = definitions-same refl refl (h .definitions);
   rules = record { bodies = h .rules .bodies; roots = h .rules .roots; lines = h .rules .lines };
   current = opened (rule-open st c w1 (length (s .lines)) (h .counted .nodes));
 }
@@ -76,11 +84,11 @@ module _ (st : Counts) (k : ℕ) (w0 w1 : List ℕ) (n c : ℕ) (low : n < 64) (
   unfolding isClass
   within s = rule-limits s n c ∙ rw (lt-ltb n 64 low, lt-ltb c 64 class)
 
-  pub rule-block : 4 < st .block → TookSpelled st k (ruleLine n c) (Stop 5) w0 w1 w0 w1
+  pub rule-block : 5 < st .block → TookSpelled st k (ruleLine n c) (Stop 5) w0 w1 w0 w1
   unfolding blockOf
   rule-block = past-block st k w0 w1 (ruleLine n c) within
 
-  module _ (in-block : st .block ≤ 4) where
+  module _ (in-block : st .block ≤ 5) where
     pub rule-gap : (n ≡ st .rules → ⊥) → TookSpelled st k (ruleLine n c) (Stop 5) w0 w1 w0 w1
     unfolding blockOf numbered
     rule-gap o = misnumbered st k w0 w1 (ruleLine n c) within in-block (λ s h. ne-eqb n (length (s .rules)) (λ e. o (e ∙ sym (h .counted .rules))))
@@ -100,9 +108,9 @@ module _ (st : Counts) (k : ℕ) (w0 w1 : List ℕ) (n c : ℕ) (low : n < 64) (
           unknown st k w0 w1 (ruleLine n c) within in-block its-number (λ s h. le-ltb c (length (s .parents)) (omega (arith, h .counted .classes)))
 
       pub rule-put : Fine st → c < st .classes → TookSpelled st k (ruleLine n c) (Next (ruleCounts st c)) w0 w1 w0 w1
-      unfolding partsKnown suits treeHolds
+      unfolding partsKnown callsSmaller callsKnown suits treeHolds
       rule-put fine known =
           passed st k w0 w1 _ (ruleCounts st c) _ (kept-refl w0) (search needs) (λ s h. (
-            steps-on s k (ruleLine n c) (within s) (in-order s h) (lt-ltb c (length (s .parents)) (omega (arith, h .counted .classes))) refl refl,
+            steps-on s k (ruleLine n c) refl refl (within s) (in-order s h) (lt-ltb c (length (s .parents)) (omega (arith, h .counted .classes))) refl refl,
             rule-held st k n c w0 w1 s h,
           ))

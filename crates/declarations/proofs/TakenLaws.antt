@@ -9,7 +9,8 @@ use borrow.Author.Tests.{le-leb, lt-leb}
 use Rattle.sheet.specs.Text.{Bytes, fieldsOf}
 use Rattle.sheet.specs.Lines.{Line, lineOf}
 use Rattle.sheet.specs.Sheet.{Sheet, added}
-use Rattle.sheet.specs.Refusals.{withinLimits, blockOf, numbered, inOrder, partsKnown}
+use Rattle.sheet.specs.Limits.{withinLimits}
+use Rattle.sheet.specs.Refusals.{blockOf, numbered, inOrder, partsKnown}
 use Rattle.sheet.specs.Reading.{taken, refuse, stepLine}
 use Rattle.tables.specs.declared.Counts.{Counts}
 use Rattle.tables.specs.declared.Step.{Step}

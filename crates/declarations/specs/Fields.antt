@@ -7,7 +7,7 @@ use lib.Dec.{eqb, ltb}
 use Rattle.laws.specs.Choice.{if_then_else_}
 use Rattle.sheet.specs.Text.{Bytes}
 use Rattle.sheet.specs.Lines.{next, done, aNumber}
-use Rattle.sheet.specs.Refusals.{isClass}
+use Rattle.sheet.specs.Limits.{isClass}
 use Rattle.text.specs.declared.numbers.Num.{Num}
 use Rattle.text.specs.declared.numbers.Num.the-variants as num
 use Rattle.declarations.specs.declared.pairs.Pair.{Pair}

@@ -6,7 +6,7 @@ ghost use Prim.Native.Nat.{ℕ, _+_, _≤_, _<_};
 ghost use lib.Dec.{ltb};
 ghost use lib.ListN.{length};
 ghost use Rattle.sheet.specs.Lines.{rowLine};
-ghost use Rattle.sheet.specs.Refusals.{isClass, classBelow, typeWithin};
+ghost use Rattle.sheet.specs.Limits.{isClass, classBelow, typeWithin};
 ghost use Rattle.types.specs.Flat.{tyOf};
 ghost use Rattle.tables.specs.Layout.{tab, Fine, Took};
 ghost use Rattle.declarations.specs.Fields.{namedIn};

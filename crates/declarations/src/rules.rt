@@ -26,7 +26,7 @@ fn open_rule(st: Counts, n: u64, c: u64) -> Step
     requires { ⌜ Fine st × (n < 64) × (c < 64) ⌝ }
     ensures { λ r. ⌜ ((w0 w1 : List ℕ) (k : ℕ) → TookSpelled st k (ruleLine n c) r w0 w1 w0 w1) ⌝ }
 {
-    if 4 < st.block {
+    if 5 < st.block {
         return Step::Stop(5);
     }
     if n != st.rules {
@@ -36,7 +36,7 @@ fn open_rule(st: Counts, n: u64, c: u64) -> Step
         return Step::Stop(6);
     }
     let mut next = st;
-    next.block = 4;
+    next.block = 5;
     next.open = 1;
     next.context = c;
     next.first = st.nodes;

@@ -13,7 +13,8 @@ use Rattle.laws.proofs.Slices.{under-top, slice-join}
 use Rattle.ocl.specs.Types.{Kind, set, sequence, bag, kindCode}
 use Rattle.ocl.specs.Values.{Value, coll, Values, nil, cons, append, add, addAll}
 use Rattle.ocl.specs.Environment.{Env}
-use Rattle.ocl.specs.Evaluation.{Outcome, bind, form, leafRun, noOperandRun, operandRun, assembleRun, operandsRun}
+use Rattle.ocl.specs.Operations.{Outcome, form}
+use Rattle.ocl.specs.Evaluation.{bind, leafRun, noOperandRun, operandRun, assembleRun, operandsRun}
 use Rattle.values.specs.Cells.{enc, encs, Fits, AllFit, fit-nil, fit-cons}
 use Rattle.values.specs.Contracts.{Assembles}
 use Rattle.values.specs.declared.Formed.{Formed}

@@ -5,9 +5,9 @@ use mathlib.Core.Logic.{⊎-elim}
 use mathlib.Core.Bool.{Bool, true, false}
 use mathlib.Core.Option.{Option, none, some}
 use mathlib.Core.List.{List, [], _∷_}
-use Prim.Native.Nat.{ℕ, _+_, _<_, _≤_}
+use Prim.Native.Nat.{ℕ, zero, suc, _+_, _<_, _≤_}
 use native.Mathlib.Omega.{arith}
-use lib.ListN.{length, getD, set, length-set}
+use lib.ListN.{length, getD, set, replicate, length-set}
 use lib.Seq.{getD-set-same, getD-set-other}
 use lib.Dec.{eqb}
 use borrow.Author.Tests.{eqb-true, eqb-false, lt-ltb, le-ltb}
@@ -16,7 +16,8 @@ use denote.Enum.Declared.{tagOf}
 use Rattle.laws.specs.Choice.{if_then_else_}
 use Rattle.ocl.specs.Values.{Value}
 use Rattle.ocl.specs.Environment.{Env, extend}
-use Rattle.ocl.specs.Evaluation.{Outcome, value, undefined, stuck, stop, resume, bind, tick}
+use Rattle.ocl.specs.Operations.{Outcome, value, undefined, stuck, stop}
+use Rattle.ocl.specs.Evaluation.{resume, bind, tick}
 use Rattle.operations.proofs.Ended.{the-type}
 use Rattle.operations.specs.declared.Ended.{Ended}
 use Rattle.operations.specs.declared.Ended.the-variants as ended
@@ -47,6 +48,15 @@ rel-bind {env} {S} {sp} {ρ} {i} {at} v n h r = record {
   slots = length-set env i at ∙ r .slots;
   at = λ j. bound-slot env S sp ρ i at v (rw (r .slots) n) h r j (eqb j i) refl;
 }
+
+zero-at : (k j : ℕ) → _≡_ {A = ℕ} (getD {A = ℕ} (replicate {A = ℕ} k 0) j 0) 0
+zero-at zero j = refl
+zero-at (suc k) zero = refl
+zero-at (suc k) (suc j) = zero-at k j
+
+-- where nothing is bound
+pub nothing-bound : (S : List ℕ) (sp : ℕ) → Rel (replicate 16 0) S sp (λ j. none)
+nothing-bound S sp = record { slots = refl; at = λ j. free (zero-at 16 j) }
 
 -- ---- outcomes
 

@@ -11,7 +11,8 @@ use Rattle.laws.specs.Choice.{if_then_else_}
 use Rattle.ocl.specs.Values.{Value, bool}
 use Rattle.ocl.specs.Environment.{Env}
 use Rattle.ocl.specs.Forms.{Connective, and, or}
-use Rattle.ocl.specs.Evaluation.{Outcome, value, undefined, stuck, bind, onBool, decides, connectiveRun}
+use Rattle.ocl.specs.Operations.{Outcome, value, undefined, stuck, onBool}
+use Rattle.ocl.specs.Evaluation.{bind, decides, connectiveRun}
 use Rattle.values.specs.Cells.{bit}
 use Rattle.nodes.specs.Nodes.{connectiveOf}
 use Rattle.operations.specs.declared.Ended.{Ended}

@@ -7,7 +7,8 @@ use lib.ListN.{length, take, drop, set}
 use lib.Seq.{slice}
 use Rattle.ocl.specs.Values.{Value, Values, cons}
 use Rattle.ocl.specs.Environment.{Env, extend}
-use Rattle.ocl.specs.Evaluation.{Outcome, bind, fold}
+use Rattle.ocl.specs.Operations.{Outcome}
+use Rattle.ocl.specs.Evaluation.{bind, fold}
 use Rattle.values.specs.Cells.{encs, AllFit}
 use Rattle.values.specs.Contracts.{Skips}
 use Rattle.values.proofs.Members.{Left, none-left}

@@ -12,7 +12,8 @@ use Rattle.laws.specs.Choice.{if_then_else_}
 use Rattle.laws.proofs.Slices.{under-top}
 use Rattle.ocl.specs.Values.{Value, Values}
 use Rattle.ocl.specs.Environment.{Env, extend}
-use Rattle.ocl.specs.Evaluation.{Outcome, value, stuck, bind, onBool, onColl, leftFits, binaryApply, binaryRun, conditionalRun, letRun, seek, quantifiedRun, fold, iterateRun}
+use Rattle.ocl.specs.Operations.{Outcome, value, stuck, onBool, onColl, leftFits, binaryApply}
+use Rattle.ocl.specs.Evaluation.{bind, binaryRun, conditionalRun, letRun, seek, quantifiedRun, fold, iterateRun}
 use Rattle.values.specs.Cells.{encs}
 use Rattle.values.specs.Contracts.{SortOf}
 use Rattle.values.proofs.Adding.{header}

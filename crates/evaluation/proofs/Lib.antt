@@ -1,6 +1,7 @@
 pub mod Composition
 pub mod ConnectiveLaws
 pub mod FormLaws
+pub mod CallLaws
 pub mod LoopLaws
 pub mod FoldLaws
 pub mod AssembleLaws

@@ -14,7 +14,8 @@ use Rattle.laws.proofs.Slices.{under-top, split-left, split-size}
 use Rattle.ocl.specs.Values.{Value, bool, Values, nil, cons, size}
 use Rattle.ocl.specs.Environment.{Env, extend}
 use Rattle.ocl.specs.Forms.{Quantifier, forAll, exists}
-use Rattle.ocl.specs.Evaluation.{Outcome, value, onBool, endsAt, seek}
+use Rattle.ocl.specs.Operations.{Outcome, value, onBool}
+use Rattle.ocl.specs.Evaluation.{endsAt, seek}
 use Rattle.values.specs.Cells.{bit, enc, encs, fits-bool, AllFit, fit-cons}
 use Rattle.values.specs.Contracts.{means-bool, Skips}
 use Rattle.values.specs.declared.Simple.the-variants as simple

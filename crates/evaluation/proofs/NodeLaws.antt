@@ -3,16 +3,17 @@ use mathlib.Core.Path.{_≡_, refl, ap, _∙_}
 use mathlib.Core.Bool.{Bool, true, false}
 use mathlib.Core.Option.{none}
 use mathlib.Core.List.{List}
-use Prim.Native.Nat.{ℕ, zero, suc, _+_, _<_, _≤_}
+use Prim.Native.Nat.{ℕ, _+_, _<_, _≤_}
 use native.Mathlib.Omega.{arith}
-use lib.ListN.{length, getD, set, replicate}
+use lib.ListN.{length, set, replicate}
 use lib.Dec.{eqb, ltb}
 use borrow.Author.Tests.{ltb-true, ltb-false, lt-ltb, le-ltb, ne-eqb}
 use Rattle.laws.specs.Choice.{if_then_else_}
 use Rattle.ocl.specs.Values.{Value, obj, size}
 use Rattle.ocl.specs.Environment.{Env, extend, start}
 use Rattle.ocl.specs.Forms.{Expr, node, undef, levels}
-use Rattle.ocl.specs.Evaluation.{Outcome, value, undefined, stuck, stop, resume, bind, tick, leafRun, unaryApply, unaryRun, isUndefRun, access, attributeRun, evaluation, formRun, evaluateRule}
+use Rattle.ocl.specs.Operations.{Outcome, value, undefined, stuck, stop, unaryApply, access}
+use Rattle.ocl.specs.Evaluation.{resume, bind, tick, leafRun, unaryRun, isUndefRun, attributeRun, evaluation, formRun, evaluateRule}
 use Rattle.ocl.proofs.Steps.{run-limited}
 use Rattle.values.specs.Cells.{fits-obj}
 use Rattle.values.specs.Contracts.{means-obj, Pushes}
@@ -20,17 +21,17 @@ use Rattle.values.specs.declared.Simple.the-variants as simple
 use Rattle.nodes.specs.Nodes.{word, leafOf, unaryOf, accessOf, treeAt}
 use Rattle.nodes.proofs.Nodes.{below-law}
 use Rattle.nodes.proofs.Levels.{unary-levels, assemble-levels, isUndef-levels, attribute-levels}
-use Rattle.nodes.proofs.Evaluation.{operandRun, leaf-run, unary-run, binary-run, connective-run, quantified-run, assemble-run, over-run, isUndef-run, conditional-run, let-run, attribute-run, iterate-run, none-run, operand-run, late-run}
+use Rattle.nodes.proofs.Evaluation.{operandRun, leaf-run, unary-run, binary-run, connective-run, quantified-run, assemble-run, over-run, isUndef-run, conditional-run, let-run, attribute-run, iterate-run, call-run, none-run, operand-run, late-run}
 use Rattle.tables.specs.declared.Counts.{Counts}
 use Rattle.operations.specs.declared.Ended.{Ended}
 use Rattle.operations.specs.declared.Ended.the-variants as ended
 use Rattle.operations.specs.Answers.{answerIn, Packs}
 use Rattle.operations.specs.Operand.{ofValue, ofUndefined}
-use Rattle.operations.specs.Runs.{World, ModelIn, free, held, Rel, Meaning, Evals, leafFor}
-use Rattle.evaluation.specs.Evaluating.{ReadsWorld, Rules, nodeFor, operandFor, unaryNode, binaryNode, connectiveNode, conditionalNode, letNode, quantifiedNode, iterateNode, membersRun, assembleNode, operandTree, Shallow}
+use Rattle.operations.specs.Runs.{World, ModelIn, held, Meaning, Evals, leafFor}
+use Rattle.evaluation.specs.Evaluating.{ReadsWorld, Rules, nodeFor, operandFor, unaryNode, binaryNode, connectiveNode, conditionalNode, letNode, callNode, quantifiedNode, iterateNode, membersRun, assembleNode, operandTree, Shallow}
 use Rattle.operations.proofs.Words.{under-refl, gives}
 use Rattle.operations.proofs.Packing.{ends-packed}
-use Rattle.evaluation.proofs.Composition.{rel-bind, valued, tick-on, tick-stop, ran-undefined-at}
+use Rattle.evaluation.proofs.Composition.{rel-bind, nothing-bound, valued, tick-on, tick-stop, ran-undefined-at}
 
 -- ---- the form
 
@@ -127,7 +128,11 @@ module _ {Ok : World → Type 0} (t : List ℕ) (n k : ℕ) {env B A : List ℕ}
   unfolding nodeFor iterateNode operandFor operandRun
   node-iterate a x = tick-on (iterateNode t n) (λ w. iterate-run (w .model) (w .mark) t n k e a) h x
 
-pub node-none : {Ok : World → Type 0} (t : List ℕ) (n k : ℕ) {env B : List ℕ} {sp s : ℕ} → k ≡ word t n 0 → s < 1000000 → 35 < k → Evals Ok (nodeFor t n) env sp s B B (ended.Undef (s + 1))
+  pub node-call : k ≡ 36 → Evals Ok (callNode t n) env sp (s + 1) B A r → Evals Ok (nodeFor t n) env sp s B A r
+  unfolding nodeFor callNode operandFor operandRun
+  node-call a x = tick-on (callNode t n) (λ w. call-run (w .model) (w .mark) t n k e a) h x
+
+pub node-none : {Ok : World → Type 0} (t : List ℕ) (n k : ℕ) {env B : List ℕ} {sp s : ℕ} → k ≡ word t n 0 → s < 1000000 → 36 < k → Evals Ok (nodeFor t n) env sp s B B (ended.Undef (s + 1))
 unfolding nodeFor undefNode
 node-none t n k e h a = tick-on undefNode (λ w. none-run (w .model) (w .mark) t n k e a) h undef-done
 
@@ -177,14 +182,6 @@ node-packed t n {s = s} h x p = record {
 
 -- ---- a rule
 
-zero-at : (k j : ℕ) → _≡_ {A = ℕ} (getD {A = ℕ} (replicate {A = ℕ} k 0) j 0) 0
-zero-at zero j = refl
-zero-at (suc k) zero = refl
-zero-at (suc k) (suc j) = zero-at k j
-
-nothing-bound : (S : List ℕ) (sp : ℕ) → Rel (replicate 16 0) S sp (λ j. none)
-nothing-bound S sp = record { slots = refl; at = λ j. free (zero-at 16 j) }
-
 pub rule-done : {Ok : World → Type 0} (t : List ℕ) (n o : ℕ) (B : List ℕ) {S A : List ℕ} {r : Ended} → 0 < length B → o < 4294967296 → Pushes (simple.Object o) 0 B S
     → Evals Ok (nodeFor t n) (set (replicate 16 0) 0 1) 1 0 S A r → Rules Ok (treeAt t n) o A r
 unfolding nodeFor evaluateRule start size
@@ -206,8 +203,8 @@ shallow t n k left e a b h = record { members = λ c i m. let l = assemble-level
 
 -- ---- codes of no form
 
-pub over-35 : (k : ℕ) → 35 ≤ k → (k ≡ 35 → ⊥) → 35 < k
-over-35 k h a = omega arith
+pub over-36 : (k : ℕ) → 35 ≤ k → (k ≡ 35 → ⊥) → (k ≡ 36 → ⊥) → 36 < k
+over-36 k h a b = omega arith
 
 -- those of `attr` and `collect` come after that of `let`
 pub from-33 : (k : ℕ) → 30 ≤ k → (k ≡ 30 → ⊥) → (k ≡ 31 → ⊥) → (k ≡ 32 → ⊥) → 33 ≤ k

@@ -10,9 +10,10 @@ use Rattle.laws.specs.Choice.{if_then_else_}
 use Rattle.ocl.specs.Values.{Value, bool, Values}
 use Rattle.ocl.specs.Environment.{Env, extend}
 use Rattle.ocl.specs.Forms.{Expr, levels, Connective, Quantifier, undef}
-use Rattle.ocl.specs.Evaluation.{value, undefined, resume, bind, onBool, leafRun, binaryRun, decides, connectiveRun, conditionalRun, letRun, quantifiedRun, iterateRun, assembleRun, evaluation, evaluateRule, operandsRun, seek, fold}
+use Rattle.ocl.specs.Operations.{value, undefined, onBool}
+use Rattle.ocl.specs.Evaluation.{resume, bind, leafRun, binaryRun, decides, connectiveRun, conditionalRun, letRun, callRun, quantifiedRun, iterateRun, assembleRun, evaluation, evaluateRule, operandsRun, seek, fold}
 use Rattle.values.specs.Cells.{encs, AllFit}
-use Rattle.nodes.specs.Nodes.{word, variable, binaryOf, connectiveOf, quantifierOf, kindOf, operandsIn, treesBelow, treeAt}
+use Rattle.nodes.specs.Nodes.{word, variable, classIn, binaryOf, connectiveOf, quantifierOf, kindOf, operandsIn, treesBelow, treeAt}
 use Rattle.nodes.specs.Marks.{Marked}
 use Rattle.tables.specs.declared.Counts.{Counts}
 use Rattle.tables.specs.Layout.{Fine}
@@ -79,6 +80,9 @@ conditionalNode t n w = conditionalRun (operandFor t n 1 w) (operandFor t n 2 w)
 
 unfoldable pub letNode : List ℕ → ℕ → Meaning
 letNode t n w = letRun (variable (word t n 3)) (operandFor t n 1 w) (operandFor t n 2 w)
+
+unfoldable pub callNode : List ℕ → ℕ → Meaning
+callNode t n w = callRun (w .model) (classIn (word t n 3)) (operandFor t n 1 w) (operandFor t n 2 w)
 
 unfoldable pub quantifiedNode : List ℕ → ℕ → ℕ → Meaning
 quantifiedNode t n k w = quantifiedRun (quantifierOf k) (variable (word t n 3)) (operandFor t n 1 w) (operandFor t n 2 w)

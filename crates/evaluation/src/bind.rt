@@ -1,9 +1,10 @@
-// Forms that bind variables in a body: `let`, `forAll`, `exists`, `iter`.
+// Forms that bind variables in a body: `let`, `call`, `forAll`, `exists`, `iter`.
 use crate::walk::below;
 use nodes::node_word;
 use operations::Ended;
 use operations::answers::put;
 use operations::answers::truth;
+use operations::lookup::is_object;
 use tables::Counts;
 use types::classes::wide;
 use values::Simple;
@@ -17,7 +18,7 @@ ghost use lib.ListN.{length};
 ghost use Rattle.ocl.specs.Forms.{levels};
 ghost use Rattle.nodes.specs.Nodes.{word, variable, quantifierOf};
 ghost use Rattle.operations.specs.Runs.{Evals};
-ghost use Rattle.evaluation.specs.Evaluating.{ReadsWorld, StackRoom, operandTree, operandFor, letNode, quantifiedNode, iterateNode, Seeks, Folds};
+ghost use Rattle.evaluation.specs.Evaluating.{ReadsWorld, StackRoom, operandTree, operandFor, letNode, callNode, quantifiedNode, iterateNode, Seeks, Folds};
 
 // `let`: the body's value is moved down over the bound one.
 pub fn let_in(
@@ -49,6 +50,42 @@ pub fn let_in(
     };
     slide(stack, mid, sp, lb);
     Ended::Value { len: lb, steps: sb }
+}
+
+// `call`: an object of the definition's class or below is `self` in the body, where nothing else is bound.
+pub fn call(
+    tables: &[u64],
+    st: Counts,
+    nodes: &[u64],
+    n: usize,
+    env: [usize; 16],
+    stack: &mut [u64],
+    sp: usize,
+    left: usize,
+    steps: u64,
+) -> Ended
+    requires { ⌜ StackRoom st (length (now tables)) (length (now nodes)) (length (now stack)) n sp (left + 1) ⌝ }
+    requires { ⌜ (levels (operandTree (now nodes) n 1) ≤ left) × (levels (operandTree (now nodes) n 2) ≤ left) ⌝ }
+    ensures { λ r. ⌜ Evals (ReadsWorld st (now (tables .entry)) (now (nodes .entry))) (callNode (now (nodes .entry)) n) env sp steps (now (stack .entry)) (now (stack .exit)) r ⌝ }
+{
+    let first = below(tables, st, nodes, n, 1, env, stack, sp, left, steps);
+    let Ended::Value { len: la, steps: sa } = first else {
+        return first;
+    };
+    let c = node_word(nodes, n, 3) % 256;
+    if is_object(tables, st, c, stack[sp]) {
+        let top = sp + la;
+        let mut inner = [0usize; 16];
+        inner[0] = sp + 1;
+        let body = below(tables, st, nodes, n, 2, inner, stack, top, left, sa);
+        let Ended::Value { len: lb, steps: sb } = body else {
+            return body;
+        };
+        slide(stack, top, sp, lb);
+        Ended::Value { len: lb, steps: sb }
+    } else {
+        Ended::Stuck
+    }
 }
 
 // `forAll` and `exists`: the source, then its members.

@@ -2,6 +2,7 @@
 // recursion takes the tables and their counts; the nodes, with the marks of `attr` nodes behind them; a node; for each variable,
 // 1 + the index of its first cell, or 0 if it is unbound; the stack and its top sp; how many levels may still follow; and the steps
 // begun so far.
+use crate::bind::call;
 use crate::bind::iter;
 use crate::bind::let_in;
 use crate::bind::quantified;
@@ -110,6 +111,7 @@ fn node(
         31 => conditional(tables, st, nodes, n, env, stack, sp, deeper, s),
         32 => let_in(tables, st, nodes, n, env, stack, sp, deeper, s),
         35 => iter(tables, st, nodes, n, env, stack, sp, deeper, s),
+        36 => call(tables, st, nodes, n, env, stack, sp, deeper, s),
         _ => Ended::Undef { steps: s },
     }
 }

@@ -6,10 +6,11 @@ use borrow.Author.Tests.{ne-eqb}
 use Rattle.ocl.specs.Types.{Ty, Boolean}
 use Rattle.ocl.specs.Forms.{ofObject, ofMembers}
 use Rattle.ocl.specs.Model.{Schema}
-use Rattle.ocl.specs.Typing.{typed, unaryType, attributeType}
+use Rattle.ocl.specs.Typing.{typed, unaryType, attributeType, callType}
 use Rattle.types.specs.declared.FlatType.{FlatType}
 use Rattle.types.specs.Flat.{tyOf}
-use Rattle.nodes.specs.Nodes.{unaryOf}
+use Rattle.types.specs.Word.{typeIn}
+use Rattle.nodes.specs.Nodes.{classIn, unaryOf}
 use Rattle.judgements.specs.declared.Reply.{Reply}
 use Rattle.judgements.specs.declared.Reply.the-variants as reply
 use Rattle.judgements.specs.Replies.{meaning, Tells}
@@ -29,6 +30,10 @@ module _ (m : Schema) (n k : ℕ) (w : ℕ → ℕ) (t : Ty) where
   unfolding singleType
   collect-single h e d = rw (h, ← e) d
 
-  pub unary-single : {B : List ℕ} {r : Reply} → (k ≡ 30 → ⊥) → (k ≡ 33 → ⊥) → (k ≡ 34 → ⊥) → meaning r ≡ unaryType m n (unaryOf k w) t → Tells (singleType m n k w t) B B r
+  pub call-single : {B : List ℕ} {r : Reply} {c d : ℕ} {u : Ty} → k ≡ 36 → c ≡ w 3 → d ≡ w 4 → u ≡ typeIn d → meaning r ≡ callType m n (classIn c) u t → Tells (singleType m n k w t) B B r
   unfolding singleType
-  unary-single a b c e = rw (ne-eqb k 30 a, ne-eqb k 33 b, ne-eqb k 34 c) (done e)
+  call-single h e f q x = rw (h, ← e, ← f, ← q) (done x)
+
+  pub unary-single : {B : List ℕ} {r : Reply} → (k ≡ 30 → ⊥) → (k ≡ 33 → ⊥) → (k ≡ 34 → ⊥) → (k ≡ 36 → ⊥) → meaning r ≡ unaryType m n (unaryOf k w) t → Tells (singleType m n k w t) B B r
+  unfolding singleType
+  unary-single a b c d e = rw (ne-eqb k 30 a, ne-eqb k 33 b, ne-eqb k 34 c, ne-eqb k 36 d) (done e)

@@ -5,7 +5,7 @@ ghost use Prim.Native.Nat.{_<_, _≤_};
 ghost use lib.ListN.{length};
 ghost use Rattle.ocl.specs.Types.{Boolean, Integer, join as joinOf};
 ghost use Rattle.ocl.specs.Model.{Schema};
-ghost use Rattle.ocl.specs.Typing.{typed, refused, below, common, onCollection, castType, bothBelow, leafType, unaryType, binaryType, conditionalType, wrap as wrapType};
+ghost use Rattle.ocl.specs.Typing.{typed, refused, below, common, onCollection, castType, callType, bothBelow, leafType, unaryType, binaryType, conditionalType, wrap as wrapType};
 ghost use Rattle.types.specs.Flat.{parentsIn, tyOf, letterOf, joinedType};
 ghost use Rattle.nodes.specs.Nodes.{word, leafOf, unaryOf, binaryOf};
 ghost use Rattle.judgements.specs.Replies.{meaning, envOf, joinMore};
@@ -170,6 +170,19 @@ fn cast_type(parents: &[u64], n: u64, c: u8, t: FlatType) -> Reply
         return Reply::Is(plain(Base::Class(c)));
     }
     Reply::No(10, n)
+}
+
+// `call` takes the definition's class c or one below it, else 11; Void is none. Its type is the definition's, t.
+pub fn call_type(parents: &[u64], n: u64, c: u64, t: FlatType, u: FlatType) -> Reply
+    ensures { λ r. ⌜ ((m : Schema) → m .parent ≡ parentsIn (now (parents .entry)) → meaning r ≡ callType m n c (tyOf t) (tyOf u)) ⌝ }
+{
+    let ClassNumber::Is(d) = is_class(u) else {
+        return Reply::No(11, n);
+    };
+    if class_below(parents, d, c) {
+        return Reply::Is(t);
+    }
+    Reply::No(11, n)
 }
 
 pub fn unary_type(parents: &[u64], nodes: &[u64], form: u64, n: usize, t: FlatType) -> Reply

@@ -9,11 +9,13 @@ ghost use Rattle.judgements.specs.Single.{singleType};
 use super::Reply;
 use super::attributes::attribute_type;
 use super::attributes::collect_type;
+use super::forms::call_type;
 use super::forms::unary_type;
 use nodes::node_word;
 use types::Base;
 use types::FlatType;
 use types::parts::plain;
+use types::word::unpack;
 
 // Node n, whose operand has type t. `isUndef` takes any type.
 pub fn single_type(
@@ -33,6 +35,13 @@ pub fn single_type(
         30 => Reply::Is(plain(Base::Bool)),
         33 => attribute_type(parents, tables, rows, n, node_word(nodes, n, 2), t, marks),
         34 => collect_type(parents, tables, rows, n, node_word(nodes, n, 2), t, marks),
+        36 => call_type(
+            parents,
+            n as u64,
+            node_word(nodes, n, 3) % 256,
+            unpack(node_word(nodes, n, 4)),
+            t,
+        ),
         _ => unary_type(parents, nodes, form, n, t),
     }
 }

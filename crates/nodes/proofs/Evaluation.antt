@@ -5,9 +5,9 @@ use Prim.Native.Nat.{ℕ, _<_, _≤_}
 use Rattle.ocl.specs.Model.{Model}
 use Rattle.ocl.specs.Forms.{Form, undef}
 use Rattle.ocl.specs.Typing.{Mark}
-use Rattle.ocl.specs.Evaluation.{Run, tick, leafRun, unaryRun, binaryRun, connectiveRun, isUndefRun, conditionalRun, letRun, attributeRun, quantifiedRun, iterateRun, assembleRun, evaluation, formRun, operandsRun}
-use Rattle.nodes.specs.Nodes.{word, variable, leafOf, unaryOf, binaryOf, connectiveOf, quantifierOf, kindOf, accessOf, operandsIn, formOf, treesBelow, treeAt}
-use Rattle.nodes.proofs.Nodes.{tree-law, below-law, late-law, no-form, leaf-range, unary-range, binary-range, connective-range, quantified-range, assemble-range, attribute-range, assemble-over, isUndef-code, conditional-code, let-code, iterate-code}
+use Rattle.ocl.specs.Evaluation.{Run, tick, leafRun, unaryRun, binaryRun, connectiveRun, isUndefRun, conditionalRun, letRun, attributeRun, callRun, quantifiedRun, iterateRun, assembleRun, evaluation, formRun, operandsRun}
+use Rattle.nodes.specs.Nodes.{word, variable, classIn, leafOf, unaryOf, binaryOf, connectiveOf, quantifierOf, kindOf, accessOf, operandsIn, formOf, treesBelow, treeAt}
+use Rattle.nodes.proofs.Nodes.{tree-law, below-law, late-law, no-form, leaf-range, unary-range, binary-range, connective-range, quantified-range, assemble-range, attribute-range, assemble-over, isUndef-code, conditional-code, let-code, iterate-code, call-code}
 
 -- the evaluation of operand k of node n
 unfoldable pub operandRun : Model → (ℕ → Mark) → List ℕ → ℕ → ℕ → Run
@@ -63,11 +63,15 @@ module _ (s : Model) (mark : ℕ → Mark) (t : List ℕ) (n : ℕ) where
     unfolding evaluation operandRun
     iterate-run h = by-form k e (ap (formOf (treesBelow t n) (word t n)) h ∙ iterate-code (treesBelow t n) (word t n))
 
+    pub call-run : (h : k ≡ 36) → evaluation s mark (treeAt t n) ≡ tick (callRun s (classIn (word t n 3)) (operandRun s mark t n 1) (operandRun s mark t n 2))
+    unfolding evaluation operandRun
+    call-run h = by-form k e (ap (formOf (treesBelow t n) (word t n)) h ∙ call-code (treesBelow t n) (word t n))
+
     pub over-run : (l : 27 ≤ k) → (h : k < 30) → (c : 4 < word t n 5) → evaluation s mark (treeAt t n) ≡ tick (leafRun s undef)
     unfolding evaluation operandRun
     over-run l h c = by-form k e (assemble-over (treesBelow t n) (word t n) k l h c)
 
-    pub none-run : (h : 35 < k) → evaluation s mark (treeAt t n) ≡ tick (leafRun s undef)
+    pub none-run : (h : 36 < k) → evaluation s mark (treeAt t n) ≡ tick (leafRun s undef)
     unfolding evaluation operandRun
     none-run h = by-form k e (no-form (treesBelow t n) (word t n) k h)
 

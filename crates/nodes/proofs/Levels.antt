@@ -5,7 +5,7 @@ use Prim.Native.Nat.{ℕ, zero, suc, _+_, _<_, _≤_, max}
 use native.Mathlib.Omega.{arith}
 use Rattle.ocl.specs.Forms.{Expr, Form, levels, levelsIn, levelsOf}
 use Rattle.nodes.specs.Nodes.{word, operandsIn, formOf, treesBelow, treeAt}
-use Rattle.nodes.proofs.Nodes.{tree-law, unary-range, binary-range, connective-range, quantified-range, assemble-range, attribute-range, isUndef-code, conditional-code, let-code, iterate-code}
+use Rattle.nodes.proofs.Nodes.{tree-law, unary-range, binary-range, connective-range, quantified-range, assemble-range, attribute-range, isUndef-code, conditional-code, let-code, iterate-code, call-code}
 
 -- a tree has a level at least
 pub some-level : (e : Expr) → 1 ≤ levels e
@@ -80,3 +80,7 @@ module _ (t : List ℕ) (n : ℕ) where
     pub iterate-levels : k ≡ 35 → (levels (treesBelow t n (word t n 1)) < levels (treeAt t n)) × (levels (treesBelow t n (word t n 2)) < levels (treeAt t n)) × (levels (treesBelow t n (word t n 3)) < levels (treeAt t n))
     unfolding levels
     iterate-levels h = let a = by-form k e (ap (formOf (treesBelow t n) (word t n)) h ∙ iterate-code (treesBelow t n) (word t n)) in (omega arith, omega arith, omega arith)
+
+    pub call-levels : k ≡ 36 → (levels (treesBelow t n (word t n 1)) < levels (treeAt t n)) × (levels (treesBelow t n (word t n 2)) < levels (treeAt t n))
+    unfolding levels
+    call-levels h = let a = by-form k e (ap (formOf (treesBelow t n) (word t n)) h ∙ call-code (treesBelow t n) (word t n)) in (omega arith, omega arith)

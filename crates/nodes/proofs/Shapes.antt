@@ -12,14 +12,14 @@ use Rattle.laws.specs.Integers.{bias, unbias}
 use Rattle.laws.specs.Lists.{Each, each-nil, each-cons}
 use Rattle.laws.proofs.Tests.{and-true}
 use Rattle.ocl.specs.Types.{Kind, set, sequence, bag, Ty}
-use Rattle.ocl.specs.Evaluation.{inRange}
-use Rattle.ocl.specs.Forms.{plus, minus, times, div, modulo, Connective, and, or, Quantifier, forAll, exists, Access, ofObject, ofMembers, Leaf, truth, undef, number, self, var, all, Unary, negation, sizeOf, convert, castTo, Binary, equal, less, arith as calculation, includes, including, union, Expr, node, Form}
-use Rattle.sheet.specs.Lines.{Shape, leaf, unary, binary, connective, isUndef, conditional, letIn, attribute, quantified, iterate, assemble}
+use Rattle.ocl.specs.Operations.{inRange}
+use Rattle.ocl.specs.Forms.{plus, minus, times, div, modulo, Connective, and, or, Quantifier, forAll, exists, Access, ofObject, ofMembers, Leaf, truth, undef, number, self, var, all, Unary, negation, sizeOf, convert, castTo, Binary, equal, less, arith as calculation, includes, including, union, Expr, node, Form, Definition}
+use Rattle.sheet.specs.Lines.{Shape, leaf, unary, binary, connective, isUndef, conditional, letIn, attribute, call, quantified, iterate, assemble}
 use Rattle.sheet.specs.Sheet.{operandsOf, growAll, grow}
-use Rattle.sheet.specs.Refusals.{isVariable, isClass, typeWithin, leafWithin, unaryWithin, formWithin}
+use Rattle.sheet.specs.Limits.{isVariable, isClass, typeWithin, leafWithin, unaryWithin, formWithin}
 use Rattle.types.specs.Word.{typeIn}
 use Rattle.ocl.proofs.Ranges.{unbias-bias, bias-small}
-use Rattle.nodes.specs.Nodes.{TypeSaid, word, variable, classIn, leafOf, unaryOf, arithByCode, binaryOf, connectiveOf, quantifierOf, kindOf, accessOf, operandsIn, formOf, treesBelow, treeAt, leafWords, unaryWords, arithCode, binaryCode, connectiveCode, quantifierCode, accessCode, assembleCode, operandWord, shapeWords}
+use Rattle.nodes.specs.Nodes.{Called, TypeSaid, CallSaid, word, variable, classIn, leafOf, unaryOf, arithByCode, binaryOf, connectiveOf, quantifierOf, kindOf, accessOf, operandsIn, formOf, treesBelow, treeAt, leafWords, unaryWords, arithCode, binaryCode, connectiveCode, quantifierCode, accessCode, assembleCode, operandWord, shapeWords}
 use Rattle.nodes.proofs.Nodes.{tree-law, below-law, assemble-range}
 
 -- ---- numbers that the words hold
@@ -57,9 +57,9 @@ assemble-back bag = refl
 
 -- ---- a form
 
-module _ (f g : ℕ → Expr) (w : ℕ → ℕ) (first n type line : ℕ) (near : (a : ℕ) → a < n → f (first + a) ≡ g a) where
+module _ (f g : ℕ → Expr) (w : ℕ → ℕ) (first n type : ℕ) (d : Called) (line : ℕ) (near : (a : ℕ) → a < n → f (first + a) ≡ g a) where
   Words : Shape → Type 0
-  Words x = (j : ℕ) → j < 8 → w j ≡ getD (shapeWords first type line x) j 0
+  Words x = (j : ℕ) → j < 8 → w j ≡ getD (shapeWords first type d line x) j 0
 
   leaf-grow : (l : Leaf) → leafWithin l ≡ true → Words (leaf l) → formOf f w (w 0) ≡ Form.leaf l
   unfolding Words shapeWords leafWords leafWithin formOf leafOf
@@ -135,30 +135,32 @@ module _ (f g : ℕ → Expr) (w : ℕ → ℕ) (first n type line : ℕ) (near 
       let accumulator = and-true (isVariable i) (isVariable j) both .1 in
       rw (ws 0 (omega arith), ws 1 (omega arith), ws 2 (omega arith), ws 3 (omega arith), ws 4 (omega arith), ws 5 (omega arith), ws 6 (omega arith), variable-back i member, variable-back j accumulator, s, near a l, near e m, near b o)
 
-  pub form-grow : (x : Shape) → formWithin x ≡ true → TypeSaid type x → Each (λ a. a < n) (operandsOf x) → length (operandsOf x) ≤ 4
-      → ((j : ℕ) → j < 8 → w j ≡ getD (shapeWords first type line x) j 0) → formOf f w (w 0) ≡ grow g x
+  pub form-grow : (h : ℕ → Definition) (x : Shape) → formWithin x ≡ true → TypeSaid type x → CallSaid f h d x → Each (λ a. a < n) (operandsOf x) → length (operandsOf x) ≤ 4
+      → ((j : ℕ) → j < 8 → w j ≡ getD (shapeWords first type d line x) j 0) → formOf f w (w 0) ≡ grow g h x
   unfolding grow operandsOf formWithin Words shapeWords formOf
-  form-grow (leaf l) h s o c ws = leaf-grow l h ws
-  form-grow (unary op a) h s (each-cons l each-nil) c ws = unary-grow op a h l ws
-  form-grow (binary op a b) h s (each-cons l (each-cons m each-nil)) c ws = binary-grow op a b l m ws
-  form-grow (connective op a b) h s (each-cons l (each-cons m each-nil)) c ws = connective-grow op a b l m ws
-  form-grow (isUndef a) h s (each-cons l each-nil) c ws = rw (ws 0 (omega arith), ws 1 (omega arith), near a l)
-  form-grow (conditional d a b) h s (each-cons l (each-cons m (each-cons o each-nil))) c ws =
+  form-grow defs (leaf l) h s called o c ws = leaf-grow l h ws
+  form-grow defs (unary op a) h s called (each-cons l each-nil) c ws = unary-grow op a h l ws
+  form-grow defs (binary op a b) h s called (each-cons l (each-cons m each-nil)) c ws = binary-grow op a b l m ws
+  form-grow defs (connective op a b) h s called (each-cons l (each-cons m each-nil)) c ws = connective-grow op a b l m ws
+  form-grow defs (isUndef a) h s called (each-cons l each-nil) c ws = rw (ws 0 (omega arith), ws 1 (omega arith), near a l)
+  form-grow defs (conditional d a b) h s called (each-cons l (each-cons m (each-cons o each-nil))) c ws =
       rw (ws 0 (omega arith), ws 1 (omega arith), ws 2 (omega arith), ws 3 (omega arith), near d l, near a m, near b o)
-  form-grow (letIn i a b) h s (each-cons l (each-cons m each-nil)) c ws =
+  form-grow defs (letIn i a b) h s called (each-cons l (each-cons m each-nil)) c ws =
       rw (ws 0 (omega arith), ws 1 (omega arith), ws 2 (omega arith), ws 3 (omega arith), variable-back i h, near a l, near b m)
-  form-grow (attribute x name a) h s (each-cons l each-nil) c ws = attribute-grow x name a l ws
-  form-grow (quantified q i a b) h s (each-cons l (each-cons m each-nil)) c ws = quantified-grow q i a b h l m ws
-  form-grow (iterate i j t a e b) h s (each-cons l (each-cons m (each-cons o each-nil))) c ws =
+  form-grow defs (attribute x name a) h s called (each-cons l each-nil) c ws = attribute-grow x name a l ws
+  form-grow defs (call a n) h s called (each-cons l each-nil) c ws =
+      rw (ws 0 (omega arith), ws 1 (omega arith), ws 2 (omega arith), ws 3 (omega arith), ws 4 (omega arith), near a l, called .context a n refl, called .type a n refl, called .body a n refl)
+  form-grow defs (quantified q i a b) h s called (each-cons l (each-cons m each-nil)) c ws = quantified-grow q i a b h l m ws
+  form-grow defs (iterate i j t a e b) h s called (each-cons l (each-cons m (each-cons o each-nil))) c ws =
       iterate-grow i j t a e b h (s .said i j t a e b refl) l m o ws
-  form-grow (assemble k es) h s o c ws = assemble-grow k es o c ws
+  form-grow defs (assemble k es) h s called o c ws = assemble-grow k es o c ws
 
 -- ---- a node
 
-pub shape-tree : (t : List ℕ) (first n type line : ℕ) (x : Shape) → formWithin x ≡ true → TypeSaid type x
-    → Each (λ a. a < n) (operandsOf x) → length (operandsOf x) ≤ 4
-    → ((j : ℕ) → j < 8 → word t (first + n) j ≡ getD (shapeWords first type line x) j 0)
-    → treeAt t (first + n) ≡ node (first + n) (grow (λ a. treeAt t (first + a)) x)
-shape-tree t first n type line x h s o c ws =
+pub shape-tree : (t : List ℕ) (first n type : ℕ) (d : Called) (line : ℕ) (g : ℕ → Definition) (x : Shape) → formWithin x ≡ true → TypeSaid type x
+    → CallSaid (treesBelow t (first + n)) g d x → Each (λ a. a < n) (operandsOf x) → length (operandsOf x) ≤ 4
+    → ((j : ℕ) → j < 8 → word t (first + n) j ≡ getD (shapeWords first type d line x) j 0)
+    → treeAt t (first + n) ≡ node (first + n) (grow (λ a. treeAt t (first + a)) g x)
+shape-tree t first n type d line g x h s k o c ws =
     tree-law t (first + n)
-    ∙ ap (node (first + n)) (form-grow (treesBelow t (first + n)) (λ a. treeAt t (first + a)) (word t (first + n)) first n type line (λ a l. below-law t (first + n) (first + a) (omega arith)) x h s o c ws)
+    ∙ ap (node (first + n)) (form-grow (treesBelow t (first + n)) (λ a. treeAt t (first + a)) (word t (first + n)) first n type d line (λ a l. below-law t (first + n) (first + a) (omega arith)) g x h s k o c ws)

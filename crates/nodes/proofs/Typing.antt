@@ -4,10 +4,10 @@ use mathlib.Core.List.{List}
 use Prim.Native.Nat.{ℕ, _<_, _≤_}
 use Rattle.ocl.specs.Model.{Schema}
 use Rattle.ocl.specs.Forms.{Form, undef}
-use Rattle.ocl.specs.Typing.{Typing, leafTyping, unaryTyping, binaryTyping, connectiveTyping, isUndefTyping, conditionalTyping, letTyping, attributeTyping, quantifiedTyping, iterateTyping, assembleTyping, typing, formTyping, operandsTyping as membersTyping}
+use Rattle.ocl.specs.Typing.{Typing, leafTyping, unaryTyping, binaryTyping, connectiveTyping, isUndefTyping, conditionalTyping, letTyping, attributeTyping, callTyping, quantifiedTyping, iterateTyping, assembleTyping, typing, formTyping, operandsTyping as membersTyping}
 use Rattle.types.specs.Word.{typeIn}
-use Rattle.nodes.specs.Nodes.{word, variable, leafOf, unaryOf, binaryOf, kindOf, accessOf, operandsIn, formOf, treesBelow, treeAt}
-use Rattle.nodes.proofs.Nodes.{tree-law, below-law, late-law, no-form, leaf-range, unary-range, binary-range, connective-range, quantified-range, assemble-range, attribute-range, assemble-over, isUndef-code, conditional-code, let-code, iterate-code}
+use Rattle.nodes.specs.Nodes.{word, variable, classIn, leafOf, unaryOf, binaryOf, kindOf, accessOf, operandsIn, formOf, treesBelow, treeAt}
+use Rattle.nodes.proofs.Nodes.{tree-law, below-law, late-law, no-form, leaf-range, unary-range, binary-range, connective-range, quantified-range, assemble-range, attribute-range, assemble-over, isUndef-code, conditional-code, let-code, iterate-code, call-code}
 
 -- the typing of operand k of node n
 unfoldable pub operandTyping : Schema → List ℕ → ℕ → ℕ → Typing
@@ -63,11 +63,15 @@ module _ (s : Schema) (t : List ℕ) (n : ℕ) where
     unfolding typing operandTyping
     iterate-typing h = by-form k e (ap (formOf (treesBelow t n) (word t n)) h ∙ iterate-code (treesBelow t n) (word t n))
 
+    pub call-typing : (h : k ≡ 36) → typing s (treeAt t n) ≡ callTyping s n (classIn (word t n 3)) (typeIn (word t n 4)) (operandTyping s t n 1)
+    unfolding typing operandTyping
+    call-typing h = by-form k e (ap (formOf (treesBelow t n) (word t n)) h ∙ call-code (treesBelow t n) (word t n))
+
     pub over-typing : (l : 27 ≤ k) → (h : k < 30) → (c : 4 < word t n 5) → typing s (treeAt t n) ≡ leafTyping n undef
     unfolding typing operandTyping
     over-typing l h c = by-form k e (assemble-over (treesBelow t n) (word t n) k l h c)
 
-    pub none-typing : (h : 35 < k) → typing s (treeAt t n) ≡ leafTyping n undef
+    pub none-typing : (h : 36 < k) → typing s (treeAt t n) ≡ leafTyping n undef
     unfolding typing operandTyping
     none-typing h = by-form k e (no-form (treesBelow t n) (word t n) k h)
 

@@ -1,5 +1,5 @@
--- The node table: 8 words to a node, counted through all rules. Word 0 is the form's code, one range of codes to one form of
--- crates/ocl; then operands, by their numbers through all rules, and what else the form holds; word 7 is the line.
+-- The node table: 8 words to a node, counted through all definitions and rules. Word 0 is the form's code, one range of codes to one form of
+-- crates/ocl; then operands, by their numbers through all of them, and what else the form holds; word 7 is the line.
 use mathlib.Core.Path.{_≡_}
 use mathlib.Core.Bool.{true, false}
 use mathlib.Core.List.{List, [], _∷_}
@@ -9,7 +9,7 @@ use lib.Dec.{eqb, ltb}
 use Rattle.laws.specs.Choice.{if_then_else_}
 use Rattle.laws.specs.Integers.{bias, unbias}
 use Rattle.ocl.specs.Types.{Kind, set, sequence, bag, Ty}
-use Rattle.ocl.specs.Forms.{Arith, plus, minus, times, div, modulo, Connective, and, or, Quantifier, forAll, exists, Access, ofObject, ofMembers, Leaf, truth, undef, number, self, var, all, Unary, negation, sizeOf, convert, castTo, Binary, equal, less, arith, includes, including, union, Expr, node, Form, leaf, unary, binary, connective, isUndef, conditional, letIn, attribute, quantified, iterate, assemble, Operands, noOperand, operand}
+use Rattle.ocl.specs.Forms.{Arith, plus, minus, times, div, modulo, Connective, and, or, Quantifier, forAll, exists, Access, ofObject, ofMembers, Leaf, truth, undef, number, self, var, all, Unary, negation, sizeOf, convert, castTo, Binary, equal, less, arith, includes, including, union, Expr, node, Form, leaf, unary, binary, connective, isUndef, conditional, letIn, attribute, call, quantified, iterate, assemble, Operands, noOperand, operand, Definition}
 use Rattle.sheet.specs.Lines.{Shape}
 use Rattle.types.specs.Word.{typeIn}
 
@@ -87,7 +87,7 @@ operandsIn f w (suc c) k = operand (f (w k)) (operandsIn f w c (k + 1))
 -- over the trees f of the nodes before it; what no accepted sheet has counts as `undef`
 unfoldable pub formOf : (ℕ → Expr) → (ℕ → ℕ) → ℕ → Form
 formOf f w k =
-    if ltb 35 k then leaf undef
+    if ltb 36 k then leaf undef
     else if ltb k 7 then leaf (leafOf k w)
     else if ltb k 13 then unary (unaryOf k w) (f (w 1))
     else if ltb k 23 then binary (binaryOf k) (f (w 1)) (f (w 2))
@@ -98,7 +98,8 @@ formOf f w k =
     else if eqb k 31 then conditional (f (w 1)) (f (w 2)) (f (w 3))
     else if eqb k 32 then letIn (variable (w 3)) (f (w 1)) (f (w 2))
     else if ltb k 35 then attribute (accessOf k) (w 2) (f (w 1))
-    else iterate (variable (w 4)) (variable (w 5)) (typeIn (w 6)) (f (w 1)) (f (w 2)) (f (w 3))
+    else if eqb k 35 then iterate (variable (w 4)) (variable (w 5)) (typeIn (w 6)) (f (w 1)) (f (w 2)) (f (w 3))
+    else call (classIn (w 3)) (typeIn (w 4)) (f (w 1)) (f (w 2))
 
 -- the trees of the nodes below n; an operand that is not smaller, which no accepted sheet has, counts as `undef`
 unfoldable pub treesBelow : List ℕ → ℕ → ℕ → Expr
@@ -109,7 +110,14 @@ treesBelow t (suc n) a = if eqb a n then node n (formOf (treesBelow t n) (word t
 unfoldable pub treeAt : List ℕ → ℕ → Expr
 treeAt t n = treesBelow t (suc n) n
 
--- ---- the words of a node line: its rule's first node is `first`, a type's word is `type`
+-- ---- the words of a node line: the first node of its definition or rule is `first`, a type's word is `type`, and the definition that
+-- it calls is d
+
+-- a definition in a call's words: its root, its class, and a word for its type
+pub record Called : Type 0 where
+  pub root : ℕ
+  pub context : ℕ
+  pub type : ℕ
 
 unfoldable pub leafWords : Leaf → ℕ × ℕ
 leafWords (truth false) = (0, 0)
@@ -165,20 +173,27 @@ assembleCode bag = 29
 unfoldable pub operandWord : ℕ → List ℕ → ℕ → ℕ
 operandWord first es k = if ltb k (length es) then first + getD es k 0 else 0
 
-unfoldable pub shapeWords : ℕ → ℕ → ℕ → Shape → List ℕ
-shapeWords first type line (Shape.leaf l) = leafWords l .0 ∷ leafWords l .1 ∷ 0 ∷ 0 ∷ 0 ∷ 0 ∷ 0 ∷ line ∷ []
-shapeWords first type line (Shape.unary op a) = unaryWords op .0 ∷ (first + a) ∷ unaryWords op .1 ∷ 0 ∷ 0 ∷ 0 ∷ 0 ∷ line ∷ []
-shapeWords first type line (Shape.binary op a b) = binaryCode op ∷ (first + a) ∷ (first + b) ∷ 0 ∷ 0 ∷ 0 ∷ 0 ∷ line ∷ []
-shapeWords first type line (Shape.connective c a b) = connectiveCode c ∷ (first + a) ∷ (first + b) ∷ 0 ∷ 0 ∷ 0 ∷ 0 ∷ line ∷ []
-shapeWords first type line (Shape.isUndef a) = 30 ∷ (first + a) ∷ 0 ∷ 0 ∷ 0 ∷ 0 ∷ 0 ∷ line ∷ []
-shapeWords first type line (Shape.conditional c a b) = 31 ∷ (first + c) ∷ (first + a) ∷ (first + b) ∷ 0 ∷ 0 ∷ 0 ∷ line ∷ []
-shapeWords first type line (Shape.letIn i a b) = 32 ∷ (first + a) ∷ (first + b) ∷ i ∷ 0 ∷ 0 ∷ 0 ∷ line ∷ []
-shapeWords first type line (Shape.attribute x name a) = accessCode x ∷ (first + a) ∷ name ∷ 0 ∷ 0 ∷ 0 ∷ 0 ∷ line ∷ []
-shapeWords first type line (Shape.quantified q i a b) = quantifierCode q ∷ (first + a) ∷ (first + b) ∷ i ∷ 0 ∷ 0 ∷ 0 ∷ line ∷ []
-shapeWords first type line (Shape.iterate i j t a e b) = 35 ∷ (first + a) ∷ (first + e) ∷ (first + b) ∷ i ∷ j ∷ type ∷ line ∷ []
-shapeWords first type line (Shape.assemble k es) =
+unfoldable pub shapeWords : ℕ → ℕ → Called → ℕ → Shape → List ℕ
+shapeWords first type d line (Shape.leaf l) = leafWords l .0 ∷ leafWords l .1 ∷ 0 ∷ 0 ∷ 0 ∷ 0 ∷ 0 ∷ line ∷ []
+shapeWords first type d line (Shape.unary op a) = unaryWords op .0 ∷ (first + a) ∷ unaryWords op .1 ∷ 0 ∷ 0 ∷ 0 ∷ 0 ∷ line ∷ []
+shapeWords first type d line (Shape.binary op a b) = binaryCode op ∷ (first + a) ∷ (first + b) ∷ 0 ∷ 0 ∷ 0 ∷ 0 ∷ line ∷ []
+shapeWords first type d line (Shape.connective c a b) = connectiveCode c ∷ (first + a) ∷ (first + b) ∷ 0 ∷ 0 ∷ 0 ∷ 0 ∷ line ∷ []
+shapeWords first type d line (Shape.isUndef a) = 30 ∷ (first + a) ∷ 0 ∷ 0 ∷ 0 ∷ 0 ∷ 0 ∷ line ∷ []
+shapeWords first type d line (Shape.conditional c a b) = 31 ∷ (first + c) ∷ (first + a) ∷ (first + b) ∷ 0 ∷ 0 ∷ 0 ∷ line ∷ []
+shapeWords first type d line (Shape.letIn i a b) = 32 ∷ (first + a) ∷ (first + b) ∷ i ∷ 0 ∷ 0 ∷ 0 ∷ line ∷ []
+shapeWords first type d line (Shape.attribute x name a) = accessCode x ∷ (first + a) ∷ name ∷ 0 ∷ 0 ∷ 0 ∷ 0 ∷ line ∷ []
+shapeWords first type d line (Shape.call a n) = 36 ∷ (first + a) ∷ d .root ∷ d .context ∷ d .type ∷ 0 ∷ 0 ∷ line ∷ []
+shapeWords first type d line (Shape.quantified q i a b) = quantifierCode q ∷ (first + a) ∷ (first + b) ∷ i ∷ 0 ∷ 0 ∷ 0 ∷ line ∷ []
+shapeWords first type d line (Shape.iterate i j t a e b) = 35 ∷ (first + a) ∷ (first + e) ∷ (first + b) ∷ i ∷ j ∷ type ∷ line ∷ []
+shapeWords first type d line (Shape.assemble k es) =
     assembleCode k ∷ operandWord first es 0 ∷ operandWord first es 1 ∷ operandWord first es 2 ∷ operandWord first es 3 ∷ length es ∷ 0 ∷ line ∷ []
 
 -- a word for the type that `iter` has
 pub record TypeSaid (type : ℕ) (x : Shape) : Type 0 where
   pub said : (i j : ℕ) (t : Ty) (a e b : ℕ) → x ≡ Shape.iterate i j t a e b → typeIn type ≡ t
+
+-- the words of the definition that `call` has: f gives the tree at a root
+pub record CallSaid (f : ℕ → Expr) (g : ℕ → Definition) (d : Called) (x : Shape) : Type 0 where
+  pub context : (a n : ℕ) → x ≡ Shape.call a n → classIn (d .context) ≡ g n .context
+  pub type : (a n : ℕ) → x ≡ Shape.call a n → typeIn (d .type) ≡ g n .type
+  pub body : (a n : ℕ) → x ≡ Shape.call a n → f (d .root) ≡ g n .body

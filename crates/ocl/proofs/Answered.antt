@@ -9,12 +9,12 @@ use Rattle.laws.proofs.Tests.{by-if, All?, all-none, all-some}
 use Rattle.ocl.specs.Environment.{Env, extend, start}
 use Rattle.ocl.specs.Types.{any, boolean, integer, class, set, Letter, exactly, Ty, void, simple, around, Boolean, Integer, Class, depth, sameKind, subtype, join}
 use Rattle.ocl.specs.Model.{Schema, rowRead}
-use Rattle.ocl.specs.Forms.{Access, ofObject, ofMembers, Leaf, truth, undef, number, self, var, all, Unary, negation, sizeOf, convert, castTo, Binary, equal, less, arith, includes, including, union, Expr, node, Form, leaf, unary, binary, connective, isUndef, conditional, letIn, attribute, quantified, iterate, assemble, Operands, noOperand, operand}
-use Rattle.ocl.specs.Typing.{Answer, typed, Mark, ofRow, ofRows, wrap, collectKind, boundType, leafType, castType, unaryType, bothBelow, binaryType, conditionalType, rowType, attributeType, leafTyping, unaryTyping, binaryTyping, connectiveTyping, isUndefTyping, conditionalTyping, letTyping, attributeTyping, quantifiedTyping, iterateTyping, noOperandTyping, operandTyping, assembleTyping, typing, formTyping, operandsTyping, typeRule}
+use Rattle.ocl.specs.Forms.{Access, ofObject, ofMembers, Leaf, truth, undef, number, self, var, all, Unary, negation, sizeOf, convert, castTo, Binary, equal, less, arith, includes, including, union, Expr, node, Form, leaf, unary, binary, connective, isUndef, conditional, letIn, attribute, call, quantified, iterate, assemble, Operands, noOperand, operand}
+use Rattle.ocl.specs.Typing.{Answer, typed, Mark, ofRow, ofRows, wrap, collectKind, boundType, leafType, castType, unaryType, bothBelow, binaryType, conditionalType, rowType, attributeType, leafTyping, unaryTyping, binaryTyping, connectiveTyping, isUndefTyping, conditionalTyping, letTyping, attributeTyping, callType, callTyping, quantifiedTyping, iterateTyping, noOperandTyping, operandTyping, assembleTyping, typing, formTyping, operandsTyping, typeRule}
 use Rattle.ocl.specs.Laws.{Agree}
-use Rattle.ocl.proofs.Means.{Gives, no-type, gives, gives-type, gives-if, gives-common, gives-collection, gives-kind, Means, means-pure, means-then, means-collection, means-class, means-if}
+use Rattle.ocl.proofs.Means.{Gives, no-type, gives, gives-type, gives-if, gives-common, gives-collection, gives-class, gives-kind, Means, means-pure, means-then, means-collection, means-class, means-if}
 
--- ---- the types that a tree names
+-- ---- the types that a tree names, with those of the definitions that it calls itself
 
 unfoldable pub leafNames : Leaf → Option Ty
 leafNames (truth b) = none
@@ -43,6 +43,7 @@ unfoldable mutual
   NamedIn W (conditional c a b) = Named W c × Named W a × Named W b
   NamedIn W (letIn i a b) = Named W a × Named W b
   NamedIn W (attribute x name a) = Named W a
+  NamedIn W (call c t a b) = W t × Named W a
   NamedIn W (quantified q i a b) = Named W a × Named W b
   NamedIn W (iterate i j t a e b) = W t × Named W a × Named W e × Named W b
   NamedIn W (assemble k es) = NamedOf W es
@@ -132,8 +133,12 @@ module _ (s : Schema) (mark : ℕ → Mark) (W : Ty → Type 0) (k : Closed s W)
       means-collection W p t h (λ l m i. means-class W p m (k .inside l m i) (λ c j.
       row-type p (ofRows (collectKind l)) (wrap p (exactly (collectKind l))) (rowRead s c name) (λ r. wrapped p (exactly (collectKind l)) (s .row r .type) (k .of-row r))))
 
+  call-type : (p c : ℕ) (t u : Ty) → W t → W u → Gives W (callType s p c t u)
+  unfolding callType
+  call-type p c t u h i = gives-class W p u i (λ d j. gives-if (subtype (s .parent) (Class d) (Class c)) (λ z. gives h) no-type)
+
   mutual
-    unfolding Named typing leafTyping unaryTyping binaryTyping connectiveTyping isUndefTyping conditionalTyping letTyping attributeTyping quantifiedTyping iterateTyping noOperandTyping operandTyping assembleTyping conditionalType
+    unfolding Named typing leafTyping unaryTyping binaryTyping connectiveTyping isUndefTyping conditionalTyping letTyping attributeTyping callTyping quantifiedTyping iterateTyping noOperandTyping operandTyping assembleTyping conditionalType
 
     answered : (e : Expr) {Γ : Env Ty} → Named W e → Bound Γ → Means mark W (typing s e Γ)
     answered (node p f) n b = answered-form f p n b
@@ -148,6 +153,7 @@ module _ (s : Schema) (mark : ℕ → Mark) (W : Ty → Type 0) (k : Closed s W)
         means-pure (gives-if (subtype (s .parent) t Boolean) (λ z. gives-common p (k .joined u w i j) (λ x q. gives q)) no-type))))
     answered-form (letIn i a c) p n b = means-then (answered a (n .0) b) (λ t h. answered c (n .1) (bound-more i h b))
     answered-form (attribute x name a) p n b = means-then (answered a n b) (λ t h. attribute-type p x name t h)
+    answered-form (call c t a e) p n b = means-then (answered a (n .1) b) (λ u h. means-pure (call-type p c t u (n .0) h))
     answered-form (quantified q i a c) p n b = means-then (answered a (n .0) b) (λ t h. means-collection W p t h (λ l m j.
         means-then (answered c (n .1) (bound-more i (k .inside l m j) b)) (λ u y. means-pure (gives-if (subtype (s .parent) u Boolean) (λ z. gives (k .of-boolean)) no-type))))
     answered-form (iterate i j t a e c) p n b = means-then (answered a (n .1) b) (λ r h. means-then (answered e (n .2) b) (λ u y. means-collection W p r h (λ l m x.

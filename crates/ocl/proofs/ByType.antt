@@ -8,13 +8,14 @@ use lib.Dec.{T, eqb}
 use Rattle.laws.specs.Choice.{if_then_else_}
 use Rattle.laws.proofs.Tests.{All?, all-none, all-some, Any?, any-some, all-imp}
 use Rattle.ocl.specs.Environment.{Env, extend}
-use Rattle.ocl.specs.Types.{Parents, boolean, integer, Kind, Letter, exactly, Ty, around, Boolean, Integer, simpleSubtype, letterSubtype, subtype, join, climbs, height, up, sameSimple, simpleCode}
+use Rattle.ocl.specs.Types.{Parents, boolean, integer, class, Kind, Letter, exactly, Ty, around, Boolean, Integer, Class, simpleSubtype, letterSubtype, subtype, join, climbs, height, up, sameSimple, simpleCode}
 use Rattle.ocl.specs.Values.{Value, bool, int, obj, coll, Values, nil, cons, count, size, sizes}
 use Rattle.ocl.specs.Model.{Model, schemaOf, classIsA, isA}
 use Rattle.ocl.specs.Typing.{Answer, below}
-use Rattle.ocl.specs.Evaluation.{Outcome, value, Run, form, given, Result, resulting, onBool, onInt, onColl, isInt, isColl, Gather}
+use Rattle.ocl.specs.Operations.{Outcome, value, form, given, Result, resulting, onBool, onInt, onObj, onColl, isInt, isColl}
+use Rattle.ocl.specs.Evaluation.{Run, Gather}
 use Rattle.ocl.specs.Soundness.{AcceptedModel}
-use Rattle.ocl.proofs.SimpleTypes.{class-not-boolean, class-not-integer}
+use Rattle.ocl.proofs.SimpleTypes.{class-not-boolean, class-not-integer, boolean-not-class, integer-not-class}
 use Rattle.ocl.proofs.Types.{join-upper}
 use Rattle.ocl.proofs.Values.{Every, every-nil, every-cons, every-imp, count-sizes, Belongs, belongs-up}
 use Rattle.ocl.proofs.Runs.{Safe, safe-value, safe-undefined, safe-form, safe-over, IsBool, safe-bool}
@@ -122,6 +123,13 @@ module _ {s : Model} where
       go (int z) h = is-int
       go (obj o) h = absurd (obj-not-integer (s .parent) (s .classOf o) h)
       go (coll k vs) h = absurd h
+
+  pub obj-sem : {P : Value → Type 0} {k c : ℕ} {f : ℕ → ℕ → Outcome} (v : Value) → Ok s (Class c) v → ((o : ℕ) → T (isA s o (class c)) → Safe P k (f o)) → Safe P k (λ n. onObj v (λ o. f o n))
+  unfolding Belongs
+  obj-sem {c} (bool b) h g = absurd (boolean-not-class (s .parent) c (h .bel))
+  obj-sem {c} (int z) h g = absurd (integer-not-class (s .parent) c (h .bel))
+  obj-sem (obj o) h g = g o (h .bel)
+  obj-sem (coll d vs) h g = absurd (h .bel)
 
   members-ok : (t : Ty) (vs : Values) → sizes vs ≤ 128 → Every (Belongs s t) vs → Every (Ok s t) vs
   unfolding size

@@ -6,7 +6,8 @@ use Rattle.ocl.specs.Values.{size, order, headOrder, thenOrder, sort, ra
 use Rattle.ocl.specs.Model.{classIsA, isA, every, declared, nearest, rowRead}
 use Rattle.ocl.specs.Environment.{extend, start}
 use Rattle.ocl.specs.Typing.{thenFor, andThen, common, wrap, onCollection, onClass, boundType, leafType, conditionalType, rowMarked, kindMarked, collectKind, rowType, attributeType, leafTyping, conditionalTyping, attributeTyping, noOperandTyping, operandTyping, assembleTyping, typing, typeRule, markOr, markIn}
-use Rattle.ocl.specs.Evaluation.{tick, form, instances, leafRun, conditionalRun, hasRow, valueInRow, valuesInRow, access, attributeRun, noOperandRun, operandRun, assembleRun, evaluation, evaluateRule}
+use Rattle.ocl.specs.Operations.{form, instances, hasRow, valueInRow, valuesInRow, access}
+use Rattle.ocl.specs.Evaluation.{tick, leafRun, conditionalRun, attributeRun, noOperandRun, operandRun, assembleRun, evaluation, evaluateRule}
 use Rattle.ocl.specs.Worked.{parents, int₀}
 use Rattle.ocl.specs.Collect.{blockRows, blockClasses, zeros, blockValues, blocks, collectTyping, collectOutcome, self₀, collect₀, everyBlock, oneBlock, twice, anyKind, Collect}
 

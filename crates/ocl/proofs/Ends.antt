@@ -12,7 +12,8 @@ use Rattle.ocl.specs.Types.{Kind}
 use Rattle.ocl.specs.Values.{Value, bool, int, obj, coll, Values, nil, addAll, size}
 use Rattle.ocl.specs.Environment.{Env}
 use Rattle.ocl.specs.Forms.{Arith, plus, minus, times, div, modulo, Quantifier}
-use Rattle.ocl.specs.Evaluation.{Outcome, value, undefined, stuck, stop, Run, resume, bind, tick, form, given, formAll, bound, onBool, onInt, onColl, inRange, Result, result, noResult, overRange, resulting, ranged, unlessZero, arithmetic, endsAt, seek, fold}
+use Rattle.ocl.specs.Operations.{Outcome, value, undefined, stuck, stop, form, given, formAll, onBool, onInt, onObj, onColl, inRange, Result, result, noResult, overRange, resulting, ranged, unlessZero, arithmetic}
+use Rattle.ocl.specs.Evaluation.{Run, resume, bind, tick, bound, endsAt, seek, fold}
 use Rattle.laws.proofs.Tests.{by-if, All?, all-none, all-some}
 use Rattle.ocl.proofs.Values.{Every, every-nil, every-cons}
 
@@ -77,6 +78,12 @@ ends-int (bool b) h = ends-stuck
 ends-int (int z) h = h z
 ends-int (obj o) h = ends-stuck
 ends-int (coll c vs) h = ends-stuck
+
+pub ends-obj : {P : Value → Type 0} {k : ℕ → Outcome} (v : Value) → ((o : ℕ) → Ends P (k o)) → Ends P (onObj v k)
+ends-obj (bool b) h = ends-stuck
+ends-obj (int z) h = ends-stuck
+ends-obj (obj o) h = h o
+ends-obj (coll c vs) h = ends-stuck
 
 -- what is known of the operand is known of the collection
 pub ends-coll : (P : Value → Type 0) {Q : Value → Type 0} {k : Kind → Values → Outcome} (v : Value) → P v → ((c : Kind) (vs : Values) → P (coll c vs) → Ends Q (k c vs)) → Ends Q (onColl v k)

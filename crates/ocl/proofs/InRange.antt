@@ -15,7 +15,8 @@ use Rattle.ocl.specs.Model.{Model, isA}
 use Rattle.ocl.specs.Forms.{Expr}
 use Rattle.ocl.specs.Laws.{literals, integerInRange, integersInRange}
 use Rattle.ocl.specs.Typing.{Mark}
-use Rattle.ocl.specs.Evaluation.{value, inRange, instances, evaluateRule}
+use Rattle.ocl.specs.Operations.{value, inRange, instances}
+use Rattle.ocl.specs.Evaluation.{evaluateRule}
 use Rattle.ocl.specs.Soundness.{AcceptedModel}
 use Rattle.ocl.proofs.Values.{Every, every-nil, every-cons, append-every, add-every, count-sizes}
 use Rattle.ocl.proofs.Kept.{Keeps, kept-rule}

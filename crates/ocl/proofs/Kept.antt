@@ -13,14 +13,15 @@ use Rattle.ocl.specs.Types.{class, Kind, set, sameKind}
 use Rattle.ocl.specs.Values.{Value, bool, int, obj, coll, Values, nil, cons, count, size, orderInt, same, has, add, addAll}
 use Rattle.ocl.specs.Model.{Model, isA, every}
 use Rattle.ocl.specs.Environment.{Env, extend, start}
-use Rattle.ocl.specs.Forms.{Connective, Quantifier, Access, ofObject, ofMembers, Leaf, truth, undef, number, self, var, all, Unary, negation, sizeOf, convert, castTo, Binary, equal, less, arith, includes, including, union, Expr, node, Form, leaf, unary, binary, connective, isUndef, conditional, letIn, attribute, quantified, iterate, assemble, Operands, noOperand, operand}
+use Rattle.ocl.specs.Forms.{Connective, Quantifier, Access, ofObject, ofMembers, Leaf, truth, undef, number, self, var, all, Unary, negation, sizeOf, convert, castTo, Binary, equal, less, arith, includes, including, union, Expr, node, Form, leaf, unary, binary, connective, isUndef, conditional, letIn, attribute, call, quantified, iterate, assemble, Operands, noOperand, operand}
 use Rattle.ocl.specs.Laws.{leafLiterals, literals, literalsIn, literalsOf}
 use Rattle.ocl.specs.Typing.{Mark, rowMarked, kindMarked}
-use Rattle.ocl.specs.Evaluation.{value, Run, isLess, inRange, instances, leafRun, cast, unaryApply, unaryRun, leftFits, binaryApply, binaryRun, decides, connectiveRun, isUndefRun, conditionalRun, letRun, hasRow, valueInRow, valuesInRow, access, attributeRun, quantifiedRun, iterateRun, Gather, noOperandRun, operandRun, assembleRun, evaluation, formRun, operandsRun, evaluateRule}
+use Rattle.ocl.specs.Operations.{value, isLess, inRange, instances, cast, unaryApply, leftFits, binaryApply, hasRow, valueInRow, valuesInRow, access}
+use Rattle.ocl.specs.Evaluation.{Run, leafRun, unaryRun, binaryRun, decides, connectiveRun, isUndefRun, conditionalRun, letRun, attributeRun, callRun, quantifiedRun, iterateRun, Gather, noOperandRun, operandRun, assembleRun, evaluation, formRun, operandsRun, evaluateRule}
 use Rattle.laws.proofs.Tests.{All?, all-none, all-some, all-imp, all-self}
 use Rattle.laws.proofs.Lists.{each-head, each-left, each-right}
 use Rattle.ocl.proofs.Values.{Every, every-nil, every-cons, all-each}
-use Rattle.ocl.proofs.Ends.{Ends, ends-value, ends-undefined, ends-stuck, ends-at, ends-resume, ends-bind, ends-if, ends-tick, ends-form, ends-given, ends-bound, ends-bool, ends-int, ends-coll, ends-seek, ends-fold, ends-all, ends-result, arithmetic-all}
+use Rattle.ocl.proofs.Ends.{Ends, ends-value, ends-undefined, ends-stuck, ends-at, ends-resume, ends-bind, ends-if, ends-tick, ends-form, ends-given, ends-bound, ends-bool, ends-int, ends-obj, ends-coll, ends-seek, ends-fold, ends-all, ends-result, arithmetic-all}
 
 -- P of a value, and Held of the members of a collection that is being gathered
 pub record Keeps (s : Model) (P : Value → Type 0) (Held : Kind → Values → Type 0) : Type 0 where
@@ -160,6 +161,16 @@ module _ {s : Model} {P : Value → Type 0} {Held : Kind → Values → Type 0} 
   unfolding attributeRun
   attribute-kept x m h = record { run = λ ρ r n. ends-bind (h .run ρ r n) (access-ends x m) }
 
+  start-bound : (o : ℕ) → Bound P (start (obj o))
+  unfolding start
+  start-bound o = extend-bound 0 (record { variable = λ i. all-none }) (ok .of-object o)
+
+  call-kept : (c : ℕ) {f g : Run} → Kept f → Kept g → Kept (callRun s c f g)
+  unfolding callRun
+  call-kept c hf hg = record {
+    run = λ ρ r n. ends-bind (hf .run ρ r n) (λ v m p. ends-obj v (λ o. ends-if (isA s o (class c)) (hg .run (start (obj o)) (start-bound o) m) ends-stuck));
+  }
+
   quantified-kept : (q : Quantifier) (i : ℕ) {f g : Run} → Kept f → Kept g → Kept (quantifiedRun q i f g)
   unfolding quantifiedRun
   quantified-kept q i hf hg = record {
@@ -207,6 +218,7 @@ module _ {s : Model} {P : Value → Type 0} {Held : Kind → Values → Type 0} 
           conditional-kept (all-kept c (each-left (literals c) (literals a ++ literals b) h)) (all-kept a (each-left (literals a) (literals b) l)) (all-kept b (each-right (literals a) l))
       form-kept p (letIn i a b) h = let-kept i (all-kept a (each-left (literals a) (literals b) h)) (all-kept b (each-right (literals a) h))
       form-kept p (attribute x name a) h = attribute-kept x (mark p) (all-kept a h)
+      form-kept p (call c t a b) h = call-kept c (all-kept a (each-left (literals a) (literals b) h)) (all-kept b (each-right (literals a) h))
       form-kept p (quantified q i a b) h = quantified-kept q i (all-kept a (each-left (literals a) (literals b) h)) (all-kept b (each-right (literals a) h))
       form-kept p (iterate i j t a e b) h = let l = each-right (literals a) h in
           iterate-kept i j (all-kept a (each-left (literals a) (literals e ++ literals b) h)) (all-kept e (each-left (literals e) (literals b) l)) (all-kept b (each-right (literals e) l))
@@ -220,5 +232,5 @@ module _ {s : Model} {P : Value → Type 0} {Held : Kind → Values → Type 0} 
     kept-ends e h ρ r n m v q = ends-at (all-kept e h .run ρ r n) q
 
     pub kept-rule : (e : Expr) → Each (λ z. P (int z)) (literals e) → (o m : ℕ) (v : Value) → evaluateRule s mark e o ≡ value v m → P v
-    unfolding evaluateRule start
-    kept-rule e h o m v q = kept-ends e h (start (obj o)) (extend-bound 0 (record { variable = λ i. all-none }) (ok .of-object o)) 0 m v q
+    unfolding evaluateRule
+    kept-rule e h o m v q = kept-ends e h (start (obj o)) (start-bound o) 0 m v q

@@ -16,8 +16,10 @@ pub mod Places
 pub mod Means
 pub mod Answered
 pub mod ByType
+pub mod StrictForms
 pub mod Soundness
 pub mod Stops
 pub mod Worked
 pub mod Mistakes
 pub mod Collect
+pub mod Definitions

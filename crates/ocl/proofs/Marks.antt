@@ -11,9 +11,9 @@ use Rattle.laws.specs.Choice.{if_then_else_}
 use Rattle.ocl.specs.Environment.{Env, extend, start}
 use Rattle.ocl.specs.Types.{any, boolean, integer, class, Letter, Ty, void, simple, around, Class, subtype}
 use Rattle.ocl.specs.Model.{Schema, rowRead}
-use Rattle.ocl.specs.Forms.{Access, ofObject, ofMembers, Expr, node, Form, leaf, unary, binary, connective, isUndef, conditional, letIn, attribute, quantified, iterate, assemble, Operands, noOperand, operand}
+use Rattle.ocl.specs.Forms.{Access, ofObject, ofMembers, Expr, node, Form, leaf, unary, binary, connective, isUndef, conditional, letIn, attribute, call, quantified, iterate, assemble, Operands, noOperand, operand, Definition}
 use Rattle.ocl.specs.Laws.{numbers, numbersIn, numbersOf, EachMark, no-mark, mark-then, Agree}
-use Rattle.ocl.specs.Typing.{Answer, typed, refused, Mark, Marks, Typed, pure, thenFor, andThen, onCollection, onClass, rowType, attributeType, leafTyping, unaryTyping, binaryTyping, connectiveTyping, isUndefTyping, conditionalTyping, letTyping, attributeTyping, quantifiedTyping, iterateTyping, noOperandTyping, operandTyping, assembleTyping, typing, formTyping, operandsTyping, typeRule, markOr}
+use Rattle.ocl.specs.Typing.{Answer, typed, refused, Mark, Marks, Typed, pure, thenFor, andThen, onCollection, onClass, rowType, attributeType, leafTyping, unaryTyping, binaryTyping, connectiveTyping, isUndefTyping, conditionalTyping, letTyping, attributeTyping, callTyping, quantifiedTyping, iterateTyping, noOperandTyping, operandTyping, assembleTyping, typing, formTyping, operandsTyping, typeRule, typeDefinition, markOr}
 use Rattle.laws.specs.Lists.{Each, each-nil, each-cons, Distinct, distinct-nil, distinct-cons}
 
 pub marks-left : {P : ℕ → Mark → Type 0} (m n : Marks) → EachMark P (m ++ n) → EachMark P m
@@ -101,7 +101,7 @@ module _ (s : Schema) where
   own p h = record { part = part-left (p ∷ []) (h .part) }
 
   mutual
-    unfolding numbers typing leafTyping unaryTyping binaryTyping connectiveTyping isUndefTyping conditionalTyping letTyping attributeTyping quantifiedTyping iterateTyping noOperandTyping operandTyping assembleTyping
+    unfolding numbers typing leafTyping unaryTyping binaryTyping connectiveTyping isUndefTyping conditionalTyping letTyping attributeTyping callTyping quantifiedTyping iterateTyping noOperandTyping operandTyping assembleTyping
 
     pub marked : (e : Expr) (Γ : Env Ty) → Marked (numbers e) (typing s e Γ)
     marked (node p f) Γ = marked-form p f Γ
@@ -115,6 +115,7 @@ module _ (s : Schema) where
     marked-form p (conditional c a b) Γ = own p (marked-then (marked c Γ) (λ t. marked-then (marked a Γ) (λ u. marked-last (marked b Γ) (λ z. marked-pure))))
     marked-form p (letIn i a b) Γ = own p (marked-then (marked a Γ) (λ t. marked b (extend Γ i t)))
     marked-form p (attribute x name a) Γ = marked-then (marked a Γ) (attribute-part p x name)
+    marked-form p (call c t a b) Γ = own p (marked-last (marked a Γ) (λ z. marked-pure))
     marked-form p (quantified q i a b) Γ = own p (marked-then (marked a Γ) (λ t. marked-collection t marked-pure (λ l m. marked-last (marked b (extend Γ i m)) (λ z. marked-pure))))
     marked-form p (iterate i j t a e b) Γ =
         own p (marked-then (marked a Γ) (λ c. marked-then (marked e Γ) (λ u. marked-collection c marked-pure (λ l m.
@@ -128,6 +129,10 @@ module _ (s : Schema) where
 pub marked-rule : (s : Schema) (c : ℕ) (e : Expr) → Marked (numbers e) (typeRule s c e)
 unfolding typeRule
 marked-rule s c e = marked s e (start (Class c))
+
+pub marked-definition : (s : Schema) (d : Definition) → Marked (numbers (d .body)) (typeDefinition s d)
+unfolding typeDefinition
+marked-definition s d = marked-last (marked-rule s (d .context) (d .body)) (λ z. marked-pure)
 
 -- ---- no mark replaces another
 

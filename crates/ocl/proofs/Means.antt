@@ -8,8 +8,10 @@ use native.Mathlib.Omega.{arith as linear}
 use lib.Dec.{T, leb}
 use Rattle.laws.specs.Choice.{if_then_else_}
 use Rattle.laws.proofs.Tests.{All?, all-none, all-some}
-use Rattle.ocl.specs.Types.{any, boolean, integer, class, Kind, Letter, collection, exactly, Ty, void, simple, around, Class, depth}
-use Rattle.ocl.specs.Typing.{Answer, typed, refused, Mark, Marks, Typed, pure, thenFor, andThen, common, wrap, onCollection, onClass, onKind}
+use Rattle.ocl.specs.Types.{any, boolean, integer, class, Kind, Letter, collection, exactly, Ty, void, simple, around, Class, depth, subtype}
+use Rattle.ocl.specs.Model.{Schema}
+use Rattle.ocl.specs.Forms.{Definition}
+use Rattle.ocl.specs.Typing.{Answer, typed, refused, Mark, Marks, Typed, pure, thenFor, andThen, below, common, wrap, onCollection, onClass, onKind, typeRule, root, typeDefinition}
 use Rattle.ocl.specs.Laws.{Agree}
 use Rattle.ocl.proofs.Marks.{marks-left, marks-right}
 
@@ -78,7 +80,25 @@ pub means-if : {mark : ℕ → Mark} {G : Ty → Type 0} {x y : Typed} (b : Bool
 means-if true g h = g tt
 means-if false g h = h
 
+pub gives-class : (H : Ty → Type 0) {G : Ty → Type 0} {k : ℕ → Answer} (p : ℕ) (t : Ty) → H t → ((c : ℕ) → H (Class c) → Gives G (k c)) → Gives G (onClass t (refused 11 p) k)
+unfolding onClass
+gives-class H p void h g = no-type
+gives-class H p (simple any) h g = no-type
+gives-class H p (simple boolean) h g = no-type
+gives-class H p (simple integer) h g = no-type
+gives-class H p (simple (class c)) h g = g c h
+gives-class H p (around l m) h g = no-type
+
 pub gives-kind : (H : Letter → Type 0) {G : Ty → Type 0} {k : Kind → Answer} (p : ℕ) (l : Letter) → H l → ((c : Kind) → H (exactly c) → Gives G (k c)) → Gives G (onKind l (refused 11 p) k)
 unfolding onKind
 gives-kind H p collection h g = no-type
 gives-kind H p (exactly c) h g = g c h
+
+-- a definition that is typed has its own type
+pub definition-type : (s : Schema) (d : Definition) (t : Ty) → typeDefinition s d .answer ≡ typed t → t ≡ d .type
+unfolding typeDefinition andThen thenFor
+definition-type s d t e = go (typeRule s (d .context) (d .body) .answer) (typeRule s (d .context) (d .body) .marks) e
+  where
+    go : (a : Answer) (m : Marks) → thenFor a m (λ u. pure (below s (root (d .body)) u (d .type) (typed (d .type)))) .answer ≡ typed t → t ≡ d .type
+    go (typed u) m e = gives-type {G = λ w. w ≡ d .type} (gives-if (subtype (s .parent) u (d .type)) (λ h. gives refl) no-type) e
+    go (refused n p) m e = absurd (let z : _≡_ {A = ℕ} 0 1 = cc in omega linear)

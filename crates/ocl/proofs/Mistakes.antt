@@ -6,7 +6,8 @@ use Rattle.ocl.specs.Values.{size, add, append, orderInt}
 use Rattle.ocl.specs.Model.{classIsA, isA, declared, nearest, rowRead}
 use Rattle.ocl.specs.Environment.{extend, start}
 use Rattle.ocl.specs.Typing.{thenFor, andThen, common, onCollection, boundType, leafType, castType, unaryType, bothBelow, binaryType, conditionalType, onClass, rowMarked, rowType, attributeType, leafTyping, unaryTyping, binaryTyping, conditionalTyping, letTyping, attributeTyping, typing, typeRule, markOr, markIn}
-use Rattle.ocl.specs.Evaluation.{tick, form, isLess, inRange, ranged, arithmetic, leafRun, leftFits, binaryApply, binaryRun, conditionalRun, letRun, hasRow, valueInRow, access, attributeRun, endsAt, seek, quantifiedRun, fold, iterateRun, noOperandRun, operandRun, assembleRun, evaluation, evaluateRule}
+use Rattle.ocl.specs.Operations.{form, isLess, inRange, ranged, arithmetic, leftFits, binaryApply, hasRow, valueInRow, access}
+use Rattle.ocl.specs.Evaluation.{tick, leafRun, binaryRun, conditionalRun, letRun, attributeRun, endsAt, seek, quantifiedRun, fold, iterateRun, noOperandRun, operandRun, assembleRun, evaluation, evaluateRule}
 use Rattle.ocl.specs.Worked.{parents, undef₀, int₀}
 use Rattle.ocl.specs.Mistakes.{redeclared, onlyObject, nineAndTrue, model, ruleTyping, outcomeIn, attribute₅, hidden, oneBranch, oneThree, eachBelow, blankThen, sumOf, outerSeen, trueAfter, Mistakes}
 

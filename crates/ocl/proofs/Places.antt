@@ -2,7 +2,7 @@
 use mathlib.Core.Path.{_≡_, refl, subst}
 use mathlib.Core.Bool.{Bool, true, false, _&&_, _||_}
 use mathlib.Core.Option.{Option, none, some}
-use mathlib.Core.List.{List, _++_}
+use mathlib.Core.List.{List, [], _∷_, _++_}
 use Prim.Native.Nat.{ℕ, _≤_, _<_}
 use native.Mathlib.Omega.{arith as linear}
 use lib.Dec.{T, eqb, leb, leb→le}
@@ -11,8 +11,8 @@ use Rattle.laws.specs.Lists.{member, Each}
 use Rattle.ocl.specs.Environment.{Env, extend, start}
 use Rattle.ocl.specs.Types.{any, boolean, integer, class, Kind, set, sequence, bag, Letter, collection, exactly, Ty, void, simple, around, Class, Boolean, Integer, depth, sameKind, subtype, join}
 use Rattle.ocl.specs.Model.{Schema}
-use Rattle.ocl.specs.Forms.{Access, ofObject, ofMembers, Leaf, truth, undef, number, self, var, all, Unary, negation, sizeOf, convert, castTo, Binary, equal, less, arith, includes, including, union, Expr, node, Form, leaf, unary, binary, connective, isUndef, conditional, letIn, attribute, quantified, iterate, assemble, Operands, noOperand, operand}
-use Rattle.ocl.specs.Typing.{Answer, typed, refused, Mark, ofRow, ofRows, rowMarked, kindMarked, Marks, Typed, pure, thenFor, andThen, below, common, wrap, onCollection, onClass, onKind, boundType, leafType, castType, unaryType, bothBelow, binaryType, conditionalType, collectKind, rowType, attributeType, leafTyping, unaryTyping, binaryTyping, connectiveTyping, isUndefTyping, conditionalTyping, letTyping, attributeTyping, quantifiedTyping, iterateTyping, noOperandTyping, operandTyping, assembleTyping, typing, formTyping, operandsTyping, typeRule, markOr, markIn}
+use Rattle.ocl.specs.Forms.{Access, ofObject, ofMembers, Leaf, truth, undef, number, self, var, all, Unary, negation, sizeOf, convert, castTo, Binary, equal, less, arith, includes, including, union, Expr, node, Form, leaf, unary, binary, connective, isUndef, conditional, letIn, attribute, call, quantified, iterate, assemble, Operands, noOperand, operand, Definition}
+use Rattle.ocl.specs.Typing.{Answer, typed, refused, Mark, ofRow, ofRows, rowMarked, kindMarked, Marks, Typed, pure, thenFor, andThen, below, common, wrap, onCollection, onClass, onKind, boundType, leafType, castType, unaryType, bothBelow, binaryType, conditionalType, collectKind, rowType, attributeType, leafTyping, unaryTyping, binaryTyping, connectiveTyping, isUndefTyping, conditionalTyping, letTyping, attributeTyping, callType, callTyping, quantifiedTyping, iterateTyping, noOperandTyping, operandTyping, assembleTyping, typing, formTyping, operandsTyping, typeRule, root, typeDefinition, markOr, markIn}
 use Rattle.ocl.specs.Laws.{Refusal, EachMark, no-mark, mark-then, TypingPlacesLaw, numbers, numbersIn, numbersOf}
 use Rattle.laws.proofs.Tests.{and-l, and-r, by-if, All?, all-none, all-some}
 use Rattle.laws.proofs.Lists.{each-left, each-right, each-head, each-member}
@@ -154,6 +154,19 @@ module _ (s : Schema) (P : ℕ → Type 0) where
   unfolding conditionalType
   conditional-says c t u q = says-below c Boolean q (says-common (join (s .parent) t u) q (λ w. yes-type))
 
+  says-class : {p : ℕ} {k : ℕ → Answer} (t : Ty) → P p → ((c : ℕ) → Says (k c)) → Says (onClass t (refused 11 p) k)
+  unfolding onClass
+  says-class void q h = no-type tt q
+  says-class (simple any) q h = no-type tt q
+  says-class (simple boolean) q h = no-type tt q
+  says-class (simple integer) q h = no-type tt q
+  says-class (simple (class c)) q h = h c
+  says-class (around l t) q h = no-type tt q
+
+  call-says : {p : ℕ} (c : ℕ) (t u : Ty) → P p → Says (callType s p c t u)
+  unfolding callType
+  call-says c t u q = says-class u q (λ d. says-below (Class d) (Class c) q yes-type)
+
   row-known : {p : ℕ} (mark : ℕ → Mark) (k : Ty → Answer) {o : Option ℕ} → P p → ((t : Ty) → Says (k t)) → All? (λ i. Plain (mark i)) o → Known (rowType s p mark k o)
   unfolding rowType
   row-known mark k q g all-none = known-pure (no-type tt q)
@@ -182,7 +195,7 @@ module _ (s : Schema) (P : ℕ → Type 0) where
   -- ---- the induction
 
   mutual
-    unfolding numbers typing leafTyping unaryTyping binaryTyping connectiveTyping isUndefTyping conditionalTyping letTyping attributeTyping quantifiedTyping iterateTyping noOperandTyping operandTyping assembleTyping
+    unfolding numbers typing leafTyping unaryTyping binaryTyping connectiveTyping isUndefTyping conditionalTyping letTyping attributeTyping callTyping quantifiedTyping iterateTyping noOperandTyping operandTyping assembleTyping
 
     known : (e : Expr) → Each P (numbers e) → (Γ : Env Ty) → Known (typing s e Γ)
     known (node p f) h Γ = known-form f p (each-left (numbersIn f) _ h) (each-head (each-right (numbersIn f) h)) Γ
@@ -198,6 +211,7 @@ module _ (s : Schema) (P : ℕ → Type 0) where
         known-then (known c (each-left (numbers c) _ h) Γ) (λ x. known-then (known a (each-left (numbers a) _ r) Γ) (λ t. known-last (known b (each-right (numbers a) r) Γ) (λ u. conditional-says x t u q)))
     known-form (letIn i a b) p h q Γ = known-then (known a (each-left (numbers a) _ h) Γ) (λ t. known b (each-right (numbers a) h) (extend Γ i t))
     known-form (attribute x name a) p h q Γ = known-then (known a h Γ) (λ t. attribute-known x name t q)
+    known-form (call c u a b) p h q Γ = known-last (known a h Γ) (λ t. call-says c u t q)
     known-form (quantified z i a b) p h q Γ = known-then (known a (each-left (numbers a) _ h) Γ) (λ t. known-collection t (known-pure (no-type tt q))
         (λ l m. known-last (known b (each-right (numbers a) h) (extend Γ i m)) (λ u. says-below u Boolean q yes-type)))
     known-form (iterate i j t a e b) p h q Γ = let r = each-right (numbers a) h in
@@ -223,6 +237,10 @@ refusal-of {ns} {n = k} {p = o} (no-type {n} {p} h q) e =
     }
 refusal-of yes-type e = absurd (let z : _≡_ {A = ℕ} 0 1 = cc in omega linear)
 
+root-member : (e : Expr) → T (member (root e) (numbers e))
+unfolding root numbers
+root-member (node p f) = each-head (each-right (numbersIn f) (each-member (numbersIn f ++ (p ∷ []))))
+
 pub typing-places : TypingPlacesLaw
 typing-places s e Γ =
     let h = known s (λ m. T (member m (numbers e))) e (each-member (numbers e)) Γ in
@@ -230,6 +248,15 @@ typing-places s e Γ =
       refusals = λ n p r. refusal-of (h .says) r;
       marked = each-mark-imp (λ p i q. record { placed = q .0; is-row = q .1 .row; no-set = q .1 .no-set }) (h .marks);
     }
+
+-- a definition's, its root's too
+definition-known : (s : Schema) (d : Definition) → Known s (λ m. T (member m (numbers (d .body)))) (typeDefinition s d)
+unfolding typeDefinition typeRule
+definition-known s d = known-last s (λ m. T (member m (numbers (d .body)))) (known s (λ m. T (member m (numbers (d .body)))) (d .body) (each-member (numbers (d .body))) (start (Class (d .context))))
+    (λ t. says-below s _ t (d .type) (root-member (d .body)) yes-type)
+
+pub definition-places : (s : Schema) (d : Definition) (n p : ℕ) → typeDefinition s d .answer ≡ refused n p → Refusal (numbers (d .body)) n p
+definition-places s d n p e = refusal-of (definition-known s d .says) e
 
 -- ---- the marks as evaluation reads them
 
@@ -247,6 +274,9 @@ pub rule-rows : (s : Schema) (c : ℕ) (e : Expr) {n : ℕ} → s .rowCount ≤ 
 unfolding typeRule
 rule-rows s c e l = each-mark-imp (λ q x k. let r = k .is-row in omega linear) (typing-places s e (start (Class c)) .marked)
 
+pub definition-rows : (s : Schema) (d : Definition) {n : ℕ} → s .rowCount ≤ n → EachMark (λ q x. rowMarked x < n) (typeDefinition s d .marks)
+definition-rows s d l = each-mark-imp (λ q x k. let r = k .1 .row in omega linear) (definition-known s d .marks)
+
 -- and its kind is no Set, if none is
 pub mark-no-set : {m : Marks} (p : ℕ) → EachMark (λ q x. kindMarked x ≡ set → ⊥) m → kindMarked (markIn m p) ≡ set → ⊥
 unfolding markIn kindMarked
@@ -255,3 +285,6 @@ mark-no-set p k = each-or (λ x. kindMarked x ≡ set → ⊥) (ofRow 0) p (λ e
 pub rule-no-set : (s : Schema) (c : ℕ) (e : Expr) → EachMark (λ q x. kindMarked x ≡ set → ⊥) (typeRule s c e .marks)
 unfolding typeRule
 rule-no-set s c e = each-mark-imp (λ q x k. k .no-set) (typing-places s e (start (Class c)) .marked)
+
+pub definition-no-set : (s : Schema) (d : Definition) → EachMark (λ q x. kindMarked x ≡ set → ⊥) (typeDefinition s d .marks)
+definition-no-set s d = each-mark-imp (λ q x k. k .1 .no-set) (definition-known s d .marks)

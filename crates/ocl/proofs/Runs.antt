@@ -11,7 +11,8 @@ use Rattle.ocl.specs.Types.{Ty}
 use Rattle.ocl.specs.Values.{Value, bool, int, obj, coll, Values, count, size}
 use Rattle.ocl.specs.Model.{Model, belongs}
 use Rattle.ocl.specs.Forms.{Quantifier}
-use Rattle.ocl.specs.Evaluation.{Outcome, value, undefined, stuck, stop, Stop, step-stop, size-stop, range-stop, stepsOf, Run, resume, bind, tick, form, onBool, endsAt, seek, fold}
+use Rattle.ocl.specs.Operations.{Outcome, value, undefined, stuck, stop, Stop, step-stop, size-stop, range-stop, stepsOf, form, onBool}
+use Rattle.ocl.specs.Evaluation.{Run, resume, bind, tick, endsAt, seek, fold}
 use Rattle.ocl.specs.Laws.{integersInRange, Formed}
 use Rattle.ocl.specs.Soundness.{Sound}
 use Rattle.laws.proofs.Tests.{by-if}

@@ -8,7 +8,7 @@ use Rattle.laws.specs.Orders.{reverse}
 use Rattle.ocl.specs.Types.{class, Kind, set, sequence, bag}
 use Rattle.ocl.specs.Values.{Value, obj, Values, nil, cons, thenOrder, sort, rank, orderInt, headOrder, order, put, insert, append, add, addAll}
 use Rattle.ocl.specs.Model.{Model, isA}
-use Rattle.ocl.specs.Evaluation.{instances}
+use Rattle.ocl.specs.Operations.{instances}
 use Rattle.ocl.specs.Laws.{InOrder, ascends, repeats, anyhow, Sorted, sorted-nil, sorted-one, sorted-cons}
 use Rattle.laws.proofs.Tests.{by-if}
 use Rattle.laws.proofs.Orders.{compare-lt}

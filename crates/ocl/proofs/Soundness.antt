@@ -1,132 +1,38 @@
 -- Demand 3: one induction over the forms, with a law for each piece that typing and evaluation are written in. Assumes nothing.
-use mathlib.Core.Path.{_≡_, refl, sym, _∙_, subst}
-use mathlib.Core.Bool.{true, false, not, _||_, Bool·beq}
-use mathlib.Core.Option.{Option, none, some}
-use Prim.Native.Nat.{ℕ, zero, suc, _+_, _*_}
+use mathlib.Core.Path.{_≡_, refl, sym, subst}
+use mathlib.Core.Bool.{true, false, Bool·beq}
+use mathlib.Core.Option.{Option}
+use mathlib.Core.List.{List, _++_}
+use Prim.Native.Nat.{ℕ, _+_, _*_}
 use native.Mathlib.Nat.{mul-le-mul-right}
 use native.Mathlib.Omega.{arith as linear}
-use lib.IntN.{pos}
 use lib.Dec.{T, T-not}
 use Rattle.laws.specs.Choice.{onSome, mapSome}
 use Rattle.laws.specs.Lists.{Each}
 use Rattle.ocl.specs.Environment.{Env, extend, start}
-use Rattle.ocl.specs.Types.{Simple, any, boolean, integer, class, Kind, set, Letter, exactly, Ty, void, simple, around, Boolean, Integer, Class, letterSubtype, sameKind, subtype}
-use Rattle.ocl.specs.Values.{Value, bool, int, obj, coll, Values, nil, cons, count, size, orderInt, same, has, add}
+use Rattle.ocl.specs.Types.{class, Kind, Letter, exactly, Ty, void, around, Boolean, Class, letterSubtype, subtype}
+use Rattle.ocl.specs.Values.{Value, bool, int, obj, coll, Values, nil, cons, size, add}
 use Rattle.ocl.specs.Model.{Model, schemaOf, isA, every}
-use Rattle.ocl.specs.Forms.{Connective, Quantifier, Access, ofObject, ofMembers, Leaf, truth, undef, number, self, var, all, Unary, negation, sizeOf, convert, castTo, Binary, equal, less, arith, includes, including, union, Expr, node, Form, leaf, unary, binary, connective, isUndef, conditional, letIn, attribute, quantified, iterate, assemble, Operands, noOperand, operand, reach, inside, reaches}
-use Rattle.ocl.specs.Laws.{literals, Agree}
-use Rattle.ocl.specs.Typing.{Answer, typed, Mark, ofRow, ofRows, rowMarked, kindMarked, wrap, collectKind, boundType, leafType, castType, unaryType, bothBelow, binaryType, conditionalType, rowType, attributeType, leafTyping, unaryTyping, binaryTyping, connectiveTyping, isUndefTyping, conditionalTyping, letTyping, attributeTyping, quantifiedTyping, iterateTyping, noOperandTyping, operandTyping, assembleTyping, typing, formTyping, operandsTyping, typeRule}
-use Rattle.ocl.specs.Evaluation.{Run, isLess, inRange, instances, leafRun, cast, unaryApply, unaryRun, leftFits, binaryApply, binaryRun, decides, connectiveRun, isUndefRun, conditionalRun, letRun, hasRow, valueInRow, valuesInRow, formAll, access, attributeRun, quantifiedRun, iterateRun, Gather, noOperandRun, operandRun, assembleRun, evaluation, formRun, operandsRun, evaluateRule, bound as boundRun}
-use Rattle.ocl.specs.Soundness.{AcceptedModel, Sound, Soundness}
-use Rattle.laws.proofs.Tests.{by-if, All?, all-none, all-some, Any?, any-some, all-imp, all-self, at-some}
+use Rattle.ocl.specs.Forms.{Connective, Quantifier, Access, ofObject, ofMembers, Expr, node, Form, leaf, unary, binary, connective, isUndef, conditional, letIn, attribute, call, quantified, iterate, assemble, Operands, noOperand, operand, Definition, reach, inside, reaches}
+use Rattle.ocl.specs.Laws.{literals, calls, callsIn, callsOf, Agree}
+use Rattle.ocl.specs.Typing.{Answer, typed, Mark, ofRow, ofRows, rowMarked, kindMarked, wrap, collectKind, bothBelow, conditionalType, rowType, attributeType, leafTyping, unaryTyping, binaryTyping, connectiveTyping, isUndefTyping, conditionalTyping, letTyping, attributeTyping, callType, callTyping, quantifiedTyping, iterateTyping, noOperandTyping, operandTyping, assembleTyping, typing, formTyping, operandsTyping, typeRule, root, typeDefinition}
+use Rattle.ocl.specs.Operations.{inRange, hasRow, valueInRow, valuesInRow, formAll, access}
+use Rattle.ocl.specs.Evaluation.{Run, decides, connectiveRun, isUndefRun, conditionalRun, letRun, attributeRun, callRun, quantifiedRun, iterateRun, Gather, noOperandRun, operandRun, assembleRun, evaluation, formRun, operandsRun, evaluateRule}
+use Rattle.ocl.specs.Soundness.{AcceptedModel, Sound, TypedDefinition, Soundness}
+use Rattle.laws.proofs.Tests.{All?, all-none, all-some, all-imp, all-self}
+use Rattle.laws.proofs.Lists.{each-head, each-left, each-right}
 use Rattle.ocl.proofs.SimpleTypes.{climb→simpleSubtype, boolean-not-class, integer-not-class}
-use Rattle.ocl.proofs.Types.{sameKind→eq, sameKind-refl}
-use Rattle.ocl.proofs.Values.{Every, every-nil, every-test, all-each, append-every, add-every, addAll-every, Belongs, belongs-by, belongs-test, isA-up, Above, rowRead-above}
-use Rattle.ocl.proofs.Runs.{Safe, safe-weak, safe-le, safe-value, safe-undefined, safe-resume, safe-bind, safe-tick, safe-if, safe-fold, safe-seek, Fits, fine-sound, safe-zero}
-use Rattle.ocl.proofs.Means.{Gives, no-type, gives, gives-type, Means, means-pure, means-then, means-imp, means-collection, means-class, means-if, gives-if, gives-common, gives-wrap, gives-collection, gives-kind}
-use Rattle.ocl.proofs.ByType.{Ok, Below, EnvOk, Sem, SemAll, below-by, gives-below, joined, below-same, below-then, extend-ok, ok-up, is-bool, bool-sem, int-of, int-sem, int-fits, coll-of, coll-sem, coll-fits, bool-ok, int-ok, give-bool, give-int, given-sem, result-sem, form-sem, bels}
-use Rattle.ocl.proofs.Ends.{arithmetic-all}
+use Rattle.ocl.proofs.Types.{sameKind-refl}
+use Rattle.ocl.proofs.Values.{Every, every-nil, every-test, all-each, add-every, addAll-every, Belongs, belongs-by, belongs-test, isA-up, Above, rowRead-above}
+use Rattle.ocl.proofs.Runs.{Safe, safe-weak, safe-le, safe-undefined, safe-resume, safe-bind, safe-tick, safe-if, safe-fold, safe-seek, Fits, fine-sound, safe-zero}
+use Rattle.ocl.proofs.Means.{Gives, no-type, gives, gives-type, Means, means-pure, means-then, means-imp, means-collection, means-class, means-if, gives-common, gives-class, gives-wrap}
+use Rattle.ocl.proofs.ByType.{Ok, Below, Sem, EnvOk, SemAll, below-by, gives-below, joined, below-same, below-then, extend-ok, ok-up, is-bool, bool-sem, obj-sem, coll-of, coll-sem, bool-ok, give-bool, given-sem, form-sem, bels}
+use Rattle.ocl.proofs.StrictForms.{leaf-sem, unary-sem, binary-sem}
 use Rattle.ocl.proofs.InRange.{ends-in-range}
 use Rattle.ocl.proofs.Formed.{formed-ends}
 use Rattle.ocl.proofs.Marks.{marks-first}
 
 module _ (s : Model) (ok : AcceptedModel s) (mark : ℕ → Mark) where
-  -- ---- forms with no operand
-
-  bound-sem : {k : ℕ} {t : Ty} {x : Option Value} → Any? (Ok s t) x → Safe (Ok s t) k (λ n. boundRun x n)
-  bound-sem (any-some {x} h) = safe-value x h
-
-  bound-gives : {Γ : Env Ty} (p i : ℕ) {f : Run} → ((ρ : Env Value) (t : Ty) → Any? (Ok s t) (ρ i) → Safe (Ok s t) 0 (f ρ)) → Gives (λ t. Sem s Γ 0 t f) (boundType p (Γ i))
-  unfolding boundType
-  bound-gives {Γ} p i {f} g = go (Γ i) (λ ρ r. r .vars i)
-    where
-      go : (o : Option Ty) → ((ρ : Env Value) → EnvOk s Γ ρ → All? (λ t. Any? (Ok s t) (ρ i)) o) → Gives (λ t. Sem s Γ 0 t f) (boundType p o)
-      go none h = no-type
-      go (some t) h = gives (record { run = λ ρ r. g ρ t (at-some (h ρ r)) })
-
-  instances-sem : (c n : ℕ) → Every (Belongs s (Class c)) (instances s c n)
-  unfolding instances Belongs
-  instances-sem c zero = every-nil
-  instances-sem c (suc n) = by-if (Every (Belongs s (Class c))) (isA s n (class c)) _ _ (λ t. append-every (obj n) t (instances-sem c n)) (λ t. instances-sem c n)
-
-  leaf-sem : {Γ : Env Ty} (p : ℕ) (l : Leaf) → Gives (λ t. Sem s Γ 0 t (leafRun s l)) (leafType p l Γ)
-  unfolding leafType leafRun letterSubtype
-  leaf-sem p (truth b) = gives (record { run = λ ρ r. give-bool b })
-  leaf-sem p undef = gives (record { run = λ ρ r. safe-undefined })
-  leaf-sem p (number z) = gives (record { run = λ ρ r. give-int z })
-  leaf-sem p self = bound-gives p 0 (λ ρ t h. bound-sem h)
-  leaf-sem p (var i) = bound-gives p i (λ ρ t h. bound-sem h)
-  leaf-sem p (all c) = gives (record { run = λ ρ r. form-sem set _ (sameKind-refl set) (instances-sem c (s .objectCount)) })
-
-  -- ---- forms with one strict operand
-
-  unary-run : {Γ : Env Ty} {k : ℕ} {t u : Ty} {f : Run} (op : Unary) → Sem s Γ k t f → ((v : Value) → Ok s t v → Safe (Ok s u) 0 (unaryApply s op v)) → Sem s Γ k u (unaryRun s op f)
-  unfolding unaryRun
-  unary-run op h g = record { run = λ ρ r. safe-le (omega linear) (safe-bind (h .run ρ r) g) }
-
-  cast-safe : {k : ℕ} {a : Simple} (c : ℕ) (v : Value) → Ok s (simple a) v → Safe (Ok s (Class c)) k (cast s c v)
-  unfolding cast Belongs size
-  cast-safe c (bool b) p = safe-undefined
-  cast-safe c (int z) p = safe-undefined
-  cast-safe c (obj o) p = safe-if (isA s o (class c)) (λ t. safe-value (obj o) (record { bel = t; fits = omega linear })) (λ t. safe-undefined)
-  cast-safe c (coll k vs) p = absurd (p .bel)
-
-  cast-sem : {Γ : Env Ty} {k : ℕ} {f : Run} (p c : ℕ) (t : Ty) → Sem s Γ k t f → Gives (λ u. Sem s Γ k u (unaryRun s (castTo c) f)) (castType (schemaOf s) p c t)
-  unfolding castType unaryApply
-  cast-sem p c void h = no-type
-  cast-sem p c (simple any) h = gives (unary-run (castTo c) h (λ v i. cast-safe c v i))
-  cast-sem p c (simple boolean) h = no-type
-  cast-sem p c (simple integer) h = no-type
-  cast-sem p c (simple (class d)) h = gives-if (subtype (s .parent) (Class d) (Class c) || subtype (s .parent) (Class c) (Class d)) (λ x. gives (unary-run (castTo c) h (λ v i. cast-safe c v i))) no-type
-  cast-sem p c (around l t) h = no-type
-
-  unary-sem : {Γ : Env Ty} {k : ℕ} {t : Ty} {f : Run} (p : ℕ) (op : Unary) → Sem s Γ k t f → Gives (λ u. Sem s Γ k u (unaryRun s op f)) (unaryType (schemaOf s) p op t)
-  unfolding unaryType unaryApply letterSubtype
-  unary-sem {t = t} p negation h = gives-below ok p t Boolean (λ l. gives (unary-run negation h (λ v i. bool-sem v l i (λ b. give-bool (not b)))))
-  unary-sem {Γ} {k} {t} {f} p sizeOf h = gives-collection (λ t. Sem s Γ k t f) p t h (λ l m h. gives (unary-run sizeOf h (λ v i. coll-sem (coll-of v i) (λ k vs x y z. give-int (pos (count vs))))))
-  unary-sem {Γ} {k} {t} {f} p (convert c) h = gives-collection (λ t. Sem s Γ k t f) p t h (λ l m h. gives-wrap p (exactly c) m
-      (unary-run (convert c) h (λ v i. coll-sem (coll-of v i) (λ j vs x y z. form-sem c _ (sameKind-refl c) (addAll-every c (bels below-same y) every-nil)))))
-  unary-sem {t = t} p (castTo c) h = cast-sem p c t h
-
-  -- ---- forms with two strict operands
-
-  binary-run : {Γ : Env Ty} {k n : ℕ} {t u w : Ty} {f g : Run} (op : Binary) → Sem s Γ k t f → Sem s Γ n u g → ((v : Value) → Ok s t v → T (leftFits op v))
-      → ((v x : Value) → Ok s t v → Ok s u x → Safe (Ok s w) 0 (binaryApply op v x)) → Sem s Γ (k + n) w (binaryRun op f g)
-  unfolding binaryRun
-  binary-run op hf hg fit ap = record {
-    run = λ ρ r. safe-bind (hf .run ρ r) (λ v i. safe-if (leftFits op v)
-        (λ t. safe-le (omega linear) (safe-bind (hg .run ρ r) (λ x j. ap v x i j))) (λ t. absurd (T-not (leftFits op v) t (fit v i))));
-  }
-
-  same-kind : (j k c d : Kind) → T (sameKind j c) → T (sameKind c d) → T (sameKind k d) → T (sameKind j k)
-  same-kind j k c d p q r = subst (λ x. T (sameKind j x)) (sameKind→eq j c p ∙ sameKind→eq c d q ∙ sym (sameKind→eq k d r)) (sameKind-refl j)
-
-  union-run : {Γ : Env Ty} {k n : ℕ} {m o w : Ty} {f g : Run} (c d : Kind) → T (sameKind c d) → Below s m w → Below s o w → Sem s Γ k (around (exactly c) m) f → Sem s Γ n (around (exactly d) o) g
-      → Sem s Γ (k + n) (around (exactly c) w) (binaryRun union f g)
-  unfolding leftFits binaryApply letterSubtype
-  union-run c d e p q hf hg = binary-run union hf hg (λ v i. coll-fits (coll-of v i))
-      (λ v x i j. coll-sem (coll-of v i) (λ a vs y h z. coll-sem (coll-of x j) (λ b ws y' h' z'. safe-if (sameKind a b)
-      (λ tr. form-sem a _ y (addAll-every a (bels q h') (bels p h)))
-      (λ fa. absurd (T-not (sameKind a b) fa (same-kind a b c d y e y'))))))
-
-  binary-sem : {Γ : Env Ty} {k n : ℕ} {t u : Ty} {f g : Run} (p : ℕ) (op : Binary) → Sem s Γ k t f → Sem s Γ n u g → Gives (λ w. Sem s Γ (k + n) w (binaryRun op f g)) (binaryType (schemaOf s) p op t u)
-  unfolding binaryType bothBelow leftFits binaryApply letterSubtype
-  binary-sem {t = t} {u = u} p equal hf hg = gives-common p (joined ok t u) (λ w q. gives (binary-run equal hf hg (λ v i. tt) (λ v x i j. give-bool (same v x))))
-  binary-sem {t = t} {u = u} p less hf hg = gives-below ok p t Integer (λ a. gives-below ok p u Integer (λ b. gives (binary-run less hf hg (λ v i. int-fits (int-of v a i))
-      (λ v x i j. int-sem (int-of v a i) (λ y. int-sem (int-of x b j) (λ z. give-bool (isLess (orderInt y z))))))))
-  binary-sem {t = t} {u = u} p (arith o) hf hg = gives-below ok p t Integer (λ a. gives-below ok p u Integer (λ b. gives (binary-run (arith o) hf hg (λ v i. int-fits (int-of v a i))
-      (λ v x i j. int-sem (int-of v a i) (λ y. int-sem (int-of x b j) (λ z. result-sem (arithmetic-all (Ok s Integer) (λ z h. int-ok z) o y z)))))))
-  binary-sem {Γ} {k} {t = t} {u = u} {f = f} p includes hf hg = gives-collection (λ t. Sem s Γ k t f) p t hf (λ l m hf. gives-common p (joined ok m u) (λ w q.
-      gives (binary-run includes hf hg (λ v i. coll-fits (coll-of v i)) (λ v x i j. coll-sem (coll-of v i) (λ c vs y h z. give-bool (has x vs))))))
-  binary-sem {Γ} {k} {t = t} {u = u} {f = f} p including hf hg = gives-collection (λ t. Sem s Γ k t f) p t hf (λ l m hf. gives-kind (λ l. Sem s Γ k (around l m) f) p l hf (λ c hf.
-      gives-common p (joined ok m u) (λ w q. gives-wrap p (exactly c) w (binary-run including hf hg (λ v i. coll-fits (coll-of v i))
-      (λ v x i j. coll-sem (coll-of v i) (λ d vs y h z. form-sem d _ y (add-every d x (ok-up (q .1) j .bel) (bels (q .0) h))))))))
-  binary-sem {Γ} {k} {n} {t} {u} {f} {g} p union hf hg = gives-collection (λ t. Sem s Γ k t f) p t hf (λ l m hf. gives-kind (λ l. Sem s Γ k (around l m) f) p l hf (λ c hf.
-      gives-collection (λ t. Sem s Γ n t g) p u hg (λ r o hg. gives-kind (λ l. Sem s Γ n (around l o) g) p r hg (λ d hg.
-      gives-if (sameKind c d) (λ e. gives-common p (joined ok m o) (λ w q. gives-wrap p (exactly c) w (union-run c d e (q .0) (q .1) hf hg))) no-type))))
-
-  -- ---- the other forms
-
   connective-sem : {Γ : Env Ty} {k n : ℕ} {t u : Ty} {f g : Run} (c : Connective) → Below s t Boolean → Below s u Boolean → Sem s Γ k t f → Sem s Γ n u g → Sem s Γ (k + n) Boolean (connectiveRun c f g)
   unfolding connectiveRun
   connective-sem c l m hf hg = record {
@@ -213,6 +119,35 @@ module _ (s : Model) (ok : AcceptedModel s) (mark : ℕ → Mark) where
       row-means f p ofMembers (ofRows (collectKind l)) (around (exactly (collectKind l))) (wrap p (exactly (collectKind l))) (λ t. gives-wrap p _ t refl) (rowRead-above (schemaOf s) c name)
       (λ i a. members-sem (collectKind l) i a h)))
 
+  -- ---- a call
+
+  start-ok : (c o : ℕ) → T (isA s o (class c)) → EnvOk s (start (Class c)) (start (obj o))
+  unfolding start Belongs size
+  start-ok c o a = extend-ok 0 (record { vars = λ i. all-none }) (record { bel = a; fits = omega linear })
+
+  sem-up : {Γ : Env Ty} {k : ℕ} {t u : Ty} {f : Run} → Below s t u → Sem s Γ k t f → Sem s Γ k u f
+  sem-up l h = record { run = λ ρ r. safe-weak (λ v. ok-up l) (omega linear) (h .run ρ r) }
+
+  call-sem : {Γ : Env Ty} {k n c d : ℕ} {t : Ty} {f g : Run} → Below s (Class d) (Class c) → Sem s Γ k (Class d) f → Sem s (start (Class c)) n t g → Sem s Γ (k + n) t (callRun s c f g)
+  unfolding callRun
+  call-sem {c} l hf hg = record {
+    run = λ ρ r. safe-bind (hf .run ρ r) (λ v i. obj-sem v (ok-up l i) (λ o a.
+        safe-if (isA s o (class c)) (λ t. hg .run (start (obj o)) (start-ok c o a)) (λ t. absurd (T-not (isA s o (class c)) t a))));
+  }
+
+  call-gives : {Γ : Env Ty} {k n : ℕ} {f g : Run} (p c : ℕ) (t u : Ty) → Sem s Γ k u f → Sem s (start (Class c)) n t g → Gives (λ w. Sem s Γ (k + n) w (callRun s c f g)) (callType (schemaOf s) p c t u)
+  unfolding callType
+  call-gives {Γ} {k} {f = f} p c t u hf hg = gives-class (λ u. Sem s Γ k u f) p u hf (λ d hf. gives-below ok p (Class d) (Class c) (λ l. gives (call-sem l hf hg)))
+
+  -- a definition's body is of the definition's type
+  body-sem : {n : ℕ} {g : Run} (c : ℕ) (t : Ty) (b : Expr) → Means mark (λ u. Sem s (start (Class c)) n u g) (typing (schemaOf s) b (start (Class c)))
+      → TypedDefinition s mark (record { context = c; type = t; body = b }) → Sem s (start (Class c)) n t g
+  unfolding typeDefinition typeRule
+  body-sem {n} {g} c t b h d =
+      means-then {G = λ u. Sem s (start (Class c)) n u g} h (λ u hb. means-pure (gives-below ok (root b) u t (λ l. gives (sem-up l hb)))) .means t (d .typed-body) (d .marked)
+
+  -- ---- the other forms
+
   quantified-sem : {Γ : Env Ty} {k n : ℕ} {l : Letter} {m b : Ty} {f g : Run} (q : Quantifier) (i : ℕ) → Below s b Boolean → Sem s Γ k (around l m) f → Sem s (extend Γ i m) n b g → Sem s Γ (k + 127 * n) Boolean (quantifiedRun q i f g)
   unfolding quantifiedRun
   quantified-sem {n = n} q i p hf hg = record {
@@ -246,44 +181,51 @@ module _ (s : Model) (ok : AcceptedModel s) (mark : ℕ → Mark) where
 
   -- ---- the induction
 
+  abbrev Typed? : List Definition → Type 0
+  Typed? ds = Each (TypedDefinition s mark) ds
+
   mutual
-    unfolding reach evaluation typing bothBelow conditionalType leafTyping unaryTyping binaryTyping connectiveTyping isUndefTyping conditionalTyping letTyping attributeTyping quantifiedTyping iterateTyping noOperandTyping operandTyping assembleTyping
+    unfolding reach evaluation typing calls bothBelow conditionalType leafTyping unaryTyping binaryTyping connectiveTyping isUndefTyping conditionalTyping letTyping attributeTyping callTyping quantifiedTyping iterateTyping noOperandTyping operandTyping assembleTyping
 
-    sound : (e : Expr) (Γ : Env Ty) → Means mark (λ t. Sem s Γ (reach e) t (evaluation s mark e)) (typing (schemaOf s) e Γ)
-    sound (node p f) Γ = means-imp (λ t h. record { run = λ ρ r. safe-tick (formRun s mark p f) ρ (h .run ρ r) }) (sound-form p f Γ)
+    sound : (e : Expr) → Typed? (calls e) → (Γ : Env Ty) → Means mark (λ t. Sem s Γ (reach e) t (evaluation s mark e)) (typing (schemaOf s) e Γ)
+    sound (node p f) d Γ = means-imp (λ t h. record { run = λ ρ r. safe-tick (formRun s mark p f) ρ (h .run ρ r) }) (sound-form f p d Γ)
 
-    sound-form : (p : ℕ) (f : Form) (Γ : Env Ty) → Means mark (λ t. Sem s Γ (inside f) t (formRun s mark p f)) (formTyping (schemaOf s) p f Γ)
-    sound-form p (leaf l) Γ = means-pure (leaf-sem p l)
-    sound-form p (unary op a) Γ = means-then (sound a Γ) (λ t ha. means-pure (unary-sem p op ha))
-    sound-form p (binary op a b) Γ = means-then (sound a Γ) (λ t ha. means-then (sound b Γ) (λ u hb. means-pure (binary-sem p op ha hb)))
-    sound-form p (connective c a b) Γ = means-then (sound a Γ) (λ t ha. means-then (sound b Γ) (λ u hb.
+    sound-form : (f : Form) (p : ℕ) → Typed? (callsIn f) → (Γ : Env Ty) → Means mark (λ t. Sem s Γ (inside f) t (formRun s mark p f)) (formTyping (schemaOf s) p f Γ)
+    sound-form (leaf l) p d Γ = means-pure (leaf-sem s ok p l)
+    sound-form (unary op a) p d Γ = means-then (sound a d Γ) (λ t ha. means-pure (unary-sem s ok p op ha))
+    sound-form (binary op a b) p d Γ = means-then (sound a (each-left (calls a) (calls b) d) Γ) (λ t ha. means-then (sound b (each-right (calls a) d) Γ) (λ u hb. means-pure (binary-sem s ok p op ha hb)))
+    sound-form (connective c a b) p d Γ = means-then (sound a (each-left (calls a) (calls b) d) Γ) (λ t ha. means-then (sound b (each-right (calls a) d) Γ) (λ u hb.
         means-pure (gives-below ok p t Boolean (λ l. gives-below ok p u Boolean (λ m. gives (connective-sem c l m ha hb))))))
-    sound-form p (isUndef a) Γ = means-then (sound a Γ) (λ t ha. means-pure (gives (isUndef-sem ha)))
-    sound-form p (conditional c a b) Γ = means-then (sound c Γ) (λ t hc. means-then (sound a Γ) (λ u ha. means-then (sound b Γ) (λ w hb.
+    sound-form (isUndef a) p d Γ = means-then (sound a d Γ) (λ t ha. means-pure (gives (isUndef-sem ha)))
+    sound-form (conditional c a b) p d Γ = let r = each-right (calls c) d in
+        means-then (sound c (each-left (calls c) (calls a ++ calls b) d) Γ) (λ t hc. means-then (sound a (each-left (calls a) (calls b) r) Γ) (λ u ha. means-then (sound b (each-right (calls a) r) Γ) (λ w hb.
         means-pure (gives-below ok p t Boolean (λ l. gives-common p (joined ok u w) (λ x q. gives (conditional-sem l (q .0) (q .1) hc ha hb)))))))
-    sound-form p (letIn i a b) Γ = means-then (sound a Γ) (λ t ha. means-imp (λ u hb. let-sem i ha hb) (sound b (extend Γ i t)))
-    sound-form p (attribute x name a) Γ = means-then (sound a Γ) (λ t ha. attribute-sem p x name t ha)
-    sound-form p (quantified q i a b) Γ = means-then (sound a Γ) (λ t ha. means-collection (λ t. Sem s Γ (reach a) t (evaluation s mark a)) p t ha (λ l m ha.
-        means-then (sound b (extend Γ i m)) (λ u hb. means-pure (gives-below ok p u Boolean (λ x. gives (quantified-sem q i x ha hb))))))
-    sound-form p (iterate i j t a e b) Γ = means-then (sound a Γ) (λ c ha. means-then (sound e Γ) (λ u he.
+    sound-form (letIn i a b) p d Γ = means-then (sound a (each-left (calls a) (calls b) d) Γ) (λ t ha. means-imp (λ u hb. let-sem i ha hb) (sound b (each-right (calls a) d) (extend Γ i t)))
+    sound-form (attribute x name a) p d Γ = means-then (sound a d Γ) (λ t ha. attribute-sem p x name t ha)
+    -- the body by its definition's typing
+    sound-form (call c t a b) p d Γ = let r = each-right (calls a) d in let x = each-head (each-right (calls b) r) in
+        means-then (sound a (each-left (calls a) _ d) Γ) (λ u ha. means-pure (call-gives p c t u ha (body-sem c t b (sound b (each-left (calls b) _ r) (start (Class c))) x)))
+    sound-form (quantified q i a b) p d Γ = means-then (sound a (each-left (calls a) (calls b) d) Γ) (λ t ha. means-collection (λ t. Sem s Γ (reach a) t (evaluation s mark a)) p t ha (λ l m ha.
+        means-then (sound b (each-right (calls a) d) (extend Γ i m)) (λ u hb. means-pure (gives-below ok p u Boolean (λ x. gives (quantified-sem q i x ha hb))))))
+    sound-form (iterate i j t a e b) p d Γ = let r = each-right (calls a) d in
+        means-then (sound a (each-left (calls a) (calls e ++ calls b) d) Γ) (λ c ha. means-then (sound e (each-left (calls e) (calls b) r) Γ) (λ u he.
         means-collection (λ t. Sem s Γ (reach a) t (evaluation s mark a)) p c ha (λ l m ha. means-if (subtype (s .parent) u t) (λ x.
-        means-then (sound b (extend (extend Γ i m) j t)) (λ w hb. means-pure (gives-below ok p w t (λ y. gives (iterate-sem i j (below-by ok u t x) y ha he hb))))) (means-pure no-type))))
-    sound-form p (assemble k es) Γ = means-then (sound-all p es Γ) (λ t h. means-pure (gives-wrap p (exactly k) t (assemble-sem k h)))
+        means-then (sound b (each-right (calls e) r) (extend (extend Γ i m) j t)) (λ w hb. means-pure (gives-below ok p w t (λ y. gives (iterate-sem i j (below-by ok u t x) y ha he hb))))) (means-pure no-type))))
+    sound-form (assemble k es) p d Γ = means-then (sound-all es p d Γ) (λ t h. means-pure (gives-wrap p (exactly k) t (assemble-sem k h)))
 
-    sound-all : (p : ℕ) (es : Operands) (Γ : Env Ty) → Means mark (λ t. SemAll s Γ (reaches es) t (operandsRun s mark es)) (operandsTyping (schemaOf s) p es Γ)
-    sound-all p noOperand Γ = means-pure (gives no-operand-sem)
-    sound-all p (operand e es) Γ = means-then (sound e Γ) (λ t h. means-then (sound-all p es Γ) (λ u hs.
+    sound-all : (es : Operands) (p : ℕ) → Typed? (callsOf es) → (Γ : Env Ty) → Means mark (λ t. SemAll s Γ (reaches es) t (operandsRun s mark es)) (operandsTyping (schemaOf s) p es Γ)
+    sound-all noOperand p d Γ = means-pure (gives no-operand-sem)
+    sound-all (operand e es) p d Γ = means-then (sound e (each-left (calls e) (callsOf es) d) Γ) (λ t h. means-then (sound-all es p (each-right (calls e) d) Γ) (λ u hs.
         means-pure (gives-common p (joined ok t u) (λ w q. gives (operand-sem (q .0) (q .1) h hs)))))
 
   fits-of : {t : Ty} {v : Value} → Ok s t v → Fits s t v
   fits-of {t} {v} h = record { belong = belongs-test s t v (h .bel); small = h .fits }
 
-  sound-rule : (e : Expr) → Each (λ z. T (inRange z)) (literals e) → (c o : ℕ) (t : Ty) → typeRule (schemaOf s) c e .answer ≡ typed t → Agree mark (typeRule (schemaOf s) c e .marks) → T (isA s o (class c))
+  sound-rule : (e : Expr) → Each (λ z. T (inRange z)) (literals e) → Typed? (calls e) → (c o : ℕ) (t : Ty) → typeRule (schemaOf s) c e .answer ≡ typed t → Agree mark (typeRule (schemaOf s) c e .marks) → T (isA s o (class c))
       → Sound s t (reach e) (evaluateRule s mark e o)
-  unfolding typeRule evaluateRule start Belongs size
-  sound-rule e l c o t h g a = fine-sound s t _ _ (safe-zero (safe-weak (λ v. fits-of) (omega linear) (sound e (start (Class c)) .means t h g .run _
-      (extend-ok 0 (record { vars = λ i. all-none }) (record { bel = a; fits = omega linear }))))) (λ v n q. ends-in-range s ok mark e l o n v q)
-      (λ v n q. formed-ends s (record { stored-formed = ok .values-formed }) mark e .of-rule o n v q)
+  unfolding typeRule evaluateRule
+  sound-rule e l d c o t h g a = fine-sound s t _ _ (safe-zero (safe-weak (λ v. fits-of) (omega linear) (sound e d (start (Class c)) .means t h g .run _ (start-ok c o a))))
+      (λ v n q. ends-in-range s ok mark e l o n v q) (λ v n q. formed-ends s (record { stored-formed = ok .values-formed }) mark e .of-rule o n v q)
 
 pub soundness : Soundness
-soundness s ok mark e l c o t h g a = sound-rule s ok mark e l c o t h g a
+soundness s ok mark e l d c o t h g a = sound-rule s ok mark e l d c o t h g a

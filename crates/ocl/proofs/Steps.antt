@@ -12,9 +12,10 @@ use Rattle.ocl.specs.Types.{class, Kind, sameKind}
 use Rattle.ocl.specs.Values.{Value, bool, int, obj, coll, Values, nil, cons, size, add}
 use Rattle.ocl.specs.Model.{Model, isA, every}
 use Rattle.ocl.specs.Environment.{Env, extend, start}
-use Rattle.ocl.specs.Forms.{Connective, Quantifier, Access, ofObject, ofMembers, Leaf, truth, undef, number, self, var, all, Unary, negation, sizeOf, convert, castTo, Binary, equal, less, arith, includes, including, union, Expr, node, Form, leaf, unary, binary, connective, isUndef, conditional, letIn, attribute, quantified, iterate, assemble, Operands, noOperand, operand}
+use Rattle.ocl.specs.Forms.{Connective, Quantifier, Access, ofObject, ofMembers, Leaf, truth, undef, number, self, var, all, Unary, negation, sizeOf, convert, castTo, Binary, equal, less, arith, includes, including, union, Expr, node, Form, leaf, unary, binary, connective, isUndef, conditional, letIn, attribute, call, quantified, iterate, assemble, Operands, noOperand, operand}
 use Rattle.ocl.specs.Typing.{Mark, rowMarked, kindMarked}
-use Rattle.ocl.specs.Evaluation.{Outcome, value, undefined, stuck, stop, Stop, step-stop, size-stop, range-stop, stepsOf, Run, resume, bind, tick, form, given, bound, onBool, onInt, onColl, Result, result, noResult, overRange, resulting, arithmetic, leafRun, cast, unaryApply, unaryRun, leftFits, binaryApply, binaryRun, decides, connectiveRun, isUndefRun, conditionalRun, letRun, hasRow, valueInRow, valuesInRow, formAll, access, attributeRun, endsAt, seek, quantifiedRun, fold, iterateRun, Gather, noOperandRun, operandRun, assembleRun, evaluation, formRun, operandsRun, evaluateRule}
+use Rattle.ocl.specs.Operations.{Outcome, value, undefined, stuck, stop, Stop, step-stop, size-stop, range-stop, stepsOf, form, given, onBool, onInt, onObj, onColl, Result, result, noResult, overRange, resulting, arithmetic, cast, unaryApply, leftFits, binaryApply, hasRow, valueInRow, valuesInRow, formAll, access}
+use Rattle.ocl.specs.Evaluation.{Run, resume, bind, tick, bound, leafRun, unaryRun, binaryRun, decides, connectiveRun, isUndefRun, conditionalRun, letRun, attributeRun, callRun, endsAt, seek, quantifiedRun, fold, iterateRun, Gather, noOperandRun, operandRun, assembleRun, evaluation, formRun, operandsRun, evaluateRule}
 
 pub data Limited : Outcome → Type 0 where
   limited-value : {v : Value} {n : ℕ} → n ≤ 1000000 → Limited (value v n)
@@ -76,6 +77,12 @@ limited-int (bool b) h = limited-stuck
 limited-int (int z) h = h z
 limited-int (obj o) h = limited-stuck
 limited-int (coll c vs) h = limited-stuck
+
+limited-obj : {k : ℕ → Outcome} (v : Value) → ((o : ℕ) → Limited (k o)) → Limited (onObj v k)
+limited-obj (bool b) h = limited-stuck
+limited-obj (int z) h = limited-stuck
+limited-obj (obj o) h = h o
+limited-obj (coll c vs) h = limited-stuck
 
 limited-coll : {k : Kind → Values → Outcome} (v : Value) → ((c : Kind) (vs : Values) → Limited (k c vs)) → Limited (onColl v k)
 limited-coll (bool b) h = limited-stuck
@@ -184,6 +191,12 @@ module _ (s : Model) where
   unfolding attributeRun
   attribute-stays x m h = record { run = λ ρ n l. limited-bind (h .run ρ n l) (access-limited x m) }
 
+  call-stays : (c : ℕ) {f g : Run} → Stays f → Stays g → Stays (callRun s c f g)
+  unfolding callRun
+  call-stays c hf hg = record {
+    run = λ ρ n l. limited-bind (hf .run ρ n l) (λ v m k. limited-obj v (λ o. limited-if (isA s o (class c)) (hg .run (start (obj o)) m k) limited-stuck));
+  }
+
   quantified-stays : (q : Quantifier) (i : ℕ) {f g : Run} → Stays f → Stays g → Stays (quantifiedRun q i f g)
   unfolding quantifiedRun
   quantified-stays q i hf hg = record {
@@ -227,6 +240,7 @@ module _ (s : Model) where
       form-stays p (conditional c a b) = conditional-stays (all-stay c) (all-stay a) (all-stay b)
       form-stays p (letIn i a b) = let-stays i (all-stay a) (all-stay b)
       form-stays p (attribute x name a) = attribute-stays x (mark p) (all-stay a)
+      form-stays p (call c t a b) = call-stays c (all-stay a) (all-stay b)
       form-stays p (quantified q i a b) = quantified-stays q i (all-stay a) (all-stay b)
       form-stays p (iterate i j t a e b) = iterate-stays i j (all-stay a) (all-stay e) (all-stay b)
       form-stays p (assemble k es) = assemble-stays k (operands-gather es)

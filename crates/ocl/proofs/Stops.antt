@@ -6,11 +6,12 @@ use native.Mathlib.Omega.{arith}
 use Rattle.ocl.specs.Environment.{Env}
 use Rattle.ocl.specs.Values.{Value, bool}
 use Rattle.ocl.specs.Forms.{Connective, and, or}
-use Rattle.ocl.specs.Evaluation.{value, stop, Stop, step-stop, size-stop, range-stop, Run, inRange, ranged, unlessZero, quotient, remainder, arithmetic, unaryRun, binaryRun, decides, connectiveRun, isUndefRun, conditionalRun, letRun, attributeRun, seek, quantifiedRun, fold, iterateRun, operandRun}
+use Rattle.ocl.specs.Operations.{value, stop, Stop, step-stop, size-stop, range-stop, inRange, ranged, unlessZero, quotient, remainder, arithmetic}
+use Rattle.ocl.specs.Evaluation.{Run, unaryRun, binaryRun, decides, connectiveRun, isUndefRun, conditionalRun, letRun, attributeRun, callRun, seek, quantifiedRun, fold, iterateRun, operandRun}
 use Rattle.ocl.specs.Stops.{Upward, least, greatest, RangeEnds}
 
 pub upward : Upward
-unfolding unaryRun binaryRun decides connectiveRun isUndefRun conditionalRun letRun attributeRun seek quantifiedRun fold iterateRun operandRun
+unfolding unaryRun binaryRun decides connectiveRun isUndefRun conditionalRun letRun attributeRun callRun seek quantifiedRun fold iterateRun operandRun
 upward = record {
   of-unary = λ s op f ρ n c m e. rw e;
   of-left = λ op f g ρ n c m e. rw e;
@@ -19,6 +20,7 @@ upward = record {
   of-condition = λ f g h ρ n c m e. rw e;
   of-bound = λ i f g ρ n c m e. rw e;
   of-attribute = λ s x k f ρ n c m e. rw e;
+  of-called = λ s d f g ρ n c m e. rw e;
   of-source = λ q i f g ρ n c m e. rw e;
   of-iterated = λ i j f g h ρ n c m e. rw e;
   of-member = λ k vs f g ρ n c m e. rw e;
@@ -28,6 +30,7 @@ upward = record {
   of-then = λ f g h ρ n p c m d e. rw (d, e);
   of-else = λ f g h ρ n p c m d e. rw (d, e);
   of-let = λ i f g ρ n p c m v d e. rw (d, e);
+  of-definition = λ s d f g ρ n p c m o e t h. rw (e, t, h);
   of-body = λ q body blank v vs n c m e. rw e;
   of-start = λ i j f g h ρ n p c m k vs d e. rw (d, e);
   of-turn = λ body v vs a n c m e. rw e;

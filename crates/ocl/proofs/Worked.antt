@@ -3,7 +3,8 @@ use mathlib.Core.Path.{refl}
 use Rattle.ocl.specs.Types.{join, simpleJoin, firstAbove, simpleSubtype, climbs, sameSimple, simpleCode, up, parentOr, height, letterJoin, sameKind, kindCode, aroundSome}
 use Rattle.ocl.specs.Values.{size, add, insert, put, order, headOrder, thenOrder, sort, rank, orderInt, members, count}
 use Rattle.ocl.specs.Environment.{extend}
-use Rattle.ocl.specs.Evaluation.{tick, form, inRange, ranged, unlessZero, quotient, remainder, arithmetic, leafRun, leftFits, binaryApply, binaryRun, decides, connectiveRun, isUndefRun, letRun, endsAt, seek, quantifiedRun, noOperandRun, operandRun, assembleRun, evaluation}
+use Rattle.ocl.specs.Operations.{form, inRange, ranged, unlessZero, quotient, remainder, arithmetic, leftFits, binaryApply}
+use Rattle.ocl.specs.Evaluation.{tick, leafRun, binaryRun, decides, connectiveRun, isUndefRun, letRun, endsAt, seek, quantifiedRun, noOperandRun, operandRun, assembleRun, evaluation}
 use Rattle.ocl.specs.Worked.{parents, bareModel, outcome, false₀, undef₀, int₀, arith₂, Worked}
 
 pub worked : Worked

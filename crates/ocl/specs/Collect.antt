@@ -10,7 +10,8 @@ use Rattle.ocl.specs.Values.{Value, bool, int, coll, Values, nil, cons}
 use Rattle.ocl.specs.Model.{Row, Model, schemaOf}
 use Rattle.ocl.specs.Forms.{ofMembers, truth, self, all, Expr, node, leaf, conditional, attribute, assemble, noOperand, operand}
 use Rattle.ocl.specs.Typing.{typed, refused, ofRows, Typed, typeRule, markIn}
-use Rattle.ocl.specs.Evaluation.{Outcome, value, undefined, stop, evaluateRule}
+use Rattle.ocl.specs.Operations.{Outcome, value, undefined, stop}
+use Rattle.ocl.specs.Evaluation.{evaluateRule}
 use Rattle.ocl.specs.Worked.{parents, int₀}
 
 -- class 0 declares 5, 6 and 7, of which 7 is three deep; class 1, below it, declares 5 again

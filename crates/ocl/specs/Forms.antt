@@ -1,4 +1,4 @@
--- Document 01, The forms and their typing: a rule as a tree of nodes. Evaluation: its reach.
+-- Document 01, The forms and their typing: a rule as a tree of nodes. Evaluation: its reach. Document 02, F-13: named definitions.
 use mathlib.Core.Bool.{Bool}
 use Prim.Native.Nat.{ℕ, suc, _+_, _*_, max}
 use lib.IntN.{ℤ}
@@ -46,7 +46,7 @@ pub data Binary : Type 0 where
   union : Binary
 
 mutual
-  -- a node: its number, counted through all rules of a sheet, and its form
+  -- a node: its number, counted through all definitions and rules of a sheet, and its form
   pub data Expr : Type 0 where
     node : ℕ → Form → Expr
 
@@ -62,6 +62,8 @@ mutual
     letIn : ℕ → Expr → Expr → Form
     -- `attr e name`, `collect s name`, name first
     attribute : Access → ℕ → Expr → Form
+    -- `call e n`: definition n's class and type, then e and definition n's body (document 02, F-13)
+    call : ℕ → Ty → Expr → Expr → Form
     -- `forAll s i b`, `exists s i b`, the variable first
     quantified : Quantifier → ℕ → Expr → Expr → Form
     -- `iter s i j T e b`: the member, the accumulator, its type, then s, e, b
@@ -73,7 +75,14 @@ mutual
     noOperand : Operands
     operand : Expr → Operands → Operands
 
--- reach (document 01's word): an upper bound of the steps. 1, and the operands' reaches; an iterated body counts 127 times
+-- a named definition: its class, its type, its body
+pub record Definition : Type 0 where
+  pub context : ℕ
+  pub type : Ty
+  pub body : Expr
+
+-- reach (document 01's word): an upper bound of the steps. 1, and the operands' reaches; an iterated body counts 127 times, a
+-- called body once
 unfoldable mutual
   pub reach : Expr → ℕ
   reach (node n f) = suc (inside f)
@@ -87,6 +96,7 @@ unfoldable mutual
   inside (conditional c a b) = reach c + (reach a + reach b)
   inside (letIn i a b) = reach a + reach b
   inside (attribute x name a) = reach a
+  inside (call c t a b) = reach a + reach b
   inside (quantified q i a b) = reach a + 127 * reach b
   inside (iterate i j t a e b) = reach a + (reach e + 127 * reach b)
   inside (assemble k es) = reaches es
@@ -95,7 +105,7 @@ unfoldable mutual
   reaches noOperand = 0
   reaches (operand e es) = reach e + reaches es
 
--- the depth of a tree; its root alone is depth 1
+-- the depth of a tree; its root alone is depth 1, and a called body lies below the call
 unfoldable mutual
   pub levels : Expr → ℕ
   levels (node n f) = suc (levelsIn f)
@@ -109,6 +119,7 @@ unfoldable mutual
   levelsIn (conditional c a b) = max (levels c) (max (levels a) (levels b))
   levelsIn (letIn i a b) = max (levels a) (levels b)
   levelsIn (attribute x name a) = levels a
+  levelsIn (call c t a b) = max (levels a) (levels b)
   levelsIn (quantified q i a b) = max (levels a) (levels b)
   levelsIn (iterate i j t a e b) = max (levels a) (max (levels e) (levels b))
   levelsIn (assemble k es) = levelsOf es

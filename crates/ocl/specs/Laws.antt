@@ -13,13 +13,14 @@ use Rattle.ocl.specs.Types.{Kind, set, sequence, bag, Ty, Parents, Subty
 use Rattle.ocl.specs.Values.{Value, bool, int, obj, coll, Values, nil, cons, everyPart, order, same, has, add, addAll}
 use Rattle.ocl.specs.Model.{Schema, Model, belongs}
 use Rattle.ocl.specs.Environment.{Env}
-use Rattle.ocl.specs.Forms.{Leaf, truth, undef, number, self, var, all, Expr, node, Form, leaf, unary, binary, connective, isUndef, conditional, letIn, attribute, quantified, iterate, assemble, Operands, noOperand, operand}
+use Rattle.ocl.specs.Forms.{Leaf, truth, undef, number, self, var, all, Expr, node, Form, leaf, unary, binary, connective, isUndef, conditional, letIn, attribute, call, quantified, iterate, assemble, Operands, noOperand, operand, Definition}
 use Rattle.ocl.specs.Typing.{refused, Mark, rowMarked, kindMarked, Marks, typing}
-use Rattle.ocl.specs.Evaluation.{value, inRange, instances, evaluation, evaluateRule}
+use Rattle.ocl.specs.Operations.{value, inRange, instances}
+use Rattle.ocl.specs.Evaluation.{evaluation, evaluateRule}
 
--- ---- what the statements speak of: the nodes and literals of a tree, the Integers of a value
+-- ---- what the statements speak of: the nodes, literals and definitions of a tree, the Integers of a value
 
--- the numbers of a tree's nodes, operands first
+-- the numbers of a tree's own nodes, operands first; a called body's nodes are its definition's
 unfoldable mutual
   pub numbers : Expr → List ℕ
   numbers (node n f) = numbersIn f ++ (n ∷ [])
@@ -33,6 +34,7 @@ unfoldable mutual
   numbersIn (conditional c a b) = numbers c ++ (numbers a ++ numbers b)
   numbersIn (letIn i a b) = numbers a ++ numbers b
   numbersIn (attribute x name a) = numbers a
+  numbersIn (call c t a b) = numbers a
   numbersIn (quantified q i a b) = numbers a ++ numbers b
   numbersIn (iterate i j t a e b) = numbers a ++ (numbers e ++ numbers b)
   numbersIn (assemble k es) = numbersOf es
@@ -41,7 +43,7 @@ unfoldable mutual
   numbersOf noOperand = []
   numbersOf (operand e es) = numbers e ++ numbersOf es
 
--- a tree's Integer literals, operands from left to right
+-- a tree's Integer literals, operands from left to right, with those of called bodies
 unfoldable pub leafLiterals : Leaf → List ℤ
 leafLiterals (truth b) = []
 leafLiterals undef = []
@@ -63,6 +65,7 @@ unfoldable mutual
   literalsIn (conditional c a b) = literals c ++ (literals a ++ literals b)
   literalsIn (letIn i a b) = literals a ++ literals b
   literalsIn (attribute x name a) = literals a
+  literalsIn (call c t a b) = literals a ++ literals b
   literalsIn (quantified q i a b) = literals a ++ literals b
   literalsIn (iterate i j t a e b) = literals a ++ (literals e ++ literals b)
   literalsIn (assemble k es) = literalsOf es
@@ -70,6 +73,29 @@ unfoldable mutual
   pub literalsOf : Operands → List ℤ
   literalsOf noOperand = []
   literalsOf (operand e es) = literals e ++ literalsOf es
+
+-- the definitions that a tree calls, with those that their bodies call
+unfoldable mutual
+  pub calls : Expr → List Definition
+  calls (node n f) = callsIn f
+
+  pub callsIn : Form → List Definition
+  callsIn (leaf l) = []
+  callsIn (unary op a) = calls a
+  callsIn (binary op a b) = calls a ++ calls b
+  callsIn (connective c a b) = calls a ++ calls b
+  callsIn (isUndef a) = calls a
+  callsIn (conditional c a b) = calls c ++ (calls a ++ calls b)
+  callsIn (letIn i a b) = calls a ++ calls b
+  callsIn (attribute x name a) = calls a
+  callsIn (call c t a b) = calls a ++ (calls b ++ (record { context = c; type = t; body = b } ∷ []))
+  callsIn (quantified q i a b) = calls a ++ calls b
+  callsIn (iterate i j t a e b) = calls a ++ (calls e ++ calls b)
+  callsIn (assemble k es) = callsOf es
+
+  pub callsOf : Operands → List Definition
+  callsOf noOperand = []
+  callsOf (operand e es) = calls e ++ callsOf es
 
 -- of a value that is no collection
 unfoldable pub integerInRange : Value → Bool

@@ -4,6 +4,7 @@ pub mod Model
 pub mod Environment
 pub mod Forms
 pub mod Typing
+pub mod Operations
 pub mod Evaluation
 pub mod Stops
 pub mod Laws
@@ -11,3 +12,4 @@ pub mod Soundness
 pub mod Worked
 pub mod Mistakes
 pub mod Collect
+pub mod Definitions

@@ -12,7 +12,8 @@ use Rattle.ocl.specs.Model.{Row, Model, schemaOf}
 use Rattle.ocl.specs.Forms.{plus, Quantifier, forAll, exists, ofObject, truth, self, var, less, arith, sizeOf, castTo, Expr, node, leaf, unary, binary, conditional, letIn, attribute, quantified, iterate, assemble, noOperand, operand}
 use Rattle.ocl.specs.Typing.{typed, refused, ofRow, Typed, typeRule, markIn}
 use Rattle.ocl.specs.Environment.{start}
-use Rattle.ocl.specs.Evaluation.{Outcome, value, undefined, stop, evaluation, evaluateRule}
+use Rattle.ocl.specs.Operations.{Outcome, value, undefined, stop}
+use Rattle.ocl.specs.Evaluation.{evaluation, evaluateRule}
 use Rattle.ocl.specs.Worked.{parents, undef₀, int₀}
 
 -- rows 0 and 1 have one name; class 1, below class 0, declares it again with another type

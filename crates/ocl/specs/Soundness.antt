@@ -9,10 +9,11 @@ use Rattle.laws.specs.Lists.{Each}
 use Rattle.ocl.specs.Types.{class, Ty}
 use Rattle.ocl.specs.Values.{Value, size}
 use Rattle.ocl.specs.Model.{Model, schemaOf, isA, belongs}
-use Rattle.ocl.specs.Forms.{Expr, reach}
-use Rattle.ocl.specs.Typing.{typed, Mark, typeRule}
-use Rattle.ocl.specs.Evaluation.{Outcome, value, stuck, stop, Stop, stepsOf, inRange, evaluateRule}
-use Rattle.ocl.specs.Laws.{integersInRange, Formed, literals, Agree}
+use Rattle.ocl.specs.Forms.{Expr, Definition, reach}
+use Rattle.ocl.specs.Typing.{typed, Mark, typeRule, typeDefinition}
+use Rattle.ocl.specs.Operations.{Outcome, value, stuck, stop, Stop, stepsOf, inRange}
+use Rattle.ocl.specs.Evaluation.{evaluateRule}
+use Rattle.ocl.specs.Laws.{integersInRange, Formed, literals, calls, Agree}
 
 -- what reading makes sure of
 pub record AcceptedModel (s : Model) : Type 0 where
@@ -42,9 +43,15 @@ pub record Sound (s : Model) (t : Ty) (k : ℕ) (o : Outcome) : Type 0 where
   -- no step stop where the reach is within the limit
   pub no-step-stop : k ≤ 1000000 → (n : ℕ) → o ≢ stop 16 n
 
--- a rule whose literals are in range and which gets type t, with any table that has its marks
+-- a definition whose body gets its type, in a table that has its marks
+pub record TypedDefinition (s : Model) (mark : ℕ → Mark) (d : Definition) : Type 0 where
+  pub typed-body : typeDefinition (schemaOf s) d .answer ≡ typed (d .type)
+  pub marked : Agree mark (typeDefinition (schemaOf s) d .marks)
+
+-- a rule whose literals are in range and which gets type t, with any table that has its marks; and so for every definition that it
+-- reaches (document 02, F-13)
 abbrev pub Soundness : Type 0
 Soundness =
-    (s : Model) → AcceptedModel s → (mark : ℕ → Mark) (e : Expr) → Each (λ z. T (inRange z)) (literals e) → (c o : ℕ) (t : Ty)
-    → typeRule (schemaOf s) c e .answer ≡ typed t → Agree mark (typeRule (schemaOf s) c e .marks) → T (isA s o (class c))
+    (s : Model) → AcceptedModel s → (mark : ℕ → Mark) (e : Expr) → Each (λ z. T (inRange z)) (literals e) → Each (TypedDefinition s mark) (calls e)
+    → (c o : ℕ) (t : Ty) → typeRule (schemaOf s) c e .answer ≡ typed t → Agree mark (typeRule (schemaOf s) c e .marks) → T (isA s o (class c))
     → Sound s t (reach e) (evaluateRule s mark e o)

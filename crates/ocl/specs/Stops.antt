@@ -3,13 +3,14 @@ use mathlib.Core.Path.{_≡_}
 use mathlib.Core.Bool.{Bool, true, false, not}
 use Prim.Native.Nat.{ℕ}
 use lib.IntN.{ℤ, pos, negsuc}
-use Rattle.ocl.specs.Types.{Kind}
-use Rattle.ocl.specs.Values.{Value, bool, int, coll, Values, cons}
-use Rattle.ocl.specs.Model.{Model}
-use Rattle.ocl.specs.Environment.{Env, extend}
+use Rattle.ocl.specs.Types.{class, Kind}
+use Rattle.ocl.specs.Values.{Value, bool, int, obj, coll, Values, cons}
+use Rattle.ocl.specs.Model.{Model, isA}
+use Rattle.ocl.specs.Environment.{Env, extend, start}
 use Rattle.ocl.specs.Forms.{plus, minus, times, div, modulo, Connective, Quantifier, Access, Unary, Binary}
 use Rattle.ocl.specs.Typing.{Mark}
-use Rattle.ocl.specs.Evaluation.{Outcome, value, undefined, stop, Run, result, noResult, overRange, arithmetic, unaryRun, leftFits, binaryRun, decides, connectiveRun, isUndefRun, conditionalRun, letRun, attributeRun, seek, quantifiedRun, fold, iterateRun, Gather, operandRun}
+use Rattle.ocl.specs.Operations.{Outcome, value, undefined, stop, result, noResult, overRange, arithmetic, leftFits}
+use Rattle.ocl.specs.Evaluation.{Run, unaryRun, binaryRun, decides, connectiveRun, isUndefRun, conditionalRun, letRun, attributeRun, callRun, seek, quantifiedRun, fold, iterateRun, Gather, operandRun}
 
 -- where f stops, so does g, with the same number and the same steps
 abbrev pub Passes : Run → Run → Type 0
@@ -24,6 +25,7 @@ pub record Upward : Type 0 where
   pub of-condition : (f g h : Run) → Passes f (conditionalRun f g h)
   pub of-bound : (i : ℕ) (f g : Run) → Passes f (letRun i f g)
   pub of-attribute : (s : Model) (x : Access) (k : Mark) (f : Run) → Passes f (attributeRun s x k f)
+  pub of-called : (s : Model) (d : ℕ) (f g : Run) → Passes f (callRun s d f g)
   pub of-source : (q : Quantifier) (i : ℕ) (f g : Run) → Passes f (quantifiedRun q i f g)
   pub of-iterated : (i j : ℕ) (f g h : Run) → Passes f (iterateRun i j f g h)
   pub of-member : (k : Kind) (vs : Values) (f : Run) (g : Gather) → Passes f (operandRun f g k vs)
@@ -39,9 +41,11 @@ pub record Upward : Type 0 where
       → conditionalRun f g h ρ n ≡ stop c m
   pub of-else : (f g h : Run) (ρ : Env Value) (n p c m : ℕ) → f ρ n ≡ value (bool false) p → h ρ p ≡ stop c m
       → conditionalRun f g h ρ n ≡ stop c m
-  -- a body: of `let`, of a quantifier whatever later members would say, of `iter`; and its start value
+  -- a body: of `let`, of a definition, of a quantifier whatever later members would say, of `iter`; and its start value
   pub of-let : (i : ℕ) (f g : Run) (ρ : Env Value) (n p c m : ℕ) (v : Value) → f ρ n ≡ value v p → g (extend ρ i v) p ≡ stop c m
       → letRun i f g ρ n ≡ stop c m
+  pub of-definition : (s : Model) (d : ℕ) (f g : Run) (ρ : Env Value) (n p c m o : ℕ) → f ρ n ≡ value (obj o) p → isA s o (class d) ≡ true
+      → g (start (obj o)) p ≡ stop c m → callRun s d f g ρ n ≡ stop c m
   pub of-body : (q : Quantifier) (body : Value → ℕ → Outcome) (blank : Bool) (v : Value) (vs : Values) (n c m : ℕ) → body v n ≡ stop c m
       → seek q body blank (cons v vs) n ≡ stop c m
   pub of-start : (i j : ℕ) (f g h : Run) (ρ : Env Value) (n p c m : ℕ) (k : Kind) (vs : Values) → f ρ n ≡ value (coll k vs) p

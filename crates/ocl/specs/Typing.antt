@@ -8,7 +8,7 @@ use Rattle.laws.specs.Choice.{if_then_else_}
 use Rattle.ocl.specs.Types.{any, boolean, integer, class, Kind, set, sequence, bag, Letter, collection, exactly, Ty, void, simple, around, Boolean, Integer, Class, depth, sameKind, subtype, join}
 use Rattle.ocl.specs.Model.{Schema, rowRead}
 use Rattle.ocl.specs.Environment.{Env, extend, start}
-use Rattle.ocl.specs.Forms.{Access, ofObject, ofMembers, Leaf, truth, undef, number, self, var, all, Unary, negation, sizeOf, convert, castTo, Binary, equal, less, arith, includes, including, union, Expr, node, Form, leaf, unary, binary, connective, isUndef, conditional, letIn, attribute, quantified, iterate, assemble, Operands, noOperand, operand}
+use Rattle.ocl.specs.Forms.{Access, ofObject, ofMembers, Leaf, truth, undef, number, self, var, all, Unary, negation, sizeOf, convert, castTo, Binary, equal, less, arith, includes, including, union, Expr, node, Form, leaf, unary, binary, connective, isUndef, conditional, letIn, attribute, call, quantified, iterate, assemble, Operands, noOperand, operand, Definition}
 
 -- a type, or a refusal's number and its node
 pub data Answer : Type 0 where
@@ -171,6 +171,10 @@ attributeType s p ofMembers name t =
     onCollection t (pure (refused 11 p)) (λ l m. onClass m (pure (refused 11 p)) (λ c.
     rowType s p (ofRows (collectKind l)) (wrap p (exactly (collectKind l))) (rowRead s c name)))
 
+-- document 02, F-13: `call` takes a class that is c or below, which Void is not (11), and has the definition's type
+unfoldable pub callType : Schema → ℕ → ℕ → Ty → Ty → Answer
+callType s p c t u = onClass u (refused 11 p) (λ d. below s p (Class d) (Class c) (typed t))
+
 -- ---- each form over its operands' typings
 
 unfoldable pub leafTyping : ℕ → Leaf → Typing
@@ -199,6 +203,10 @@ letTyping i f g Γ = andThen (f Γ) (λ t. g (extend Γ i t))
 
 unfoldable pub attributeTyping : Schema → ℕ → Access → ℕ → Typing → Typing
 attributeTyping s p x name f Γ = andThen (f Γ) (attributeType s p x name)
+
+-- the body is typed with its definition, not here
+unfoldable pub callTyping : Schema → ℕ → ℕ → Ty → Typing → Typing
+callTyping s p c t f Γ = andThen (f Γ) (λ u. pure (callType s p c t u))
 
 -- `forAll`, `exists`: the source is checked (11) before the body is typed; the body is below Bool
 unfoldable pub quantifiedTyping : Schema → ℕ → ℕ → Typing → Typing → Typing
@@ -239,6 +247,7 @@ unfoldable mutual
   formTyping s p (conditional c a b) = conditionalTyping s p (typing s c) (typing s a) (typing s b)
   formTyping s p (letIn i a b) = letTyping i (typing s a) (typing s b)
   formTyping s p (attribute x name a) = attributeTyping s p x name (typing s a)
+  formTyping s p (call c t a b) = callTyping s p c t (typing s a)
   formTyping s p (quantified q i a b) = quantifiedTyping s p i (typing s a) (typing s b)
   formTyping s p (iterate i j t a e b) = iterateTyping s p i j t (typing s a) (typing s e) (typing s b)
   formTyping s p (assemble k es) = assembleTyping p k (operandsTyping s p es)
@@ -251,7 +260,16 @@ unfoldable mutual
 unfoldable pub typeRule : Schema → ℕ → Expr → Typed
 typeRule s c e = typing s e (start (Class c))
 
--- what node p is marked with, and d where it is not; no node of a rule is marked twice
+-- a tree's root
+unfoldable pub root : Expr → ℕ
+root (node p f) = p
+
+-- a definition: `self` has its class, no other variable is bound, and the body is below its type, else 11 at the root
+unfoldable pub typeDefinition : Schema → Definition → Typed
+typeDefinition s d =
+    andThen (typeRule s (d .context) (d .body)) (λ t. pure (below s (root (d .body)) t (d .type) (typed (d .type))))
+
+-- what node p is marked with, and d where it is not; no node is marked twice
 unfoldable pub markOr : Mark → Marks → ℕ → Mark
 markOr d [] p = d
 markOr d (x ∷ m) p = markOr (if eqb p (x .0) then x .1 else d) m p

@@ -9,7 +9,8 @@ use Rattle.ocl.specs.Values.{bool, int, coll, nil, cons}
 use Rattle.ocl.specs.Model.{Model}
 use Rattle.ocl.specs.Forms.{Arith, plus, div, modulo, and, forAll, truth, undef, number, arith, Expr, node, leaf, binary, connective, isUndef, letIn, quantified, assemble, noOperand, operand}
 use Rattle.ocl.specs.Typing.{ofRow}
-use Rattle.ocl.specs.Evaluation.{Outcome, value, undefined, stop, evaluation}
+use Rattle.ocl.specs.Operations.{Outcome, value, undefined, stop}
+use Rattle.ocl.specs.Evaluation.{evaluation}
 
 -- class 1 below class 0, and nothing else
 unfoldable pub parents : Parents

@@ -13,7 +13,7 @@ use Rattle.laws.proofs.Tests.{by-if}
 use Rattle.ocl.specs.Types.{Kind, kindCode, sameKind}
 use Rattle.ocl.specs.Values.{Value, bool, int, coll, Values, same, has, add, addAll, orderInt}
 use Rattle.ocl.specs.Forms.{Arith, Binary, equal, less, arith as calculation, includes, including, union}
-use Rattle.ocl.specs.Evaluation.{Outcome, value, stuck, onInt, onColl, inRange, isLess, Result, result, noResult, overRange, resulting, arithmetic, form, leftFits, binaryApply, isInt, isColl}
+use Rattle.ocl.specs.Operations.{Outcome, value, stuck, onInt, onColl, inRange, isLess, Result, result, noResult, overRange, resulting, arithmetic, form, leftFits, binaryApply, isInt, isColl}
 use Rattle.ocl.proofs.Ends.{Results, results, arithmetic-all}
 use Rattle.values.specs.Cells.{bias, payload, fits-bool, fits-int}
 use Rattle.values.specs.Contracts.{means-bool, means-int, SortOf, PayloadOf, SameAt, HasAt, Adds, Unites}

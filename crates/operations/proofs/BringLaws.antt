@@ -11,7 +11,7 @@ use lib.Seq.{slice, length-slice, slice-empty, getD-take}
 use Rattle.laws.proofs.Slices.{split-left, split-right, slice-join, under-top}
 use Rattle.ocl.specs.Values.{Value, obj, Values, nil, cons, size, sizes}
 use Rattle.ocl.specs.Model.{Model}
-use Rattle.ocl.specs.Evaluation.{value, valueInRow, valuesInRow}
+use Rattle.ocl.specs.Operations.{value, valueInRow, valuesInRow}
 use Rattle.values.specs.Cells.{head, enc, encs, Fits, AllFit, fit-nil, fit-cons}
 use Rattle.values.proofs.Encoding.{size-law}
 use Rattle.values.proofs.Members.{Left, none-left}

@@ -14,7 +14,7 @@ use Rattle.ocl.specs.Values.{Value, coll, Values, nil, size, sizes, addAll}
 use Rattle.ocl.specs.Model.{Model, every}
 use Rattle.ocl.specs.Forms.{ofMembers}
 use Rattle.ocl.specs.Typing.{rowMarked, kindMarked}
-use Rattle.ocl.specs.Evaluation.{stuck, stop, form, hasRow, valuesInRow, formAll, access}
+use Rattle.ocl.specs.Operations.{stuck, stop, form, hasRow, valuesInRow, formAll, access}
 use Rattle.values.specs.Cells.{encs, AllFit}
 use Rattle.values.specs.Contracts.{SortOf, Assembles}
 use Rattle.values.specs.declared.Formed.{Formed}

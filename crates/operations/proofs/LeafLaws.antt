@@ -15,7 +15,8 @@ use Rattle.ocl.specs.Types.{class, kindCode, set as asSet}
 use Rattle.ocl.specs.Values.{Value, bool, int, obj, coll, Values, nil, cons, size, sizes, append}
 use Rattle.ocl.specs.Forms.{truth}
 use Rattle.ocl.specs.Model.{Model, isA}
-use Rattle.ocl.specs.Evaluation.{bound, instances, leafRun}
+use Rattle.ocl.specs.Operations.{instances}
+use Rattle.ocl.specs.Evaluation.{bound, leafRun}
 use Rattle.ocl.proofs.Values.{size-pos}
 use Rattle.values.specs.Cells.{head, enc, fits-bool, fits-int, fits-obj}
 use Rattle.values.specs.Contracts.{means-bool, means-int, means-obj, EmptyOf, Forms, Appends, Copies}

@@ -15,7 +15,7 @@ use Rattle.ocl.specs.Types.{class, simpleSubtype}
 use Rattle.ocl.specs.Values.{Value, bool, int, obj, coll, size}
 use Rattle.ocl.specs.Model.{Row, Model, isA, classIsA}
 use Rattle.ocl.specs.Forms.{ofObject}
-use Rattle.ocl.specs.Evaluation.{given, hasRow, valueInRow, access}
+use Rattle.ocl.specs.Operations.{given, hasRow, valueInRow, access}
 use Rattle.ocl.proofs.Values.{size-pos}
 use Rattle.types.specs.Flat.{parentsIn}
 use Rattle.values.specs.Cells.{payload, head, enc, Fits}
@@ -32,7 +32,7 @@ use Rattle.operations.specs.declared.Ended.the-variants as ended
 use Rattle.operations.specs.declared.Place.{Place}
 use Rattle.operations.specs.declared.Place.the-variants as place
 use Rattle.operations.specs.Answers.{ends-undefined, ends-stuck, Ran, SmallAnswer, formedAs}
-use Rattle.operations.specs.Tables.{Plain, IsA, Owner, FindsSlot, cellsStart, SlotHolds, SlotStands, HasRow, RowSlot, Accesses}
+use Rattle.operations.specs.Tables.{Plain, IsA, Owner, FindsSlot, cellsStart, SlotHolds, SlotStands, objectOf, IsObject, HasRow, RowSlot, Accesses}
 use Rattle.operations.proofs.Words.{under-refl, head-at, formed-small, formed-value}
 
 -- ---- classes and rows
@@ -151,14 +151,14 @@ module _ (st : Counts) (w0 : List ℕ) (j a e : ℕ) (p : a ≡ cellsStart st w0
     pub stands : {A : List ℕ} {x y : ℕ} (f : Formed) {r : Ended} → sp ≤ length B → x ≡ 2400 + a → y ≡ 2400 + e → Brings w0 x y sp B A f → r ≡ formedAs f s → SlotStands st w0 j sp s B A r
     stands {A} {x} {y} f {r} k g h b q = rw q (record { small = formed-small f s (b .small); is = λ v z m. formed-value B s k (b .is v (z .fits) (rw (g, h) (part z))) m })
 
--- ---- whether a value has a row
+-- ---- whether a value is an object of a class, and whether it has a row
 
-not-object : {t p : ℕ} {v : Value} → Shape t p v → (t ≡ 2 → ⊥) → (m : Model) (i : ℕ) → false ≡ hasRow m i v
-unfolding hasRow
-not-object (shape-bool i j) n m r = refl
-not-object (shape-int i j l) n m r = refl
-not-object (shape-obj i j l) n m r = absurd (n i)
-not-object (shape-coll i j l) n m r = refl
+not-object : {t p : ℕ} {v : Value} → Shape t p v → (t ≡ 2 → ⊥) → (m : Model) (c : ℕ) → false ≡ objectOf m c v
+unfolding objectOf
+not-object (shape-bool i j) n m c = refl
+not-object (shape-int i j l) n m c = refl
+not-object (shape-obj i j l) n m c = absurd (n i)
+not-object (shape-coll i j l) n m c = refl
 
 pub is-object : {t p : ℕ} {v : Value} → Shape t p v → t ≡ 2 → v ≡ obj p
 is-object (shape-bool i j) e = absurd (omega arith)
@@ -166,15 +166,23 @@ is-object (shape-int i j l) e = absurd (omega arith)
 is-object (shape-obj i j l) e = ap obj (sym j)
 is-object (shape-coll i j l) e = absurd (omega arith)
 
-module _ {st : Counts} {w0 : List ℕ} {i cell t : ℕ} (S : SortOf cell t) where
-  pub row-other : (t ≡ 2 → ⊥) → HasRow st w0 i cell false
-  row-other n = record { is = λ m H P v f e. not-object (shape f (S .is v f e) refl) n m i }
+module _ {st : Counts} {w0 : List ℕ} {c cell t : ℕ} (S : SortOf cell t) where
+  pub object-other : (t ≡ 2 → ⊥) → IsObject st w0 c cell false
+  object-other n = record { is = λ m H v f e. not-object (shape f (S .is v f e) refl) n m c }
 
-  pub row-of : {o c : ℕ} {b : Bool} → t ≡ 2 → PayloadOf cell o → Owner st w0 i c → IsA st w0 o c b → HasRow st w0 i cell b
-  unfolding hasRow
-  row-of {o} {c} d Q C I = record {
-    is = λ m H P v f e. rw (is-object (shape f (S .is v f e) (Q .is v f e)) d) (I .is m H ∙ ap (λ (x : ℕ). isA m o (class x)) (C .is m H P));
-  }
+  pub object-of : {o : ℕ} {b : Bool} → t ≡ 2 → PayloadOf cell o → IsA st w0 o c b → IsObject st w0 c cell b
+  unfolding objectOf
+  object-of d Q I = record { is = λ m H v f e. rw (is-object (shape f (S .is v f e) (Q .is v f e)) d) (I .is m H) }
+
+row-class : (m : Model) (i : ℕ) (v : Value) → objectOf m (m .row i .owner) v ≡ hasRow m i v
+unfolding objectOf hasRow
+row-class m i (bool b) = refl
+row-class m i (int z) = refl
+row-class m i (obj o) = refl
+row-class m i (coll k vs) = refl
+
+pub row-of : {st : Counts} {w0 : List ℕ} {i c cell : ℕ} {b : Bool} → Owner st w0 i c → IsObject st w0 c cell b → HasRow st w0 i cell b
+row-of {i = i} C I = record { is = λ m H P v f e. I .is m H v f e ∙ ap (λ (x : ℕ). objectOf m x v) (C .is m H P) ∙ row-class m i v }
 
 -- a value that has the row is an object
 pub record Object (v : Value) : Type 0 where

@@ -6,7 +6,7 @@ use Prim.Native.Nat.{ℕ, _<_, _≤_}
 use borrow.Author.Tests.{lt-ltb, le-ltb, ne-eqb}
 use Rattle.ocl.specs.Values.{bool}
 use Rattle.ocl.specs.Forms.{ofObject, ofMembers}
-use Rattle.ocl.specs.Evaluation.{unaryApply}
+use Rattle.ocl.specs.Operations.{unaryApply}
 use Rattle.values.specs.Cells.{fits-bool}
 use Rattle.values.specs.Contracts.{means-bool}
 use Rattle.values.specs.declared.Simple.the-variants as simple

@@ -12,7 +12,7 @@ use Rattle.ocl.specs.Types.{Kind, kindCode}
 use Rattle.ocl.specs.Values.{Value, bool, int, coll, nil, count, size, addAll}
 use Rattle.ocl.specs.Model.{Model}
 use Rattle.ocl.specs.Forms.{Unary, negation, sizeOf, convert, castTo}
-use Rattle.ocl.specs.Evaluation.{Outcome, value, undefined, stuck, stop, inRange, form, cast, unaryApply}
+use Rattle.ocl.specs.Operations.{Outcome, value, undefined, stuck, stop, inRange, form, cast, unaryApply}
 use Rattle.ocl.proofs.Values.{count-sizes}
 use Rattle.values.specs.Cells.{bias, fits-bool, fits-int}
 use Rattle.values.specs.Contracts.{means-bool, means-int, SortOf, PayloadOf, Converts}

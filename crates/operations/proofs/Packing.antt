@@ -3,7 +3,7 @@ use mathlib.Core.Path.{_≡_, refl, ap, _∙_}
 use mathlib.Core.List.{List}
 use Prim.Native.Nat.{ℕ, _/_, _%_, _<_}
 use native.Mathlib.Omega.{arith}
-use Rattle.ocl.specs.Evaluation.{Outcome, Stop}
+use Rattle.ocl.specs.Operations.{Outcome, Stop}
 use Rattle.ocl.proofs.Stops.{stop-within}
 use Rattle.ocl.proofs.Steps.{Limited, limited-value, limited-undefined, limited-stuck, limited-stop}
 use Rattle.operations.specs.declared.Ended.{Ended}

@@ -12,7 +12,7 @@ use Rattle.laws.specs.Choice.{if_then_else_}
 use Rattle.laws.specs.Integers.{unbias}
 use Rattle.ocl.specs.Types.{Kind, set, sequence, bag, kindCode}
 use Rattle.ocl.specs.Values.{Value, bool, int, obj, coll, Values, count}
-use Rattle.ocl.specs.Evaluation.{Outcome, stuck, onBool, onInt, onColl, isInt, isColl, inRange}
+use Rattle.ocl.specs.Operations.{Outcome, stuck, onBool, onInt, onColl, isInt, isColl, inRange}
 use Rattle.values.specs.Cells.{bit, bias, payload, AllFit}
 use Rattle.values.specs.Contracts.{SortOf, PayloadOf}
 use Rattle.values.proofs.Heads.{shape, Shape, shape-bool, shape-int, shape-obj, shape-coll}

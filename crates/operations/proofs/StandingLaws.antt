@@ -10,7 +10,7 @@ use lib.Seq.{slice}
 use Rattle.laws.specs.Choice.{if_then_else_, onSome, mapSome}
 use Rattle.ocl.specs.Values.{Value, obj, Values, nil, cons, size}
 use Rattle.ocl.specs.Model.{Model, every}
-use Rattle.ocl.specs.Evaluation.{hasRow, valueInRow, valuesInRow}
+use Rattle.ocl.specs.Operations.{hasRow, valueInRow, valuesInRow}
 use Rattle.values.specs.Cells.{head, encs, Fits, AllFit}
 use Rattle.values.specs.Contracts.{Skips}
 use Rattle.values.proofs.Encoding.{size-law}

@@ -14,7 +14,7 @@ use denote.Enum.Declared.{tagOf}
 use Rattle.laws.specs.Choice.{if_then_else_}
 use Rattle.laws.proofs.Slices.{cut-part, trim, under-top}
 use Rattle.ocl.specs.Values.{Value, size}
-use Rattle.ocl.specs.Evaluation.{value, stop, form}
+use Rattle.ocl.specs.Operations.{value, stop, form}
 use Rattle.ocl.proofs.Values.{size-pos}
 use Rattle.values.specs.Cells.{head, enc, Fits}
 use Rattle.values.specs.Contracts.{Means, means-bool, means-int, means-obj, Pushes, Forms, SortOf, PayloadOf, SmallForm}

@@ -7,7 +7,7 @@ use lib.Seq.{slice}
 use lib.Dec.{eqb}
 use Rattle.laws.specs.Choice.{if_then_else_}
 use Rattle.ocl.specs.Values.{Value, bool, int, obj, coll, size}
-use Rattle.ocl.specs.Evaluation.{Outcome, value, undefined, stuck, stop}
+use Rattle.ocl.specs.Operations.{Outcome, value, undefined, stuck, stop}
 use Rattle.values.specs.Cells.{bit, head, enc, Fits}
 use Rattle.values.specs.Contracts.{Means}
 use Rattle.values.specs.declared.Simple.{Simple}

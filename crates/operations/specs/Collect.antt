@@ -7,7 +7,7 @@ use lib.Seq.{slice}
 use Rattle.laws.specs.Choice.{if_then_else_}
 use Rattle.ocl.specs.Values.{Value, Values, nil, cons, sizes}
 use Rattle.ocl.specs.Model.{Model}
-use Rattle.ocl.specs.Evaluation.{hasRow, valueInRow, valuesInRow}
+use Rattle.ocl.specs.Operations.{hasRow, valueInRow, valuesInRow}
 use Rattle.values.specs.Cells.{head, encs, Fits, AllFit}
 use Rattle.tables.specs.declared.Counts.{Counts}
 use Rattle.tables.specs.Stored.{HoldsModel}

@@ -8,7 +8,7 @@ use Rattle.laws.specs.Choice.{if_then_else_}
 use Rattle.ocl.specs.Values.{Value, bool}
 use Rattle.ocl.specs.Model.{Model}
 use Rattle.ocl.specs.Typing.{Mark}
-use Rattle.ocl.specs.Evaluation.{Outcome, value, undefined, unaryApply, access}
+use Rattle.ocl.specs.Operations.{Outcome, value, undefined, unaryApply, access}
 use Rattle.nodes.specs.Nodes.{unaryOf, accessOf}
 use Rattle.nodes.specs.Marks.{Marked}
 use Rattle.tables.specs.declared.Counts.{Counts}

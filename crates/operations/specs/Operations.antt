@@ -8,7 +8,7 @@ use Rattle.ocl.specs.Types.{Kind, set, sequence, bag}
 use Rattle.ocl.specs.Values.{Value}
 use Rattle.ocl.specs.Model.{Model}
 use Rattle.ocl.specs.Forms.{Unary, Arith}
-use Rattle.ocl.specs.Evaluation.{Outcome, resulting, arithmetic, leftFits}
+use Rattle.ocl.specs.Operations.{Outcome, resulting, arithmetic, leftFits}
 use Rattle.values.specs.Cells.{head, Fits}
 use Rattle.values.specs.Integers.{numOf}
 use Rattle.values.specs.declared.Computed.{Computed}

@@ -1,6 +1,6 @@
 -- What the contracts over the tables say: of every model that the words hold.
 use mathlib.Core.Path.{_≡_}
-use mathlib.Core.Bool.{Bool}
+use mathlib.Core.Bool.{Bool, false}
 use mathlib.Core.Option.{none, some}
 use mathlib.Core.List.{List}
 use Prim.Native.Nat.{ℕ, suc, _+_, _≤_, _<_}
@@ -9,11 +9,11 @@ use lib.Seq.{slice}
 use lib.Dec.{eqb}
 use Rattle.laws.specs.Choice.{if_then_else_}
 use Rattle.ocl.specs.Types.{class, set}
-use Rattle.ocl.specs.Values.{Value, obj, coll, size}
+use Rattle.ocl.specs.Values.{Value, bool, int, obj, coll, size}
 use Rattle.ocl.specs.Model.{Model, isA}
 use Rattle.ocl.specs.Forms.{Access}
 use Rattle.ocl.specs.Typing.{Mark}
-use Rattle.ocl.specs.Evaluation.{value, hasRow, access, instances}
+use Rattle.ocl.specs.Operations.{value, hasRow, access, instances}
 use Rattle.values.specs.Cells.{head, enc, Fits}
 use Rattle.values.specs.Contracts.{Forms, SmallForm}
 use Rattle.values.specs.declared.Formed.{Formed}
@@ -63,6 +63,17 @@ pub record SlotHolds (st : Counts) (w0 : List ℕ) (j : ℕ) (v : Value) : Type 
 pub record SlotStands (st : Counts) (w0 : List ℕ) (j sp s : ℕ) (B A : List ℕ) (r : Ended) : Type 0 where
   pub small : SmallAnswer r
   pub is : (v : Value) → SlotHolds st w0 j v → size v ≤ 128 → Ran (value v s) sp B A r
+
+-- is the value an object of class c or below
+unfoldable pub objectOf : Model → ℕ → Value → Bool
+objectOf m c (bool b) = false
+objectOf m c (int z) = false
+objectOf m c (obj o) = isA m o (class c)
+objectOf m c (coll k vs) = false
+
+-- is the value with this first cell one
+pub record IsObject (st : Counts) (w0 : List ℕ) (c cell : ℕ) (r : Bool) : Type 0 where
+  pub is : (m : Model) → HoldsModel st w0 m → (v : Value) → Fits v → cell ≡ head v → r ≡ objectOf m c v
 
 -- does the value with this first cell have row i
 pub record HasRow (st : Counts) (w0 : List ℕ) (i cell : ℕ) (r : Bool) : Type 0 where

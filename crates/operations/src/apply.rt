@@ -24,7 +24,7 @@ use values::order::includes;
 ghost use Prim.Native.Nat.{_+_, _≤_, _<_};
 ghost use lib.ListN.{length};
 ghost use Rattle.ocl.specs.Forms.{negation, sizeOf, castTo, equal as equalForm, includes as includesForm, including as includingForm, union as unionForm, convert as convertForm};
-ghost use Rattle.ocl.specs.Evaluation.{unaryApply, binaryApply};
+ghost use Rattle.ocl.specs.Operations.{unaryApply, binaryApply};
 ghost use Rattle.nodes.specs.Nodes.{binaryOf};
 ghost use Rattle.tables.specs.Stored.{HoldsModel};
 ghost use Rattle.operations.specs.Tables.{Bounds};

@@ -13,7 +13,7 @@ ghost use mathlib.Core.Path.{_≡_};
 ghost use Prim.Native.Nat.{ℕ, _+_, _≤_, _<_};
 ghost use lib.ListN.{length};
 ghost use Rattle.ocl.specs.Forms.{ofObject};
-ghost use Rattle.operations.specs.Tables.{Bounds, IsA, Owner, FindsSlot, cellsStart, SlotStands, HasRow, RowSlot, Accesses};
+ghost use Rattle.operations.specs.Tables.{Bounds, IsA, Owner, FindsSlot, cellsStart, SlotStands, IsObject, HasRow, RowSlot, Accesses};
 
 // A mark is its row and a multiple of this.
 pub const ROWS: u64 = 64;
@@ -101,16 +101,24 @@ pub fn bring(
     )
 }
 
+// Whether the value with this first cell is an object of class c or below it.
+pub fn is_object(tables: &[u64], st: Counts, c: u64, cell: u64) -> bool
+    requires { ⌜ Bounds st (length (now tables)) ⌝ }
+    ensures { λ r. ⌜ IsObject st (now (tables .entry)) c cell r ⌝ }
+{
+    if sort_of(cell) != OBJECT {
+        return false;
+    }
+    is_a(tables, st, payload_of(cell), c)
+}
+
 // Whether the value with this first cell is an object that has row i: one of the class that declares the row, or below it.
 pub fn has_row(tables: &[u64], st: Counts, i: u64, cell: u64) -> bool
     requires { ⌜ Bounds st (length (now tables)) ⌝ }
     ensures { λ r. ⌜ HasRow st (now (tables .entry)) i cell r ⌝ }
 {
-    if sort_of(cell) != OBJECT {
-        return false;
-    }
     let c = owner(tables, st, i);
-    is_a(tables, st, payload_of(cell), c)
+    is_object(tables, st, c, cell)
 }
 
 // The slot of row i for the object with this cell.

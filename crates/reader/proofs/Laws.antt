@@ -1,4 +1,4 @@
--- A line, the end of a rule before it and the text's end, put together as reading is defined. Assumes nothing.
+-- A line, the end of a definition or rule before it and the text's end, put together as reading is defined. Assumes nothing.
 use mathlib.Core.Path.{_≡_, refl, _∙_, subst}
 use mathlib.Core.Logic.{_≢_}
 use mathlib.Core.Bool.{true, false}
@@ -18,11 +18,11 @@ use Rattle.sheet.specs.Reading.{Step, step, Reading, accepted, rejected, onStep
 use Rattle.sheet.proofs.Good.{Good}
 use Rattle.sheet.proofs.Acceptance.{GoodStep, good-step, no-step, good-fields, good-endRule}
 use Rattle.text.specs.Words.{byteKind, onlyByte}
-use Rattle.text.proofs.WordLaws.{is-class-line, is-row-line, is-object-line, is-value-line, is-rule-line, is-node-line}
+use Rattle.text.proofs.WordLaws.{is-class-line, is-row-line, is-object-line, is-value-line, is-definition-line, is-rule-line, is-node-line}
 use Rattle.tables.specs.declared.Counts.{Counts}
 use Rattle.tables.specs.declared.Step.{Step as CodeStep}
 use Rattle.tables.specs.declared.Step.the-variants as code
-use Rattle.tables.specs.Layout.{Holds, HoldsOpen, closed, opened, Fine, Moved, moved-next, moved-stop, Took}
+use Rattle.tables.specs.Layout.{openCode, Holds, HoldsOpen, closed, opened, Fine, Moved, moved-next, moved-stop, Took}
 use Rattle.tables.proofs.Tables.{kept-refl, kept-then}
 use Rattle.slots.specs.Slots.{TookSlot}
 use Rattle.trees.specs.Rules.{RuleRoom, EndMoved, ended, RuleEnded}
@@ -60,20 +60,23 @@ module _ (fs : List Bytes) (kind : ℕ) (e : kind ≡ byteKind (onlyByte (getD f
   pub rule-letter : kind ≡ 5 → is (getD fs 0 []) (bytes "R") ≡ true
   rule-letter h = is-rule-line (getD fs 0 []) ∙ rw (← e) (eq-eqb kind 5 h)
 
+  pub definition-letter : kind ≡ 8 → is (getD fs 0 []) (bytes "D") ≡ true
+  definition-letter h = is-definition-line (getD fs 0 []) ∙ rw (← e) (eq-eqb kind 8 h)
+
 -- a first field that is no line's letter
 no-line : (fs : List Bytes) → is (getD fs 0 []) (bytes "C") ≡ false → is (getD fs 0 []) (bytes "A") ≡ false → is (getD fs 0 []) (bytes "O") ≡ false
-    → is (getD fs 0 []) (bytes "V") ≡ false → is (getD fs 0 []) (bytes "R") ≡ false → is (getD fs 0 []) (bytes "N") ≡ false → lineOf fs ≡ none
+    → is (getD fs 0 []) (bytes "V") ≡ false → is (getD fs 0 []) (bytes "D") ≡ false → is (getD fs 0 []) (bytes "R") ≡ false → is (getD fs 0 []) (bytes "N") ≡ false → lineOf fs ≡ none
 unfolding lineOf
-no-line [] a b c d e f = refl
-no-line (w ∷ fs) a b c d e f = rw (a, b, c, d, e, f)
+no-line [] a b c d e f g = refl
+no-line (w ∷ fs) a b c d e f g = rw (a, b, c, d, e, f, g)
 
-pub unknown-line : (fs : List Bytes) (kind : ℕ) → kind ≡ byteKind (onlyByte (getD fs 0 [])) → kind ≢ 1 → kind ≢ 2 → kind ≢ 3 → kind ≢ 4 → kind ≢ 5 → kind ≢ 6 → lineOf fs ≡ none
-unknown-line fs kind e a b c d f g = no-line fs
+pub unknown-line : (fs : List Bytes) (kind : ℕ) → kind ≡ byteKind (onlyByte (getD fs 0 [])) → kind ≢ 1 → kind ≢ 2 → kind ≢ 3 → kind ≢ 4 → kind ≢ 5 → kind ≢ 8 → kind ≢ 6 → lineOf fs ≡ none
+unknown-line fs kind e a b c d f i g = no-line fs
     (is-class-line (getD fs 0 []) ∙ rw (← e) (ne-eqb kind 1 a)) (is-row-line (getD fs 0 []) ∙ rw (← e) (ne-eqb kind 2 b))
     (is-object-line (getD fs 0 []) ∙ rw (← e) (ne-eqb kind 3 c)) (is-value-line (getD fs 0 []) ∙ rw (← e) (ne-eqb kind 4 d))
-    (is-rule-line (getD fs 0 []) ∙ rw (← e) (ne-eqb kind 5 f)) (is-node-line (getD fs 0 []) ∙ rw (← e) (ne-eqb kind 6 g))
+    (is-definition-line (getD fs 0 []) ∙ rw (← e) (ne-eqb kind 8 i)) (is-rule-line (getD fs 0 []) ∙ rw (← e) (ne-eqb kind 5 f)) (is-node-line (getD fs 0 []) ∙ rw (← e) (ne-eqb kind 6 g))
 
--- ---- a line and the end of a rule before it
+-- ---- a line and the end of a definition or rule before it
 
 pub by-any : {st : Counts} {k : ℕ} {line : Bytes} {r : CodeStep} {w0 w1 v0 v1 : List ℕ} → Took st k line r w0 w1 v0 v1 → TookLine st k line r w0 w1 v0 v1
 by-any t = record { is = λ s h m. t .is s h; kept0 = t .kept0; kept1 = t .kept1 }
@@ -91,13 +94,18 @@ pub ended-fine : {v0 w1 : List ℕ} {r : CodeStep} {o : Option Sheet} (st : Coun
 ended-fine st (ended {st = su} g h) e = let z : su ≡ st = cc in subst Fine z g
 ended-fine st EndMoved.refused e = absurd (let z : _≡_ {A = ℕ} 0 1 = cc in omega arith)
 
--- an open rule has room in the tables
+-- an open definition or rule has room in the tables
 pub rule-room : {st : Counts} {w0 w1 : List ℕ} (s : Sheet) → Holds st w0 w1 s → Good s → RuleRoom st
-rule-room {st} {w0} {w1} s h t = record { room = by (s .current) refl (h .current) }
+unfolding openCode
+rule-room {st} {w0} {w1} s h t = record { room = by (s .current) refl (h .current) .0; space = by (s .current) refl (h .current) .1 }
   where
-    by : (o : Option Current) → s .current ≡ o → HoldsOpen st w1 (length (s .lines)) o → st .«open» ≡ 1 → st .rules < 64
-    by none e (closed z) q = absurd (omega arith)
-    by (some c) e (opened z) q = let l = t .room c e in let m = h .counted .rules in omega arith
+    by-type : (c : Current) → s .current ≡ some c → (o : Option _) → c .result ≡ o → st .«open» ≡ openCode o → (st .«open» ≡ 1 → st .rules < 64) × (st .«open» ≡ 2 → st .definitions < 32)
+    by-type c e none u z = (λ q. let l = t .room c e .for-rule u in let m = h .counted .rules in omega arith, λ q. absurd (omega arith))
+    by-type c e (some a) u z = (λ q. absurd (omega arith), λ q. let l = t .room c e .for-definition a u in let m = h .counted .definitions in omega arith)
+
+    by : (o : Option Current) → s .current ≡ o → HoldsOpen st w1 (length (s .lines)) o → (st .«open» ≡ 1 → st .rules < 64) × (st .«open» ≡ 2 → st .definitions < 32)
+    by none e (closed z) = (λ q. absurd (omega arith), λ q. absurd (omega arith))
+    by (some c) e (opened z) = by-type c e (c .result) refl (z .is-open)
 
 module _ (st : Counts) (k : ℕ) (line : Bytes) where
   pub node-whole : {r : CodeStep} {w0 w1 v1 : List ℕ} → firstIsN (fieldsOf line) ≡ true → Took st (k + 1) line r w0 w1 w0 v1 → TookWhole st k line (placedAt r (k + 1)) w0 w1 w0 v1

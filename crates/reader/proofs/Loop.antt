@@ -9,7 +9,7 @@ use Rattle.laws.specs.Lists.{each-nil, concat}
 use Rattle.laws.proofs.Parts.{part-all}
 use Rattle.sheet.specs.Text.{Bytes, linesOf, fieldsOf}
 use Rattle.sheet.specs.Sheet.{Sheet, empty}
-use Rattle.sheet.specs.Refusals.{totalSize}
+use Rattle.sheet.specs.Limits.{totalSize}
 use Rattle.sheet.specs.Reading.{Reading, rejected, step, onStep, closing, readLines}
 use Rattle.sheet.proofs.Split.{split-laws}
 use Rattle.sheet.proofs.Good.{good-empty}
@@ -28,8 +28,9 @@ use Rattle.reader.specs.declared.SheetRead.the-variants as sheet
 holds-empty : (w0 w1 : List ℕ) → Holds noCounts w0 w1 empty
 unfolding empty startsFrom cellsOf concat linesIn totalSize
 holds-empty w0 w1 = record {
-  counted = record { block = refl; classes = refl; rows = refl; objects = refl; slots = refl; cells = refl; nodes = refl; rules = refl };
+  counted = record { block = refl; classes = refl; rows = refl; objects = refl; slots = refl; cells = refl; nodes = refl; definitions = refl; rules = refl };
   tables = record { parents = refl; owners = refl; names = refl; types = refl; objects = refl; keys = refl; starts = refl; cells = refl; fits = each-nil; contexts = refl };
+  definitions = record { contexts = refl; classes = each-nil; types = refl; bodies = refl; roots = each-nil; depths = each-nil };
   rules = record { bodies = refl; roots = each-nil; lines = refl };
   current = closed refl;
 }
@@ -38,7 +39,7 @@ held-empty : (w0 w1 : List ℕ) → HeldSheet noCounts w0 w1
 held-empty w0 w1 = record {
   sheet = empty;
   holds = holds-empty w0 w1;
-  fine = record { classes = omega arith; rows = omega arith; objects = omega arith; slots = omega arith; cells = omega arith; nodes = omega arith; rules = omega arith; first = omega arith };
+  fine = record { classes = omega arith; rows = omega arith; objects = omega arith; slots = omega arith; cells = omega arith; nodes = omega arith; definitions = omega arith; rules = omega arith; first = omega arith; context = omega arith };
   good = good-empty;
 }
 

@@ -38,7 +38,7 @@ pub record TookLine (st : Counts) (k : ℕ) (line : Bytes) (r : CodeStep) (w0 w1
   pub kept0 : Kept w0 v0
   pub kept1 : Kept w1 v1
 
--- the line after k others, and the end of an open rule before it
+-- the line after k others, and the end of an open definition or rule before it
 pub record TookWhole (st : Counts) (k : ℕ) (line : Bytes) (r : LineRead) (w0 w1 v0 v1 : List ℕ) : Type 0 where
   pub is : (s : Sheet) → Holds st w0 w1 s → Good s → (f : Sheet → Reading)
       → GoesOn v0 v1 f r (closing s k (fieldsOf line) (λ t. onStep (step t (suc k) (fieldsOf line)) (suc k) f))

@@ -11,6 +11,7 @@ ghost use Rattle.text.specs.Words.{byteKind, onlyByte};
 ghost use Rattle.tables.specs.Layout.{Fine};
 ghost use Rattle.reader.specs.Contracts.{HeldSheet, placedAt, TookLine, TookWhole, TookLast, ReadsTo};
 use declarations::classes::class_line;
+use declarations::definitions::definition_line;
 use declarations::objects::object_line;
 use declarations::rows::row_line;
 use declarations::rules::rule_line;
@@ -49,6 +50,7 @@ fn other_line(kind: u64, line: &[u8], f: Fields, w0: &mut [u64], st: Counts) -> 
         3 => object_line(line, f, w0, st),
         4 => value_line(line, f, w0, st),
         5 => rule_line(line, f, st),
+        8 => definition_line(line, f, st),
         _ => Step::Stop(3),
     }
 }
@@ -63,7 +65,7 @@ fn placed(s: Step, k: u64) -> LineRead
     }
 }
 
-// One line, after k others. An open rule ends before a line that is no node line.
+// One line, after k others. An open definition or rule ends before a line that is no node line.
 fn line_read(line: &[u8], w0: &mut [u64], w1: &mut [u64], st: Counts, k: u64) -> LineRead
     requires { ⌜ (8192 ≤ length (now w0)) × (8192 ≤ length (now w1)) × HeldSheet st (now w0) (now w1) × (k < 100000) ⌝ }
     ensures { λ r. ⌜ TookWhole st k (now (line .entry)) r (now (w0 .entry)) (now (w1 .entry)) (now (w0 .exit)) (now (w1 .exit)) ⌝ }
@@ -71,7 +73,7 @@ fn line_read(line: &[u8], w0: &mut [u64], w1: &mut [u64], st: Counts, k: u64) ->
     let f = cut(line);
     let kind = byte_kind(letter(field(line, f, 0)));
     if kind == 6 {
-        return placed(node_line(line, f, w1, st, k + 1), k + 1);
+        return placed(node_line(line, f, w0, w1, st, k + 1), k + 1);
     }
     match end_rule(w0, w1, st) {
         Step::Stop(n) => LineRead::Refused(n, k),
@@ -79,7 +81,7 @@ fn line_read(line: &[u8], w0: &mut [u64], w1: &mut [u64], st: Counts, k: u64) ->
     }
 }
 
-// The text's last part, after k lines: it must be empty, and an open rule ends with the text.
+// The text's last part, after k lines: it must be empty, and an open definition or rule ends with the text.
 fn last_read(part: &[u8], w0: &mut [u64], w1: &[u64], st: Counts, k: u64) -> SheetRead
     requires { ⌜ (8192 ≤ length (now w0)) × (8192 ≤ length (now w1)) × HeldSheet st (now w0) (now w1) × (k < 100000) ⌝ }
     ensures { λ r. ⌜ TookLast st k (now (part .entry)) r (now (w0 .entry)) (now (w1 .entry)) (now (w0 .exit)) (now (w1 .entry)) ⌝ }

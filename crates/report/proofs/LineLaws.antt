@@ -6,7 +6,7 @@ use native.Mathlib.Omega.{arith}
 use lib.ListN.{length, take, length-append, length-take, length-drop}
 use lib.Seq.{slice}
 use Rattle.ocl.specs.Values.{Value}
-use Rattle.ocl.specs.Evaluation.{Outcome, value, undefined, stuck, stop, stepsOf}
+use Rattle.ocl.specs.Operations.{Outcome, value, undefined, stuck, stop, stepsOf}
 use Rattle.sheet.specs.Text.{Bytes, bytes, spellNumber}
 use Rattle.sheet.specs.Spelling.{spellValue}
 use Rattle.sheet.specs.Report.{spellOutcome, reportLine}

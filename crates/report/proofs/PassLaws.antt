@@ -10,7 +10,7 @@ use lib.ListN.{length, getD, take, drop, take-append-drop, length-append}
 use Rattle.laws.proofs.Elements.{elem-at}
 use Rattle.ocl.specs.Types.{class, Ty}
 use Rattle.ocl.specs.Model.{isA}
-use Rattle.ocl.specs.Evaluation.{Outcome}
+use Rattle.ocl.specs.Operations.{Outcome}
 use Rattle.sheet.specs.Text.{Bytes}
 use Rattle.sheet.specs.Sheet.{Rule, Sheet, modelOf}
 use Rattle.sheet.specs.Calls.{outcomeOf}
@@ -77,7 +77,7 @@ module _ {st : Counts} {w0 w1 : List ℕ} {r : ℕ} {s : Sheet} {x : Rule} {t : 
     -- a line takes no more than its bound
     module _ (yes : b ≡ true) {A : List ℕ} {e : Ended} (ends : Ends 1 A (outcomeOf s x o) e) where
       line-length : length (reportLine r o (outcomeOf s x o)) ≤ 15 + width t
-      line-length = length-of-line (m .lies) r o (m .rule) (m .type) (rw (class-is, yes) tt) ends
+      line-length = length-of-line (m .lies) (m .defined) r o (m .rule) (m .type) (rw (class-is, yes) tt) ends
 
       line-bounded : length (reportLine r o (outcomeOf s x o)) ≤ lineBound o s x t
       unfolding lineBound lineWidth

@@ -54,7 +54,7 @@ rule-of {r} a h =
     record {
       rule = x .0;
       type = t .0;
-      is = record { lies = a .lies; marks = a .marks; rule = x .1; type = t .1 .0 };
+      is = record { lies = a .lies; defined = a .defined; marks = a .marks; rule = x .1; type = t .1 .0 };
       listed = t .1 .1;
     }
 

@@ -2,7 +2,7 @@
 use mathlib.Core.List.{List}
 use Prim.Native.Nat.{ℕ, _+_, _≤_}
 use lib.ListN.{length}
-use Rattle.ocl.specs.Evaluation.{Outcome}
+use Rattle.ocl.specs.Operations.{Outcome}
 use Rattle.sheet.specs.Report.{spellOutcome, reportLine}
 use Rattle.operations.specs.Answers.{Ends}
 use Rattle.operations.specs.declared.Ended.{Ended}

@@ -7,12 +7,14 @@ use mathlib.Core.List.{List, []}
 use Prim.Native.Nat.{ℕ, _+_, _≤_}
 use lib.ListN.{length, getElem?}
 use Rattle.laws.specs.Choice.{if_then_else_}
+use Rattle.laws.specs.Lists.{Each}
 use Rattle.ocl.specs.Types.{class, Ty}
 use Rattle.ocl.specs.Model.{isA}
 use Rattle.ocl.specs.Typing.{typed}
 use Rattle.sheet.specs.Text.{Bytes}
 use Rattle.sheet.specs.Sheet.{Rule, Sheet, modelOf}
 use Rattle.sheet.specs.Calls.{typingOf, outcomeOf}
+use Rattle.sheet.specs.Laws.{Defined}
 use Rattle.sheet.specs.Report.{reportLine, objectLines, ruleLines}
 use Rattle.text.specs.Written.{putBytes}
 use Rattle.tables.specs.declared.Counts.{Counts}
@@ -38,6 +40,7 @@ pub record HasRoom (keep : Bool) (total n b room : ℕ) : Type 0 where
 -- rule r of an accepted sheet is x, and has type t
 pub record TypedRule (st : Counts) (w0 w1 : List ℕ) (r : ℕ) (s : Sheet) (x : Rule) (t : Ty) : Type 0 where
   pub lies : InWords st w0 w1 s
+  pub defined : Each (Defined s) (s .definitions)
   pub marks : MarksIn w1 s
   pub rule : getElem? (s .rules) r ≡ some x
   pub type : typingOf s x .answer ≡ typed t

@@ -8,7 +8,7 @@ ghost use mathlib.Core.Path.{_≡_};
 ghost use mathlib.Core.List.{List, [], _∷_, _++_};
 ghost use Prim.Native.Nat.{ℕ, _+_, _≤_};
 ghost use lib.ListN.{length};
-ghost use Rattle.ocl.specs.Evaluation.{Outcome, stepsOf};
+ghost use Rattle.ocl.specs.Operations.{Outcome, stepsOf};
 ghost use Rattle.sheet.specs.Text.{spellNumber};
 ghost use Rattle.sheet.specs.Report.{spellOutcome, reportLine};
 ghost use Rattle.text.specs.Written.{Puts};

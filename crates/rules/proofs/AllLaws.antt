@@ -1,4 +1,5 @@
--- All rules typed in order: the first r of them have types, which wait in w2, and their marks are made. Assumes nothing.
+-- All rules typed in order: the first r of them have types, which wait in w2, and their marks are made; and definitions before rules.
+-- Assumes nothing.
 use mathlib.Core.Path.{_≡_, refl, sym, ap, _∙_}
 use mathlib.Core.Option.{some}
 use mathlib.Core.List.{List, [], _∷_, _++_}
@@ -6,12 +7,13 @@ use Prim.Native.Nat.{ℕ, suc, _+_, _≤_, _<_}
 use native.Mathlib.Omega.{arith}
 use native.Mathlib.Numerals.{add-one}
 use lib.ListN.{length, getElem?, set, take, drop, replicate, length-append, length-drop}
-use lib.Seq.{take-length, take-at, drop-at, drop-drop, take-set-le}
+use lib.Seq.{take-length, take-at, drop-at, take-set-le}
 use Rattle.ocl.specs.Types.{Ty}
 use Rattle.ocl.specs.Typing.{refused as untyped}
 use Rattle.sheet.specs.Sheet.{Rule, Sheet, schemaIn}
-use Rattle.sheet.specs.Calls.{refusalAt, typingOf, onTypes, ruleMarks}
+use Rattle.sheet.specs.Calls.{refusalAt, typingOf, onTypes, definitionMarks, ruleMarks}
 use Rattle.sheet.specs.Laws.{AllTyped, none-typed}
+use Rattle.sheet.proofs.Accepted.{on-defined}
 use Rattle.types.specs.declared.FlatType.{FlatType}
 use Rattle.types.specs.Flat.{tyOf}
 use Rattle.types.specs.Word.{typeIn}
@@ -27,9 +29,9 @@ use Rattle.rules.specs.declared.all.RulesTyped.{RulesTyped}
 use Rattle.rules.specs.declared.all.RulesTyped.the-variants as code
 use Rattle.rules.specs.Accepted.{InWords, Known, TypesIn}
 use Rattle.rules.specs.Numbered.{TypesNumbered}
-use Rattle.rules.specs.All.{clearedMarks, TypesAs, a-refusal, all-typed, TypesAll, KeepsMarks, AcceptsAs, refused, accepted, Accepts}
+use Rattle.rules.specs.All.{clearedMarks, DefinesAs, not-defined, all-defined, DefinesAll, TypesAs, a-refusal, all-typed, TypesAll, KeepsMarks, AcceptsAs, refused, accepted, Accepts}
 use Rattle.rules.proofs.Ready.{ready}
-use Rattle.rules.proofs.Marks.{accepted-same, marks-kept, zeros-length, marks-in}
+use Rattle.rules.proofs.Marks.{accepted-same, marks-kept, kept-behind, zeros-length, marks-in}
 use Rattle.rules.proofs.RuleByRule.{take-elem, split-elem, typed-snoc, first-refusal, types-more, marks-snoc}
 
 pub record TypedTo (st : Counts) (w0 w1 before now : List ℕ) (r : ℕ) : Type 0 where
@@ -40,17 +42,6 @@ pub record TypedTo (st : Counts) (w0 w1 before now : List ℕ) (r : ℕ) : Type 
   pub waiting : TypesIn now types
   pub within : r ≤ st .rules
   pub kept : Kept before now
-
--- ---- what is kept
-
-kept-numbered : {st : Counts} {w0 w1 u v : List ℕ} {r : ℕ} {a : Reply} → TypesNumbered st w0 w1 r u v a → Kept u v
-kept-numbered {u} {v} t = record { size = t .size; rest = sym (drop-drop 7424 768 v) ∙ ap (drop 7424) (t .rest) ∙ drop-drop 7424 768 u }
-
-kept-cleared : (w : List ℕ) → 768 ≤ length w → Kept w (clearedMarks w)
-kept-cleared w h = record {
-  size = length-append (replicate 768 0) (drop 768 w) ∙ (let a = zeros-length in let b = length-drop 768 w in omega arith);
-  rest = sym (drop-drop 7424 768 (clearedMarks w)) ∙ ap (drop 7424) (drop-at (replicate 768 0) (drop 768 w) 768 zeros-length) ∙ drop-drop 7424 768 w;
-}
 
 -- ---- the loop
 
@@ -82,7 +73,7 @@ module _ {st : Counts} {w0 w1 : List ℕ} where
         long = length-append (so .types) (tyOf t ∷ []) ∙ omega (arith, so .long);
         waiting = types-more v w (so .waiting) (so .long) (ty .rest) (omega (arith, ty .size, so .kept .size)) is;
         within = omega arith;
-        kept = kept-then (so .kept) (kept-then (kept-numbered ty) (kept-set v (768 + r) w (omega arith)));
+        kept = kept-then (so .kept) (kept-then (kept-behind (ty .rest) (ty .size)) (kept-set v (768 + r) w (omega arith)));
       }
     where
       rule : (s : Sheet) → InWords st w0 w1 s → (x : Rule) × (getElem? (s .rules) r ≡ some x)
@@ -112,7 +103,7 @@ module _ {st : Counts} {w0 w1 : List ℕ} where
         ap (λ (xs : List Rule). onTypes s xs f) (split-elem (s .rules) r (x .0) (x .1))
         ∙ first-refusal (x .0) (so .typed s g) q (drop (suc r) (s .rules)) f
         ∙ ap (refusalAt n) (ready g .place r (x .0) n p (x .1) q .1 ∙ sym l));
-    kept = kept-then (so .kept) (kept-numbered ty);
+    kept = kept-then (so .kept) (kept-behind (ty .rest) (ty .size));
   }
 
   pub typed-all : {w2 u : List ℕ} {rules r : ℕ} → rules ≡ st .rules → TypedTo st w0 w1 w2 u r → rules ≤ r → TypesAll st w0 w1 w2 u code.Yes
@@ -123,22 +114,43 @@ module _ {st : Counts} {w0 w1 : List ℕ} where
     kept = so .kept;
   }
 
--- ---- all rules typed over a cleared table, and their marks kept
+-- ---- definitions typed over a cleared table, then rules, and their marks kept
 
-module _ {st : Counts} {w0 u1 v1 v2 : List ℕ} (u2 : List ℕ) (k : KeepsMarks v2 u1 v1) where
-  accepts-as : {a : RulesTyped} (s : Sheet) → InWords st w0 u1 s → TypesAs s (clearedMarks u2) v2 a → AcceptsAs st w0 v1 v2 s a
-  accepts-as s g (a-refusal f) = refused f
-  accepts-as s g (all-typed ts types waiting made) =
+kept-cleared : (w : List ℕ) → 768 ≤ length w → Kept w (clearedMarks w)
+kept-cleared w h =
+    kept-behind (drop-at (replicate 768 0) (drop 768 w) 768 zeros-length)
+    (length-append (replicate 768 0) (drop 768 w) ∙ (let a = zeros-length in let b = length-drop 768 w in omega arith))
+
+module _ {st : Counts} {w0 u1 v1 m2 v2 : List ℕ} (u2 : List ℕ) (k : KeepsMarks v2 u1 v1) where
+  accepts-as : {a : RulesTyped} (s : Sheet) → InWords st w0 u1 s → DefinesAs s (clearedMarks u2) m2 code.Yes → TypesAs s m2 v2 a → AcceptsAs st w0 v1 v2 s a
+  accepts-as s g (all-defined all made) (a-refusal f) = refused (λ h. on-defined all (onTypes s (s .rules) h) ∙ f h)
+  accepts-as s g (all-defined all made) (all-typed ts types waiting more) =
       let zeros = take-at (replicate 768 0) (drop 768 u2) 768 zeros-length in
+      let first = definitionMarks (schemaIn s) (s .definitions) in
+      let then = ruleMarks (schemaIn s) (s .rules) in
       accepted ts (record {
         lies = accepted-same k g;
+        defined = all;
         typed = types;
-        marks = marks-in s (made ∙ ap (λ (l : List ℕ). writeMarks l (ruleMarks (schemaIn s) (s .rules))) zeros) k;
+        marks = marks-in s (more ∙ ap (λ (l : List ℕ). writeMarks l then) (made ∙ ap (λ (l : List ℕ). writeMarks l first) zeros) ∙ sym (write-append (replicate 768 0) first then)) k;
       }) waiting
 
-  pub accepts : {a : RulesTyped} {c : List ℕ} → 8192 ≤ length u2 → c ≡ clearedMarks u2 → TypesAll st w0 u1 c v2 a → Accepts st w0 u1 u2 v1 v2 a
-  accepts {a} room e t = let d = rw e at t in record {
-    is = λ s g. accepts-as s g (d .is s g);
+  pub accepts : {a b : RulesTyped} {c : List ℕ} → 8192 ≤ length u2 → c ≡ clearedMarks u2 → DefinesAll st w0 u1 c m2 b → b ≡ code.Yes → TypesAll st w0 u1 m2 v2 a
+      → Accepts st w0 u1 u2 v1 v2 a
+  accepts room e d y t = let f = rw (e, y) at d in record {
+    is = λ s g. accepts-as s g (f .is s g) (t .is s g);
     kept1 = marks-kept k;
-    kept2 = kept-then (kept-cleared u2 (omega arith)) (d .kept);
+    kept2 = kept-then (kept-cleared u2 (omega arith)) (kept-then (f .kept) (t .kept));
   }
+
+-- a definition that is refused: no rule is typed
+pub accepts-none : {st : Counts} {w0 u1 u2 v2 c : List ℕ} {n k : ℕ} {b : RulesTyped} → 8192 ≤ length u2 → c ≡ clearedMarks u2 → DefinesAll st w0 u1 c v2 b → b ≡ code.No n k
+    → Accepts st w0 u1 u2 u1 v2 (code.No n k)
+accepts-none {st} {w0} {u1} {u2} {v2} {n = n} {k} room e d y = let f = rw (e, y) at d in record {
+  is = λ s g. by s (f .is s g);
+  kept1 = kept-refl u1;
+  kept2 = kept-then (kept-cleared u2 (omega arith)) (f .kept);
+}
+  where
+    by : (s : Sheet) → DefinesAs s (clearedMarks u2) v2 (code.No n k) → AcceptsAs st w0 u1 v2 s (code.No n k)
+    by s (not-defined h) = refused (λ f. h (onTypes s (s .rules) f))

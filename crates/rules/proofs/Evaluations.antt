@@ -6,7 +6,8 @@ use native.Mathlib.Omega.{arith}
 use lib.ListN.{length, getD, take, drop, length-append, length-drop}
 use lib.Seq.{length-take-le, take-append-le, drop-at}
 use Rattle.ocl.specs.Forms.{levels}
-use Rattle.ocl.specs.Evaluation.{Outcome, evaluateRule}
+use Rattle.ocl.specs.Operations.{Outcome}
+use Rattle.ocl.specs.Evaluation.{evaluateRule}
 use Rattle.sheet.specs.Sheet.{Rule, Sheet, modelOf}
 use Rattle.sheet.specs.Calls.{marksOf, outcomeOf}
 use Rattle.nodes.specs.Nodes.{treeAt}

@@ -8,6 +8,7 @@ use native.Mathlib.Omega.{arith}
 use borrow.Author.Tests.{lt-ltb}
 use lib.ListN.{length, getElem?, length-append}
 use lib.Dec.{T, ltb→lt}
+use Rattle.laws.specs.Lists.{Each}
 use Rattle.laws.proofs.Tests.{and-i, and-l, and-r}
 use Rattle.laws.proofs.Elements.{elem-at}
 use Rattle.ocl.specs.Types.{Simple, any, boolean, integer, class, exactly, Ty, void, simple, around, simpleSubtype, letterSubtype, climbs, height, up, sameSimple, simpleCode}
@@ -15,7 +16,7 @@ use Rattle.ocl.specs.Values.{Value, bool, int, obj, coll, Values, size, everyPa
 use Rattle.ocl.specs.Model.{Model, classIsA, isA, every, belongs}
 use Rattle.ocl.specs.Forms.{reach}
 use Rattle.ocl.specs.Typing.{typed}
-use Rattle.ocl.specs.Evaluation.{Outcome, value, undefined, stuck, stop, stepsOf}
+use Rattle.ocl.specs.Operations.{Outcome, value, undefined, stuck, stop, stepsOf}
 use Rattle.ocl.specs.Soundness.{Sound}
 use Rattle.ocl.proofs.SimpleTypes.{integer-not-class}
 use Rattle.ocl.proofs.Steps.{steps-limited}
@@ -23,8 +24,9 @@ use Rattle.ocl.proofs.Stops.{stop-within}
 use Rattle.sheet.specs.Text.{bytes, spellNumber}
 use Rattle.sheet.specs.Spelling.{spellBool, spellValue}
 use Rattle.sheet.specs.Sheet.{Rule, Sheet, modelOf}
-use Rattle.sheet.specs.Refusals.{partWithin}
+use Rattle.sheet.specs.Limits.{partWithin}
 use Rattle.sheet.specs.Calls.{typingOf, outcomeOf}
+use Rattle.sheet.specs.Laws.{Defined}
 use Rattle.sheet.specs.Report.{spellOutcome, reportLine}
 use Rattle.sheet.proofs.Acceptance.{accepted-good}
 use Rattle.sheet.proofs.Soundness.{sound-rule}
@@ -137,14 +139,14 @@ line-by r o n x a b h l =
     let e = length-laws .number-length 2 o (omega arith) (omega arith) in
     simp length-append (omega arith)
 
-module _ {st : Counts} {w0 w1 : List ℕ} {s : Sheet} (a : InWords st w0 w1 s) (r o : ℕ) {x : Rule} {t : Ty} (is : getElem? (s .rules) r ≡ some x)
+module _ {st : Counts} {w0 w1 : List ℕ} {s : Sheet} (a : InWords st w0 w1 s) (defined : Each (Defined s) (s .definitions)) (r o : ℕ) {x : Rule} {t : Ty} (is : getElem? (s .rules) r ≡ some x)
     (type : typingOf s x .answer ≡ typed t) (of : T (isA (modelOf s) o (class (x .context)))) {sp : ℕ} {A : List ℕ} {e : Ended} (ends : Ends sp A (outcomeOf s x o) e) where
   few-objects : (i c : ℕ) → modelOf s .classOf i ≡ some c → i < 96
   unfolding modelOf
   few-objects i c q = let h = elem-at (s .objects) i c q .0 in let n = a .holds .counted .objects in let f = a .fine .objects in omega arith
 
   sound : Sound (modelOf s) t (reach (x .body)) (outcomeOf s x o)
-  sound = sound-rule s (accepted-good (a .text) s (a .was)) r o x t is type of
+  sound = sound-rule s (accepted-good (a .text) s (a .was)) defined r o x t is type of
 
   within : (v : Value) (n : ℕ) → outcomeOf s x o ≡ value v n → T (everyPart partWithin v)
   within v n q = parts-within (modelOf s) few-objects t v (ends-fit ends v n q) (sound .of-type v n q)

@@ -6,5 +6,6 @@ pub mod Lengths
 pub mod Typings
 pub mod Marks
 pub mod RuleByRule
+pub mod DefineLaws
 pub mod AllLaws
 pub mod Evaluations

@@ -1,9 +1,9 @@
--- Marks kept in w1: the sheet still lies in the words, and the marks are those of its rules. Assumes nothing.
+-- Marks kept in w1: the sheet still lies in the words, and the marks are those of its definitions and rules. Assumes nothing.
 use mathlib.Core.Path.{_≡_, refl, sym, ap, _∙_}
 use mathlib.Core.Bool.{Bool, true, false}
 use mathlib.Core.Option.{Option}
-use mathlib.Core.List.{List, [], _∷_, map}
-use Prim.Native.Nat.{ℕ, zero, suc, _+_, _*_, _≤_, _<_}
+use mathlib.Core.List.{List, [], _∷_, _++_, map}
+use Prim.Native.Nat.{ℕ, zero, suc, _+_, _*_, _/_, _≤_, _<_}
 use native.Mathlib.Omega.{arith}
 use lib.ListN.{length, getD, take, drop, replicate, set, length-set, length-replicate, getD-replicate}
 use lib.Seq.{drop-drop, getD-take, getD-drop, take-set-le, drop-set-lt, getD-set-same, getD-set-other}
@@ -13,9 +13,10 @@ use borrow.Author.Tests.{eqb-true, eqb-false}
 use Rattle.laws.specs.Choice.{if_then_else_}
 use Rattle.laws.specs.Lists.{Each, each-nil, each-cons}
 use Rattle.ocl.specs.Types.{kindCode, sameKind}
+use Rattle.ocl.specs.Forms.{levels}
 use Rattle.ocl.specs.Typing.{Mark, ofRow, rowMarked, kindMarked, Marks, markOr, markIn}
 use Rattle.sheet.specs.Sheet.{Current, Sheet, schemaIn}
-use Rattle.sheet.specs.Calls.{ruleMarks, marksOf}
+use Rattle.sheet.specs.Calls.{definitionMarks, ruleMarks, marksOf}
 use Rattle.nodes.specs.Nodes.{treeAt}
 use Rattle.nodes.specs.Marks.{markWord}
 use Rattle.nodes.proofs.Keep.{tree-keep}
@@ -71,6 +72,11 @@ module _ {w2 w1 v1 : List ℕ} (k : KeepsMarks w2 w1 v1) where
   trees-same b h [] each-nil = refl
   trees-same b h (n ∷ ns) (each-cons l ls) = rw (tree-same n (omega arith), trees-same b h ns ls)
 
+  depths-same : (b : ℕ) → b ≤ 768 → (ns : List ℕ) → Each (λ n. n < b) ns → Each (λ n. getD w1 (6912 + n) 0 / 2 ≡ levels (treeAt w1 n)) ns
+      → Each (λ n. getD v1 (6912 + n) 0 / 2 ≡ levels (treeAt v1 n)) ns
+  depths-same b h [] each-nil each-nil = each-nil
+  depths-same b h (n ∷ ns) (each-cons l ls) (each-cons e es) = each-cons {n = n} (rw (depth-words n, tree-same n (omega arith)) e) (depths-same b h ns ls es)
+
   pub lines-same : (n : ℕ) → n ≤ 768 → linesIn v1 n ≡ linesIn w1 n
   unfolding linesIn
   lines-same zero h = refl
@@ -81,6 +87,7 @@ module _ {w2 w1 v1 : List ℕ} (k : KeepsMarks w2 w1 v1) where
     current-same {c} h = record {
       is-open = h .is-open;
       context = h .context;
+      result = h .result;
       first = h .first;
       count = h .count;
       trees = λ a l. h .trees a l ∙ sym (tree-same (c .first + a) (omega (arith, h .count)));
@@ -96,6 +103,8 @@ module _ {w2 w1 v1 : List ℕ} (k : KeepsMarks w2 w1 v1) where
   accepted-same {st} {w0} {s} a =
       let small : length (s .lines) ≤ 768 = omega (arith, a .fine .nodes, a .holds .counted .nodes) in
       let h = a .holds .rules in
+      let d = a .holds .definitions in
+      let roots = tab 4640 (length (s .definitions)) w0 in
       record {
         text = a .text;
         was = a .was;
@@ -103,6 +112,14 @@ module _ {w2 w1 v1 : List ℕ} (k : KeepsMarks w2 w1 v1) where
         holds = record {
           counted = a .holds .counted;
           tables = a .holds .tables;
+          definitions = record {
+            contexts = d .contexts;
+            classes = d .classes;
+            types = d .types;
+            bodies = trees-same (length (s .lines)) small roots (d .roots) ∙ d .bodies;
+            roots = d .roots;
+            depths = depths-same (length (s .lines)) small roots (d .roots) (d .depths);
+          };
           rules = record {
             bodies = trees-same (length (s .lines)) small (tab 4512 (length (s .rules)) w0) (h .roots) ∙ h .bodies;
             roots = h .roots;
@@ -114,6 +131,10 @@ module _ {w2 w1 v1 : List ℕ} (k : KeepsMarks w2 w1 v1) where
 
 pub marks-kept : {w2 w1 v1 : List ℕ} → KeepsMarks w2 w1 v1 → Kept w1 v1
 marks-kept {w2} {w1} {v1} k = record { size = k .size; rest = sym (drop-drop 1280 6912 v1) ∙ ap (drop 1280) (k .above) ∙ drop-drop 1280 6912 w1 }
+
+-- only marks change
+pub kept-behind : {u v : List ℕ} → drop 768 v ≡ drop 768 u → length v ≡ length u → Kept u v
+kept-behind {u} {v} rest size = record { size = size; rest = sym (drop-drop 7424 768 v) ∙ ap (drop 7424) rest ∙ drop-drop 7424 768 u }
 
 -- ---- each word of a table of marks is that of the last mark made there
 
@@ -137,9 +158,13 @@ mark-at (x ∷ m) l p d h e =
 pub zeros-length : length (replicate {A = ℕ} 768 0) ≡ 768
 zeros-length = length-replicate {A = ℕ} 768 0
 
-pub marks-in : {w2 w1 v1 : List ℕ} (s : Sheet) → take 768 w2 ≡ writeMarks (replicate 768 0) (ruleMarks (schemaIn s) (s .rules)) → KeepsMarks w2 w1 v1 → MarksIn v1 s
+-- all marks of a sheet, in order
+abbrev pub sheetMarks : Sheet → Marks
+sheetMarks s = definitionMarks (schemaIn s) (s .definitions) ++ ruleMarks (schemaIn s) (s .rules)
+
+pub marks-in : {w2 w1 v1 : List ℕ} (s : Sheet) → take 768 w2 ≡ writeMarks (replicate 768 0) (sheetMarks s) → KeepsMarks w2 w1 v1 → MarksIn v1 s
 unfolding marksOf markIn markWord kindMarked rowMarked sameKind kindCode
 marks-in {w2} s e k = record {
   at = λ p h. k .at p h ∙ sym (getD-take 768 w2 p 0 h) ∙ ap (λ (l : List ℕ). getD l p 0) e
-      ∙ mark-at (ruleMarks (schemaIn s) (s .rules)) (replicate 768 0) p (ofRow 0) (rw zeros-length h) (getD-replicate 768 p 0 0 h);
+      ∙ mark-at (sheetMarks s) (replicate 768 0) p (ofRow 0) (rw zeros-length h) (getD-replicate 768 p 0 0 h);
 }

@@ -15,7 +15,7 @@ use Rattle.ocl.specs.Model.{Row}
 use Rattle.sheet.specs.Sheet.{Slot, Sheet, noRow, modelOf}
 use Rattle.sheet.proofs.Good.{Good}
 use Rattle.sheet.proofs.Acceptance.{accepted-good, good-model}
-use Rattle.sheet.proofs.Soundness.{good-refusals}
+use Rattle.sheet.proofs.Soundness.{good-refusals, good-definition-refusals}
 use Rattle.tables.specs.declared.Counts.{Counts}
 use Rattle.tables.specs.Layout.{Holds, Fine}
 use Rattle.tables.specs.Stored.{HoldsModel}
@@ -24,7 +24,7 @@ use Rattle.operations.specs.Tables.{Plain}
 use Rattle.rules.specs.Accepted.{InWords, Ready}
 use Rattle.rules.proofs.Classes.{classes-held}
 use Rattle.rules.proofs.Slots.{LowRows, slots-ascend, slots-stored}
-use Rattle.rules.proofs.RulesIn.{node-line, rule-in, rule-there, rule-past, mark-told}
+use Rattle.rules.proofs.RulesIn.{node-line, definition-in, definition-there, rule-in, rule-there, rule-past, mark-told}
 
 module _ {st : Counts} {w0 w1 : List ℕ} {s : Sheet} (fine : Fine st) (holds : Holds st w0 w1 s) (good : Good s) where
   low-rows : LowRows (s .slots)
@@ -65,9 +65,12 @@ ready {st} {s = s} a =
       classes = record { classes = classes-held (a .holds .tables) (good .parents) (st .classes) 64 (a .holds .counted .classes) (omega arith); count = sym c };
       model = model-held (a .fine) (a .holds) good;
       plain = plain-model (a .fine) (a .holds) good;
+      definition = definition-in (a .fine) (a .holds) good;
+      some-definition = definition-there (a .fine) (a .holds);
       rule = rule-in (a .fine) (a .holds) good;
       some-rule = rule-there (a .fine) (a .holds);
       no-rule = rule-past (a .fine) (a .holds);
       place = λ r x n p e h. node-line (a .fine) (a .holds) p (good-refusals s good r x e n p h .on-sheet);
+      definition-place = λ d x n p e h. node-line (a .fine) (a .holds) p (good-definition-refusals s good d x e n p h .on-sheet);
       mark = mark-told (a .fine) (a .holds);
     }

@@ -16,7 +16,7 @@ use Rattle.laws.proofs.Lists.{each-right, each-head}
 use Rattle.laws.proofs.Slices.{cut-part, split-left, split-right}
 use Rattle.ocl.specs.Values.{Value, size}
 use Rattle.sheet.specs.Sheet.{Slot, Sheet, lookup}
-use Rattle.sheet.specs.Refusals.{totalSize}
+use Rattle.sheet.specs.Limits.{totalSize}
 use Rattle.sheet.proofs.Ascending.{Before, smaller-object, smaller-row, Ascending, ascending-nil, ascending-cons}
 use Rattle.values.specs.Cells.{enc}
 use Rattle.values.proofs.Encoding.{size-law, some-cells}

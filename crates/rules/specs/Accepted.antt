@@ -4,14 +4,15 @@ use mathlib.Core.Option.{none, some}
 use mathlib.Core.List.{List}
 use Prim.Native.Nat.{ℕ, _+_, _≤_, _<_}
 use lib.ListN.{getD, getElem?, take}
+use Rattle.laws.specs.Lists.{Each}
 use Rattle.ocl.specs.Types.{Ty}
-use Rattle.ocl.specs.Forms.{levels}
-use Rattle.ocl.specs.Typing.{refused as untyped}
+use Rattle.ocl.specs.Forms.{Definition, levels}
+use Rattle.ocl.specs.Typing.{refused as untyped, typeDefinition}
 use Rattle.sheet.specs.Text.{Bytes}
 use Rattle.sheet.specs.Sheet.{Rule, Sheet, schemaIn, modelOf, mostLevels}
 use Rattle.sheet.specs.Reading.{accepted, readText}
 use Rattle.sheet.specs.Calls.{typingOf, marksOf}
-use Rattle.sheet.specs.Laws.{AllTyped}
+use Rattle.sheet.specs.Laws.{AllTyped, Defined}
 use Rattle.types.specs.Word.{typeIn}
 use Rattle.nodes.specs.Nodes.{word, treeAt}
 use Rattle.nodes.specs.Marks.{markWord, Marked}
@@ -37,9 +38,11 @@ pub record Known (st : Counts) (w0 w1 : List ℕ) : Type 0 where
 pub record MarksIn (w1 : List ℕ) (s : Sheet) : Type 0 where
   pub at : (p : ℕ) → p < 768 → getD w1 (6144 + p) 0 ≡ markWord (marksOf s p)
 
--- a sheet is accepted only if all its rules type (document 02, F-6): it lies in the words with its marks, and its rules have the types ts
+-- a sheet is accepted only if all its definitions and rules type (document 02, F-6 and F-13): it lies in the words with its marks, and its
+-- rules have the types ts
 pub record Accepted (st : Counts) (w0 w1 : List ℕ) (s : Sheet) (ts : List Ty) : Type 0 where
   pub lies : InWords st w0 w1 s
+  pub defined : Each (Defined s) (s .definitions)
   pub typed : AllTyped s (s .rules) ts
   pub marks : MarksIn w1 s
 
@@ -56,6 +59,14 @@ pub record KnownTyped (st : Counts) (w0 w1 w2 : List ℕ) : Type 0 where
 
 -- ---- what follows
 
+-- definition d's class is at 4576 + d, its type's word at 4608 + d and its root at 4640 + d
+pub record DefinitionIn (w0 w1 : List ℕ) (d : ℕ) (x : Definition) : Type 0 where
+  pub context : getD w0 (4576 + d) 0 ≡ x .context
+  pub type : typeIn (getD w0 (4608 + d) 0) ≡ x .type
+  pub body : treeAt w1 (getD w0 (4640 + d) 0) ≡ x .body
+  pub root : getD w0 (4640 + d) 0 < 768
+  pub low-context : x .context < 64
+
 -- rule r's context class is at 4448 + r and its root at 4512 + r
 pub record RuleIn (w0 w1 : List ℕ) (r : ℕ) (x : Rule) : Type 0 where
   pub context : getD w0 (4448 + r) 0 ≡ x .context
@@ -70,12 +81,17 @@ pub record Ready (st : Counts) (w0 w1 : List ℕ) (s : Sheet) : Type 0 where
   -- objects and values, for evaluation
   pub model : HoldsModel st w0 (modelOf s)
   pub plain : Plain st (modelOf s)
+  -- there are st .definitions definitions, each where it is looked for
+  pub definition : (d : ℕ) (x : Definition) → getElem? (s .definitions) d ≡ some x → DefinitionIn w0 w1 d x
+  pub some-definition : (d : ℕ) → d < st .definitions → (x : Definition) × (getElem? (s .definitions) d ≡ some x)
   -- there are st .rules rules, each where it is looked for
   pub rule : (r : ℕ) (x : Rule) → getElem? (s .rules) r ≡ some x → RuleIn w0 w1 r x
   pub some-rule : (r : ℕ) → r < st .rules → (x : Rule) × (getElem? (s .rules) r ≡ some x)
   pub no-rule : (r : ℕ) → st .rules ≤ r → getElem? (s .rules) r ≡ none
   -- a refusal of typing is at a node, whose line is its word 7
   pub place : (r : ℕ) (x : Rule) (n p : ℕ) → getElem? (s .rules) r ≡ some x → typingOf s x .answer ≡ untyped n p
+      → (p < 768) × (getD (s .lines) p 0 ≡ word w1 p 7)
+  pub definition-place : (d : ℕ) (x : Definition) (n p : ℕ) → getElem? (s .definitions) d ≡ some x → typeDefinition (schemaIn s) x .answer ≡ untyped n p
       → (p < 768) × (getD (s .lines) p 0 ≡ word w1 p 7)
   -- the word of each mark tells what evaluation reads
   pub mark : (p : ℕ) → Marked (markWord (marksOf s p)) (marksOf s p)

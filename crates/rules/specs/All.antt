@@ -1,12 +1,13 @@
--- What the code promises of all rules typed in order.
+-- What the code promises of all definitions and all rules typed in order.
 use mathlib.Core.Path.{_≡_}
 use mathlib.Core.List.{List, _++_}
 use Prim.Native.Nat.{ℕ, _+_, _<_}
 use lib.ListN.{length, getD, take, drop, replicate}
+use Rattle.laws.specs.Lists.{Each}
 use Rattle.ocl.specs.Types.{Ty}
 use Rattle.sheet.specs.Sheet.{Sheet, schemaIn}
-use Rattle.sheet.specs.Calls.{Verdict, refusalAt, onTypes, ruleMarks}
-use Rattle.sheet.specs.Laws.{AllTyped}
+use Rattle.sheet.specs.Calls.{Verdict, refusalAt, onTypes, onDefinitions, definitionMarks, ruleMarks}
+use Rattle.sheet.specs.Laws.{AllTyped, Defined}
 use Rattle.tables.specs.declared.Counts.{Counts}
 use Rattle.tables.specs.Layout.{Kept}
 use Rattle.judgements.specs.Replies.{writeMarks}
@@ -18,13 +19,31 @@ use Rattle.rules.specs.declared.all.RulesTyped.the-variants as code
 abbrev pub clearedMarks : List ℕ → List ℕ
 clearedMarks w = replicate 768 0 ++ drop 768 w
 
--- whatever follows the types, the first refusal is the answer
+-- whatever follows the definitions, the first refusal of one is the answer
+abbrev pub RefusesDefinition : Sheet → ℕ → ℕ → Type 0
+RefusesDefinition s n k = (v : Verdict) → onDefinitions s (s .definitions) v ≡ refusalAt n k
+
+-- whatever follows the rules' types, the first refusal of one is the answer
+abbrev pub RefusesRule : Sheet → ℕ → ℕ → Type 0
+RefusesRule s n k = (f : List Ty → Verdict) → onTypes s (s .rules) f ≡ refusalAt n k
+
+-- and of both, definitions before rules (document 02, F-13)
 abbrev pub Refuses : Sheet → ℕ → ℕ → Type 0
-Refuses s n k = (f : List Ty → Verdict) → onTypes s (s .rules) f ≡ refusalAt n k
+Refuses s n k = (f : List Ty → Verdict) → onDefinitions s (s .definitions) (onTypes s (s .rules) f) ≡ refusalAt n k
+
+-- the first refusal; or the marks of all definitions in w2
+pub data DefinesAs (s : Sheet) (before after : List ℕ) : RulesTyped → Type 0 where
+  not-defined : {n k : ℕ} → RefusesDefinition s n k → DefinesAs s before after (code.No n k)
+  all-defined : Each (Defined s) (s .definitions) → take 768 after ≡ writeMarks (take 768 before) (definitionMarks (schemaIn s) (s .definitions))
+      → DefinesAs s before after code.Yes
+
+pub record DefinesAll (st : Counts) (w0 w1 before after : List ℕ) (r : RulesTyped) : Type 0 where
+  pub is : (s : Sheet) → InWords st w0 w1 s → DefinesAs s before after r
+  pub kept : Kept before after
 
 -- the first refusal; or the types in w2 from 768 on, and the marks of all rules before them
 pub data TypesAs (s : Sheet) (before after : List ℕ) : RulesTyped → Type 0 where
-  a-refusal : {n k : ℕ} → Refuses s n k → TypesAs s before after (code.No n k)
+  a-refusal : {n k : ℕ} → RefusesRule s n k → TypesAs s before after (code.No n k)
   all-typed : (ts : List Ty) → AllTyped s (s .rules) ts → TypesIn after ts
       → take 768 after ≡ writeMarks (take 768 before) (ruleMarks (schemaIn s) (s .rules)) → TypesAs s before after code.Yes
 

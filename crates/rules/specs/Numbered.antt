@@ -1,10 +1,12 @@
--- What the code promises of a rule by its number: for every sheet that lies in the words.
+-- What the code promises of a definition or a rule by its number: for every sheet that lies in the words.
 use mathlib.Core.Path.{_≡_}
 use mathlib.Core.Option.{some}
 use mathlib.Core.List.{List}
 use Prim.Native.Nat.{ℕ}
 use lib.ListN.{length, getElem?, take, drop}
-use Rattle.sheet.specs.Sheet.{Rule, Sheet}
+use Rattle.ocl.specs.Forms.{Definition}
+use Rattle.ocl.specs.Typing.{typeDefinition}
+use Rattle.sheet.specs.Sheet.{Rule, Sheet, schemaIn}
 use Rattle.sheet.specs.Calls.{typingOf, outcomeOf}
 use Rattle.tables.specs.declared.Counts.{Counts}
 use Rattle.tables.specs.Layout.{Kept}
@@ -19,6 +21,14 @@ pub record TypesNumbered (st : Counts) (w0 w1 : List ℕ) (r : ℕ) (before afte
   pub is : (s : Sheet) → InWords st w0 w1 s → (x : Rule) → getElem? (s .rules) r ≡ some x → meaning reply ≡ typingOf s x .answer
   pub marked : (s : Sheet) → InWords st w0 w1 s → (x : Rule) → getElem? (s .rules) r ≡ some x
       → take 768 after ≡ writeMarks (take 768 before) (typingOf s x .marks)
+  pub rest : drop 768 after ≡ drop 768 before
+  pub size : length after ≡ length before
+
+-- the typing of definition d, in the same way
+pub record DefinesNumbered (st : Counts) (w0 w1 : List ℕ) (d : ℕ) (before after : List ℕ) (reply : Reply) : Type 0 where
+  pub is : (s : Sheet) → InWords st w0 w1 s → (x : Definition) → getElem? (s .definitions) d ≡ some x → meaning reply ≡ typeDefinition (schemaIn s) x .answer
+  pub marked : (s : Sheet) → InWords st w0 w1 s → (x : Definition) → getElem? (s .definitions) d ≡ some x
+      → take 768 after ≡ writeMarks (take 768 before) (typeDefinition (schemaIn s) x .marks)
   pub rest : drop 768 after ≡ drop 768 before
   pub size : length after ≡ length before
 

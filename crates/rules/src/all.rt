@@ -1,10 +1,11 @@
-// All rules of a sheet typed in order: a sheet is accepted only if each has a type. Document 02, F-6. The marks of all rules share one
-// table, since nodes are numbered through all rules; the types wait in w2 until every rule has one.
+// All definitions and then all rules of a sheet typed in order: a sheet is accepted only if each is typed. Document 02, F-6 and F-13.
+// All marks share one table, since nodes are numbered through definitions and rules; the rules' types wait in w2 until every rule has one.
 ghost use mathlib.Core.Path.{_≡_};
 ghost use Prim.Native.Nat.{_≤_};
 ghost use lib.ListN.{length};
 ghost use Rattle.rules.specs.Accepted.{Known};
-ghost use Rattle.rules.specs.All.{clearedMarks, TypesAll, KeepsMarks, Accepts};
+ghost use Rattle.rules.specs.All.{clearedMarks, DefinesAll, TypesAll, KeepsMarks, Accepts};
+use crate::typed::define_numbered;
 use crate::typed::node_line;
 use crate::typed::type_numbered;
 use judgements::Reply;
@@ -12,7 +13,7 @@ use tables::Counts;
 use types::classes::wide;
 use types::word::pack;
 
-// What typing all rules comes to: each has a type; or the first refusal and its line.
+// What typing definitions or rules comes to: each is typed; or the first refusal and its line.
 pub enum RulesTyped {
     Yes,
     No(u64, u64),
@@ -28,6 +29,23 @@ fn clear_marks(w2: &mut [u64])
         w2[i] = 0;
         i += 1;
     }
+}
+
+// Types each definition: its marks are added to those in w2.
+fn type_definitions(w0: &[u64], st: Counts, w1: &[u64], w2: &mut [u64]) -> RulesTyped
+    requires { ⌜ (8192 ≤ length (now w0)) × (8192 ≤ length (now w1)) × (8192 ≤ length (now w2)) ⌝ }
+    requires { ⌜ Known st (now w0) (now w1) ⌝ }
+    ensures { λ a. ⌜ DefinesAll st (now (w0 .entry)) (now (w1 .entry)) (now (w2 .entry)) (now (w2 .exit)) a ⌝ }
+{
+    let definitions = wide(st.definitions);
+    let mut d: usize = 0;
+    while d < definitions {
+        if let Reply::No(number, p) = define_numbered(w0, st, w1, w2, d) {
+            return RulesTyped::No(number, node_line(w1, p));
+        }
+        d += 1;
+    }
+    RulesTyped::Yes
 }
 
 // Types each rule: its marks are added to those in w2, and its type is put behind them.
@@ -64,13 +82,16 @@ fn keep_marks(w2: &[u64], w1: &mut [u64])
     }
 }
 
-// Types all rules of the sheet that lies in the words, and keeps their marks.
+// Types the definitions and then the rules of the sheet that lies in the words, and keeps their marks.
 pub fn accept(w0: &[u64], st: Counts, w1: &mut [u64], w2: &mut [u64]) -> RulesTyped
     requires { ⌜ (8192 ≤ length (now w0)) × (8192 ≤ length (now w1)) × (8192 ≤ length (now w2)) ⌝ }
     requires { ⌜ Known st (now w0) (now w1) ⌝ }
     ensures { λ a. ⌜ Accepts st (now (w0 .entry)) (now (w1 .entry)) (now (w2 .entry)) (now (w1 .exit)) (now (w2 .exit)) a ⌝ }
 {
     clear_marks(w2);
+    if let RulesTyped::No(number, line) = type_definitions(w0, st, w1, w2) {
+        return RulesTyped::No(number, line);
+    }
     let typed = type_all(w0, st, w1, w2);
     keep_marks(w2, w1);
     typed

@@ -1,5 +1,5 @@
-// A sheet that lies in the words: all its rules typed, which accepts it, and a rule evaluated by its number for an object. It depends
-// on `tables` for what lies in the words after reading, and on `typing` and `evaluation` for the two recursions.
-pub mod all; // all rules typed in order, their marks kept
+// A sheet that lies in the words: all its definitions and rules typed, which accepts it, and a rule evaluated by its number for an
+// object. It depends on `tables` for what lies in the words after reading, and on `typing` and `evaluation` for the two recursions.
+pub mod all; // all definitions and rules typed in order, their marks kept
 pub mod evaluated; // a rule for an object, once its marks are kept
-pub mod typed; // a rule's type or refusal, and the line of a node
+pub mod typed; // the type or refusal of a definition or rule, and the line of a node

@@ -1,14 +1,15 @@
-// The typing of the rule with a number, and a node's line, which a refusal names.
+// The typing of the definition or the rule with a number, and a node's line, which a refusal names.
 ghost use mathlib.Core.Path.{_≡_};
 ghost use Prim.Native.Nat.{_≤_, _<_};
 ghost use lib.ListN.{length};
 ghost use Rattle.nodes.specs.Nodes.{word};
 ghost use Rattle.rules.specs.Accepted.{Known};
-ghost use Rattle.rules.specs.Numbered.{TypesNumbered};
+ghost use Rattle.rules.specs.Numbered.{TypesNumbered, DefinesNumbered};
 use judgements::Reply;
 use nodes::node_word;
 use tables::Counts;
 use types::classes::wide;
+use typing::rules::type_definition;
 use typing::rules::type_rule;
 
 // The type of rule r, or its refusal and the node. The marks of its nodes are added to those in the first 768 words of w2.
@@ -22,6 +23,20 @@ pub fn type_numbered(w0: &[u64], st: Counts, w1: &[u64], w2: &mut [u64], r: usiz
     let context = w0[4448 + r] as u8;
     let root = wide(w0[4512 + r]);
     type_rule(w0, classes, rows, w1, w2, context, root)
+}
+
+// The same for definition d.
+pub fn define_numbered(w0: &[u64], st: Counts, w1: &[u64], w2: &mut [u64], d: usize) -> Reply
+    requires { ⌜ (8192 ≤ length (now w0)) × (8192 ≤ length (now w1)) × (8192 ≤ length (now w2)) ⌝ }
+    requires { ⌜ Known st (now w0) (now w1) × (d < st .definitions) ⌝ }
+    ensures { λ a. ⌜ DefinesNumbered st (now (w0 .entry)) (now (w1 .entry)) d (now (w2 .entry)) (now (w2 .exit)) a ⌝ }
+{
+    let classes = wide(st.classes);
+    let rows = wide(st.rows);
+    let context = w0[4576 + d] as u8;
+    let declared = w0[4608 + d];
+    let root = wide(w0[4640 + d]);
+    type_definition(w0, classes, rows, w1, w2, context, declared, root)
 }
 
 // The line of node p.

@@ -1,5 +1,5 @@
 -- What every sheet that reading accepts has: parents that are smaller, slots that ascend, values that belong to their rows' types and are
--- formed, rules whose trees share no node and have at most 19 levels, Integers and types within their limits. The induction over the
+-- formed, definitions and rules whose trees share no node and have at most 19 levels, Integers and types within their limits. The induction over the
 -- lines, over the laws of proofs/Good.antt. Assumes nothing.
 use mathlib.Core.Path.{_≡_, refl, sym, ap, _∙_, subst}
 use mathlib.Core.Bool.{Bool, true, false, _&&_}
@@ -11,26 +11,30 @@ use lib.ListN.{length, getD}
 use lib.Dec.{T, eqb, eqb→eq, ltb, leb, leb→le}
 use Rattle.laws.specs.Choice.{if_then_else_, onSome}
 use Rattle.laws.specs.Lists.{Each, each-nil, each-cons, Distinct}
-use Rattle.laws.proofs.Tests.{and-r, by-if, All?, all-none, all-some}
-use Rattle.laws.proofs.Lists.{length-more, each-imp, each-append, distinct-append}
+use Rattle.laws.proofs.Tests.{and-r, by-if, All?, all-none, all-some, at-some}
+use Rattle.laws.proofs.Lists.{length-more, each-imp, each-append, each-left, distinct-append}
+use Rattle.ocl.specs.Types.{Ty}
 use Rattle.ocl.specs.Values.{Value, size}
 use Rattle.ocl.specs.Model.{Model, belongs}
-use Rattle.ocl.specs.Forms.{Expr, levels}
-use Rattle.ocl.specs.Laws.{integersInRange, Formed, numbers, literals}
+use Rattle.ocl.specs.Forms.{Expr, Definition, levels}
+use Rattle.ocl.specs.Laws.{integersInRange, Formed, numbers, literals, calls}
 use Rattle.ocl.specs.Soundness.{AcceptedModel}
 use Rattle.sheet.specs.Text.{Bytes, fieldsOf, linesOf}
 use Rattle.sheet.specs.Lines.{Line, lineOf, firstIsN}
-use Rattle.sheet.specs.Sheet.{Slot, Rule, Current, Sheet, empty, lookup, noRow, modelOf, treeOf, lastTree, allUsed, withRule, mostLevels, endOf, endFor, endRule}
-use Rattle.sheet.specs.Refusals.{withinLimits, inOrder, partsKnown, suits, treeHolds}
+use Rattle.sheet.specs.Sheet.{Slot, Rule, Current, Sheet, empty, lookup, noRow, modelOf, treeOf, lastTree, allUsed, withBody, mostLevels, endOf, endFor, endRule}
+use Rattle.sheet.specs.Limits.{withinLimits}
+use Rattle.sheet.specs.Refusals.{inOrder, partsKnown, callsSmaller, callsKnown, suits, treeHolds}
 use Rattle.sheet.specs.Reading.{Step, taken, refuse, must, stepLine, stepSpelled, step, Reading, accepted, rejected, onStep, onEnd, closing, readLast, readLines, readText}
 use Rattle.sheet.proofs.Belonging.{belongs-same}
 use Rattle.sheet.proofs.InRange.{InRange, tree-in-range}
-use Rattle.sheet.proofs.TypeFits.{NamesFit, tree-names}
-use Rattle.sheet.proofs.Good.{CurrentOk, Good, OpenOk, RuleOk, SlotOk, bodyNumbers, good-added, good-empty, no-rule, open-rule, plain, sheetNumbers}
+use Rattle.sheet.proofs.TypeFits.{Fits, NamesFit, tree-names}
+use Rattle.sheet.proofs.Bodies.{bodyNumbers, bodies-more, Among, among-more, tree-called}
+use Rattle.sheet.proofs.Good.{plain, SlotOk, BodyOk, DefinitionOk, CurrentOk, OpenOk, none-open, one-open, blocks-none, sheetNumbers, Good, good-empty}
+use Rattle.sheet.proofs.GoodNodes.{good-added}
 
--- ---- a rule's end
+-- ---- the end of a definition or rule
 
--- the body is the tree of one of the rule's nodes
+-- the body is the tree of one of its nodes
 record Root (trees : List Expr) (body : Expr) : Type 0 where
   index : ℕ
   inside : index < length trees
@@ -42,54 +46,110 @@ last-tree [] body e = absurd (let z : _≡_ {A = ℕ} 0 1 = cc in omega arith)
 last-tree (x ∷ []) body e = record { index = 0; inside = omega arith; is = (let z : x ≡ body = cc in z) }
 last-tree (x ∷ y ∷ trees) body e = let r = last-tree (y ∷ trees) body e in record { index = suc (r .index); inside = omega arith; is = r .is }
 
-rule-ok : (n : ℕ) (c : Current) (body : Expr) → CurrentOk n c → lastTree (c .trees) ≡ some body → levels body ≤ mostLevels → RuleOk n (record { context = c .context; body = body })
-rule-ok n c body h e l = let r = last-tree (c .trees) body e in record {
-  context = h .context;
-  on-sheet = subst (λ i. Each (λ p. p < i) (numbers body)) (h .count) (subst (λ x. Each (λ p. p < c .first + length (c .trees)) (numbers x)) (r .is) (h .forest .below (r .index) (r .inside)));
-  shallow = l;
-  in-range = subst (λ x. InRange (literals x)) (r .is) (tree-in-range (h .in-range) (r .index));
-  names = subst NamesFit (r .is) (tree-names (h .names) (r .index));
-}
+module _ (ds : List Definition) (n : ℕ) (c : Current) (body : Expr) (h : CurrentOk ds n c) (e : lastTree (c .trees) ≡ some body) where
+  root-is : Root (c .trees) body
+  root-is = last-tree (c .trees) body e
 
--- its nodes come after all others
-rule-distinct : (n : ℕ) (c : Current) (body : Expr) → CurrentOk n c → lastTree (c .trees) ≡ some body → {ns : List ℕ} → Distinct ns → Each (λ p. p < c .first) ns → Distinct (ns ++ numbers body)
-rule-distinct n c body h e d l = let r = last-tree (c .trees) body e in
-    distinct-append d (subst (λ x. Distinct (numbers x)) (r .is) (h .forest .distinct (r .index) (r .inside)))
-    (each-imp (λ n k. each-imp (λ m i q. omega arith) (subst (λ x. Each (λ p. c .first ≤ p) (numbers x)) (r .is) (h .forest .above (r .index) (r .inside)))) l)
+  body-ok : levels body ≤ mostLevels → BodyOk ds n (c .context) body
+  body-ok l = let r = root-is in record {
+    context = h .context;
+    on-sheet = subst (λ i. Each (λ p. p < i) (numbers body)) (h .count) (subst (λ x. Each (λ p. p < c .first + length (c .trees)) (numbers x)) (r .is) (h .forest .below (r .index) (r .inside)));
+    shallow = l;
+    in-range = subst (λ x. InRange (literals x)) (r .is) (tree-in-range (h .in-range) (r .index));
+    names = subst NamesFit (r .is) (tree-names (h .names) (r .index));
+    called = subst (λ x. Each (Among ds) (calls x)) (r .is) (tree-called (h .called) (r .index));
+  }
 
--- the nodes of one rule more
-bodies-more : (rs : List Rule) (x : Rule) → bodyNumbers (map (λ r. r .body) (rs ++ (x ∷ []))) ≡ bodyNumbers (map (λ r. r .body) rs) ++ numbers (x .body)
+  -- its nodes come after all others
+  body-distinct : {ns : List ℕ} → Distinct ns → Each (λ p. p < c .first) ns → Distinct (ns ++ numbers body)
+  body-distinct d l = let r = root-is in
+      distinct-append d (subst (λ x. Distinct (numbers x)) (r .is) (h .forest .distinct (r .index) (r .inside)))
+      (each-imp (λ n k. each-imp (λ m i q. omega arith) (subst (λ x. Each (λ p. c .first ≤ p) (numbers x)) (r .is) (h .forest .above (r .index) (r .inside)))) l)
+
+-- a definition more on the sheet
+body-among : {ds : List Definition} {n c : ℕ} (d : Definition) {e : Expr} → BodyOk ds n c e → BodyOk (ds ++ (d ∷ [])) n c e
+body-among d x = record { context = x .context; on-sheet = x .on-sheet; shallow = x .shallow; in-range = x .in-range; names = x .names; called = among-more d (x .called) }
+
+definition-among : {ds : List Definition} {n : ℕ} (d : Definition) {e : Definition} → DefinitionOk ds n e → DefinitionOk (ds ++ (d ∷ [])) n e
+definition-among d x = record { type = x .type; body = body-among d (x .body) }
+
+-- where there is no rule, the definitions' nodes are all
+no-rules : (s : Sheet) (es : List Expr) → s .rules ≡ [] → bodyNumbers es ++ bodyNumbers (map (λ (r : Rule). r .body) (s .rules)) ≡ bodyNumbers es
 unfolding bodyNumbers
-bodies-more [] x = append-nil (numbers (x .body))
-bodies-more (y ∷ rs) x = ap (λ l. numbers (y .body) ++ l) (bodies-more rs x) ∙ sym (append-assoc (numbers (y .body)) (bodyNumbers (map (λ r. r .body) rs)) (numbers (x .body)))
+no-rules s es z = ap (λ rs. bodyNumbers es ++ bodyNumbers (map (λ (r : Rule). r .body) rs)) z ∙ append-nil (bodyNumbers es)
 
-good-body : (s : Sheet) (c : Current) → Good s → s .current ≡ some c → CurrentOk (length (s .lines)) c → (o : Option Expr) → lastTree (c .trees) ≡ o
-    → All? Good (onSome o (λ body. if allUsed (c .used) (length (c .trees) - 1) && leb (levels body) mostLevels then some (withRule s (c .context) body) else none))
-unfolding onSome withRule plain sheetNumbers
-good-body s c g q h none e = all-none
-good-body s c g q h (some body) e =
-    by-if (All? Good) (allUsed (c .used) (length (c .trees) - 1) && leb (levels body) mostLevels) _ none
-    (λ t. all-some (record {
+fits-result : {t : Ty} {o : Option Ty} → o ≡ some t → All? (Fits 3) o → Fits 3 t
+fits-result e h = at-some (subst (All? (Fits 3)) e h)
+
+ended-definition : (s : Sheet) (c : Current) (t : Ty) (body : Expr) → Good s → s .current ≡ some c → c .result ≡ some t → CurrentOk (s .definitions) (length (s .lines)) c
+    → lastTree (c .trees) ≡ some body → levels body ≤ mostLevels → Good (withBody s (c .context) (some t) body)
+unfolding withBody plain sheetNumbers
+ended-definition s c t body g q r h e l =
+    let d : Definition = record { context = c .context; type = t; body = body } in
+    let z : s .rules ≡ [] = g .blocks .late (g .blocks .in-definition c t q r) in
+    let f : Definition → Expr = λ x. x .body in
+    record {
       parents = g .parents;
       rows = g .rows;
       early = g .early;
       slots = g .slots;
       ascending = g .ascending;
-      rules =
-          each-append (g .rules)
-          (each-cons (rule-ok (length (s .lines)) c body h e (leb→le (levels body) mostLevels (and-r (allUsed (c .used) (length (c .trees) - 1)) _ t))) each-nil);
-      distinct = subst Distinct (sym (bodies-more (s .rules) (record { context = c .context; body = body }))) (rule-distinct (length (s .lines)) c body h e (g .distinct) (g .earlier c q));
+      definitions = each-append (each-imp (λ x. definition-among d) (g .definitions))
+          (each-cons (record { type = fits-result r (h .result); body = body-among d (body-ok (s .definitions) (length (s .lines)) c body h e l) }) each-nil);
+      rules = each-imp (λ x. body-among d) (g .rules);
+      distinct = subst Distinct (sym (no-rules s (map f (s .definitions ++ (d ∷ []))) z ∙ bodies-more f (s .definitions) d))
+          (body-distinct (s .definitions) (length (s .lines)) c body h e (subst Distinct (no-rules s (map f (s .definitions)) z) (g .distinct))
+          (each-left (bodyNumbers (map f (s .definitions))) _ (g .earlier c q)));
       earlier = λ d e. absurd (let z : _≡_ {A = ℕ} 0 1 = cc in omega arith);
-      few = omega (arith, g .room c q, length-more (s .rules) (record { context = c .context; body = body }));
-      current = no-rule;
+      few = g .few;
+      blocks = blocks-none (g .blocks .late);
+      current = none-open;
       room = λ d e. absurd (let z : _≡_ {A = ℕ} 0 1 = cc in omega arith);
-    }))
+    }
+
+ended-rule : (s : Sheet) (c : Current) (body : Expr) → Good s → s .current ≡ some c → c .result ≡ none → CurrentOk (s .definitions) (length (s .lines)) c
+    → lastTree (c .trees) ≡ some body → levels body ≤ mostLevels → Good (withBody s (c .context) none body)
+unfolding withBody plain sheetNumbers
+ended-rule s c body g q r h e l =
+    let x : Rule = record { context = c .context; body = body } in
+    let f : Rule → Expr = λ x. x .body in
+    record {
+      parents = g .parents;
+      rows = g .rows;
+      early = g .early;
+      slots = g .slots;
+      ascending = g .ascending;
+      definitions = g .definitions;
+      rules = each-append (g .rules) (each-cons (body-ok (s .definitions) (length (s .lines)) c body h e l) each-nil);
+      distinct = subst Distinct
+          (append-assoc (bodyNumbers (map (λ (d : Definition). d .body) (s .definitions))) (bodyNumbers (map f (s .rules))) (numbers body)
+          ∙ ap (λ l. bodyNumbers (map (λ (d : Definition). d .body) (s .definitions)) ++ l) (sym (bodies-more f (s .rules) x)))
+          (body-distinct (s .definitions) (length (s .lines)) c body h e (g .distinct) (g .earlier c q));
+      earlier = λ d e. absurd (let z : _≡_ {A = ℕ} 0 1 = cc in omega arith);
+      few = omega (arith, g .room c q .for-rule r, length-more (s .rules) x);
+      blocks = blocks-none (λ k. absurd (let z = g .blocks .in-rule c q r in omega arith));
+      current = none-open;
+      room = λ d e. absurd (let z : _≡_ {A = ℕ} 0 1 = cc in omega arith);
+    }
+
+good-ended : (s : Sheet) (c : Current) (t : Option Ty) (body : Expr) → Good s → s .current ≡ some c → c .result ≡ t → CurrentOk (s .definitions) (length (s .lines)) c
+    → lastTree (c .trees) ≡ some body → levels body ≤ mostLevels → Good (withBody s (c .context) t body)
+good-ended s c none body g q r h e l = ended-rule s c body g q r h e l
+good-ended s c (some t) body g q r h e l = ended-definition s c t body g q r h e l
+
+good-body : (s : Sheet) (c : Current) → Good s → s .current ≡ some c → CurrentOk (s .definitions) (length (s .lines)) c → (o : Option Expr) → lastTree (c .trees) ≡ o
+    → All? Good (onSome o (λ body. if allUsed (c .used) (length (c .trees) - 1) && leb (levels body) mostLevels then some (withBody s (c .context) (c .result) body) else none))
+unfolding onSome
+good-body s c g q h none e = all-none
+good-body s c g q h (some body) e =
+    by-if (All? Good) (allUsed (c .used) (length (c .trees) - 1) && leb (levels body) mostLevels) _ none
+    (λ t. all-some (good-ended s c (c .result) body g q refl h e (leb→le (levels body) mostLevels (and-r (allUsed (c .used) (length (c .trees) - 1)) _ t))))
     (λ t. all-none)
 
-good-close : (s : Sheet) → Good s → (o : Option Current) → s .current ≡ o → OpenOk (length (s .lines)) o → All? Good (endFor s o)
+good-close : (s : Sheet) → Good s → (o : Option Current) → s .current ≡ o → OpenOk (s .definitions) (length (s .lines)) o → All? Good (endFor s o)
 unfolding endFor endOf
-good-close s g none q no-rule = all-some g
-good-close s g (some c) q (open-rule h) = good-body s c g q h (lastTree (c .trees)) refl
+good-close s g none q none-open = all-some g
+good-close s g (some c) q (one-open h) = good-body s c g q h (lastTree (c .trees)) refl
 
 pub good-endRule : (s : Sheet) → Good s → All? Good (endRule s)
 unfolding endRule
@@ -110,8 +170,9 @@ good-line : (s : Sheet) (k : ℕ) (l : Line) → Good s → GoodStep (stepLine s
 unfolding stepLine
 good-line s k l g =
     must-good (withinLimits s l) 4 _ (λ a. must-good (inOrder s l) 5 _ (λ b. must-good (partsKnown s l) 6 _ (λ c.
+    must-good (callsSmaller s l) 23 _ (λ x. must-good (callsKnown s l) 24 _ (λ y.
     must-good (suits s l) 7 _ (λ d. must-good (treeHolds s l) 8 _ (λ e.
-    good-step (good-added s k l g (record { limits = a; order = b; parts = c; suit = d; tree = e })))))))
+    good-step (good-added s k l g (record { limits = a; order = b; parts = c; smaller = x; known = y; suit = d; tree = e })))))))))
 
 good-spelled : (s : Sheet) (k : ℕ) (o : Option Line) → Good s → GoodStep (stepSpelled s k o)
 unfolding stepSpelled

@@ -7,20 +7,22 @@ use Rattle.ocl.specs.Values.{size, add, addAll, insert, put, order, headOrder, 
 use Rattle.ocl.specs.Model.{classIsA, isA, every, belongs, declared, nearest, rowRead}
 use Rattle.ocl.specs.Environment.{extend, start}
 use Rattle.ocl.specs.Forms.{levels}
-use Rattle.ocl.specs.Typing.{thenFor, andThen, common, wrap, onCollection, onKind, boundType, leafType, castType, unaryType, bothBelow, binaryType, conditionalType, onClass, rowMarked, kindMarked, collectKind, rowType, attributeType, leafTyping, unaryTyping, binaryTyping, connectiveTyping, isUndefTyping, conditionalTyping, letTyping, attributeTyping, quantifiedTyping, iterateTyping, noOperandTyping, operandTyping, assembleTyping, typing, typeRule, markOr, markIn}
-use Rattle.ocl.specs.Evaluation.{stepsOf, tick, form, isLess, inRange, ranged, unlessZero, quotient, remainder, arithmetic, instances, leafRun, cast, unaryApply, unaryRun, leftFits, binaryApply, binaryRun, decides, connectiveRun, isUndefRun, conditionalRun, letRun, hasRow, valueInRow, valuesInRow, access, attributeRun, endsAt, seek, quantifiedRun, fold, iterateRun, noOperandRun, operandRun, assembleRun, evaluation, evaluateRule}
+use Rattle.ocl.specs.Typing.{thenFor, andThen, common, wrap, onCollection, onKind, boundType, leafType, castType, unaryType, bothBelow, binaryType, conditionalType, onClass, rowMarked, kindMarked, collectKind, rowType, attributeType, leafTyping, unaryTyping, binaryTyping, connectiveTyping, isUndefTyping, conditionalTyping, letTyping, attributeTyping, callType, callTyping, quantifiedTyping, iterateTyping, noOperandTyping, operandTyping, assembleTyping, typing, typeRule, root, typeDefinition, markOr, markIn}
+use Rattle.ocl.specs.Operations.{stepsOf, form, isLess, inRange, ranged, unlessZero, quotient, remainder, arithmetic, instances, cast, unaryApply, leftFits, binaryApply, hasRow, valueInRow, valuesInRow, access}
+use Rattle.ocl.specs.Evaluation.{tick, leafRun, unaryRun, binaryRun, decides, connectiveRun, isUndefRun, conditionalRun, letRun, attributeRun, callRun, endsAt, seek, quantifiedRun, fold, iterateRun, noOperandRun, operandRun, assembleRun, evaluation, evaluateRule}
 use Rattle.sheet.specs.Text.{bytes, onto, split, linesOf, fieldsOf, nothing, after, literal, behind, _or_, _then_, mapped, atEnd, whole, isDigit, digits, afterDigits, plain, valueOfDigits, numberParser, negative, integerParser, spellDigits, spellNumber, spellInteger}
 use Rattle.sheet.specs.Spelling.{collectionType, typeParser, readType, letterByte, spellSimple, spellType, valueParser, readValue, kindByte, spellBool, spellValue}
 use Rattle.sheet.specs.Lines.{is, next, done, each, aNumber, anInteger, aParent, aKind, oneOperand, twoOperands, threeNumbers, iterateFields, atMostFour, assembleFields, shapeOf, aWord, lineOf, firstIsN}
-use Rattle.sheet.specs.Sheet.{empty, lookup, noRow, modelOf, operandsOf, growAll, grow, treeOf, withNode, added, lastTree, allUsed, withRule, endOf, endFor, endRule}
-use Rattle.sheet.specs.Refusals.{simpleClassBelow, objectBelow, partWithin, nesting, mayFollow, followed, ordered, isClass, isVariable, isNode, leafWithin, unaryWithin, formWithin, parentWithin, totalSize, withinLimits, blockOf, declares, afterSlots, nextNode, twoVariables, numbered, inOrder, parentSmaller, leafKnown, unaryKnown, formKnown, partsKnown, suits, fresh, operandsFresh, treeHolds, classBelow, typeWithin, valueWithin}
+use Rattle.sheet.specs.Sheet.{empty, lookup, noRow, modelOf, operandsOf, growAll, grow, treeOf, definitionOf, withNode, added, lastTree, allUsed, withBody, endOf, endFor, endRule}
+use Rattle.sheet.specs.Limits.{simpleClassBelow, partWithin, nesting, isClass, isVariable, isNode, isDefinition, leafWithin, unaryWithin, formWithin, parentWithin, totalSize, withinLimits, classBelow, typeWithin, valueWithin}
+use Rattle.sheet.specs.Refusals.{objectBelow, mayFollow, followed, ordered, blockOf, declares, afterSlots, nextNode, twoVariables, numbered, inOrder, parentSmaller, leafKnown, unaryKnown, formKnown, partsKnown, callBelow, hasType, inDefinition, callsSmaller, callsKnown, suits, fresh, operandsFresh, treeHolds}
 use Rattle.sheet.specs.Reading.{must, stepLine, stepSpelled, step, onStep, onEnd, closing, readLast, readLines, readText}
-use Rattle.sheet.specs.Calls.{answer, refusalAt, refusal, shortWords, shortOutput, onSheet, onRule, typingOf, onType, onTypes, onAccepted, typeLines, readCall, onObject, ruleMarks, marksOf, outcomeOf, ended, evaluateOn, evaluateCall}
+use Rattle.sheet.specs.Calls.{answer, refusalAt, refusal, shortWords, shortOutput, onSheet, onRule, typingOf, onType, onTypes, onDefinitions, onAccepted, typeLines, readCall, onObject, definitionMarks, ruleMarks, marksOf, outcomeOf, ended, evaluateOn, evaluateCall}
 use Rattle.sheet.specs.Report.{spellOutcome, reportLine, objectLines, ruleLines, fitting, reportOf, printed, program}
-use Rattle.sheet.specs.Examples.{tabbed, lines, prints, words, readsInto, evaluates, secondUntyped, nots, Examples}
+use Rattle.sheet.specs.Examples.{tabbed, lines, prints, words, readsInto, evaluates, secondUntyped, nots, deepRule, deepDefinition, deepCall, Examples}
 
 pub examples : Examples
-unfolding orElse onSome mapSome allOf member concat join simpleJoin firstAbove simpleSubtype climbs sameSimple simpleCode up parentOr height letterJoin letterSubtype sameKind kindCode aroundSome subtype depth size add addAll insert put order headOrder thenOrder sort rank ofBool orderInt members count append same has classIsA isA every belongs declared nearest rowRead extend start levels thenFor andThen common wrap onCollection onKind boundType leafType castType unaryType bothBelow binaryType conditionalType onClass rowMarked kindMarked collectKind rowType attributeType leafTyping unaryTyping binaryTyping connectiveTyping isUndefTyping conditionalTyping letTyping attributeTyping quantifiedTyping iterateTyping noOperandTyping operandTyping assembleTyping typing typeRule markOr markIn tick form isLess inRange ranged unlessZero quotient remainder arithmetic instances leafRun cast unaryApply unaryRun leftFits binaryApply binaryRun decides connectiveRun isUndefRun conditionalRun letRun hasRow valueInRow valuesInRow access attributeRun endsAt seek quantifiedRun fold iterateRun noOperandRun operandRun assembleRun evaluation evaluateRule stepsOf bytes onto split linesOf fieldsOf nothing after literal behind _or_ _then_ mapped atEnd whole isDigit digits afterDigits plain valueOfDigits numberParser negative integerParser spellDigits spellNumber spellInteger collectionType typeParser readType letterByte spellSimple spellType valueParser readValue kindByte spellBool spellValue is next done each aNumber anInteger aParent aKind oneOperand twoOperands threeNumbers iterateFields atMostFour assembleFields shapeOf aWord lineOf firstIsN empty lookup noRow modelOf operandsOf growAll grow treeOf withNode added lastTree allUsed withRule endOf endFor endRule simpleClassBelow everyPart objectBelow partWithin nesting mayFollow followed ordered isClass isVariable isNode leafWithin unaryWithin formWithin parentWithin totalSize withinLimits blockOf declares afterSlots nextNode twoVariables numbered inOrder parentSmaller leafKnown unaryKnown formKnown partsKnown suits fresh operandsFresh treeHolds classBelow typeWithin valueWithin must stepLine stepSpelled step onStep onEnd closing readLast readLines readText answer refusalAt refusal shortWords shortOutput onSheet onRule typingOf onType onObject ruleMarks marksOf outcomeOf ended evaluateOn evaluateCall spellOutcome reportLine objectLines ruleLines onTypes onAccepted typeLines readCall fitting reportOf printed program tabbed lines prints words readsInto evaluates secondUntyped nots
+unfolding orElse onSome mapSome allOf member concat join simpleJoin firstAbove simpleSubtype climbs sameSimple simpleCode up parentOr height letterJoin letterSubtype sameKind kindCode aroundSome subtype depth size add addAll insert put order headOrder thenOrder sort rank ofBool orderInt members count append same has classIsA isA every belongs declared nearest rowRead extend start levels thenFor andThen common wrap onCollection onKind boundType leafType castType unaryType bothBelow binaryType conditionalType onClass rowMarked kindMarked collectKind rowType attributeType leafTyping unaryTyping binaryTyping connectiveTyping isUndefTyping conditionalTyping letTyping attributeTyping callType callTyping quantifiedTyping iterateTyping noOperandTyping operandTyping assembleTyping typing typeRule root typeDefinition markOr markIn tick form isLess inRange ranged unlessZero quotient remainder arithmetic instances leafRun cast unaryApply unaryRun leftFits binaryApply binaryRun decides connectiveRun isUndefRun conditionalRun letRun hasRow valueInRow valuesInRow access attributeRun callRun endsAt seek quantifiedRun fold iterateRun noOperandRun operandRun assembleRun evaluation evaluateRule stepsOf bytes onto split linesOf fieldsOf nothing after literal behind _or_ _then_ mapped atEnd whole isDigit digits afterDigits plain valueOfDigits numberParser negative integerParser spellDigits spellNumber spellInteger collectionType typeParser readType letterByte spellSimple spellType valueParser readValue kindByte spellBool spellValue is next done each aNumber anInteger aParent aKind oneOperand twoOperands threeNumbers iterateFields atMostFour assembleFields shapeOf aWord lineOf firstIsN empty lookup noRow modelOf operandsOf growAll grow treeOf definitionOf withNode added lastTree allUsed withBody endOf endFor endRule simpleClassBelow everyPart objectBelow partWithin nesting mayFollow followed ordered isClass isVariable isNode isDefinition leafWithin unaryWithin formWithin parentWithin totalSize withinLimits blockOf declares afterSlots nextNode twoVariables numbered inOrder parentSmaller leafKnown unaryKnown formKnown partsKnown callBelow hasType inDefinition callsSmaller callsKnown suits fresh operandsFresh treeHolds classBelow typeWithin valueWithin must stepLine stepSpelled step onStep onEnd closing readLast readLines readText answer refusalAt refusal shortWords shortOutput onSheet onRule typingOf onType onObject definitionMarks ruleMarks marksOf outcomeOf ended evaluateOn evaluateCall spellOutcome reportLine objectLines ruleLines onTypes onDefinitions onAccepted typeLines readCall fitting reportOf printed program tabbed lines prints words readsInto evaluates secondUntyped nots deepRule deepDefinition deepCall
 examples = record {
   paper = refl;
   nothing = refl;
@@ -65,6 +67,36 @@ examples = record {
   no-such-rule = refl;
   other-class = refl;
   static-row = refl;
+  call = refl;
+  call-of-operand = refl;
+  call-hides = refl;
+  call-binds = refl;
+  call-undefined = refl;
+  call-stops = refl;
+  call-type = refl;
+  call-rule = refl;
+  call-class = refl;
+  call-void = refl;
+  body-type = refl;
+  first-definition = refl;
+  call-itself = refl;
+  call-upward = refl;
+  order-first = refl;
+  call-unknown = refl;
+  call-limit = refl;
+  definition-limit = refl;
+  definition-deep = refl;
+  definition-gap = refl;
+  value-late = refl;
+  definition-late = refl;
+  definition-class = refl;
+  definition-type = refl;
+  definition-fields = refl;
+  definition-empty = refl;
+  definition-unused = refl;
+  deepest-call = refl;
+  too-deep-call = refl;
+  too-deep-definition = refl;
   sum = refl;
   decided = refl;
   blank-then-false = refl;

@@ -13,9 +13,9 @@ use lib.Dec.{T, T-not, not-T, eqb, eqb-refl, ltb, ltb→lt}
 use Rattle.laws.specs.Lists.{member, Each, each-nil, each-cons, Distinct, distinct-nil, distinct-cons}
 use Rattle.laws.proofs.Lists.{length-more, member-append, each-imp, each-append, distinct-append}
 use Rattle.laws.proofs.Tests.{and-l, and-r, or-l, or-r}
-use Rattle.ocl.specs.Forms.{Expr, node}
+use Rattle.ocl.specs.Forms.{Expr, node, Definition}
 use Rattle.ocl.specs.Laws.{numbers, numbersIn, numbersOf}
-use Rattle.sheet.specs.Lines.{Shape, leaf, unary, binary, connective, isUndef, conditional, letIn, attribute, quantified, iterate, assemble}
+use Rattle.sheet.specs.Lines.{Shape, leaf, unary, binary, connective, isUndef, conditional, letIn, attribute, call, quantified, iterate, assemble}
 use Rattle.sheet.specs.Sheet.{operandsOf, growAll, grow, treeOf}
 use Rattle.sheet.specs.Refusals.{fresh}
 
@@ -43,19 +43,20 @@ three : (f : ℕ → Expr) (a b c : ℕ) → numbers (f a) ++ (numbers (f b) ++ 
 unfolding numbersAll
 three f a b c = ap (λ l. numbers (f a) ++ (numbers (f b) ++ l)) (sym (append-nil (numbers (f c))))
 
-grown : (f : ℕ → Expr) (x : Shape) → numbersIn (grow f x) ≡ numbersAll f (operandsOf x)
+grown : (f : ℕ → Expr) (g : ℕ → Definition) (x : Shape) → numbersIn (grow f g x) ≡ numbersAll f (operandsOf x)
 unfolding numbers grow operandsOf numbersAll
-grown f (leaf l) = refl
-grown f (unary op a) = one f a
-grown f (binary op a b) = two f a b
-grown f (connective c a b) = two f a b
-grown f (isUndef a) = one f a
-grown f (conditional c a b) = three f c a b
-grown f (letIn i a b) = two f a b
-grown f (attribute x name a) = one f a
-grown f (quantified q i a b) = two f a b
-grown f (iterate i j t a e b) = three f a e b
-grown f (assemble k es) = grown-all f es
+grown f g (leaf l) = refl
+grown f g (unary op a) = one f a
+grown f g (binary op a b) = two f a b
+grown f g (connective c a b) = two f a b
+grown f g (isUndef a) = one f a
+grown f g (conditional c a b) = three f c a b
+grown f g (letIn i a b) = two f a b
+grown f g (attribute x name a) = one f a
+grown f g (call a n) = one f a
+grown f g (quantified q i a b) = two f a b
+grown f g (iterate i j t a e b) = three f a e b
+grown f g (assemble k es) = grown-all f es
 
 -- ---- two lists with nothing in common
 
@@ -202,13 +203,13 @@ module _ (trees : List Expr) (x : Expr) where
   tree-last a e = getD-at trees x [] _ a (sym e)
 
 -- the tree of the next node
-abbrev newTree : ℕ → List Expr → Shape → Expr
-newTree first trees x = node (first + length trees) (grow (treeOf trees) x)
+abbrev newTree : ℕ → List Expr → (ℕ → Definition) → Shape → Expr
+newTree first trees g x = node (first + length trees) (grow (treeOf trees) g x)
 
-module _ (first : ℕ) (trees : List Expr) (used : List ℕ) (x : Shape) (forest : Forest first trees used) (h : T (fresh (length trees) used (operandsOf x))) where
-  own-numbers : numbers (newTree first trees x) ≡ numbersAll (treeOf trees) (operandsOf x) ++ ((first + length trees) ∷ [])
+module _ (first : ℕ) (trees : List Expr) (used : List ℕ) (g : ℕ → Definition) (x : Shape) (forest : Forest first trees used) (h : T (fresh (length trees) used (operandsOf x))) where
+  own-numbers : numbers (newTree first trees g x) ≡ numbersAll (treeOf trees) (operandsOf x) ++ ((first + length trees) ∷ [])
   unfolding numbers
-  own-numbers = ap (λ l. l ++ ((first + length trees) ∷ [])) (grown (treeOf trees) x)
+  own-numbers = ap (λ l. l ++ ((first + length trees) ∷ [])) (grown (treeOf trees) g x)
 
   operands-fresh : Each (Fresh (length trees) used) (operandsOf x)
   operands-fresh = fresh-each (length trees) used (operandsOf x) h
@@ -216,42 +217,42 @@ module _ (first : ℕ) (trees : List Expr) (used : List ℕ) (x : Shape) (forest
   operands-below : Each (λ n. n < first + length trees) (numbersAll (treeOf trees) (operandsOf x))
   operands-below = below-all forest operands-fresh
 
-  distinct-at : (a : ℕ) → Place a (length trees) → Distinct (numbers (treeOf (trees ++ (newTree first trees x ∷ [])) a))
+  distinct-at : (a : ℕ) → Place a (length trees) → Distinct (numbers (treeOf (trees ++ (newTree first trees g x ∷ [])) a))
   distinct-at a (last e) =
-      rw (tree-last trees (newTree first trees x) a e, own-numbers)
+      rw (tree-last trees (newTree first trees g x) a e, own-numbers)
       (distinct-append (distinct-all forest used (operandsOf x) (λ n r. r) h) (distinct-cons each-nil distinct-nil) (apart-last (first + length trees) operands-below))
-  distinct-at a (earlier l) = rw (tree-earlier trees (newTree first trees x) a l) (forest .distinct a l)
+  distinct-at a (earlier l) = rw (tree-earlier trees (newTree first trees g x) a l) (forest .distinct a l)
 
   apart-at : (a b : ℕ) → Place a (length trees) → Place b (length trees) → a ≢ b → Free (used ++ operandsOf x) a → Free (used ++ operandsOf x) b
-      → Apart (numbers (treeOf (trees ++ (newTree first trees x ∷ [])) a)) (numbers (treeOf (trees ++ (newTree first trees x ∷ [])) b))
+      → Apart (numbers (treeOf (trees ++ (newTree first trees g x ∷ [])) a)) (numbers (treeOf (trees ++ (newTree first trees g x ∷ [])) b))
   apart-at a b (last e) (last f) q u v = absurd (q (e ∙ sym f))
   apart-at a b (last e) (earlier l) q u v =
-      rw (tree-last trees (newTree first trees x) a e, tree-earlier trees (newTree first trees x) b l, own-numbers)
+      rw (tree-last trees (newTree first trees g x) a e, tree-earlier trees (newTree first trees g x) b l, own-numbers)
       (each-append
       (all-apart forest b l (free-left b used (operandsOf x) v) operands-fresh (free-each b (operandsOf x) (free-right b used (operandsOf x) v)))
       (apart-first (first + length trees) (forest .below b l)))
   apart-at a b (earlier l) (last f) q u v =
-      rw (tree-earlier trees (newTree first trees x) a l, tree-last trees (newTree first trees x) b f, own-numbers)
+      rw (tree-earlier trees (newTree first trees g x) a l, tree-last trees (newTree first trees g x) b f, own-numbers)
       (apart-right
       (apart-all forest a l (free-left a used (operandsOf x) u) operands-fresh (free-each a (operandsOf x) (free-right a used (operandsOf x) u)))
       (apart-last (first + length trees) (forest .below a l)))
   apart-at a b (earlier l) (earlier m) q u v =
-      rw (tree-earlier trees (newTree first trees x) a l, tree-earlier trees (newTree first trees x) b m)
+      rw (tree-earlier trees (newTree first trees g x) a l, tree-earlier trees (newTree first trees g x) b m)
       (forest .apart a b l m q (free-left a used (operandsOf x) u) (free-left b used (operandsOf x) v))
 
-  below-at : (a : ℕ) → Place a (length trees) → Each (λ n. n < suc (first + length trees)) (numbers (treeOf (trees ++ (newTree first trees x ∷ [])) a))
+  below-at : (a : ℕ) → Place a (length trees) → Each (λ n. n < suc (first + length trees)) (numbers (treeOf (trees ++ (newTree first trees g x ∷ [])) a))
   below-at a (last e) =
-      rw (tree-last trees (newTree first trees x) a e, own-numbers)
+      rw (tree-last trees (newTree first trees g x) a e, own-numbers)
       (each-append (each-imp (λ n l. omega arith) operands-below) (each-cons (omega arith) each-nil))
-  below-at a (earlier l) = rw (tree-earlier trees (newTree first trees x) a l) (each-imp (λ n k. omega arith) (forest .below a l))
+  below-at a (earlier l) = rw (tree-earlier trees (newTree first trees g x) a l) (each-imp (λ n k. omega arith) (forest .below a l))
 
-  above-at : (a : ℕ) → Place a (length trees) → Each (λ n. first ≤ n) (numbers (treeOf (trees ++ (newTree first trees x ∷ [])) a))
-  above-at a (last e) = rw (tree-last trees (newTree first trees x) a e, own-numbers) (each-append (above-all forest operands-fresh) (each-cons (omega arith) each-nil))
-  above-at a (earlier l) = rw (tree-earlier trees (newTree first trees x) a l) (forest .above a l)
+  above-at : (a : ℕ) → Place a (length trees) → Each (λ n. first ≤ n) (numbers (treeOf (trees ++ (newTree first trees g x ∷ [])) a))
+  above-at a (last e) = rw (tree-last trees (newTree first trees g x) a e, own-numbers) (each-append (above-all forest operands-fresh) (each-cons (omega arith) each-nil))
+  above-at a (earlier l) = rw (tree-earlier trees (newTree first trees g x) a l) (forest .above a l)
 
   -- a node whose operands are fresh keeps the forest one
-  pub forest-more : Forest first (trees ++ (newTree first trees x ∷ [])) (used ++ operandsOf x)
-  forest-more = let z = length-more trees (newTree first trees x) in record {
+  pub forest-more : Forest first (trees ++ (newTree first trees g x ∷ [])) (used ++ operandsOf x)
+  forest-more = let z = length-more trees (newTree first trees g x) in record {
     distinct = λ a l. distinct-at a (place a (length trees) (omega arith));
     apart = λ a b l m q u v. apart-at a b (place a (length trees) (omega arith)) (place b (length trees) (omega arith)) q u v;
     below = λ a l. each-imp (λ n k. omega arith) (below-at a (place a (length trees) (omega arith)));

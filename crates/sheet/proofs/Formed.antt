@@ -5,7 +5,7 @@ use mathlib.Core.Bool.{_&&_}
 use Rattle.laws.proofs.Tests.{and-l, and-r}
 use Rattle.ocl.specs.Types.{Kind, set, sequence, bag}
 use Rattle.ocl.specs.Values.{Value, bool, int, obj, coll, Values, nil, cons, order}
-use Rattle.ocl.specs.Evaluation.{isLess}
+use Rattle.ocl.specs.Operations.{isLess}
 use Rattle.ocl.specs.Laws.{InOrder, ascends, repeats, anyhow, Sorted, sorted-nil, sorted-one, sorted-cons, Formed, formed-bool, formed-int, formed-obj, formed-coll, FormedAll, formed-nil, formed-cons}
 use Rattle.sheet.specs.Refusals.{mayFollow, followed, ordered, allOrdered}
 

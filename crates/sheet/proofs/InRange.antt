@@ -8,12 +8,12 @@ use Rattle.laws.specs.Lists.{Each, each-nil, each-cons}
 use Rattle.laws.proofs.Tests.{and-i, and-l, and-r}
 use Rattle.laws.proofs.Lists.{each-append}
 use Rattle.ocl.specs.Values.{Value, bool, int, obj, coll, Values, nil, cons, everyPart, everyParts}
-use Rattle.ocl.specs.Forms.{Leaf, truth, undef, number, self, var, all, Expr}
+use Rattle.ocl.specs.Forms.{Leaf, truth, undef, number, self, var, all, Expr, Definition}
 use Rattle.ocl.specs.Laws.{leafLiterals, literals, literalsIn, literalsOf, integerInRange, integersInRange}
-use Rattle.ocl.specs.Evaluation.{inRange}
-use Rattle.sheet.specs.Lines.{Shape, leaf, unary, binary, connective, isUndef, conditional, letIn, attribute, quantified, iterate, assemble}
-use Rattle.sheet.specs.Sheet.{growAll, grow, treeOf}
-use Rattle.sheet.specs.Refusals.{partWithin, leafWithin, formWithin}
+use Rattle.ocl.specs.Operations.{inRange}
+use Rattle.sheet.specs.Lines.{Shape, leaf, unary, binary, connective, isUndef, conditional, letIn, attribute, call, quantified, iterate, assemble}
+use Rattle.sheet.specs.Sheet.{growAll, grow, treeOf, definitionOf}
+use Rattle.sheet.specs.Limits.{partWithin, leafWithin, formWithin}
 
 -- ---- a value
 
@@ -56,13 +56,19 @@ tree-in-range each-nil a = each-nil
 tree-in-range (each-cons p h) zero = p
 tree-in-range (each-cons p h) (suc a) = tree-in-range h a
 
-module _ (f : ℕ → Expr) (h : (a : ℕ) → InRange (literals (f a))) where
+pub definition-in-range : {ds : List Definition} → Each (λ d. InRange (literals (d .body))) ds → (n : ℕ) → InRange (literals (definitionOf ds n .body))
+unfolding definitionOf literals leafLiterals
+definition-in-range each-nil n = each-nil
+definition-in-range (each-cons p h) zero = p
+definition-in-range (each-cons p h) (suc n) = definition-in-range h n
+
+module _ (f : ℕ → Expr) (h : (a : ℕ) → InRange (literals (f a))) (g : ℕ → Definition) (k : (n : ℕ) → InRange (literals (g n .body))) where
   all-grown : (es : List ℕ) → InRange (literalsOf (growAll f es))
   unfolding growAll literals
   all-grown [] = each-nil
   all-grown (a ∷ es) = each-append (h a) (all-grown es)
 
-  pub grown-in-range : (x : Shape) → T (formWithin x) → InRange (literalsIn (grow f x))
+  pub grown-in-range : (x : Shape) → T (formWithin x) → InRange (literalsIn (grow f g x))
   unfolding grow literals formWithin
   grown-in-range (leaf l) t = leaf-in-range l t
   grown-in-range (unary op a) t = h a
@@ -72,6 +78,7 @@ module _ (f : ℕ → Expr) (h : (a : ℕ) → InRange (literals (f a))) where
   grown-in-range (conditional c a b) t = each-append (h c) (each-append (h a) (h b))
   grown-in-range (letIn i a b) t = each-append (h a) (h b)
   grown-in-range (attribute x name a) t = h a
+  grown-in-range (call a n) t = each-append (h a) (k n)
   grown-in-range (quantified q i a b) t = each-append (h a) (h b)
   grown-in-range (iterate i j u a e b) t = each-append (h a) (each-append (h e) (h b))
   grown-in-range (assemble k es) t = all-grown es

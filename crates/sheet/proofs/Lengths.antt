@@ -8,10 +8,10 @@ use lib.Dec.{T, ltb→lt}
 use Rattle.laws.proofs.Tests.{and-l, and-r}
 use Rattle.ocl.specs.Types.{Simple, any, boolean, integer, class, Ty, void, simple, around, depth}
 use Rattle.ocl.specs.Values.{Value, bool, int, obj, coll, Values, nil, cons, size, sizes, everyPart, everyParts}
-use Rattle.ocl.specs.Evaluation.{inRange}
+use Rattle.ocl.specs.Operations.{inRange}
 use Rattle.sheet.specs.Text.{bytes, spellInteger}
 use Rattle.sheet.specs.Spelling.{spellSimple, spellType, spellBool, spellValue, spellMembers, spellMore}
-use Rattle.sheet.specs.Refusals.{simpleClassBelow, classBelow, partWithin}
+use Rattle.sheet.specs.Limits.{simpleClassBelow, classBelow, partWithin}
 use Rattle.sheet.specs.SpellingLaws.{LengthLaws}
 use Rattle.sheet.proofs.Numbers.{digits-at-most}
 

@@ -5,7 +5,10 @@ pub mod Formed
 pub mod Belonging
 pub mod Parents
 pub mod TypeFits
+pub mod Bodies
 pub mod Good
+pub mod GoodLines
+pub mod GoodNodes
 pub mod Acceptance
 pub mod Listed
 pub mod Marks

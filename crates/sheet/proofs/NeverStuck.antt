@@ -1,5 +1,5 @@
 -- What stands for stuck is never seen: each call's number is one of the documents', and `!100` is in no report. Assumes nothing.
-use mathlib.Core.Path.{_≡_, refl, subst}
+use mathlib.Core.Path.{_≡_, refl, ap, _∙_, subst}
 use mathlib.Core.Logic.{_≢_}
 use mathlib.Core.Bool.{Bool, true, false, not, _||_}
 use mathlib.Core.Option.{Option, none, some, Option·some-injective, Option·none-ne-some}
@@ -15,23 +15,24 @@ use Rattle.laws.proofs.Tests.{by-if}
 use Rattle.ocl.specs.Types.{class, Kind, set, sequence, bag, Ty, Class}
 use Rattle.ocl.specs.Values.{Value, bool, int, obj, coll, Values, nil, cons}
 use Rattle.ocl.specs.Model.{Model, isA}
-use Rattle.ocl.specs.Forms.{reach}
+use Rattle.ocl.specs.Forms.{Definition, reach}
 use Rattle.ocl.specs.Environment.{start}
-use Rattle.ocl.specs.Typing.{Answer, typed, refused, typeRule}
-use Rattle.ocl.specs.Evaluation.{Outcome, value, undefined, stuck, stop, Stop, step-stop, size-stop, range-stop, stepsOf}
+use Rattle.ocl.specs.Typing.{Answer, typed, refused, typeRule, typeDefinition}
+use Rattle.ocl.specs.Operations.{Outcome, value, undefined, stuck, stop, Stop, step-stop, size-stop, range-stop, stepsOf}
 use Rattle.ocl.specs.Soundness.{Sound}
-use Rattle.ocl.proofs.Places.{typing-places}
+use Rattle.ocl.proofs.Places.{typing-places, definition-places}
+use Rattle.ocl.proofs.Means.{definition-type}
 use Rattle.ocl.proofs.Stops.{stop-within}
 use Rattle.sheet.specs.Text.{Bytes, byte, bytes, isDigit, spellDigits, spellNumber, spellInteger}
 use Rattle.sheet.specs.Spelling.{letterByte, kindByte, spellBool, spellValue, spellMembers, spellMore}
 use Rattle.sheet.specs.Sheet.{Rule, Sheet, schemaIn, modelOf}
 use Rattle.sheet.specs.Reading.{Reading, accepted, rejected, readText}
-use Rattle.sheet.specs.Calls.{Verdict, answer, refusalAt, refusal, shortWords, shortOutput, onSheet, typingOf, onType, onTypes, onAccepted, typeLines, readCall, onRule, onObject, outcomeOf, ended, evaluateOn, evaluateCall}
+use Rattle.sheet.specs.Calls.{Verdict, answer, refusalAt, refusal, shortWords, shortOutput, onSheet, typingOf, onType, onTypes, onDefinitions, onAccepted, typeLines, readCall, onRule, onObject, outcomeOf, ended, evaluateOn, evaluateCall}
 use Rattle.sheet.specs.Report.{spellOutcome, reportLine, objectLines, ruleLines, fitting, reportOf, reportCall, printed, program}
-use Rattle.sheet.specs.Laws.{ReadRefusal, over-length, at-line, AllTyped, none-typed, one-typed}
+use Rattle.sheet.specs.Laws.{ReadRefusal, over-length, at-line, AllTyped, none-typed, one-typed, Defined}
 use Rattle.sheet.specs.Soundness.{NeverStuckLaw}
 use Rattle.sheet.proofs.Numbers.{digit-from, spell-digits}
-use Rattle.sheet.proofs.Listed.{read-refusals}
+use Rattle.sheet.proofs.Listed.{listed-within, read-refusals}
 use Rattle.sheet.proofs.Good.{Good}
 use Rattle.sheet.proofs.Acceptance.{accepted-good}
 use Rattle.sheet.proofs.Soundness.{sound-rule}
@@ -135,7 +136,7 @@ module _ (m : Model) (t : Ty) (k : ℕ) where
   clean-line r i o h =
       clean-number r next space next clean-number i next space next clean-outcome o h next space next clean-number (stepsOf o) next feed
 
-  ended-number : (o : Outcome) → Sound m t k o → ended o .number ≤ 19
+  ended-number : (o : Outcome) → Sound m t k o → ended o .number ≤ 24
   unfolding ended
   ended-number (value v n) h = omega arith
   ended-number (undefined n) h = omega arith
@@ -171,21 +172,30 @@ type-of none-typed r x e = absurd (Option·none-ne-some _ e)
 type-of {s} (one-typed {t} a h) zero x e = (t, subst (λ y. typingOf s y .answer ≡ typed t) (Option·some-injective _ _ e) a)
 type-of (one-typed a h) (suc r) x e = type-of h r x e
 
-sound-rules : (s : Sheet) → Good s → {ts : List Ty} → AllTyped s (s .rules) ts → SoundRules s (s .rules)
-sound-rules s g k r x e = let h = type-of k r x e in (h .0, λ o a. sound-rule s g r o x (h .0) e (h .1) a)
+sound-rules : (s : Sheet) → Good s → Each (Defined s) (s .definitions) → {ts : List Ty} → AllTyped s (s .rules) ts → SoundRules s (s .rules)
+sound-rules s g d k r x e = let h = type-of k r x e in (h .0, λ o a. sound-rule s g d r o x (h .0) e (h .1) a)
 
-module _ (P : Verdict → Type 0) (p : (n k : ℕ) → n ≤ 19 → P (refusalAt n k)) where
+module _ (P : Verdict → Type 0) (p : (n k : ℕ) → n ≤ 24 → P (refusalAt n k)) where
   on-reading : (text : Bytes) (f : Sheet → Verdict) → ((s : Sheet) → Good s → P (f s)) → P (onSheet (readText text) f)
   unfolding onSheet
   on-reading text f h = by (readText text) refl
     where
-      high : (n k : ℕ) → ReadRefusal text n k → n ≤ 19
+      high : (n k : ℕ) → ReadRefusal text n k → n ≤ 24
       high n k (over-length a b) = omega arith
-      high n k (at-line a b c d) = omega arith
+      high n k (at-line a b c) = listed-within n a .1
 
       by : (x : Reading) → readText text ≡ x → P (onSheet x f)
       by (accepted s) e = h s (accepted-good text s e)
       by (rejected n k) e = p n k (high n k (read-refusals text n k e))
+
+  on-definitions : (s : Sheet) (ds : List Definition) (v : Verdict) → (Each (Defined s) ds → P v) → P (onDefinitions s ds v)
+  unfolding onDefinitions onType
+  on-definitions s [] v h = h each-nil
+  on-definitions s (d ∷ ds) v h = by (typeDefinition (schemaIn s) d .answer) refl (λ q. on-definitions s ds v (λ k. h (each-cons q k)))
+    where
+      by : (a : Answer) → typeDefinition (schemaIn s) d .answer ≡ a → (Defined s d → P (onDefinitions s ds v)) → P (onType s a (λ t. onDefinitions s ds v))
+      by (typed t) e g = g (record { typed-body = e ∙ ap typed (definition-type (schemaIn s) d t e) })
+      by (refused n q) e g = p n _ (omega (arith, definition-places (schemaIn s) d n q e .high))
 
   on-type : (s : Sheet) (x : Rule) (f : Ty → Verdict) → ((t : Ty) → typingOf s x .answer ≡ typed t → P (f t)) → P (onType s (typingOf s x .answer) f)
   unfolding onType typingOf typeRule
@@ -202,7 +212,7 @@ module _ (P : Verdict → Type 0) (p : (n k : ℕ) → n ≤ 19 → P (refusalAt
 
   on-text : (text : Bytes) (f : Sheet → List Ty → Verdict) → ((s : Sheet) (ts : List Ty) → SoundRules s (s .rules) → P (f s ts)) → P (onAccepted text f)
   unfolding onAccepted
-  on-text text f h = on-reading text _ (λ s g. on-types s (s .rules) (f s) (λ ts k. h s ts (sound-rules s g k)))
+  on-text text f h = on-reading text _ (λ s g. on-definitions s (s .definitions) _ (λ d. on-types s (s .rules) (f s) (λ ts k. h s ts (sound-rules s g d k))))
 
   on-rule : (xs : List Rule) (r : ℕ) (f : Rule → Verdict) → ((x : Rule) → getElem? xs r ≡ some x → P (f x)) → P (onRule (getElem? xs r) f)
   unfolding onRule refusal
@@ -218,9 +228,9 @@ module _ (P : Verdict → Type 0) (p : (n k : ℕ) → n ≤ 19 → P (refusalAt
   on-object m (some d) o c v h = by-if P (isA m o (class c)) v (refusal 15) h (λ t. p 15 0 (omega arith))
 
 abbrev Low : Verdict → Type 0
-Low v = v .number ≤ 19
+Low v = v .number ≤ 24
 
-low : (n k : ℕ) → n ≤ 19 → Low (refusalAt n k)
+low : (n k : ℕ) → n ≤ 24 → Low (refusalAt n k)
 unfolding refusalAt
 low n k h = h
 
@@ -241,10 +251,10 @@ evaluate-low s h r o = on-rule Low low (s .rules) r _ (λ x e.
 
 -- a number of the documents, and no `!100`
 record Listed (v : Verdict) : Type 0 where
-  number : v .number ≤ 19
+  number : v .number ≤ 24
   clean : Clean (v .output)
 
-listed : (n k : ℕ) → n ≤ 19 → Listed (refusalAt n k)
+listed : (n k : ℕ) → n ≤ 24 → Listed (refusalAt n k)
 unfolding refusalAt
 listed n k h = record { number = h; clean = clean-end }
 

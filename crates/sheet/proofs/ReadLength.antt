@@ -11,14 +11,15 @@ use Rattle.laws.proofs.Tests.{by-if}
 use Rattle.laws.proofs.Elements.{each-elem}
 use Rattle.ocl.specs.Types.{Ty, depth}
 use Rattle.ocl.specs.Model.{Row}
-use Rattle.ocl.specs.Typing.{Answer, typed, refused}
+use Rattle.ocl.specs.Forms.{Definition}
+use Rattle.ocl.specs.Typing.{Answer, typed, refused, typeDefinition}
 use Rattle.ocl.proofs.Answered.{rule-answered}
 use Rattle.sheet.specs.Text.{Bytes}
 use Rattle.sheet.specs.Spelling.{spellType}
 use Rattle.sheet.specs.Sheet.{Rule, Sheet, noRow, schemaIn}
 use Rattle.sheet.specs.Reading.{Reading, accepted, rejected, readText}
-use Rattle.sheet.specs.Refusals.{classBelow}
-use Rattle.sheet.specs.Calls.{Verdict, answer, refusalAt, refusal, shortWords, shortOutput, onSheet, typingOf, onType, onTypes, onAccepted, typeLines, readCall, marksOf}
+use Rattle.sheet.specs.Limits.{classBelow}
+use Rattle.sheet.specs.Calls.{Verdict, answer, refusalAt, refusal, shortWords, shortOutput, onSheet, typingOf, onType, onTypes, onDefinitions, onAccepted, typeLines, readCall, marksOf}
 use Rattle.sheet.specs.Laws.{ReadLength, AllTyped, none-typed, one-typed}
 use Rattle.sheet.proofs.Lengths.{type-length}
 use Rattle.sheet.proofs.TypeFits.{Fits, class-fits, fits-closed}
@@ -63,14 +64,23 @@ types-short n s (x ∷ xs) f h = by (typingOf s x .answer) refl (λ t q. types-s
     by (typed t) q g = g t q
     by (refused m p) q g = omega arith
 
+definitions-short : (n : ℕ) (s : Sheet) (ds : List Definition) (v : Verdict) → length (v .output) ≤ n → length (onDefinitions s ds v .output) ≤ n
+unfolding onDefinitions onType refusalAt
+definitions-short n s [] v h = h
+definitions-short n s (d ∷ ds) v h = by (typeDefinition (schemaIn s) d .answer) (definitions-short n s ds v h)
+  where
+    by : (a : Answer) → length (onDefinitions s ds v .output) ≤ n → length (onType s a (λ t. onDefinitions s ds v) .output) ≤ n
+    by (typed t) g = g
+    by (refused m p) g = omega arith
+
 accepted-short : (text : Bytes) → length (onAccepted text (λ s ts. answer (typeLines ts)) .output) ≤ 896
 unfolding onAccepted onSheet answer refusalAt
 accepted-short text = by (readText text) refl
   where
-    by : (x : Reading) → readText text ≡ x → length (onSheet x (λ s. onTypes s (s .rules) (λ ts. answer (typeLines ts))) .output) ≤ 896
+    by : (x : Reading) → readText text ≡ x → length (onSheet x (λ s. onDefinitions s (s .definitions) (onTypes s (s .rules) (λ ts. answer (typeLines ts)))) .output) ≤ 896
     by (accepted s) q =
         let g = accepted-good text s q in
-        types-short 896 s (s .rules) (λ ts. answer (typeLines ts)) (λ ts a. let l = lines-short a (λ r x t e h. rule-fits s g r x t e h) in omega (arith, g .few))
+        definitions-short 896 s (s .definitions) _ (types-short 896 s (s .rules) (λ ts. answer (typeLines ts)) (λ ts a. let l = lines-short a (λ r x t e h. rule-fits s g r x t e h) in omega (arith, g .few)))
     by (rejected n k) q = omega arith
 
 pub read-length : ReadLength

@@ -9,31 +9,32 @@ use native.Mathlib.Omega.{arith}
 use borrow.Author.Tests.{le-ltb}
 use lib.ListN.{length, getElem?}
 use lib.Dec.{T, T-not}
+use Rattle.laws.specs.Lists.{Each, each-nil, each-cons}
 use Rattle.laws.proofs.Tests.{by-if}
-use Rattle.laws.proofs.Lists.{each-at, member-exact}
+use Rattle.laws.proofs.Lists.{each-imp, each-at, member-exact}
 use Rattle.laws.proofs.Elements.{each-elem}
 use Rattle.ocl.specs.Types.{class, Ty, Class}
 use Rattle.ocl.specs.Model.{Model, classIsA, isA}
-use Rattle.ocl.specs.Forms.{reach}
-use Rattle.ocl.specs.Laws.{numbers}
-use Rattle.ocl.specs.Typing.{typed, refused, typeRule}
+use Rattle.ocl.specs.Forms.{Definition, reach}
+use Rattle.ocl.specs.Laws.{numbers, calls, Agree}
+use Rattle.ocl.specs.Typing.{typed, refused, Mark, typeRule, typeDefinition}
 use Rattle.ocl.specs.Environment.{start}
-use Rattle.ocl.specs.Evaluation.{Outcome, value, undefined, stuck, stop, stepsOf}
-use Rattle.ocl.specs.Soundness.{Sound}
+use Rattle.ocl.specs.Operations.{Outcome, value, undefined, stuck, stop, stepsOf}
+use Rattle.ocl.specs.Soundness.{Sound, TypedDefinition}
 use Rattle.ocl.proofs.Soundness.{soundness}
-use Rattle.ocl.proofs.Places.{typing-places}
+use Rattle.ocl.proofs.Places.{typing-places, definition-places}
 use Rattle.sheet.specs.Text.{Bytes, linesOf}
 use Rattle.sheet.specs.Spelling.{readType, spellType}
 use Rattle.sheet.specs.Sheet.{Rule, Sheet, schemaIn, modelOf}
 use Rattle.sheet.specs.Reading.{accepted, readText}
 use Rattle.sheet.specs.Calls.{Verdict, answer, refusalAt, refusal, shortWords, shortOutput, typingOf, onAccepted, typeLines, readCall, onRule, onObject, marksOf, outcomeOf, ended, evaluateOn, evaluateCall}
 use Rattle.sheet.specs.Soundness.{Lent, sheetFrom, sheetIn, ruleReach, reachOf, contextHas, ofContext, Ending, undefined-end, value-end, stop-end, Demand3}
-use Rattle.sheet.specs.Laws.{TypeRefusal, TypeRefusals, AllTyped, none-typed, one-typed}
+use Rattle.sheet.specs.Laws.{TypeRefusal, TypeRefusals, DefinitionRefusals, AllTyped, none-typed, one-typed, Defined}
 use Rattle.sheet.proofs.Spelling.{type-back}
 use Rattle.sheet.proofs.TypeLines.{type-line}
 use Rattle.sheet.proofs.Split.{first-part}
 use Rattle.sheet.proofs.Good.{Good}
-use Rattle.sheet.proofs.Marks.{rule-agrees}
+use Rattle.sheet.proofs.Marks.{rule-agrees, all-agree}
 use Rattle.sheet.proofs.Accepted.{accepted-of, on-accepted}
 use Rattle.sheet.proofs.Acceptance.{accepted-good, good-model}
 
@@ -63,11 +64,20 @@ module _ (m : Model) (t : Ty) (k : ℕ) where
 
 -- ---- a sheet, a rule and an object of it
 
-pub sound-rule : (s : Sheet) → Good s → (r o : ℕ) (x : Rule) (t : Ty) → getElem? (s .rules) r ≡ some x → typingOf s x .answer ≡ typed t
+typed-definitions : {s : Sheet} {mark : ℕ → Mark} {ds : List Definition} → Each (Defined s) ds → Each (λ d. Agree mark (typeDefinition (schemaIn s) d .marks)) ds → Each (TypedDefinition (modelOf s) mark) ds
+unfolding modelOf
+typed-definitions each-nil each-nil = each-nil
+typed-definitions (each-cons p h) (each-cons q k) = each-cons (record { typed-body = p .typed-body; marked = q }) (typed-definitions h k)
+
+-- every definition that a rule reaches is the sheet's, and typed
+reached-typed : (s : Sheet) → Good s → Each (Defined s) (s .definitions) → (r : ℕ) (x : Rule) → getElem? (s .rules) r ≡ some x → Each (TypedDefinition (modelOf s) (marksOf s)) (calls (x .body))
+reached-typed s g d r x e = each-imp (λ y a. each-elem (a .index) (typed-definitions d (all-agree s g)) (a .there)) (each-elem r (g .rules) e .called)
+
+pub sound-rule : (s : Sheet) → Good s → Each (Defined s) (s .definitions) → (r o : ℕ) (x : Rule) (t : Ty) → getElem? (s .rules) r ≡ some x → typingOf s x .answer ≡ typed t
     → T (isA (modelOf s) o (class (x .context))) → Sound (modelOf s) t (reach (x .body)) (outcomeOf s x o)
 unfolding typingOf outcomeOf modelOf
-sound-rule s g r o x t e h a =
-    soundness (modelOf s) (good-model s g) (marksOf s) (x .body) (each-elem r (g .rules) e .in-range) (x .context) o t h (rule-agrees s g r x e) a
+sound-rule s g d r o x t e h a =
+    soundness (modelOf s) (good-model s g) (marksOf s) (x .body) (each-elem r (g .rules) e .in-range) (reached-typed s g d r x e) (x .context) o t h (rule-agrees s g r x e) a
 
 -- ---- the calls, with every slice at its minimum or above
 
@@ -121,13 +131,13 @@ unfolding onObject isA classIsA
 object-there m none o c v e h = absurd (rw e at h)
 object-there m (some d) o c v e h = by-if (λ w. w ≡ v) (isA m o (class c)) v (refusal 15) (λ t. refl) (λ t. absurd (T-not (isA m o (class c)) t h))
 
-sound-sheet : (s : Sheet) → Good s → (r o : ℕ) (t : Ty) (x : Option Rule) → getElem? (s .rules) r ≡ x
+sound-sheet : (s : Sheet) → Good s → Each (Defined s) (s .definitions) → (r o : ℕ) (t : Ty) (x : Option Rule) → getElem? (s .rules) r ≡ x
     → ((y : Rule) → getElem? (s .rules) r ≡ some y → typingOf s y .answer ≡ typed t) → T (contextHas s x o)
     → SoundOn s x o t (onRule x (λ y. onObject (modelOf s) (modelOf s .classOf o) o (y .context) (ended (outcomeOf s y o))))
 unfolding contextHas onRule ruleReach
-sound-sheet s g r o t none e h c = absurd c
-sound-sheet s g r o t (some y) e h c =
-    let z = sound-rule s g r o y t e (h y e) c in
+sound-sheet s g d r o t none e h c = absurd c
+sound-sheet s g d r o t (some y) e h c =
+    let z = sound-rule s g d r o y t e (h y e) c in
     rw (object-there (modelOf s) (modelOf s .classOf o) o (y .context) (ended (outcomeOf s y o)) refl c)
     (record {
       not-stuck = λ w q. let i : y ≡ w = cc in subst (λ u. outcomeOf s u o ≢ stuck) i (z .not-stuck);
@@ -146,7 +156,7 @@ demand3 text w0 w1 w2 out l r o t a b c =
     let x = accepted-of text (λ s ts. answer (typeLines ts)) (rw (read-lent text w0 w1 w2 out l) at a) in
     let z = sheet-is text (x .sheet) (x .is) in
     let q = rw (read-lent text w0 w1 w2 out l, on-accepted text x (λ s ts. answer (typeLines ts))) at b in
-    let y = sound-sheet (x .sheet) (accepted-good text (x .sheet) (x .is)) r o t (getElem? (x .sheet .rules) r) refl
+    let y = sound-sheet (x .sheet) (accepted-good text (x .sheet) (x .is)) (x .defined) r o t (getElem? (x .sheet .rules) r) refl
     (λ u e. type-at (x .typing .all) r u t e (unfold answer in q)) (rw z at c) in
     let v = subst (λ u. SoundOn u (getElem? (u .rules) r) o t (evaluateOn (x .sheet) r o)) (sym z) y in
     rw (evaluate-lent text w0 w1 w2 out l r o, on-accepted text x (λ s ts. evaluateOn s r o))
@@ -154,12 +164,22 @@ demand3 text w0 w1 w2 out l r o t a b c =
 
 -- ---- what typing refuses, on a sheet that is read
 
-pub good-refusals : (s : Sheet) → Good s → (r : ℕ) (x : Rule) → getElem? (s .rules) r ≡ some x → (n p : ℕ) → typingOf s x .answer ≡ refused n p → TypeRefusal s x n p
+pub good-refusals : (s : Sheet) → Good s → (r : ℕ) (x : Rule) → getElem? (s .rules) r ≡ some x → (n p : ℕ) → typingOf s x .answer ≡ refused n p → TypeRefusal s (x .body) n p
 unfolding typingOf typeRule
 good-refusals s good r x q n p h =
     let g = each-elem r (good .rules) q in
     let k = typing-places (schemaIn s) (x .body) (start (Class (x .context))) .refusals n p h in
-    record { low = k .low; high = k .high; node-of-rule = k .placed; on-sheet = each-at (g .on-sheet) (member-exact p (numbers (x .body)) .0 (k .placed)) }
+    record { low = k .low; high = k .high; own-node = k .placed; on-sheet = each-at (g .on-sheet) (member-exact p (numbers (x .body)) .0 (k .placed)) }
 
 pub type-refusals : TypeRefusals
 type-refusals text s e = good-refusals s (accepted-good text s e)
+
+pub good-definition-refusals : (s : Sheet) → Good s → (r : ℕ) (d : Definition) → getElem? (s .definitions) r ≡ some d
+    → (n p : ℕ) → typeDefinition (schemaIn s) d .answer ≡ refused n p → TypeRefusal s (d .body) n p
+good-definition-refusals s good r d q n p h =
+    let g = each-elem r (good .definitions) q .body in
+    let k = definition-places (schemaIn s) d n p h in
+    record { low = k .low; high = k .high; own-node = k .placed; on-sheet = each-at (g .on-sheet) (member-exact p (numbers (d .body)) .0 (k .placed)) }
+
+pub definition-refusals : DefinitionRefusals
+definition-refusals text s e = good-definition-refusals s (accepted-good text s e)

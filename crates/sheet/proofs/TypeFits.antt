@@ -11,11 +11,11 @@ use Rattle.laws.specs.Lists.{Each, each-nil, each-cons}
 use Rattle.laws.proofs.Tests.{and-l, and-r, by-if, All?, all-none, all-some}
 use Rattle.ocl.specs.Types.{Simple, any, boolean, integer, class, Letter, Ty, void, simple, around, Class, Parents, depth, up, parentOr, height, simpleSubtype, firstAbove, simpleJoin, letterJoin, aroundSome, join}
 use Rattle.ocl.specs.Model.{Schema}
-use Rattle.ocl.specs.Forms.{Leaf, truth, undef, number, self, var, all, Unary, negation, sizeOf, convert, castTo, Expr}
+use Rattle.ocl.specs.Forms.{Leaf, truth, undef, number, self, var, all, Unary, negation, sizeOf, convert, castTo, Expr, Definition}
 use Rattle.ocl.proofs.Answered.{leafNames, unaryNames, Named, NamedIn, NamedOf, Closed}
-use Rattle.sheet.specs.Lines.{Shape, leaf, unary, binary, connective, isUndef, conditional, letIn, attribute, quantified, iterate, assemble}
-use Rattle.sheet.specs.Sheet.{growAll, grow, treeOf}
-use Rattle.sheet.specs.Refusals.{simpleClassBelow, classBelow, isClass, isVariable, typeWithin, leafWithin, unaryWithin, formWithin}
+use Rattle.sheet.specs.Lines.{Shape, leaf, unary, binary, connective, isUndef, conditional, letIn, attribute, call, quantified, iterate, assemble}
+use Rattle.sheet.specs.Sheet.{growAll, grow, treeOf, definitionOf}
+use Rattle.sheet.specs.Limits.{simpleClassBelow, classBelow, isClass, isVariable, typeWithin, leafWithin, unaryWithin, formWithin}
 
 -- at most n letters deep, and a class in it is below 64
 pub record Fits (n : ℕ) (t : Ty) : Type 0 where
@@ -110,13 +110,20 @@ tree-names each-nil a = all-none
 tree-names (each-cons p h) zero = p
 tree-names (each-cons p h) (suc a) = tree-names h a
 
-module _ (f : ℕ → Expr) (h : (a : ℕ) → NamesFit (f a)) where
+-- a definition that is not there has type Void
+pub definition-fits : {ds : List Definition} → Each (λ d. Fits 3 (d .type)) ds → (n : ℕ) → Fits 3 (definitionOf ds n .type)
+unfolding definitionOf depth classBelow
+definition-fits each-nil n = record { deep = omega arith; below = tt }
+definition-fits (each-cons p h) zero = p
+definition-fits (each-cons p h) (suc n) = definition-fits h n
+
+module _ (f : ℕ → Expr) (h : (a : ℕ) → NamesFit (f a)) (g : ℕ → Definition) (k : (n : ℕ) → Fits 3 (g n .type)) where
   all-names : (es : List ℕ) → NamedOf (Fits 3) (growAll f es)
   unfolding growAll Named
   all-names [] = tt
   all-names (a ∷ es) = (h a, all-names es)
 
-  pub grown-names : (x : Shape) → T (formWithin x) → NamedIn (Fits 3) (grow f x)
+  pub grown-names : (x : Shape) → T (formWithin x) → NamedIn (Fits 3) (grow f g x)
   unfolding grow Named formWithin
   grown-names (leaf l) t = leaf-names l t
   grown-names (unary op a) t = (unary-names op t, h a)
@@ -126,6 +133,7 @@ module _ (f : ℕ → Expr) (h : (a : ℕ) → NamesFit (f a)) where
   grown-names (conditional c a b) t = (h c, h a, h b)
   grown-names (letIn i a b) t = (h a, h b)
   grown-names (attribute x name a) t = h a
+  grown-names (call a n) t = (k n, h a)
   grown-names (quantified q i a b) t = (h a, h b)
   grown-names (iterate i j u a e b) t = (within-fits u (and-r (isVariable i && isVariable j) _ t), h a, h e, h b)
   grown-names (assemble k es) t = all-names es

@@ -8,8 +8,10 @@ use lib.Dec.{eqb, ltb}
 use Rattle.laws.specs.Choice.{if_then_else_}
 use Rattle.ocl.specs.Types.{class, Ty}
 use Rattle.ocl.specs.Model.{Schema, Model, isA}
-use Rattle.ocl.specs.Typing.{Answer, typed, refused, Mark, Marks, Typed, typeRule, markIn}
-use Rattle.ocl.specs.Evaluation.{Outcome, value, undefined, stuck, stop, evaluateRule}
+use Rattle.ocl.specs.Forms.{Definition}
+use Rattle.ocl.specs.Typing.{Answer, typed, refused, Mark, Marks, Typed, typeRule, typeDefinition, markIn}
+use Rattle.ocl.specs.Operations.{Outcome, value, undefined, stuck, stop}
+use Rattle.ocl.specs.Evaluation.{evaluateRule}
 use Rattle.sheet.specs.Text.{Bytes, byte, bytes}
 use Rattle.sheet.specs.Spelling.{spellType, spellValue}
 use Rattle.sheet.specs.Sheet.{Rule, Sheet, schemaIn, modelOf}
@@ -54,9 +56,9 @@ shortWords w0 w1 w2 = ltb (length w0) 8192 || ltb (length w1) 8192 || ltb (lengt
 unfoldable pub shortOutput : Bytes → Bool
 shortOutput out = ltb (length out) 2048
 
--- ---- read: the sheet is read, and all its rules are typed in order
+-- ---- read: the sheet is read, and all its definitions and then all its rules are typed in order
 
--- 2 to 8, or what follows for a sheet
+-- 2 to 8, 23 or 24, or what follows for a sheet
 unfoldable pub onSheet : Reading → (Sheet → Verdict) → Verdict
 onSheet (accepted s) f = f s
 onSheet (rejected n k) f = refusalAt n k
@@ -74,11 +76,17 @@ unfoldable pub onTypes : Sheet → List Rule → (List Ty → Verdict) → Verdi
 onTypes s [] f = f []
 onTypes s (x ∷ xs) f = onType s (typingOf s x .answer) (λ t. onTypes s xs (λ ts. f (t ∷ ts)))
 
--- a sheet is accepted only if all its rules type: 2 to 13, or what follows for an accepted sheet and its rules' types
-unfoldable pub onAccepted : Bytes → (Sheet → List Ty → Verdict) → Verdict
-onAccepted text f = onSheet (readText text) (λ s. onTypes s (s .rules) (f s))
+-- document 02, F-13: the first refusal, or what follows
+unfoldable pub onDefinitions : Sheet → List Definition → Verdict → Verdict
+onDefinitions s [] v = v
+onDefinitions s (d ∷ ds) v = onType s (typeDefinition (schemaIn s) d .answer) (λ t. onDefinitions s ds v)
 
--- one type a line, each ended by a line feed
+-- a sheet is accepted only if all its definitions and rules type: 2 to 13, 23 or 24, or what follows for an accepted sheet and its
+-- rules' types
+unfoldable pub onAccepted : Bytes → (Sheet → List Ty → Verdict) → Verdict
+onAccepted text f = onSheet (readText text) (λ s. onDefinitions s (s .definitions) (onTypes s (s .rules) (f s)))
+
+-- one type of a rule a line, each ended by a line feed
 unfoldable pub typeLines : List Ty → Bytes
 typeLines [] = []
 typeLines (t ∷ ts) = spellType t ++ byte "\n" ∷ typeLines ts
@@ -99,13 +107,17 @@ unfoldable pub onObject : Model → Option ℕ → ℕ → ℕ → Verdict → V
 onObject m none o c v = refusal 14
 onObject m (some d) o c v = if isA m o (class c) then v else refusal 15
 
--- the marks of all rules, whose nodes are numbered through all of them, so that no node has two
+-- the marks of all definitions and rules, whose nodes are numbered through all of them, so that no node has two
+unfoldable pub definitionMarks : Schema → List Definition → Marks
+definitionMarks k [] = []
+definitionMarks k (d ∷ ds) = typeDefinition k d .marks ++ definitionMarks k ds
+
 unfoldable pub ruleMarks : Schema → List Rule → Marks
 ruleMarks k [] = []
 ruleMarks k (x ∷ xs) = typeRule k (x .context) (x .body) .marks ++ ruleMarks k xs
 
 unfoldable pub marksOf : Sheet → ℕ → Mark
-marksOf s = markIn (ruleMarks (schemaIn s) (s .rules))
+marksOf s = markIn (definitionMarks (schemaIn s) (s .definitions) ++ ruleMarks (schemaIn s) (s .rules))
 
 unfoldable pub outcomeOf : Sheet → Rule → ℕ → Outcome
 outcomeOf s r o = evaluateRule (modelOf s) (marksOf s) (r .body) o

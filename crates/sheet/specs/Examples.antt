@@ -24,10 +24,20 @@ lines (l ∷ ls) = tabbed (bytes l) ++ bytes "\n" ++ lines ls
 unfoldable pub prints : List String → Bytes
 prints ls = program (lines ls)
 
--- a rule in which n times `not` stands over `true`
-unfoldable pub nots : ℕ → Bytes
-nots zero = lines ("C 0 -" ∷ "R 0 0" ∷ "N 0 true" ∷ [])
-nots (suc n) = nots n ++ bytes "N\t" ++ spellNumber (suc n) ++ bytes "\tnot\t" ++ spellNumber n ++ bytes "\n"
+-- after these lines, nodes in which n times `not` stands over `true`
+unfoldable pub nots : List String → ℕ → Bytes
+nots ls zero = lines ls ++ lines ("N 0 true" ∷ [])
+nots ls (suc n) = nots ls n ++ bytes "N\t" ++ spellNumber (suc n) ++ bytes "\tnot\t" ++ spellNumber n ++ bytes "\n"
+
+-- a rule of such nodes, a definition, and a rule that calls it
+unfoldable pub deepRule : ℕ → Bytes
+deepRule n = nots ("C 0 -" ∷ "R 0 0" ∷ []) n
+
+unfoldable pub deepDefinition : ℕ → Bytes
+deepDefinition n = nots ("C 0 -" ∷ "D 0 0 Bool" ∷ []) n
+
+unfoldable pub deepCall : ℕ → Bytes
+deepCall n = deepDefinition n ++ lines ("R 0 0" ∷ "N 0 self" ∷ "N 1 call 0 0" ∷ [])
 
 -- what reading them answers, into an output of so many bytes, and what evaluating a rule for an object does
 unfoldable pub words : List ℕ
@@ -75,8 +85,8 @@ pub record Examples : Type 0 where
   pub unused : prints ("C 0 -" ∷ "R 0 0" ∷ "N 0 true" ∷ "N 1 true" ∷ "x" ∷ []) ≡ bytes "! 8 4\n"
   pub no-node : prints ("C 0 -" ∷ "R 0 0" ∷ []) ≡ bytes "! 8 2\n"
   -- 19 levels pass, 20 do not
-  pub deepest-rule : program (nots 18) ≡ []
-  pub too-deep-rule : program (nots 19) ≡ bytes "! 8 22\n"
+  pub deepest-rule : program (deepRule 18) ≡ []
+  pub too-deep-rule : program (deepRule 19) ≡ bytes "! 8 22\n"
   -- 9 to 13, at the node's line
   pub unbound : prints ("C 0 -" ∷ "R 0 0" ∷ "N 0 true" ∷ "N 1 var 3" ∷ "N 2 and 0 1" ∷ []) ≡ bytes "! 9 4\n"
   pub no-common-type : prints ("C 0 -" ∷ "R 0 0" ∷ "N 0 true" ∷ "N 1 coll S" ∷ "N 2 eq 0 1" ∷ []) ≡ bytes "! 10 5\n"
@@ -104,6 +114,50 @@ pub record Examples : Type 0 where
   pub collect-undefined : prints ("C 0 -" ∷ "A 0 0 5 Int" ∷ "O 0 0" ∷ "O 1 0" ∷ "V 0 0 7" ∷ "R 0 0" ∷ "N 0 all 0" ∷ "N 1 collect 0 5" ∷ []) ≡ bytes "0 0 u 2\n0 1 u 2\n"
   pub collect-sequence : prints ("C 0 -" ∷ "A 0 0 5 Int" ∷ "O 0 0" ∷ "V 0 0 7" ∷ "R 0 0" ∷ "N 0 self" ∷ "N 1 coll Q 0" ∷ "N 2 collect 1 5" ∷ []) ≡ bytes "0 0 Q(7) 3\n"
   pub collect-no-class : prints ("C 0 -" ∷ "R 0 0" ∷ "N 0 coll S" ∷ "N 1 collect 0 5" ∷ []) ≡ bytes "! 11 4\n"
+  -- a definition that calls another, with the steps of each call, its operand and its body; its row is that of its own class, and its
+  -- variable is none of the caller's, whose own is there again
+  pub call : prints ("C 0 -" ∷ "C 1 0" ∷ "A 0 0 5 Int" ∷ "A 1 1 5 Bool" ∷ "O 0 1" ∷ "V 0 0 9" ∷ "V 0 1 t" ∷ "D 0 0 Int" ∷ "N 0 self" ∷ "N 1 attr 0 5" ∷ "D 1 1 Any" ∷ "N 0 self" ∷ "N 1 call 0 0"
+      ∷ "R 0 1" ∷ "N 0 self" ∷ "N 1 call 0 1" ∷ "R 1 1" ∷ "N 0 self" ∷ "N 1 attr 0 5" ∷ []) ≡ bytes "0 0 9 6\n1 0 t 2\n"
+  pub call-of-operand : prints ("C 0 -" ∷ "A 0 0 5 #0" ∷ "O 0 0" ∷ "O 1 0" ∷ "V 0 0 @1" ∷ "D 0 0 #0" ∷ "N 0 self" ∷ "R 0 0" ∷ "N 0 self" ∷ "N 1 attr 0 5" ∷ "N 2 call 1 0" ∷ "N 3 self" ∷ "N 4 eq 2 3" ∷ [])
+      ≡ bytes "0 0 f 6\n0 1 u 4\n"
+  pub call-hides : prints ("C 0 -" ∷ "O 0 0" ∷ "D 0 0 Int" ∷ "N 0 var 1" ∷ "R 0 0" ∷ "N 0 int 1" ∷ "N 1 self" ∷ "N 2 call 1 0" ∷ "N 3 let 1 0 2" ∷ []) ≡ bytes "! 9 4\n"
+  pub call-binds : prints ("C 0 -" ∷ "O 0 0" ∷ "D 0 0 Int" ∷ "N 0 int 5" ∷ "N 1 var 1" ∷ "N 2 let 1 0 1" ∷ "R 0 0" ∷ "N 0 int 1" ∷ "N 1 self" ∷ "N 2 call 1 0" ∷ "N 3 var 1" ∷ "N 4 plus 2 3" ∷ "N 5 let 1 0 4" ∷ [])
+      ≡ bytes "0 0 6 9\n"
+  -- a call of an undefined operand does not run the body, and a stop in a body is the call's
+  pub call-undefined : prints ("C 0 -" ∷ "A 0 0 5 #0" ∷ "O 0 0" ∷ "D 0 0 Int" ∷ "N 0 int 1" ∷ "R 0 0" ∷ "N 0 self" ∷ "N 1 attr 0 5" ∷ "N 2 call 1 0" ∷ "N 3 isUndef 2" ∷ []) ≡ bytes "0 0 t 4\n"
+  pub call-stops : prints ("C 0 -" ∷ "O 0 0" ∷ "D 0 0 Int" ∷ "N 0 int -2147483648" ∷ "N 1 int 1" ∷ "N 2 minus 0 1" ∷ "R 0 0" ∷ "N 0 self" ∷ "N 1 call 0 0" ∷ "N 2 isUndef 1" ∷ []) ≡ bytes "0 0 !19 6\n"
+  -- reading writes the definition's type for a call, and no line for a definition; evaluate numbers the rules
+  pub call-type : readsInto 2048 ("C 0 -" ∷ "D 0 0 Any" ∷ "N 0 int 1" ∷ "R 0 0" ∷ "N 0 self" ∷ "N 1 call 0 0" ∷ "R 1 0" ∷ "N 0 true" ∷ []) ≡ answer (bytes "Any\nBool\n")
+  pub call-rule : evaluates 1 0 ("C 0 -" ∷ "O 0 0" ∷ "D 0 0 Any" ∷ "N 0 int 1" ∷ "R 0 0" ∷ "N 0 self" ∷ "N 1 call 0 0" ∷ []) ≡ refusal 14
+  -- 11: a class that is not the definition's or below, and Void; a body that is not below its type, at the root, whether it is called
+  -- or not, before any rule is typed; the first definition comes first
+  pub call-class : prints ("C 0 -" ∷ "C 1 0" ∷ "D 0 1 Int" ∷ "N 0 int 1" ∷ "R 0 0" ∷ "N 0 self" ∷ "N 1 call 0 0" ∷ []) ≡ bytes "! 11 7\n"
+  pub call-void : prints ("C 0 -" ∷ "D 0 0 Int" ∷ "N 0 int 1" ∷ "R 0 0" ∷ "N 0 undef" ∷ "N 1 call 0 0" ∷ []) ≡ bytes "! 11 6\n"
+  pub body-type : prints ("C 0 -" ∷ "D 0 0 Bool" ∷ "N 0 int 1" ∷ "N 1 int 1" ∷ "N 2 plus 0 1" ∷ "R 0 0" ∷ "N 0 var 1" ∷ []) ≡ bytes "! 11 5\n"
+  pub first-definition : prints ("C 0 -" ∷ "D 0 0 Bool" ∷ "N 0 int 1" ∷ "D 1 0 Bool" ∷ "N 0 var 1" ∷ []) ≡ bytes "! 11 3\n"
+  -- 23: a definition calls itself, or a larger one, on the sheet or not; it comes after 5 and before 8
+  pub call-itself : prints ("C 0 -" ∷ "D 0 0 Int" ∷ "N 0 self" ∷ "N 1 call 0 0" ∷ []) ≡ bytes "! 23 4\n"
+  pub call-upward : prints ("C 0 -" ∷ "D 0 0 Int" ∷ "N 0 int 1" ∷ "D 1 0 Int" ∷ "N 0 call 7 31" ∷ []) ≡ bytes "! 23 5\n"
+  pub order-first : prints ("C 0 -" ∷ "D 0 0 Int" ∷ "N 1 call 0 0" ∷ []) ≡ bytes "! 5 3\n"
+  -- 24: a definition that is not on the sheet, before 8; 4: a number over 31
+  pub call-unknown : prints ("C 0 -" ∷ "D 0 0 Int" ∷ "N 0 int 1" ∷ "R 0 0" ∷ "N 0 call 7 1" ∷ []) ≡ bytes "! 24 5\n"
+  pub call-limit : prints ("C 0 -" ∷ "R 0 0" ∷ "N 0 call 7 32" ∷ []) ≡ bytes "! 4 3\n"
+  pub definition-limit : prints ("C 0 -" ∷ "D 32 9 Int" ∷ []) ≡ bytes "! 4 2\n"
+  pub definition-deep : prints ("C 0 -" ∷ "D 1 9 S(S(S(S(Int))))" ∷ []) ≡ bytes "! 4 2\n"
+  -- 5: a gap, where 31 is within the limit; a value after a definition, a definition after a rule; 6: its class, and its type's; 3: a field too many
+  pub definition-gap : prints ("C 0 -" ∷ "D 31 9 Int" ∷ []) ≡ bytes "! 5 2\n"
+  pub value-late : prints ("C 0 -" ∷ "A 0 0 5 Int" ∷ "O 0 0" ∷ "D 0 0 Int" ∷ "N 0 int 1" ∷ "V 0 0 1" ∷ []) ≡ bytes "! 5 6\n"
+  pub definition-late : prints ("C 0 -" ∷ "R 0 0" ∷ "N 0 true" ∷ "D 0 0 Int" ∷ []) ≡ bytes "! 5 4\n"
+  pub definition-class : prints ("C 0 -" ∷ "D 0 1 Int" ∷ []) ≡ bytes "! 6 2\n"
+  pub definition-type : prints ("C 0 -" ∷ "D 0 0 S(#1)" ∷ []) ≡ bytes "! 6 2\n"
+  pub definition-fields : prints ("C 0 -" ∷ "D 0 0 Int 1" ∷ []) ≡ bytes "! 3 2\n"
+  -- 8: a definition without a node, and one with a node unused, before the next line
+  pub definition-empty : prints ("C 0 -" ∷ "D 0 0 Int" ∷ "R 0 0" ∷ []) ≡ bytes "! 8 2\n"
+  pub definition-unused : prints ("C 0 -" ∷ "D 0 0 Int" ∷ "N 0 int 1" ∷ "N 1 int 1" ∷ "x" ∷ []) ≡ bytes "! 8 4\n"
+  -- a called body lies below the call: 18 levels may be called, 19 may not, 20 are none of a definition's
+  pub deepest-call : program (deepCall 17) ≡ []
+  pub too-deep-call : program (deepCall 18) ≡ bytes "! 8 24\n"
+  pub too-deep-definition : program (deepDefinition 19) ≡ bytes "! 8 22\n"
   -- the sum of a Sequence's members, and each body counted
   pub sum : prints ("C 0 -" ∷ "O 0 0" ∷ "R 0 0" ∷ "N 0 int 3" ∷ "N 1 int 1" ∷ "N 2 int -9" ∷ "N 3 coll Q 0 1 2" ∷ "N 4 int 0"
       ∷ "N 5 var 1" ∷ "N 6 var 2" ∷ "N 7 plus 5 6" ∷ "N 8 iter 3 1 2 Int 4 7" ∷ []) ≡ bytes "0 0 -5 15\n"

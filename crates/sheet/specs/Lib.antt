@@ -3,6 +3,7 @@ pub mod Spelling
 pub mod SpellingLaws
 pub mod Lines
 pub mod Sheet
+pub mod Limits
 pub mod Refusals
 pub mod Reading
 pub mod Calls

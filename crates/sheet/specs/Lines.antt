@@ -24,6 +24,8 @@ pub data Shape : Type 0 where
   conditional : ℕ → ℕ → ℕ → Shape
   letIn : ℕ → ℕ → ℕ → Shape
   attribute : Access → ℕ → ℕ → Shape
+  -- the operand, then the definition's number
+  call : ℕ → ℕ → Shape
   quantified : Quantifier → ℕ → ℕ → ℕ → Shape
   iterate : ℕ → ℕ → Ty → ℕ → ℕ → ℕ → Shape
   assemble : Kind → List ℕ → Shape
@@ -34,6 +36,8 @@ pub data Line : Type 0 where
   rowLine : ℕ → ℕ → ℕ → Ty → Line
   objectLine : ℕ → ℕ → Line
   valueLine : ℕ → ℕ → Value → Line
+  -- its number, class and type (document 02, F-13)
+  definitionLine : ℕ → ℕ → Ty → Line
   ruleLine : ℕ → ℕ → Line
   nodeLine : ℕ → Shape → Line
 
@@ -124,6 +128,7 @@ shapeOf w fs =
     else if is w (bytes "mod") then twoOperands (binary (arith modulo)) fs
     else if is w (bytes "attr") then twoOperands (λ e name. attribute ofObject name e) fs
     else if is w (bytes "collect") then twoOperands (λ s name. attribute ofMembers name s) fs
+    else if is w (bytes "call") then twoOperands call fs
     else if is w (bytes "all") then next aNumber (λ c. done (leaf (all c))) fs
     else if is w (bytes "as") then twoOperands (λ e c. unary (castTo c) e) fs
     else if is w (bytes "size") then oneOperand (unary sizeOf) fs
@@ -151,6 +156,7 @@ lineOf (w ∷ fs) =
     then next aNumber (λ n. next aNumber (λ c. next aNumber (λ name. next readType (λ t. done (rowLine n c name t))))) fs
     else if is w (bytes "O") then next aNumber (λ n. next aNumber (λ c. done (objectLine n c))) fs
     else if is w (bytes "V") then next aNumber (λ o. next aNumber (λ a. next readValue (λ v. done (valueLine o a v)))) fs
+    else if is w (bytes "D") then next aNumber (λ n. next aNumber (λ c. next readType (λ t. done (definitionLine n c t)))) fs
     else if is w (bytes "R") then next aNumber (λ n. next aNumber (λ c. done (ruleLine n c))) fs
     else if is w (bytes "N") then next aNumber (λ n. next aWord (λ form fs. mapSome (nodeLine n) (shapeOf form fs))) fs
     else none

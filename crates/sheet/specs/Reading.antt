@@ -9,7 +9,8 @@ use Rattle.laws.specs.Choice.{if_then_else_}
 use Rattle.sheet.specs.Text.{Bytes, linesOf, fieldsOf}
 use Rattle.sheet.specs.Lines.{Line, lineOf, firstIsN}
 use Rattle.sheet.specs.Sheet.{Sheet, empty, added, endRule}
-use Rattle.sheet.specs.Refusals.{withinLimits, inOrder, partsKnown, suits, treeHolds}
+use Rattle.sheet.specs.Limits.{withinLimits}
+use Rattle.sheet.specs.Refusals.{inOrder, partsKnown, callsSmaller, callsKnown, suits, treeHolds}
 
 -- one line: the sheet with it, or a refusal's number
 pub data Step : Type 0 where
@@ -21,11 +22,11 @@ unfoldable pub must : Bool → ℕ → Step → Step
 must true n x = x
 must false n x = refuse n
 
--- 4 to 8 in number order; k is the line's number
+-- 4 to 8 in number order, with 23 and 24 after 6; k is the line's number
 unfoldable pub stepLine : Sheet → ℕ → Line → Step
 stepLine s k l =
-    must (withinLimits s l) 4 (must (inOrder s l) 5 (must (partsKnown s l) 6 (must (suits s l) 7 (must (treeHolds s l) 8
-    (taken (added s k l))))))
+    must (withinLimits s l) 4 (must (inOrder s l) 5 (must (partsKnown s l) 6 (must (callsSmaller s l) 23 (must (callsKnown s l) 24
+    (must (suits s l) 7 (must (treeHolds s l) 8 (taken (added s k l))))))))
 
 -- 3 where the fields spell no line
 unfoldable pub stepSpelled : Sheet → ℕ → Option Line → Step
@@ -45,12 +46,12 @@ unfoldable pub onStep : Step → ℕ → (Sheet → Reading) → Reading
 onStep (taken s) k f = f s
 onStep (refuse n) k f = rejected n k
 
--- a rule that ends badly is 8 at its last line, k
+-- a definition or rule that ends badly is 8 at its last line, k
 unfoldable pub onEnd : Option Sheet → ℕ → (Sheet → Reading) → Reading
 onEnd none k f = rejected 8 k
 onEnd (some s) k f = f s
 
--- before a line whose first field is not `N`, and at the text's end, an open rule ends; k lines stand before this one
+-- before a line whose first field is not `N`, and at the text's end, an open definition or rule ends; k lines stand before this one
 unfoldable pub closing : Sheet → ℕ → List Bytes → (Sheet → Reading) → Reading
 closing s k fields f = if firstIsN fields then f s else onEnd (endRule s) k f
 

@@ -1,58 +1,21 @@
--- Document 01, Calls: when a well-spelled line is refused with 4, 5, 6, 7 or 8. Each test says what must hold.
-use Prim.Native.Nat.{ℕ, suc, _+_, max, Ordering, Ordering·lt, Ordering·eq, Ordering·gt}
+-- Document 01, Calls: when a well-spelled line is refused with 5, 6, 23, 24, 7 or 8; Limits.antt has 4. Each test says what must hold.
+use Prim.Native.Nat.{ℕ, Ordering, Ordering·lt, Ordering·eq, Ordering·gt}
 use mathlib.Core.Bool.{Bool, true, false, not, _&&_, _||_}
 use mathlib.Core.Option.{Option, none, some}
 use mathlib.Core.List.{List, [], _∷_}
 use lib.ListN.{length}
 use lib.Dec.{eqb, leb, ltb}
-use Rattle.laws.specs.Lists.{allOf, member}
-use Rattle.ocl.specs.Types.{Simple, any, boolean, integer, class, Kind, set, sequence, bag, Ty, void, simple, around, depth}
-use Rattle.ocl.specs.Values.{Value, bool, int, obj, coll, Values, nil, cons, size, everyPart, order}
-use Rattle.ocl.specs.Evaluation.{inRange, isLess}
+use Rattle.laws.specs.Lists.{member}
+use Rattle.ocl.specs.Types.{class, Kind, set, sequence, bag, Ty}
+use Rattle.ocl.specs.Values.{Value, bool, int, obj, coll, Values, nil, cons, everyPart, order}
+use Rattle.ocl.specs.Operations.{isLess}
 use Rattle.ocl.specs.Model.{Row, isA, belongs}
 use Rattle.ocl.specs.Forms.{Leaf, truth, undef, number, self, var, all, Unary, negation, sizeOf, convert, castTo}
-use Rattle.sheet.specs.Lines.{Shape, leaf, unary, binary, connective, isUndef, conditional, letIn, attribute, quantified, iterate, assemble, Line, classLine, rowLine, objectLine, valueLine, ruleLine, nodeLine}
+use Rattle.sheet.specs.Lines.{Shape, leaf, unary, binary, connective, isUndef, conditional, letIn, attribute, call, quantified, iterate, assemble, Line, classLine, rowLine, objectLine, valueLine, definitionLine, ruleLine, nodeLine}
 use Rattle.sheet.specs.Sheet.{Slot, Current, Sheet, modelOf, operandsOf}
+use Rattle.sheet.specs.Limits.{classBelow}
 
--- ---- parts of lines
-
--- the class inside a type is below n
-unfoldable pub simpleClassBelow : ℕ → Simple → Bool
-simpleClassBelow n any = true
-simpleClassBelow n boolean = true
-simpleClassBelow n integer = true
-simpleClassBelow n (class c) = ltb c n
-
-unfoldable pub classBelow : ℕ → Ty → Bool
-classBelow n void = true
-classBelow n (simple a) = simpleClassBelow n a
-classBelow n (around l t) = classBelow n t
-
--- an object's number is below n
-unfoldable pub objectBelow : ℕ → Value → Bool
-objectBelow n (bool b) = true
-objectBelow n (int z) = true
-objectBelow n (obj o) = ltb o n
-objectBelow n (coll k vs) = true
-
--- an Integer is in range, an object's number below 96
-unfoldable pub partWithin : Value → Bool
-partWithin (bool b) = true
-partWithin (int z) = inRange z
-partWithin (obj o) = ltb o 96
-partWithin (coll k vs) = true
-
--- how many collections stand inside one another
-unfoldable mutual
-  pub nesting : Value → ℕ
-  nesting (bool b) = 0
-  nesting (int z) = 0
-  nesting (obj o) = 0
-  nesting (coll k vs) = suc (nestings vs)
-
-  pub nestings : Values → ℕ
-  nestings nil = 0
-  nestings (cons v vs) = max (nesting v) (nestings vs)
+-- ---- 5: blocks, numbers and members in order; a name once in a class; two variables of `iter`
 
 -- may w follow v: in a Set only a greater one, in a Bag also the same, in a Sequence any
 unfoldable pub mayFollow : Kind → Ordering → Bool
@@ -78,82 +41,15 @@ unfoldable mutual
   allOrdered k nil = true
   allOrdered k (cons v vs) = ordered v && followed k v vs && allOrdered k vs
 
--- ---- 4: what is spelled well and outside its limits
-
--- classes 0 to 63, variables 1 to 15, nodes 0 to 767
-unfoldable pub isClass : ℕ → Bool
-isClass c = ltb c 64
-
-unfoldable pub isVariable : ℕ → Bool
-isVariable i = leb 1 i && leb i 15
-
-unfoldable pub isNode : ℕ → Bool
-isNode a = ltb a 768
-
-unfoldable pub typeWithin : Ty → Bool
-typeWithin t = leb (depth t) 3 && classBelow 64 t
-
-unfoldable pub valueWithin : Value → Bool
-valueWithin v = everyPart partWithin v && leb (size v) 128 && leb (nesting v) 3
-
-unfoldable pub leafWithin : Leaf → Bool
-leafWithin (truth b) = true
-leafWithin undef = true
-leafWithin (number z) = inRange z
-leafWithin self = true
-leafWithin (var i) = isVariable i
-leafWithin (all c) = isClass c
-
-unfoldable pub unaryWithin : Unary → Bool
-unaryWithin negation = true
-unaryWithin sizeOf = true
-unaryWithin (convert k) = true
-unaryWithin (castTo c) = isClass c
-
--- what a form holds besides its operands
-unfoldable pub formWithin : Shape → Bool
-formWithin (leaf l) = leafWithin l
-formWithin (unary op a) = unaryWithin op
-formWithin (binary op a b) = true
-formWithin (connective c a b) = true
-formWithin (isUndef a) = true
-formWithin (conditional c a b) = true
-formWithin (letIn i a b) = isVariable i
-formWithin (attribute x name a) = ltb name 256
-formWithin (quantified q i a b) = isVariable i
-formWithin (iterate i j t a e b) = isVariable i && isVariable j && typeWithin t
-formWithin (assemble k es) = true
-
-unfoldable pub parentWithin : Option ℕ → Bool
-parentWithin none = true
-parentWithin (some p) = isClass p
-
--- the sizes of the values so far
-unfoldable pub totalSize : List Slot → ℕ
-totalSize [] = 0
-totalSize (x ∷ xs) = size (x .value) + totalSize xs
-
-unfoldable pub withinLimits : Sheet → Line → Bool
-withinLimits s (classLine n p) = isClass n && parentWithin p
-withinLimits s (rowLine n c name t) = ltb n 64 && isClass c && ltb name 256 && typeWithin t
-withinLimits s (objectLine n c) = ltb n 96 && isClass c
--- at most 1,024 V lines, of sizes that come to at most 2,048
-withinLimits s (valueLine o a v) =
-    ltb o 96 && ltb a 64 && valueWithin v && ltb (length (s .slots)) 1024 && leb (totalSize (s .slots) + size v) 2048
-withinLimits s (ruleLine n c) = ltb n 64 && isClass c
--- at most 768 nodes in all rules
-withinLimits s (nodeLine n x) = isNode n && formWithin x && allOf isNode (operandsOf x) && ltb (length (s .lines)) 768
-
--- ---- 5: blocks, numbers and members in order; a name once in a class; two variables of `iter`
-
--- C, A, O, V, then R with its N
+-- C, A, O, V, D, R; an N stands in D and in R
 unfoldable pub blockOf : Line → ℕ
 blockOf (classLine n p) = 0
 blockOf (rowLine n c name t) = 1
 blockOf (objectLine n c) = 2
 blockOf (valueLine o a v) = 3
-blockOf (ruleLine n c) = 4
-blockOf (nodeLine n x) = 4
+blockOf (definitionLine n c t) = 4
+blockOf (ruleLine n c) = 5
+blockOf (nodeLine n x) = 5
 
 -- does class c declare the name
 unfoldable pub declares : List Row → ℕ → ℕ → Bool
@@ -166,7 +62,7 @@ afterSlots [] o a = true
 afterSlots (x ∷ []) o a = ltb (x .object) o || eqb (x .object) o && ltb (x .row) a
 afterSlots (x ∷ y ∷ xs) o a = afterSlots (y ∷ xs) o a
 
--- a node line stands in a rule, with the next number
+-- a node line stands in a definition or a rule, with the next number
 unfoldable pub nextNode : Option Current → ℕ → Bool
 nextNode none n = false
 nextNode (some c) n = eqb n (length (c .trees))
@@ -181,6 +77,7 @@ twoVariables (isUndef a) = true
 twoVariables (conditional c a b) = true
 twoVariables (letIn i a b) = true
 twoVariables (attribute x name a) = true
+twoVariables (call a n) = true
 twoVariables (quantified q i a b) = true
 twoVariables (iterate i j t a e b) = not (eqb i j)
 twoVariables (assemble k es) = true
@@ -190,6 +87,7 @@ numbered s (classLine n p) = eqb n (length (s .parents))
 numbered s (rowLine n c name t) = eqb n (length (s .rows)) && not (declares (s .rows) c name)
 numbered s (objectLine n c) = eqb n (length (s .objects))
 numbered s (valueLine o a v) = afterSlots (s .slots) o a && ordered v
+numbered s (definitionLine n c t) = eqb n (length (s .definitions))
 numbered s (ruleLine n c) = eqb n (length (s .rules))
 numbered s (nodeLine n x) = nextNode (s .current) n && twoVariables x
 
@@ -197,6 +95,13 @@ unfoldable pub inOrder : Sheet → Line → Bool
 inOrder s l = leb (s .block) (blockOf l) && numbered s l
 
 -- ---- 6: classes, rows and objects that are named are on the sheet, and a parent is smaller
+
+-- an object's number is below n
+unfoldable pub objectBelow : ℕ → Value → Bool
+objectBelow n (bool b) = true
+objectBelow n (int z) = true
+objectBelow n (obj o) = ltb o n
+objectBelow n (coll k vs) = true
 
 unfoldable pub parentSmaller : ℕ → Option ℕ → Bool
 parentSmaller n none = true
@@ -226,6 +131,7 @@ formKnown n (isUndef a) = true
 formKnown n (conditional c a b) = true
 formKnown n (letIn i a b) = true
 formKnown n (attribute x name a) = true
+formKnown n (call a d) = true
 formKnown n (quantified q i a b) = true
 formKnown n (iterate i j t a e b) = classBelow n t
 formKnown n (assemble k es) = true
@@ -236,8 +142,55 @@ partsKnown s (rowLine n c name t) = ltb c (length (s .parents)) && classBelow (l
 partsKnown s (objectLine n c) = ltb c (length (s .parents))
 partsKnown s (valueLine o a v) =
     ltb o (length (s .objects)) && ltb a (length (s .rows)) && everyPart (objectBelow (length (s .objects))) v
+partsKnown s (definitionLine n c t) = ltb c (length (s .parents)) && classBelow (length (s .parents)) t
 partsKnown s (ruleLine n c) = ltb c (length (s .parents))
 partsKnown s (nodeLine n x) = formKnown (length (s .parents)) x
+
+-- ---- 23: a definition calls only smaller ones; 24: a definition that is called is on the sheet (document 02, F-13)
+
+-- the definition that a form calls is below n
+unfoldable pub callBelow : ℕ → Shape → Bool
+callBelow n (leaf l) = true
+callBelow n (unary op a) = true
+callBelow n (binary op a b) = true
+callBelow n (connective c a b) = true
+callBelow n (isUndef a) = true
+callBelow n (conditional c a b) = true
+callBelow n (letIn i a b) = true
+callBelow n (attribute x name a) = true
+callBelow n (call a d) = ltb d n
+callBelow n (quantified q i a b) = true
+callBelow n (iterate i j t a e b) = true
+callBelow n (assemble k es) = true
+
+-- is it a definition that is open
+unfoldable pub hasType : Option Ty → Bool
+hasType none = false
+hasType (some t) = true
+
+unfoldable pub inDefinition : Option Current → Bool
+inDefinition none = false
+inDefinition (some c) = hasType (c .result)
+
+-- the open definition's number is how many have ended, so that it and all larger ones are those not below
+unfoldable pub callsSmaller : Sheet → Line → Bool
+callsSmaller s (classLine n p) = true
+callsSmaller s (rowLine n c name t) = true
+callsSmaller s (objectLine n c) = true
+callsSmaller s (valueLine o a v) = true
+callsSmaller s (definitionLine n c t) = true
+callsSmaller s (ruleLine n c) = true
+callsSmaller s (nodeLine n x) = not (inDefinition (s .current)) || callBelow (length (s .definitions)) x
+
+-- in a rule all definitions have ended
+unfoldable pub callsKnown : Sheet → Line → Bool
+callsKnown s (classLine n p) = true
+callsKnown s (rowLine n c name t) = true
+callsKnown s (objectLine n c) = true
+callsKnown s (valueLine o a v) = true
+callsKnown s (definitionLine n c t) = true
+callsKnown s (ruleLine n c) = true
+callsKnown s (nodeLine n x) = callBelow (length (s .definitions)) x
 
 -- ---- 7: the object is of the row's class or below, and the value belongs to the row's type
 
@@ -247,12 +200,13 @@ suits s (rowLine n c name t) = true
 suits s (objectLine n c) = true
 suits s (valueLine o a v) =
     isA (modelOf s) o (class (modelOf s .row a .owner)) && belongs (modelOf s) (modelOf s .row a .type) v
+suits s (definitionLine n c t) = true
 suits s (ruleLine n c) = true
 suits s (nodeLine n x) = true
 
 -- ---- 8: an operand is a smaller node that is no operand yet
 
--- of a rule's node n, where some nodes are operands already
+-- of node n of a definition or rule, where some nodes are operands already
 unfoldable pub fresh : ℕ → List ℕ → List ℕ → Bool
 fresh n used [] = true
 fresh n used (a ∷ es) = ltb a n && not (member a used) && fresh n (a ∷ used) es
@@ -266,5 +220,6 @@ treeHolds s (classLine n p) = true
 treeHolds s (rowLine n c name t) = true
 treeHolds s (objectLine n c) = true
 treeHolds s (valueLine o a v) = true
+treeHolds s (definitionLine n c t) = true
 treeHolds s (ruleLine n c) = true
 treeHolds s (nodeLine n x) = operandsFresh (s .current) x

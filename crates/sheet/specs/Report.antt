@@ -7,7 +7,7 @@ use lib.Dec.{eqb, ltb}
 use Rattle.laws.specs.Choice.{if_then_else_}
 use Rattle.ocl.specs.Types.{class}
 use Rattle.ocl.specs.Model.{isA}
-use Rattle.ocl.specs.Evaluation.{Outcome, value, undefined, stuck, stop, stepsOf}
+use Rattle.ocl.specs.Operations.{Outcome, value, undefined, stuck, stop, stepsOf}
 use Rattle.sheet.specs.Text.{Bytes, byte, bytes, spellNumber}
 use Rattle.sheet.specs.Spelling.{spellValue}
 use Rattle.sheet.specs.Sheet.{Rule, Sheet, modelOf}

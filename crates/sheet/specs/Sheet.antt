@@ -7,11 +7,11 @@ use lib.ListN.{length, getD, getElem?}
 use lib.Dec.{eqb, leb}
 use Rattle.laws.specs.Choice.{if_then_else_, onSome}
 use Rattle.laws.specs.Lists.{member}
-use Rattle.ocl.specs.Types.{void}
+use Rattle.ocl.specs.Types.{Ty, void}
 use Rattle.ocl.specs.Values.{Value}
 use Rattle.ocl.specs.Model.{Row, Schema, Model}
-use Rattle.ocl.specs.Forms.{undef, Expr, node, Form, Operands, noOperand, operand, levels}
-use Rattle.sheet.specs.Lines.{Shape, leaf, unary, binary, connective, isUndef, conditional, letIn, attribute, quantified, iterate, assemble, Line, classLine, rowLine, objectLine, valueLine, ruleLine, nodeLine}
+use Rattle.ocl.specs.Forms.{undef, Expr, node, Form, Operands, noOperand, operand, Definition, levels}
+use Rattle.sheet.specs.Lines.{Shape, leaf, unary, binary, connective, isUndef, conditional, letIn, attribute, call, quantified, iterate, assemble, Line, classLine, rowLine, objectLine, valueLine, definitionLine, ruleLine, nodeLine}
 
 -- a V line: the value of a row for an object
 pub record Slot : Type 0 where
@@ -24,17 +24,18 @@ pub record Rule : Type 0 where
   pub context : ℕ
   pub body : Expr
 
--- the rule whose lines are being read: its context class, the number of its first node among the nodes of all rules, the
--- tree of each of its nodes, and the nodes that are operands already
+-- the definition or rule whose lines are being read: its class, a definition's type, the number of its first node among all nodes of
+-- the sheet, the tree of each of its nodes, and the nodes that are operands already
 pub record Current : Type 0 where
   pub context : ℕ
+  pub result : Option Ty
   pub first : ℕ
   pub trees : List Expr
   pub used : List ℕ
 
 -- everything read so far
 pub record Sheet : Type 0 where
-  -- the last block begun: 0 to 4 for C, A, O, V, R
+  -- the last block begun: 0 to 5 for C, A, O, V, D, R
   pub block : ℕ
   -- each class's parent
   pub parents : List (Option ℕ)
@@ -42,13 +43,14 @@ pub record Sheet : Type 0 where
   -- each object's class
   pub objects : List ℕ
   pub slots : List Slot
-  -- the line of each node, through all rules
+  -- the line of each node, through all definitions and rules
   pub lines : List ℕ
+  pub definitions : List Definition
   pub rules : List Rule
   pub current : Option Current
 
 unfoldable pub empty : Sheet
-empty = record { block = 0; parents = []; rows = []; objects = []; slots = []; lines = []; rules = []; current = none }
+empty = record { block = 0; parents = []; rows = []; objects = []; slots = []; lines = []; definitions = []; rules = []; current = none }
 
 -- ---- what typing and evaluation read of a sheet
 
@@ -75,7 +77,7 @@ modelOf s = record {
   valueOf = lookup (s .slots);
 }
 
--- ---- a rule's nodes
+-- ---- the nodes of a definition or rule
 
 -- a node's operands, left to right
 unfoldable pub operandsOf : Shape → List ℕ
@@ -87,6 +89,7 @@ operandsOf (isUndef a) = a ∷ []
 operandsOf (conditional c a b) = c ∷ a ∷ b ∷ []
 operandsOf (letIn i a b) = a ∷ b ∷ []
 operandsOf (attribute x name a) = a ∷ []
+operandsOf (call a n) = a ∷ []
 operandsOf (quantified q i a b) = a ∷ b ∷ []
 operandsOf (iterate i j t a e b) = a ∷ e ∷ b ∷ []
 operandsOf (assemble k es) = es
@@ -96,30 +99,36 @@ unfoldable pub growAll : (ℕ → Expr) → List ℕ → Operands
 growAll f [] = noOperand
 growAll f (a ∷ es) = operand (f a) (growAll f es)
 
--- a form over its operands' trees
-unfoldable pub grow : (ℕ → Expr) → Shape → Form
-grow f (leaf l) = Form.leaf l
-grow f (unary op a) = Form.unary op (f a)
-grow f (binary op a b) = Form.binary op (f a) (f b)
-grow f (connective c a b) = Form.connective c (f a) (f b)
-grow f (isUndef a) = Form.isUndef (f a)
-grow f (conditional c a b) = Form.conditional (f c) (f a) (f b)
-grow f (letIn i a b) = Form.letIn i (f a) (f b)
-grow f (attribute x name a) = Form.attribute x name (f a)
-grow f (quantified q i a b) = Form.quantified q i (f a) (f b)
-grow f (iterate i j t a e b) = Form.iterate i j t (f a) (f e) (f b)
-grow f (assemble k es) = Form.assemble k (growAll f es)
+-- a form over its operands' trees and the sheet's definitions
+unfoldable pub grow : (ℕ → Expr) → (ℕ → Definition) → Shape → Form
+grow f g (leaf l) = Form.leaf l
+grow f g (unary op a) = Form.unary op (f a)
+grow f g (binary op a b) = Form.binary op (f a) (f b)
+grow f g (connective c a b) = Form.connective c (f a) (f b)
+grow f g (isUndef a) = Form.isUndef (f a)
+grow f g (conditional c a b) = Form.conditional (f c) (f a) (f b)
+grow f g (letIn i a b) = Form.letIn i (f a) (f b)
+grow f g (attribute x name a) = Form.attribute x name (f a)
+grow f g (call a n) = Form.call (g n .context) (g n .type) (f a) (g n .body)
+grow f g (quantified q i a b) = Form.quantified q i (f a) (f b)
+grow f g (iterate i j t a e b) = Form.iterate i j t (f a) (f e) (f b)
+grow f g (assemble k es) = Form.assemble k (growAll f es)
 
--- the tree of node a of the rule; an operand is a node before it, so that another is never asked for
+-- the tree of node a; an operand is a node before it, so that another is never asked for
 unfoldable pub treeOf : List Expr → ℕ → Expr
 treeOf trees a = getD trees a (node 0 (Form.leaf undef))
 
--- the rule with one node more
-unfoldable pub withNode : Current → Shape → Current
-withNode c x = record {
+-- definition n; a call is of one that is there, so that another is never asked for
+unfoldable pub definitionOf : List Definition → ℕ → Definition
+definitionOf ds n = getD ds n (record { context = 0; type = void; body = node 0 (Form.leaf undef) })
+
+-- the definition or rule with one node more
+unfoldable pub withNode : List Definition → Current → Shape → Current
+withNode ds c x = record {
   context = c .context;
+  result = c .result;
   first = c .first;
-  trees = c .trees ++ (node (c .first + length (c .trees)) (grow (treeOf (c .trees)) x) ∷ []);
+  trees = c .trees ++ (node (c .first + length (c .trees)) (grow (treeOf (c .trees)) (definitionOf ds) x) ∷ []);
   used = c .used ++ operandsOf x;
 }
 
@@ -133,6 +142,7 @@ added s k (classLine n p) = record {
   objects = s .objects;
   slots = s .slots;
   lines = s .lines;
+  definitions = s .definitions;
   rules = s .rules;
   current = s .current;
 }
@@ -143,6 +153,7 @@ added s k (rowLine n c name t) = record {
   objects = s .objects;
   slots = s .slots;
   lines = s .lines;
+  definitions = s .definitions;
   rules = s .rules;
   current = s .current;
 }
@@ -153,6 +164,7 @@ added s k (objectLine n c) = record {
   objects = s .objects ++ (c ∷ []);
   slots = s .slots;
   lines = s .lines;
+  definitions = s .definitions;
   rules = s .rules;
   current = s .current;
 }
@@ -163,31 +175,46 @@ added s k (valueLine o a v) = record {
   objects = s .objects;
   slots = s .slots ++ (record { object = o; row = a; value = v } ∷ []);
   lines = s .lines;
+  definitions = s .definitions;
   rules = s .rules;
   current = s .current;
 }
-added s k (ruleLine n c) = record {
+added s k (definitionLine n c t) = record {
   block = 4;
   parents = s .parents;
   rows = s .rows;
   objects = s .objects;
   slots = s .slots;
   lines = s .lines;
+  definitions = s .definitions;
   rules = s .rules;
-  current = some (record { context = c; first = length (s .lines); trees = []; used = [] });
+  current = some (record { context = c; result = some t; first = length (s .lines); trees = []; used = [] });
 }
+added s k (ruleLine n c) = record {
+  block = 5;
+  parents = s .parents;
+  rows = s .rows;
+  objects = s .objects;
+  slots = s .slots;
+  lines = s .lines;
+  definitions = s .definitions;
+  rules = s .rules;
+  current = some (record { context = c; result = none; first = length (s .lines); trees = []; used = [] });
+}
+-- the block is that of the definition or rule that it stands in
 added s k (nodeLine n x) = record {
-  block = 4;
+  block = s .block;
   parents = s .parents;
   rows = s .rows;
   objects = s .objects;
   slots = s .slots;
   lines = s .lines ++ (k ∷ []);
+  definitions = s .definitions;
   rules = s .rules;
-  current = onSome (s .current) (λ c. some (withNode c x));
+  current = onSome (s .current) (λ c. some (withNode (s .definitions) c x));
 }
 
--- ---- a rule's end
+-- ---- the end of a definition or rule
 
 -- the last of the trees
 unfoldable pub lastTree : List Expr → Option Expr
@@ -200,29 +227,41 @@ unfoldable pub allUsed : List ℕ → ℕ → Bool
 allUsed used zero = true
 allUsed used (suc n) = member n used && allUsed used n
 
--- the sheet with the rule added
-unfoldable pub withRule : Sheet → ℕ → Expr → Sheet
-withRule s c body = record {
+-- the sheet with the definition of a type added, or with the rule
+unfoldable pub withBody : Sheet → ℕ → Option Ty → Expr → Sheet
+withBody s c (some t) body = record {
   block = s .block;
   parents = s .parents;
   rows = s .rows;
   objects = s .objects;
   slots = s .slots;
   lines = s .lines;
+  definitions = s .definitions ++ (record { context = c; type = t; body = body } ∷ []);
+  rules = s .rules;
+  current = none;
+}
+withBody s c none body = record {
+  block = s .block;
+  parents = s .parents;
+  rows = s .rows;
+  objects = s .objects;
+  slots = s .slots;
+  lines = s .lines;
+  definitions = s .definitions;
   rules = s .rules ++ (record { context = c; body = body } ∷ []);
   current = none;
 }
 
--- the depth of a rule's tree is at most this (document 02, F-1)
+-- the depth of a tree is at most this (document 02, F-1)
 abbrev pub mostLevels : ℕ
 mostLevels = 19
 
 -- there is a node, each node but the last is an operand, and the tree is not too deep; else none
 unfoldable pub endOf : Sheet → Current → Option Sheet
 endOf s c = onSome (lastTree (c .trees)) (λ body.
-    if allUsed (c .used) (length (c .trees) - 1) && leb (levels body) mostLevels then some (withRule s (c .context) body) else none)
+    if allUsed (c .used) (length (c .trees) - 1) && leb (levels body) mostLevels then some (withBody s (c .context) (c .result) body) else none)
 
--- a sheet with no rule open stays as it is
+-- a sheet with none open stays as it is
 unfoldable pub endFor : Sheet → Option Current → Option Sheet
 endFor s none = some s
 endFor s (some c) = endOf s c

@@ -11,7 +11,7 @@ use Rattle.ocl.specs.Types.{class, Ty}
 use Rattle.ocl.specs.Values.{Value, size}
 use Rattle.ocl.specs.Model.{Model, isA, belongs}
 use Rattle.ocl.specs.Forms.{reach}
-use Rattle.ocl.specs.Evaluation.{stuck, Stop}
+use Rattle.ocl.specs.Operations.{stuck, Stop}
 use Rattle.ocl.specs.Laws.{integersInRange, Formed}
 use Rattle.sheet.specs.Text.{Bytes, bytes, linesOf}
 use Rattle.sheet.specs.Spelling.{spellType, spellValue}
@@ -81,9 +81,9 @@ Demand3 =
 -- what stands for stuck, 100 in `ended` and `!100` in a report, is never seen: each call's number is 0 or one of the documents', and
 -- `!100` is nowhere in a report or in what the program prints
 pub record NeverStuck (text : Bytes) (w0 w1 w2 : List ℕ) (out : Bytes) : Type 0 where
-  pub read-number : readCall text w0 w1 w2 out .number ≤ 19
-  pub evaluate-number : (r o : ℕ) → evaluateCall text r o w0 w1 w2 out .number ≤ 19
-  pub report-number : reportCall text w0 w1 w2 out .number ≤ 19
+  pub read-number : readCall text w0 w1 w2 out .number ≤ 24
+  pub evaluate-number : (r o : ℕ) → evaluateCall text r o w0 w1 w2 out .number ≤ 24
+  pub report-number : reportCall text w0 w1 w2 out .number ≤ 24
   pub report-bytes : (a b : Bytes) → reportCall text w0 w1 w2 out .output ≢ a ++ (bytes "!100" ++ b)
   pub program-bytes : (a b : Bytes) → program text ≢ a ++ (bytes "!100" ++ b)
 

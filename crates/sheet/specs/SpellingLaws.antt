@@ -12,10 +12,10 @@ use lib.Dec.{T}
 use Rattle.laws.specs.Lists.{Each}
 use Rattle.ocl.specs.Types.{Ty, depth}
 use Rattle.ocl.specs.Values.{Value, size, everyPart}
-use Rattle.ocl.specs.Evaluation.{inRange}
+use Rattle.ocl.specs.Operations.{inRange}
 use Rattle.sheet.specs.Text.{Bytes, split, Parser, whole, isDigit, plain, numberParser, integerParser, spellNumber, spellInteger}
 use Rattle.sheet.specs.Spelling.{readType, spellType, readValue, spellValue}
-use Rattle.sheet.specs.Refusals.{classBelow, partWithin}
+use Rattle.sheet.specs.Limits.{classBelow, partWithin}
 
 -- ---- one spelling for each number, type and value
 

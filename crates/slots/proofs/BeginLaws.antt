@@ -11,7 +11,7 @@ use Rattle.ocl.specs.Types.{Kind}
 use Rattle.ocl.specs.Values.{Value, coll, nil, size, everyPart}
 use Rattle.sheet.specs.Text.{Bytes, whole}
 use Rattle.sheet.specs.Spelling.{valueParser, membersParser, readValue}
-use Rattle.sheet.specs.Refusals.{partWithin, nesting}
+use Rattle.sheet.specs.Limits.{partWithin, nesting}
 use Rattle.values.specs.Cells.{head, enc}
 use Rattle.slots.specs.declared.parts.Part.the-variants as part
 use Rattle.slots.specs.declared.reader.Open.{Open}

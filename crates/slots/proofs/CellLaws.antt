@@ -14,7 +14,7 @@ use Rattle.laws.specs.Choice.{if_then_else_}
 use Rattle.ocl.specs.Types.{Kind}
 use Rattle.ocl.specs.Values.{Value, coll, nil, size, everyParts}
 use Rattle.sheet.specs.Text.{Bytes}
-use Rattle.sheet.specs.Refusals.{nestings}
+use Rattle.sheet.specs.Limits.{nestings}
 use Rattle.values.specs.Cells.{head, enc, encs}
 use Rattle.slots.specs.declared.reader.Open.{Open}
 use Rattle.slots.specs.Machine.{mayBe, Frame, laid, headAt, beyond, Heads, heads-nil, heads-cons, Never, Deep, within-more, InFront, Sure, AddsCell, OpensCell}

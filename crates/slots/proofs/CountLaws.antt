@@ -11,7 +11,7 @@ use Rattle.ocl.specs.Types.{Kind, kindCode, set as setKind, sequence, bag}
 use Rattle.ocl.specs.Values.{Value, coll, Values, size, sizes, count, append, everyPart, everyParts}
 use Rattle.ocl.proofs.Values.{count-sizes}
 use Rattle.sheet.specs.Text.{Bytes}
-use Rattle.sheet.specs.Refusals.{partWithin, nesting, nestings}
+use Rattle.sheet.specs.Limits.{partWithin, nesting, nestings}
 use Rattle.values.specs.Cells.{head, enc, encs}
 use Rattle.values.proofs.Heads.{head-coll}
 use Rattle.values.proofs.Encoding.{size-law}

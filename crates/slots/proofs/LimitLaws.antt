@@ -8,7 +8,7 @@ use borrow.Author.Tests.{le-leb}
 use Rattle.laws.proofs.Tests.{and-l, and-r, test-fails}
 use Rattle.ocl.specs.Values.{Value, bool, int, obj, coll, Values, nil, cons, size, sizes, count, everyPart, everyParts}
 use Rattle.ocl.proofs.Values.{count-sizes}
-use Rattle.sheet.specs.Refusals.{partWithin, nesting, valueWithin as withinLimits}
+use Rattle.sheet.specs.Limits.{partWithin, nesting, valueWithin as withinLimits}
 use Rattle.values.specs.Cells.{Fits, fits-bool, fits-int, fits-obj, fits-coll, AllFit, fit-nil, fit-cons}
 use Rattle.slots.specs.Machine.{mayBe}
 

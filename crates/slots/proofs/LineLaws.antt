@@ -16,7 +16,7 @@ use Rattle.sheet.specs.Text.{Bytes, bytes, fieldsOf}
 use Rattle.sheet.specs.Lines.{Line, valueLine, is, next, done, aNumber, lineOf}
 use Rattle.sheet.specs.Spelling.{readValue}
 use Rattle.sheet.specs.Sheet.{Sheet}
-use Rattle.sheet.specs.Refusals.{valueWithin, withinLimits, totalSize}
+use Rattle.sheet.specs.Limits.{valueWithin, withinLimits, totalSize}
 use Rattle.text.specs.Numbers.{cutNum}
 use Rattle.text.specs.Parts.{Cut}
 use Rattle.text.specs.declared.parts.Fields.{Fields}
@@ -132,6 +132,14 @@ module _ {st : Counts} {f : Bytes} {n : ℕ} {A B : List ℕ} {r : Read} (got : 
           cells = low-tab 2400 (totalSize (s .slots)) (omega (arith, c .cells)) ∙ h .tables .cells;
           fits = h .tables .fits;
           contexts = high-tab 4448 (length (s .rules)) (omega arith) ∙ h .tables .contexts;
+        };
+        definitions = record {
+          contexts = high-tab 4576 (length (s .definitions)) (omega arith) ∙ h .definitions .contexts;
+          classes = rw (high-tab 4576 (length (s .definitions)) (omega arith)) (h .definitions .classes);
+          types = ap (map typeIn) (high-tab 4608 (length (s .definitions)) (omega arith)) ∙ h .definitions .types;
+          bodies = ap (map (treeAt w1)) (high-tab 4640 (length (s .definitions)) (omega arith)) ∙ h .definitions .bodies;
+          roots = rw (high-tab 4640 (length (s .definitions)) (omega arith)) (h .definitions .roots);
+          depths = rw (high-tab 4640 (length (s .definitions)) (omega arith)) (h .definitions .depths);
         };
         rules = record {
           bodies = ap (map (treeAt w1)) (high-tab 4512 (length (s .rules)) (omega arith)) ∙ h .rules .bodies;

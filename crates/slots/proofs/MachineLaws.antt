@@ -13,7 +13,7 @@ use Rattle.ocl.specs.Types.{Kind}
 use Rattle.ocl.specs.Values.{Value, coll, Values, nil, cons, size, sizes, append, everyPart, everyParts}
 use Rattle.sheet.specs.Text.{Bytes, bytes, after, literal, behind, _or_, _then_, mapped, nothing, atEnd, numberParser, integerParser, digits, plain}
 use Rattle.sheet.specs.Spelling.{valueParser, membersParser, moreParser}
-use Rattle.sheet.specs.Refusals.{partWithin, nesting, nestings}
+use Rattle.sheet.specs.Limits.{partWithin, nesting, nestings}
 use Rattle.values.specs.Cells.{enc}
 use Rattle.values.proofs.Encoding.{size-law}
 use Rattle.values.proofs.Growing.{append-grows}

@@ -12,7 +12,7 @@ use borrow.Author.Tests.{ne-eqb}
 use Rattle.laws.proofs.Slices.{split-left, split-right}
 use Rattle.ocl.specs.Types.{Kind, set, sequence, bag}
 use Rattle.ocl.specs.Values.{Value, bool, int, obj, coll, Values, nil, cons, sort, members, order}
-use Rattle.ocl.specs.Evaluation.{isLess}
+use Rattle.ocl.specs.Operations.{isLess}
 use Rattle.sheet.specs.Refusals.{mayFollow, followed, ordered, allOrdered}
 use Rattle.values.specs.Cells.{head, enc, encs, Fits, AllFit, fit-nil, fit-cons, lex, code}
 use Rattle.values.specs.Contracts.{SortOf, Skips}

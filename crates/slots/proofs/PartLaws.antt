@@ -17,10 +17,10 @@ use Rattle.laws.proofs.Options.{onSome-some, orElse-none}
 use Rattle.laws.proofs.Parts.{at-next}
 use Rattle.ocl.specs.Types.{Kind, set, sequence, bag, kindCode}
 use Rattle.ocl.specs.Values.{bool, int, obj, coll, nil, sort, count}
-use Rattle.ocl.specs.Evaluation.{inRange}
+use Rattle.ocl.specs.Operations.{inRange}
 use Rattle.sheet.specs.Text.{Bytes, bytes, after, literal, behind, _or_, mapped, numberParser, integerParser, digits, plain, isDigit}
 use Rattle.sheet.specs.Spelling.{valueParser, membersParser, letterByte, kindByte}
-use Rattle.sheet.specs.Refusals.{partWithin}
+use Rattle.sheet.specs.Limits.{partWithin}
 use Rattle.text.specs.Numbers.{cutNum, leading, DigitsEnd, IntegerEnd, wholeOf, minusAt, leadingInteger}
 use Rattle.laws.specs.Integers.{bias}
 use Rattle.text.specs.declared.numbers.Num.{Num}

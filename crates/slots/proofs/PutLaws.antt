@@ -15,13 +15,14 @@ use Rattle.laws.proofs.Slices.{cut-part}
 use Rattle.ocl.specs.Values.{Value, size, everyPart}
 use Rattle.sheet.specs.Lines.{valueLine}
 use Rattle.sheet.specs.Sheet.{Slot, Sheet, added}
-use Rattle.sheet.specs.Refusals.{objectBelow, totalSize, valueWithin, withinLimits, inOrder, partsKnown, suits, treeHolds}
+use Rattle.sheet.specs.Limits.{totalSize, valueWithin, withinLimits}
+use Rattle.sheet.specs.Refusals.{objectBelow, inOrder, partsKnown, callsSmaller, callsKnown, suits, treeHolds}
 use Rattle.values.specs.Cells.{enc}
 use Rattle.tables.specs.declared.Counts.{Counts}
 use Rattle.tables.specs.declared.Step.the-variants.{Next, Stop}
 use Rattle.tables.specs.Layout.{tab, slotKey, startsFrom, cellsOf, Holds, Fine, Kept, moved-next, moved-stop}
 use Rattle.tables.proofs.Tables.{kept-refl, kept-set, kept-then}
-use Rattle.tables.proofs.Entries.{holds-kept, spare-key, spare-start, tab-next, tab-more-of, open-kept}
+use Rattle.tables.proofs.Entries.{definitions-same, holds-kept, spare-key, spare-start, tab-next, tab-more-of, open-kept}
 use Rattle.tables.proofs.Steps.{over-limits, out-of-order, unknown-part, not-suited, steps-on}
 use Rattle.slots.specs.Slots.{SmallRows, ValueAt, SlotAnswer, slotCounts, SlotTook}
 
@@ -87,6 +88,7 @@ module _ (st : Counts) (k o a n : ℕ) (w0 w1 : List ℕ) (room : 8192 ≤ lengt
           slots = let z = length-more (s .slots) x in omega arith;
           cells = let z = size-more (s .slots) x in omega arith;
           nodes = h .counted .nodes;
+          definitions = h .counted .definitions;
           rules = h .counted .rules;
         };
         tables = record {
@@ -113,8 +115,9 @@ module _ (st : Counts) (k o a n : ℕ) (w0 w1 : List ℕ) (room : 8192 ≤ lengt
           fits = each-append (g .tables .fits) (each-cons (at .fits) each-nil);
           contexts = g .tables .contexts;
         };
+        definitions = definitions-same refl refl (g .definitions);
         rules = record { bodies = g .rules .bodies; roots = g .rules .roots; lines = g .rules .lines };
-        current = open-kept refl refl refl (g .current);
+        current = open-kept refl refl refl refl (g .current);
       }
 
   more-fine : Fine (slotCounts st n)
@@ -189,19 +192,20 @@ module _ (st : Counts) (k : ℕ) {o a n : ℕ} (w0 w1 : List ℕ) where
               a-row {s} v g m at = known-row st o a v g (sym (known .is w1 s v g m at) ∙ there)
 
               pub slot-unsuited : d ≡ false → SlotTook st k o a n (Stop 7) w0 w1 w0
+              unfolding callsSmaller callsKnown
               slot-unsuited z = record {
                 is = λ s p q v g m at e w eo ea.
-                    rw (same-number eo object, same-row ea row) (rw (not-suited s k (valueLine o a v) (within s v g e w) (sym (order .is w1 s v g m at) ∙ sorted) (sym (known .is w1 s v g m at) ∙ there) (sym (suit (a-row v g m at) .is w1 s v g m at) ∙ z)) moved-stop);
+                    rw (same-number eo object, same-row ea row) (rw (not-suited s k (valueLine o a v) refl refl (within s v g e w) (sym (order .is w1 s v g m at) ∙ sorted) (sym (known .is w1 s v g m at) ∙ there) (sym (suit (a-row v g m at) .is w1 s v g m at) ∙ z)) moved-stop);
                 kept0 = kept-refl w0;
               }
 
               pub slot-taken : (room : 8192 ≤ length w0) (fine : Fine st) {v0 : List ℕ} {su : Counts} → d ≡ true → su ≡ slotCounts st n
                   → v0 ≡ set (set w0 (352 + st .slots) (o * 64 + a)) (1376 + st .slots) (st .cells) → SlotTook st k o a n (Next su) w0 w1 v0
-              unfolding treeHolds
+              unfolding callsSmaller callsKnown treeHolds
               slot-taken room fine z ce ve = rw (ce, ve) (record {
                 is = λ s p q v g m at e w eo ea.
                     rw (same-number eo object, same-row ea row)
-                    (rw (steps-on s k (valueLine o a v) (within s v g e w) (sym (order .is w1 s v g m at) ∙ sorted) (sym (known .is w1 s v g m at) ∙ there) (sym (suit (a-row v g m at) .is w1 s v g m at) ∙ z) refl)
+                    (rw (steps-on s k (valueLine o a v) refl refl (within s v g e w) (sym (order .is w1 s v g m at) ∙ sorted) (sym (known .is w1 s v g m at) ∙ there) (sym (suit (a-row v g m at) .is w1 s v g m at) ∙ z) refl)
                     (moved-next {st = slotCounts st n} (more-fine st k o a n w0 w1 room fine few fits) (slot-held st k o a n w0 w1 room fine few fits s v g at e)));
                 kept0 = kept-words st k o a n w0 w1 room fine few fits;
               })

@@ -14,7 +14,7 @@ use Rattle.ocl.specs.Types.{Kind}
 use Rattle.ocl.specs.Values.{Value, coll, Values, nil, cons, size, append, everyPart, everyParts}
 use Rattle.sheet.specs.Text.{Bytes, atEnd}
 use Rattle.sheet.specs.Spelling.{valueParser, membersParser, moreParser, readValue}
-use Rattle.sheet.specs.Refusals.{partWithin, nesting, nestings, valueWithin as withinLimits}
+use Rattle.sheet.specs.Limits.{partWithin, nesting, nestings, valueWithin as withinLimits}
 use Rattle.values.specs.Cells.{head, enc}
 use Rattle.slots.specs.declared.reader.Open.{Open}
 use Rattle.slots.specs.declared.reader.Read.{Read}

@@ -9,7 +9,7 @@ use Rattle.ocl.specs.Types.{Kind}
 use Rattle.ocl.specs.Values.{Value, bool, int, obj, coll, nil}
 use Rattle.sheet.specs.Text.{Bytes, mapped, numberParser, integerParser}
 use Rattle.sheet.specs.Spelling.{valueParser, membersParser}
-use Rattle.sheet.specs.Refusals.{partWithin}
+use Rattle.sheet.specs.Limits.{partWithin}
 use Rattle.values.specs.Cells.{head}
 use Rattle.slots.specs.declared.parts.Part.{Part}
 use Rattle.slots.specs.declared.parts.Part.the-variants as part

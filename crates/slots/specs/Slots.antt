@@ -12,7 +12,7 @@ use Rattle.ocl.specs.Values.{Value, size}
 use Rattle.sheet.specs.Text.{Bytes, fieldsOf}
 use Rattle.sheet.specs.Lines.{Line, valueLine}
 use Rattle.sheet.specs.Sheet.{Slot, Sheet}
-use Rattle.sheet.specs.Refusals.{valueWithin}
+use Rattle.sheet.specs.Limits.{valueWithin}
 use Rattle.sheet.specs.Reading.{step, stepLine}
 use Rattle.values.specs.Cells.{enc, Fits}
 use Rattle.tables.specs.declared.Counts.{Counts}
@@ -55,9 +55,11 @@ slotCounts st n = record {
   slots = st .slots + 1;
   cells = st .cells + n;
   nodes = st .nodes;
+  definitions = st .definitions;
   rules = st .rules;
   «open» = st .open;
   context = st .context;
+  result = st .result;
   first = st .first;
 }
 

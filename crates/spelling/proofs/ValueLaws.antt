@@ -9,7 +9,7 @@ use Rattle.laws.proofs.Tests.{test-true}
 use Rattle.laws.specs.Integers.{unbias}
 use Rattle.ocl.specs.Types.{Kind, kindCode}
 use Rattle.ocl.specs.Values.{Value, bool, int, obj, coll, Values, nil, cons, count, sort, members}
-use Rattle.ocl.specs.Evaluation.{inRange}
+use Rattle.ocl.specs.Operations.{inRange}
 use Rattle.sheet.specs.Text.{Bytes, bytes, spellInteger}
 use Rattle.sheet.specs.Spelling.{kindByte, spellValue, spellMembers}
 use Rattle.text.specs.Written.{Puts}

@@ -13,9 +13,9 @@ use Rattle.laws.proofs.Lists.{length-more}
 use Rattle.types.specs.Word.{typeIn}
 use Rattle.nodes.specs.Nodes.{treeAt}
 use Rattle.sheet.specs.Sheet.{Current, Sheet}
-use Rattle.sheet.specs.Refusals.{totalSize}
+use Rattle.sheet.specs.Limits.{totalSize}
 use Rattle.tables.specs.declared.Counts.{Counts}
-use Rattle.tables.specs.Layout.{tab, HoldsTables, HoldsRules, HoldsOpen, closed, opened, Counted, Holds, Fine}
+use Rattle.tables.specs.Layout.{tab, HoldsTables, HoldsDefinitions, HoldsRules, HoldsOpen, closed, opened, Counted, Holds, Fine}
 use Rattle.tables.proofs.Tables.{tab-before, tab-after}
 
 -- ---- a word outside the tables
@@ -36,6 +36,9 @@ pub record Spare (i : ℕ) (s : Sheet) : Type 0 where
   pub cells : Away i 2400 (totalSize (s .slots))
   pub contexts : Away i 4448 (length (s .rules))
   pub roots : Away i 4512 (length (s .rules))
+  pub classes : Away i 4576 (length (s .definitions))
+  pub results : Away i 4608 (length (s .definitions))
+  pub bodies : Away i 4640 (length (s .definitions))
 
 pub tab-away : (off n : ℕ) (w : List ℕ) (i x : ℕ) → Away i off n → tab off n (set w i x) ≡ tab off n w
 tab-away off n w i x away = go (decLt i off)
@@ -66,8 +69,24 @@ module _ {w0 : List ℕ} {s : Sheet} {i : ℕ} (x : ℕ) (away : Spare i s) wher
     lines = h .lines;
   }
 
+  pub definitions-kept : {w1 : List ℕ} → HoldsDefinitions w0 w1 s → HoldsDefinitions (set w0 i x) w1 s
+  definitions-kept {w1} h = record {
+    contexts = tab-away _ _ w0 i x (away .classes) ∙ h .contexts;
+    classes = rw (tab-away 4576 (length (s .definitions)) w0 i x (away .classes)) (h .classes);
+    types = ap (map typeIn) (tab-away _ _ w0 i x (away .results)) ∙ h .types;
+    bodies = ap (map (treeAt w1)) (tab-away _ _ w0 i x (away .bodies)) ∙ h .bodies;
+    roots = rw (tab-away 4640 (length (s .definitions)) w0 i x (away .bodies)) (h .roots);
+    depths = rw (tab-away 4640 (length (s .definitions)) w0 i x (away .bodies)) (h .depths);
+  }
+
   pub holds-kept : {st : Counts} {w1 : List ℕ} → Holds st w0 w1 s → Holds st (set w0 i x) w1 s
-  holds-kept h = record { counted = h .counted; tables = tables-kept (h .tables); rules = rules-kept (h .rules); current = h .current }
+  holds-kept h = record {
+    counted = h .counted;
+    tables = tables-kept (h .tables);
+    definitions = definitions-kept (h .definitions);
+    rules = rules-kept (h .rules);
+    current = h .current;
+  }
 
 -- ---- the next places
 
@@ -99,6 +118,15 @@ module _ {st : Counts} {s : Sheet} (fine : Fine st) (same : Counted st s) where
 
   pub spare-root : st .rules < 64 → Spare (4512 + st .rules) s
   spare-root h = search needs
+
+  pub spare-class : st .definitions < 32 → Spare (4576 + st .definitions) s
+  spare-class h = search needs
+
+  pub spare-result : st .definitions < 32 → Spare (4608 + st .definitions) s
+  spare-result h = search needs
+
+  pub spare-body : st .definitions < 32 → Spare (4640 + st .definitions) s
+  spare-body h = search needs
 
 -- ---- one entry more
 
@@ -139,14 +167,27 @@ tables-same p a o v r h = record {
   contexts = rw r (h .contexts);
 }
 
--- ---- the open rule under other counts
+-- ---- a sheet with the same definitions
 
-pub open-kept : {st su : Counts} {w1 : List ℕ} {n : ℕ} {c : Option Current} → su .open ≡ st .open → su .context ≡ st .context → su .first ≡ st .first
+pub definitions-same : {w0 w1 : List ℕ} {s u : Sheet} → u .definitions ≡ s .definitions → u .lines ≡ s .lines → HoldsDefinitions w0 w1 s → HoldsDefinitions w0 w1 u
+definitions-same d l h = record {
+  contexts = rw d (h .contexts);
+  classes = rw d (h .classes);
+  types = rw d (h .types);
+  bodies = rw d (h .bodies);
+  roots = rw (d, l) (h .roots);
+  depths = rw d (h .depths);
+}
+
+-- ---- the open definition or rule under other counts
+
+pub open-kept : {st su : Counts} {w1 : List ℕ} {n : ℕ} {c : Option Current} → su .open ≡ st .open → su .context ≡ st .context → su .result ≡ st .result → su .first ≡ st .first
     → HoldsOpen st w1 n c → HoldsOpen su w1 n c
-open-kept p q r (closed e) = closed (p ∙ e)
-open-kept p q r (opened h) = opened (record {
+open-kept p q t r (closed e) = closed (p ∙ e)
+open-kept p q t r (opened h) = opened (record {
   is-open = p ∙ h .is-open;
   context = q ∙ h .context;
+  result = λ u e. ap typeIn t ∙ h .result u e;
   first = r ∙ h .first;
   count = h .count;
   trees = h .trees;

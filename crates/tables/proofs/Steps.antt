@@ -7,7 +7,8 @@ use Prim.Native.Nat.{ℕ}
 use Rattle.sheet.specs.Text.{Bytes}
 use Rattle.sheet.specs.Lines.{Line, lineOf}
 use Rattle.sheet.specs.Sheet.{Sheet, added}
-use Rattle.sheet.specs.Refusals.{withinLimits, inOrder, partsKnown, suits, treeHolds}
+use Rattle.sheet.specs.Limits.{withinLimits}
+use Rattle.sheet.specs.Refusals.{inOrder, partsKnown, callsSmaller, callsKnown, suits, treeHolds}
 use Rattle.sheet.specs.Reading.{taken, refuse, must, stepLine, stepSpelled, step}
 
 module _ (s : Sheet) (k : ℕ) (l : Line) where
@@ -23,17 +24,27 @@ module _ (s : Sheet) (k : ℕ) (l : Line) where
   unfolding stepLine must
   unknown-part a b c = rw (a, b, c)
 
-  pub not-suited : withinLimits s l ≡ true → inOrder s l ≡ true → partsKnown s l ≡ true → suits s l ≡ false → stepLine s k l ≡ refuse 7
+  pub calls-up : withinLimits s l ≡ true → inOrder s l ≡ true → partsKnown s l ≡ true → callsSmaller s l ≡ false → stepLine s k l ≡ refuse 23
   unfolding stepLine must
-  not-suited a b c d = rw (a, b, c, d)
+  calls-up a b c d = rw (a, b, c, d)
 
-  pub malformed-tree : withinLimits s l ≡ true → inOrder s l ≡ true → partsKnown s l ≡ true → suits s l ≡ true → treeHolds s l ≡ false → stepLine s k l ≡ refuse 8
+  pub calls-none : withinLimits s l ≡ true → inOrder s l ≡ true → partsKnown s l ≡ true → callsSmaller s l ≡ true → callsKnown s l ≡ false → stepLine s k l ≡ refuse 24
   unfolding stepLine must
-  malformed-tree a b c d e = rw (a, b, c, d, e)
+  calls-none a b c d e = rw (a, b, c, d, e)
 
-  pub steps-on : withinLimits s l ≡ true → inOrder s l ≡ true → partsKnown s l ≡ true → suits s l ≡ true → treeHolds s l ≡ true → stepLine s k l ≡ taken (added s k l)
-  unfolding stepLine must
-  steps-on a b c d e = rw (a, b, c, d, e)
+  -- a line whose calls are of smaller definitions that are there
+  module _ (smaller : callsSmaller s l ≡ true) (known : callsKnown s l ≡ true) where
+    pub not-suited : withinLimits s l ≡ true → inOrder s l ≡ true → partsKnown s l ≡ true → suits s l ≡ false → stepLine s k l ≡ refuse 7
+    unfolding stepLine must
+    not-suited a b c d = rw (a, b, c, smaller, known, d)
+
+    pub malformed-tree : withinLimits s l ≡ true → inOrder s l ≡ true → partsKnown s l ≡ true → suits s l ≡ true → treeHolds s l ≡ false → stepLine s k l ≡ refuse 8
+    unfolding stepLine must
+    malformed-tree a b c d e = rw (a, b, c, smaller, known, d, e)
+
+    pub steps-on : withinLimits s l ≡ true → inOrder s l ≡ true → partsKnown s l ≡ true → suits s l ≡ true → treeHolds s l ≡ true → stepLine s k l ≡ taken (added s k l)
+    unfolding stepLine must
+    steps-on a b c d e = rw (a, b, c, smaller, known, d, e)
 
 module _ (s : Sheet) (k : ℕ) (fields : List Bytes) where
   pub step-bad : lineOf fields ≡ none → step s k fields ≡ refuse 3

@@ -1,10 +1,11 @@
 -- A table at an offset of the words: one entry more, entries elsewhere, and what stays. Assumes nothing.
-use mathlib.Core.Path.{_≡_, refl, sym, ap, _∙_}
+use mathlib.Core.Path.{_≡_, refl, sym, ap, _∙_, subst}
 use mathlib.Core.List.{List, map}
-use Prim.Native.Nat.{ℕ, _+_, _-_, _≤_, _<_}
+use Prim.Native.Nat.{ℕ, zero, suc, _+_, _-_, _≤_, _<_}
 use native.Mathlib.Omega.{arith}
 use lib.ListN.{length, getD, take, drop, set, length-set, length-drop, List·getD-map}
 use lib.Seq.{length-take-le, take-set-le, drop-set-lt, drop-set-add, getD-take, getD-drop}
+use Rattle.laws.specs.Lists.{Each, each-nil, each-cons}
 use Rattle.laws.proofs.Elements.{getD-map}
 use Rattle.tables.specs.Layout.{tab, Kept}
 
@@ -39,6 +40,15 @@ entry-by {B = B} read f off w xs d e i h =
     ∙ sym (List·getD-map read (tab off (length xs) w) i 0)
     ∙ ap (λ (l : List B). getD l i (read 0)) e
     ∙ getD-map f xs i d (read 0) h
+
+-- what holds of each word of a table
+each-getD : {P : ℕ → Type 0} {l : List ℕ} → Each P l → (i : ℕ) → i < length l → P (getD l i 0)
+each-getD each-nil i h = absurd (omega arith)
+each-getD (each-cons p q) zero h = p
+each-getD (each-cons p q) (suc i) h = each-getD q i (omega arith)
+
+pub entry-each : {P : ℕ → Type 0} (off n : ℕ) (w : List ℕ) → off + n ≤ length w → Each P (tab off n w) → (i : ℕ) → i < n → P (getD w (off + i) 0)
+entry-each {P} off n w room q i h = subst P (tab-at off n w i h) (each-getD q i (let e = tab-length off n w room in omega arith))
 
 -- ---- the words from 8,192 on
 

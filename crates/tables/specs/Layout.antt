@@ -4,15 +4,16 @@ use mathlib.Core.Path.{_≡_}
 use mathlib.Core.Bool.{Bool, true, false}
 use mathlib.Core.Option.{Option, none, some}
 use mathlib.Core.List.{List, [], _∷_, _++_, map}
-use Prim.Native.Nat.{ℕ, zero, suc, _+_, _*_, _≤_, _<_}
+use Prim.Native.Nat.{ℕ, zero, suc, _+_, _*_, _/_, _≤_, _<_}
 use lib.ListN.{length, getD, take, drop}
 use Rattle.laws.specs.Lists.{member, concat, Each}
 use Rattle.ocl.specs.Values.{size}
 use Rattle.ocl.specs.Model.{Row}
-use Rattle.ocl.specs.Forms.{levels}
+use Rattle.ocl.specs.Types.{Ty}
+use Rattle.ocl.specs.Forms.{Definition, levels}
 use Rattle.sheet.specs.Text.{Bytes, fieldsOf}
 use Rattle.sheet.specs.Sheet.{Slot, Rule, Current, Sheet, treeOf}
-use Rattle.sheet.specs.Refusals.{totalSize}
+use Rattle.sheet.specs.Limits.{totalSize}
 use Rattle.sheet.specs.Reading.{Step, taken, refuse, step}
 use Rattle.types.specs.Word.{typeIn}
 use Rattle.values.specs.Cells.{enc, Fits}
@@ -45,7 +46,8 @@ unfoldable pub cellsOf : List Slot → List ℕ
 cellsOf xs = concat (map (λ (x : Slot). enc (x .value)) xs)
 
 -- 0 parents (64), 64 owners (64), 128 names (64), 192 types (64), 256 classes of objects (96), 352 keys of slots (1024),
--- 1376 starts of slots (1024), 2400 cells (2048), 4448 contexts of rules (64), 4512 roots of rules (64)
+-- 1376 starts of slots (1024), 2400 cells (2048), 4448 contexts of rules (64), 4512 roots of rules (64), 4576 classes of definitions (32),
+-- 4608 types of definitions (32), 4640 roots of definitions (32)
 pub record HoldsTables (w0 : List ℕ) (s : Sheet) : Type 0 where
   pub parents : tab 0 (length (s .parents)) w0 ≡ map parentCode (s .parents)
   pub owners : tab 64 (length (s .rows)) w0 ≡ map (λ (r : Row). r .owner) (s .rows)
@@ -75,16 +77,31 @@ pub record HoldsRules (w0 w1 : List ℕ) (s : Sheet) : Type 0 where
   pub roots : Each (λ n. n < length (s .lines)) (tab 4512 (length (s .rules)) w0)
   pub lines : linesIn w1 (length (s .lines)) ≡ s .lines
 
--- the rule that is open
+-- the definitions that have ended, and the depths of their bodies, which a call's depth counts
+pub record HoldsDefinitions (w0 w1 : List ℕ) (s : Sheet) : Type 0 where
+  pub contexts : tab 4576 (length (s .definitions)) w0 ≡ map (λ (d : Definition). d .context) (s .definitions)
+  pub classes : Each (λ n. n < 64) (tab 4576 (length (s .definitions)) w0)
+  pub types : map typeIn (tab 4608 (length (s .definitions)) w0) ≡ map (λ (d : Definition). d .type) (s .definitions)
+  pub bodies : map (treeAt w1) (tab 4640 (length (s .definitions)) w0) ≡ map (λ (d : Definition). d .body) (s .definitions)
+  pub roots : Each (λ n. n < length (s .lines)) (tab 4640 (length (s .definitions)) w0)
+  pub depths : Each (λ n. getD w1 (6912 + n) 0 / 2 ≡ levels (treeAt w1 n)) (tab 4640 (length (s .definitions)) w0)
+
+-- 1 for a rule, 2 for a definition, which has a type
+unfoldable pub openCode : Option Ty → ℕ
+openCode none = 1
+openCode (some t) = 2
+
+-- the definition or rule that is open
 pub record HoldsCurrent (st : Counts) (w1 : List ℕ) (n : ℕ) (c : Current) : Type 0 where
-  pub is-open : st .open ≡ 1
+  pub is-open : st .open ≡ openCode (c .result)
   pub context : st .context ≡ c .context
+  pub result : (t : Ty) → c .result ≡ some t → typeIn (st .result) ≡ t
   pub first : st .first ≡ c .first
   pub count : c .first + length (c .trees) ≡ n
   pub trees : (a : ℕ) → a < length (c .trees) → treeOf (c .trees) a ≡ treeAt w1 (c .first + a)
   pub depths : (a : ℕ) → a < length (c .trees)
       → getD w1 (6912 + (c .first + a)) 0 ≡ 2 * levels (treeOf (c .trees) a) + usedBit (member a (c .used))
-  -- an operand is a node of the rule
+  -- an operand is a node of the same definition or rule
   pub used : Each (λ a. a < length (c .trees)) (c .used)
 
 pub data HoldsOpen (st : Counts) (w1 : List ℕ) (n : ℕ) : Option Current → Type 0 where
@@ -94,7 +111,7 @@ pub data HoldsOpen (st : Counts) (w1 : List ℕ) (n : ℕ) : Option Current → 
 -- ---- the whole
 
 abbrev pub noCounts : Counts
-noCounts = record { block = 0; classes = 0; rows = 0; objects = 0; slots = 0; cells = 0; nodes = 0; rules = 0; «open» = 0; context = 0; first = 0 }
+noCounts = record { block = 0; classes = 0; rows = 0; objects = 0; slots = 0; cells = 0; nodes = 0; definitions = 0; rules = 0; «open» = 0; context = 0; result = 0; first = 0 }
 
 -- the counts are the sheet's
 pub record Counted (st : Counts) (s : Sheet) : Type 0 where
@@ -105,11 +122,13 @@ pub record Counted (st : Counts) (s : Sheet) : Type 0 where
   pub slots : st .slots ≡ length (s .slots)
   pub cells : st .cells ≡ totalSize (s .slots)
   pub nodes : st .nodes ≡ length (s .lines)
+  pub definitions : st .definitions ≡ length (s .definitions)
   pub rules : st .rules ≡ length (s .rules)
 
 pub record Holds (st : Counts) (w0 w1 : List ℕ) (s : Sheet) : Type 0 where
   pub counted : Counted st s
   pub tables : HoldsTables w0 s
+  pub definitions : HoldsDefinitions w0 w1 s
   pub rules : HoldsRules w0 w1 s
   pub current : HoldsOpen st w1 (length (s .lines)) (s .current)
 
@@ -121,8 +140,10 @@ pub record Fine (st : Counts) : Type 0 where
   pub slots : st .slots ≤ 1024
   pub cells : st .cells ≤ 2048
   pub nodes : st .nodes ≤ 768
+  pub definitions : st .definitions ≤ 32
   pub rules : st .rules ≤ 64
   pub first : st .first ≤ st .nodes
+  pub context : st .context < 64
 
 -- the words from 8,192 on are as they were
 pub record Kept (before after : List ℕ) : Type 0 where

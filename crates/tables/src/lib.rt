@@ -7,8 +7,8 @@ ghost use lib.ListN.{length};
 ghost use Rattle.sheet.specs.Calls.{wiped};
 ghost use Rattle.tables.specs.Layout.{noCounts};
 
-// How far the sheet has been read: the last block begun (0 to 4 for C, A, O, V, R), how much of each there is, and, where a
-// rule is open (1, else 0), its context class and its first node.
+// How far the sheet has been read: the last block begun (0 to 5 for C, A, O, V, D, R), how much of each there is, and, where a rule (1)
+// or a definition (2, else 0) is open, its class, a definition's type as a word, and its first node.
 pub struct Counts {
     pub block: u64,
     pub classes: u64,
@@ -17,9 +17,11 @@ pub struct Counts {
     pub slots: u64,
     pub cells: u64,
     pub nodes: u64,
+    pub definitions: u64,
     pub rules: u64,
     pub open: u64,
     pub context: u64,
+    pub result: u64,
     pub first: u64,
 }
 
@@ -41,9 +43,11 @@ pub fn nothing() -> Counts
         slots: 0,
         cells: 0,
         nodes: 0,
+        definitions: 0,
         rules: 0,
         open: 0,
         context: 0,
+        result: 0,
         first: 0,
     }
 }

@@ -11,7 +11,7 @@ use Rattle.laws.specs.Choice.{if_then_else_}
 use Rattle.ocl.specs.Types.{set, sequence, bag}
 use Rattle.ocl.specs.Forms.{plus, minus, times, div, modulo, and, or, forAll, exists, ofObject, ofMembers, truth, undef, self, var, all, number, negation, sizeOf, convert, castTo, equal, less, arith, includes, including, union}
 use Rattle.sheet.specs.Text.{Bytes}
-use Rattle.sheet.specs.Lines.{Shape, leaf, unary, binary, connective, isUndef, conditional, letIn, attribute, quantified, is, next, done, aNumber, anInteger, oneOperand, twoOperands, threeNumbers, iterateFields, assembleFields, shapeOf}
+use Rattle.sheet.specs.Lines.{Shape, leaf, unary, binary, connective, isUndef, conditional, letIn, attribute, call, quantified, is, next, done, aNumber, anInteger, oneOperand, twoOperands, threeNumbers, iterateFields, assembleFields, shapeOf}
 use Rattle.text.specs.Words.{formCode}
 use Rattle.text.specs.Forms.{shapeBy}
 use Rattle.text.proofs.FormLaws.{Table, codeIn, forms, forms-code}
@@ -68,7 +68,7 @@ shapes fs =
     ∷ twoOperands (connective and) fs ∷ twoOperands (connective or) fs ∷ oneOperand (unary negation) fs ∷ oneOperand isUndef fs
     ∷ twoOperands (binary equal) fs ∷ twoOperands (binary less) fs ∷ twoOperands (binary (arith plus)) fs ∷ twoOperands (binary (arith minus)) fs
     ∷ twoOperands (binary (arith times)) fs ∷ twoOperands (binary (arith div)) fs ∷ twoOperands (binary (arith modulo)) fs
-    ∷ twoOperands (λ e name. attribute ofObject name e) fs ∷ twoOperands (λ s name. attribute ofMembers name s) fs ∷ next aNumber (λ c. done (leaf (all c))) fs ∷ twoOperands (λ e c. unary (castTo c) e) fs
+    ∷ twoOperands (λ e name. attribute ofObject name e) fs ∷ twoOperands (λ s name. attribute ofMembers name s) fs ∷ twoOperands call fs ∷ next aNumber (λ c. done (leaf (all c))) fs ∷ twoOperands (λ e c. unary (castTo c) e) fs
     ∷ oneOperand (unary sizeOf) fs ∷ twoOperands (binary includes) fs ∷ oneOperand (unary (convert set)) fs ∷ oneOperand (unary (convert bag)) fs
     ∷ oneOperand (unary (convert sequence)) fs ∷ twoOperands (binary including) fs ∷ twoOperands (binary union) fs ∷ iterateFields fs
     ∷ threeNumbers (λ s i b. quantified forAll i s b) fs ∷ threeNumbers (λ s i b. quantified exists i s b) fs ∷ []

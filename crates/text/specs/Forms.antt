@@ -9,7 +9,7 @@ use Rattle.laws.specs.Choice.{if_then_else_}
 use Rattle.ocl.specs.Types.{set, sequence, bag}
 use Rattle.ocl.specs.Forms.{plus, minus, times, div, modulo, and, or, forAll, exists, ofObject, ofMembers, truth, undef, self, var, all, number, negation, sizeOf, convert, castTo, equal, less, arith, includes, including, union}
 use Rattle.sheet.specs.Text.{Bytes}
-use Rattle.sheet.specs.Lines.{Shape, leaf, unary, binary, connective, isUndef, conditional, letIn, attribute, quantified, next, done, aNumber, anInteger, oneOperand, twoOperands, threeNumbers, iterateFields, assembleFields}
+use Rattle.sheet.specs.Lines.{Shape, leaf, unary, binary, connective, isUndef, conditional, letIn, attribute, call, quantified, next, done, aNumber, anInteger, oneOperand, twoOperands, threeNumbers, iterateFields, assembleFields}
 
 unfoldable pub shapeBy : ℕ → List Bytes → Option Shape
 shapeBy k fs =
@@ -35,6 +35,7 @@ shapeBy k fs =
     else if eqb k 19 then twoOperands (binary (arith modulo)) fs
     else if eqb k 33 then twoOperands (λ e name. attribute ofObject name e) fs
     else if eqb k 34 then twoOperands (λ s name. attribute ofMembers name s) fs
+    else if eqb k 36 then twoOperands call fs
     else if eqb k 6 then next aNumber (λ c. done (leaf (all c))) fs
     else if eqb k 12 then twoOperands (λ e c. unary (castTo c) e) fs
     else if eqb k 8 then oneOperand (unary sizeOf) fs

@@ -8,7 +8,7 @@ use Rattle.laws.specs.Choice.{if_then_else_}
 use Rattle.sheet.specs.Text.{Bytes, byte, bytes, isDigit}
 use Rattle.sheet.specs.Lines.{is}
 
--- 1 to 6 for the letters of lines in the order in which document 01 lists them, 7 for a digit, else 0
+-- 1 to 6 for the letters of lines in the order in which document 01 lists them, 7 for a digit, 8 for `D` (document 02, F-13), else 0
 unfoldable pub byteKind : ℕ → ℕ
 byteKind b =
     if isDigit b then 7
@@ -18,6 +18,7 @@ byteKind b =
     else if eqb b (byte "V") then 4
     else if eqb b (byte "R") then 5
     else if eqb b (byte "N") then 6
+    else if eqb b (byte "D") then 8
     else 0
 
 -- the byte of a field that has one
@@ -56,6 +57,7 @@ formCode w =
     else if is w (bytes "mod") then 19
     else if is w (bytes "attr") then 33
     else if is w (bytes "collect") then 34
+    else if is w (bytes "call") then 36
     else if is w (bytes "all") then 6
     else if is w (bytes "as") then 12
     else if is w (bytes "size") then 8

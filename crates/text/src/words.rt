@@ -18,6 +18,7 @@ pub fn byte_kind(b: u8) -> u64
         b'V' => 4,
         b'R' => 5,
         b'N' => 6,
+        b'D' => 8,
         _ => 0,
     }
 }
@@ -87,8 +88,8 @@ pub fn form_code(f: &[u8]) -> u64
         ),
         4 => among(
             f,
-            b"true self coll less plus attr size iter",
-            &[1, 4, 27, 14, 15, 33, 8, 35],
+            b"true self coll less plus attr call size iter",
+            &[1, 4, 27, 14, 15, 33, 36, 8, 35],
         ),
         5 => among(
             f,

@@ -1,27 +1,25 @@
--- A rule's end: the code's tests and the definition's, and the tables with the rule put down. Assumes nothing.
+-- The end of a definition or rule: the code's tests and the definition's. Assumes nothing.
 use mathlib.Core.Path.{_≡_, refl, sym, ap, _∙_}
 use mathlib.Core.Bool.{Bool, true, false, not, _&&_}
 use mathlib.Core.Option.{Option, none, some}
-use mathlib.Core.List.{List, [], _∷_, _++_}
+use mathlib.Core.List.{List, [], _∷_}
 use Prim.Native.Nat.{ℕ, zero, suc, _+_, _-_, _*_, _/_, _%_, _<_, _≤_}
 use native.Mathlib.Omega.{arith}
 use borrow.Author.Tests.{eq-eqb, ne-eqb, le-leb, lt-leb, not-true, not-false}
 use lib.Dec.{eqb, leb}
-use lib.ListN.{length, getD, set, length-set}
-use lib.Seq.{getD-set-same, getD-set-other}
+use lib.ListN.{length, getD}
 use Rattle.laws.specs.Choice.{if_then_else_, onSome}
-use Rattle.laws.specs.Lists.{member, each-nil, each-cons}
-use Rattle.laws.proofs.Lists.{length-more, each-append}
+use Rattle.laws.specs.Lists.{member}
+use Rattle.ocl.specs.Types.{Ty}
 use Rattle.ocl.specs.Forms.{Expr, levels}
-use Rattle.sheet.specs.Sheet.{Current, Sheet, Rule, treeOf, lastTree, allUsed, mostLevels, endOf, endFor, endRule, withRule as ruleDown}
+use Rattle.sheet.specs.Sheet.{Current, Sheet, treeOf, lastTree, allUsed, mostLevels, withBody, endOf, endFor, endRule}
 use Rattle.nodes.specs.Nodes.{treeAt}
-use Rattle.tables.specs.Layout.{tab, usedBit, HoldsCurrent, HoldsOpen, closed, opened, Holds, Fine}
+use Rattle.tables.specs.Layout.{openCode, usedBit, HoldsCurrent, HoldsOpen, opened, Holds, Fine}
 use Rattle.tables.specs.declared.Counts.{Counts}
 use Rattle.tables.specs.declared.Step.the-variants as code
-use Rattle.tables.proofs.Tables.{kept-refl, kept-set, kept-then}
-use Rattle.tables.proofs.Entries.{holds-kept, spare-context, spare-root, tab-next, tab-more-of, tab-more-by}
+use Rattle.tables.proofs.Tables.{kept-refl}
 use Rattle.trees.specs.Operands.{depthAt}
-use Rattle.trees.specs.Rules.{RuleRoom, usedIn, endedCounts, EndMoved, ended, refused, RuleEnded}
+use Rattle.trees.specs.Rules.{usedIn, PutDown, EndMoved, ended, refused, RuleEnded}
 use Rattle.trees.proofs.NodeLaws.{OpenRule, open-rule}
 
 -- ---- the turns of `all_used`
@@ -72,10 +70,16 @@ used-same h zero l = refl
 used-same {c = c} h (suc m) l =
     rw (h .depths m (omega arith), bit-test (levels (treeOf (c .trees) m)) (member m (c .used)), used-same h m (omega arith))
 
+-- what is open has a code
+some-open : (o : Option Ty) → openCode o ≡ 0 → ⊥
+unfolding openCode
+some-open none e = omega arith
+some-open (some t) e = omega arith
+
 -- ---- the answers
 
 module _ {st : Counts} {w1 : List ℕ} (w0 : List ℕ) where
-  pub end-none : (st .«open» ≡ 1 → ⊥) → Fine st → RuleEnded st (code.Next st) w0 w1 w0
+  pub end-none : st .«open» ≡ 0 → Fine st → RuleEnded st (code.Next st) w0 w1 w0
   unfolding endRule endFor
   end-none e fine = record {
     is = λ s h. go s h (s .current) refl (h .current);
@@ -84,9 +88,9 @@ module _ {st : Counts} {w1 : List ℕ} (w0 : List ℕ) where
     where
       go : (s : Sheet) → Holds st w0 w1 s → (o : Option Current) → s .current ≡ o → HoldsOpen st w1 (length (s .lines)) o → EndMoved w0 w1 (code.Next st) (endFor s o)
       go s h none q k = ended fine h
-      go s h (some c) q (opened k) = absurd (e (k .is-open))
+      go s h (some c) q (opened k) = absurd (some-open (c .result) (sym (k .is-open) ∙ e))
 
-  module _ (is-open : st .«open» ≡ 1) where
+  module _ (is-open : st .«open» ≡ 0 → ⊥) where
     rule-end : (s : Sheet) (o : OpenRule st w1 s) → endRule s ≡ endOf s (o .rule)
     unfolding endRule endFor
     rule-end s o = ap (endFor s) (o .is)
@@ -120,7 +124,7 @@ module _ {st : Counts} {w1 : List ℕ} (w0 : List ℕ) where
 
         end-by : endOf s (o .rule)
             ≡ (if usedIn w1 (st .first) (st .nodes - 1 - st .first) && leb (getD w1 (6912 + (st .nodes - 1)) 0 / 2) mostLevels
-            then some (ruleDown s (o .rule .context) (treeOf (o .rule .trees) (st .nodes - 1 - st .first))) else none)
+            then some (withBody s (o .rule .context) (o .rule .result) (treeOf (o .rule .trees) (st .nodes - 1 - st .first))) else none)
         unfolding endOf onSome
         end-by = rw (last-tree (o .rule .trees) (st .nodes - 1 - st .first) many, ← its-used, its-depth)
 
@@ -141,106 +145,20 @@ module _ {st : Counts} {w1 : List ℕ} (w0 : List ℕ) where
           kept = kept-refl w0;
         }
 
--- ---- the tables with the rule put down: its context and its root
+-- ---- what ends well
 
-module _ (st : Counts) (w0 : List ℕ) (long : 8192 ≤ length w0) (fine : Fine st) (low : st .rules < 64) (root : ℕ) where
-  abbrev down : List ℕ
-  down = set (set w0 (4448 + st .rules) (st .context)) (4512 + st .rules) root
-
-  down-long : length down ≡ length w0
-  down-long = simp length-set
-
-  context-there : getD down (4448 + st .rules) 0 ≡ st .context
-  context-there =
-      getD-set-other (set w0 (4448 + st .rules) (st .context)) (4512 + st .rules) (4448 + st .rules) root 0 (λ e. omega arith)
-      ∙ getD-set-same w0 (4448 + st .rules) (st .context) 0 (omega arith)
-
-  root-there : getD down (4512 + st .rules) 0 ≡ root
-  root-there = getD-set-same (set w0 (4448 + st .rules) (st .context)) (4512 + st .rules) root 0 (rw length-set (omega arith))
-
-  module _ {w1 : List ℕ} {s : Sheet} (h : Holds st w0 w1 s) (c : ℕ) (body : Expr) (context : st .context ≡ c) (tree : treeAt w1 root ≡ body) (inside : root < length (s .lines)) where
-    abbrev rule : Rule
-    rule = record { context = c; body = body }
-
-    many-rules : st .rules ≡ length (s .rules)
-    many-rules = h .counted .rules
-
-    -- the sheet as it was, in the words as they are
-    old : Holds st down w1 s
-    old = holds-kept root (spare-root fine (h .counted) low) (holds-kept (st .context) (spare-context fine (h .counted) low) h)
-
-    down-roots : tab 4512 (length (s .rules ++ (rule ∷ []))) down ≡ tab 4512 (length (s .rules)) down ++ (root ∷ [])
-    down-roots =
-        ap (λ (n : ℕ). tab 4512 n down) (length-more (s .rules) rule)
-        ∙ tab-next 4512 (length (s .rules)) down (omega (arith, many-rules, down-long))
-        ∙ ap (λ (x : ℕ). tab 4512 (length (s .rules)) down ++ (x ∷ [])) (ap (λ (i : ℕ). getD down (4512 + i) 0) (sym many-rules) ∙ root-there)
-
-    down-holds : Holds (endedCounts st) down w1 (ruleDown s c body)
-    unfolding endedCounts ruleDown
-    down-holds = record {
-      counted = record {
-        block = h .counted .block;
-        classes = h .counted .classes;
-        rows = h .counted .rows;
-        objects = h .counted .objects;
-        slots = h .counted .slots;
-        cells = h .counted .cells;
-        nodes = h .counted .nodes;
-        rules = omega (arith, length-more (s .rules) rule, many-rules);
-      };
-      tables = record {
-        parents = old .tables .parents;
-        owners = old .tables .owners;
-        names = old .tables .names;
-        types = old .tables .types;
-        objects = old .tables .objects;
-        keys = old .tables .keys;
-        starts = old .tables .starts;
-        cells = old .tables .cells;
-        fits = old .tables .fits;
-        contexts =
-            tab-more-of (λ (r : Rule). r .context) 4448 down (s .rules) rule (omega (arith, many-rules, down-long)) (old .tables .contexts)
-            (ap (λ (i : ℕ). getD down (4448 + i) 0) (sym many-rules) ∙ context-there ∙ context);
-      };
-      rules = record {
-        bodies =
-            tab-more-by (treeAt w1) (λ (r : Rule). r .body) 4512 down (s .rules) rule (omega (arith, many-rules, down-long)) (old .rules .bodies)
-            (ap (treeAt w1) (ap (λ (i : ℕ). getD down (4512 + i) 0) (sym many-rules) ∙ root-there) ∙ tree);
-        roots = rw down-roots (each-append (old .rules .roots) (each-cons inside each-nil));
-        lines = old .rules .lines;
-      };
-      current = closed refl;
-    }
-
-    down-fine : Fine (endedCounts st)
-    unfolding endedCounts
-    down-fine = record {
-      classes = fine .classes;
-      rows = fine .rows;
-      objects = fine .objects;
-      slots = fine .slots;
-      cells = fine .cells;
-      nodes = fine .nodes;
-      rules = omega arith;
-      first = fine .first;
-    }
-
-pub end-down : {st : Counts} {w1 : List ℕ} {b : Bool} {r : Counts} (w0 : List ℕ) → st .«open» ≡ 1 → Fine st → (st .first ≡ st .nodes → ⊥)
-    → b ≡ usedIn w1 (st .first) (st .nodes - 1 - st .first) → not b ≡ false → getD w1 (6912 + (st .nodes - 1)) 0 / 2 ≤ mostLevels → 8192 ≤ length w0 → RuleRoom st → r ≡ endedCounts st
-    → RuleEnded st (code.Next r) w0 w1 (set (set w0 (4448 + st .rules) (st .context)) (4512 + st .rules) (st .nodes - 1))
-unfolding endedCounts
-end-down {st} {w1} {b} w0 is-open fine node told q l long room e = rw e (record {
+pub end-down : {st : Counts} {w1 : List ℕ} {b : Bool} {r : Counts} (w0 v0 : List ℕ) → (st .«open» ≡ 0 → ⊥) → Fine st → (st .first ≡ st .nodes → ⊥)
+    → b ≡ usedIn w1 (st .first) (st .nodes - 1 - st .first) → not b ≡ false → getD w1 (6912 + (st .nodes - 1)) 0 / 2 ≤ mostLevels
+    → PutDown st r (st .nodes - 1) w0 v0 → RuleEnded st (code.Next r) w0 w1 v0
+end-down {st} {w1} {b} {r} w0 v0 is-open fine node told q l down = record {
   is = λ s h.
       let o = open-rule h is-open in
-      rw (rule-end w0 is-open s o, end-by w0 is-open fine node h o, ← told, not-false b q, le-leb (getD w1 (6912 + (st .nodes - 1)) 0 / 2) mostLevels l)
-      (ended (down-fine st w0 long fine (room .room is-open) (st .nodes - 1) h (o .rule .context) _ (o .holds .context) (tree s h o) (inside s h)) (down-holds st w0 long fine (room .room is-open) (st .nodes - 1) h (o .rule .context) _ (o .holds .context) (tree s h o) (inside s h)));
-  kept = kept-then (kept-set w0 (4448 + st .rules) (st .context) (omega (arith, fine .rules))) (kept-set (set w0 (4448 + st .rules) (st .context)) (4512 + st .rules) (st .nodes - 1) (omega (arith, fine .rules)));
-})
+      let d = down .is w1 s (o .rule) (o .is) h (omega (arith, h .counted .nodes, fine .first)) (its-depth w0 is-open fine node h o ∙ ap levels (sym (tree s h o))) in
+      rw (rule-end w0 is-open s o, end-by w0 is-open fine node h o, ← told, not-false b q, le-leb (getD w1 (6912 + (st .nodes - 1)) 0 / 2) mostLevels l, ← tree s h o) (ended (d .0) (d .1));
+  kept = down .kept;
+}
   where
     tree : (s : Sheet) (h : Holds st w0 w1 s) (o : OpenRule st w1 s) → treeAt w1 (st .nodes - 1) ≡ treeOf (o .rule .trees) (st .nodes - 1 - st .first)
     tree s h o =
         let e : o .rule .first + (st .nodes - 1 - st .first) ≡ st .nodes - 1 = omega (arith, o .holds .first, fine .first) in
         ap (treeAt w1) (sym e) ∙ sym (o .holds .trees (st .nodes - 1 - st .first) (omega (arith, many w0 is-open fine node h o)))
-
-    inside : (s : Sheet) → Holds st w0 w1 s → st .nodes - 1 < length (s .lines)
-    inside s h = omega (arith, h .counted .nodes, fine .first)

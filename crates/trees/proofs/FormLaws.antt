@@ -16,14 +16,16 @@ use Rattle.laws.proofs.Cases.{AllBelow, all-below, from-below, zero-least}
 use Rattle.ocl.specs.Types.{set, sequence, bag}
 use Rattle.ocl.specs.Forms.{plus, minus, times, div, modulo, Connective, and, or, Leaf, truth, undef, self, Unary, negation, sizeOf, convert, Binary, equal, less, arith as calculation, includes, including, union}
 use Rattle.sheet.specs.Text.{Bytes}
-use Rattle.sheet.specs.Lines.{Shape, leaf, unary, binary, connective, isUndef, conditional, letIn, attribute, quantified, iterate, assemble, done, oneOperand, twoOperands, threeNumbers}
+use Rattle.sheet.specs.Lines.{Shape, leaf, unary, binary, connective, isUndef, conditional, letIn, attribute, call, quantified, iterate, assemble, done, oneOperand, twoOperands, threeNumbers}
 use Rattle.sheet.specs.Sheet.{operandsOf}
-use Rattle.sheet.specs.Refusals.{isNode, isVariable, leafWithin, unaryWithin, formWithin, twoVariables, leafKnown, unaryKnown, formKnown}
+use Rattle.sheet.specs.Limits.{isNode, isVariable, leafWithin, unaryWithin, formWithin}
+use Rattle.sheet.specs.Refusals.{twoVariables, leafKnown, unaryKnown, formKnown}
 use Rattle.text.specs.Forms.{shapeBy}
-use Rattle.nodes.specs.Nodes.{TypeSaid, leafWords, unaryWords, binaryCode, arithCode, connectiveCode, shapeWords}
+use Rattle.nodes.specs.Nodes.{Called, TypeSaid, leafWords, unaryWords, binaryCode, arithCode, connectiveCode, shapeWords}
 use Rattle.trees.specs.declared.Parsed.{Parsed}
 use Rattle.trees.specs.declared.numbers.Numbers.{Numbers}
 use Rattle.trees.specs.Fields.{cut, four, exact, Read, unread, read, NumbersRead}
+use Rattle.trees.specs.Calls.{calledBy, byNumber}
 use Rattle.trees.specs.Forms.{StandsFor, Spelled, misspelled, spelled, FormRead, PlainCode, constant, itself, one, two, undefTest, conditional as conditionalCode}
 use Rattle.trees.proofs.ExactLaws.{chain, chain-exact, exact-length}
 
@@ -89,7 +91,7 @@ record Plain (code : ℕ) (l : List ℕ) (x : Shape) : Type 0 where
   apart : twoVariables x ≡ true
   known : (n : ℕ) → formKnown n x ≡ true
   operands : operandsOf x ≡ l
-  words : (line : ℕ) → shapeWords 0 0 line x ≡ code ∷ getD l 0 0 ∷ getD l 1 0 ∷ getD l 2 0 ∷ 0 ∷ 0 ∷ 0 ∷ line ∷ []
+  words : (d : Called) (line : ℕ) → shapeWords 0 0 d line x ≡ code ∷ getD l 0 0 ∷ getD l 1 0 ∷ getD l 2 0 ∷ 0 ∷ 0 ∷ 0 ∷ line ∷ []
   said : TypeSaid 0 x
 
 record PlainForm (code m : ℕ) : Type 0 where
@@ -114,7 +116,7 @@ plain-stands {code} {line} {m} l {x} is n few e = record {
   operands = rw (← n, e, is .operands) (plain-operands l line (omega arith));
   type = 0;
   said = λ h. is .said;
-  words = λ h k. rw (e, nodes-small l (rw (is .operands) at k)) (sym (is .words line));
+  words = λ h k. rw (e, nodes-small l (rw (is .operands) at k)) (sym (is .words (calledBy byNumber x) line));
 }
 
 unfoldable pub isIterate : Shape → Bool
@@ -126,6 +128,7 @@ isIterate (isUndef a) = false
 isIterate (conditional c a b) = false
 isIterate (letIn i a b) = false
 isIterate (attribute x name a) = false
+isIterate (call a n) = false
 isIterate (quantified q i a b) = false
 isIterate (iterate i j t a e b) = true
 isIterate (assemble k es) = false
@@ -139,7 +142,7 @@ unfolding chain formWithin twoVariables formKnown operandsOf shapeWords isIterat
 leaf-plain code l w k e r = record { shape = λ es. leaf l; reads = r; is = is }
   where
     is : (es : List ℕ) → length es ≡ 0 → Plain code es (leaf l)
-    is [] h = record { within = w; apart = refl; known = k; operands = refl; words = λ line. rw e; said = no-type (leaf l) refl }
+    is [] h = record { within = w; apart = refl; known = k; operands = refl; words = λ d line. rw e; said = no-type (leaf l) refl }
     is (a ∷ es) h = absurd (omega arith)
 
 unary-plain : (code : ℕ) (op : Unary) → unaryWithin op ≡ true → ((n : ℕ) → unaryKnown n op ≡ true) → unaryWords op ≡ (code, 0) → ((fs : List Bytes) → shapeBy code fs ≡ oneOperand (unary op) fs) → PlainForm code 1
@@ -148,7 +151,7 @@ unary-plain code op w k e r = record { shape = λ es. unary op (getD es 0 0); re
   where
     is : (es : List ℕ) → length es ≡ 1 → Plain code es (unary op (getD es 0 0))
     is [] h = absurd (omega arith)
-    is (a ∷ []) h = record { within = w; apart = refl; known = k; operands = refl; words = λ line. simp (e, zero-add); said = no-type (unary op a) refl }
+    is (a ∷ []) h = record { within = w; apart = refl; known = k; operands = refl; words = λ d line. simp (e, zero-add); said = no-type (unary op a) refl }
     is (a ∷ b ∷ es) h = absurd (omega arith)
 
 -- a form of two operands and nothing else
@@ -165,12 +168,12 @@ two-plain code f p r = record { shape = λ es. f (getD es 0 0) (getD es 1 0); re
 binary-plain : (code : ℕ) (op : Binary) → binaryCode op ≡ code → ((fs : List Bytes) → shapeBy code fs ≡ twoOperands (binary op) fs) → PlainForm code 2
 unfolding formWithin twoVariables formKnown operandsOf shapeWords isIterate
 binary-plain code op e = two-plain code (binary op) (λ a b.
-    record { within = refl; apart = refl; known = λ n. refl; operands = refl; words = λ line. simp (e, zero-add); said = no-type (binary op a b) refl })
+    record { within = refl; apart = refl; known = λ n. refl; operands = refl; words = λ d line. simp (e, zero-add); said = no-type (binary op a b) refl })
 
 connective-plain : (code : ℕ) (op : Connective) → connectiveCode op ≡ code → ((fs : List Bytes) → shapeBy code fs ≡ twoOperands (connective op) fs) → PlainForm code 2
 unfolding formWithin twoVariables formKnown operandsOf shapeWords isIterate
 connective-plain code op e = two-plain code (connective op) (λ a b.
-    record { within = refl; apart = refl; known = λ n. refl; operands = refl; words = λ line. simp (e, zero-add); said = no-type (connective op a b) refl })
+    record { within = refl; apart = refl; known = λ n. refl; operands = refl; words = λ d line. simp (e, zero-add); said = no-type (connective op a b) refl })
 
 isUndef-plain : PlainForm 30 1
 unfolding chain oneOperand formWithin twoVariables formKnown operandsOf shapeWords isIterate shapeBy
@@ -178,7 +181,7 @@ isUndef-plain = record { shape = λ es. isUndef (getD es 0 0); reads = λ fs. re
   where
     is : (es : List ℕ) → length es ≡ 1 → Plain 30 es (isUndef (getD es 0 0))
     is [] h = absurd (omega arith)
-    is (a ∷ []) h = record { within = refl; apart = refl; known = λ n. refl; operands = refl; words = λ line. simp zero-add; said = no-type (isUndef a) refl }
+    is (a ∷ []) h = record { within = refl; apart = refl; known = λ n. refl; operands = refl; words = λ d line. simp zero-add; said = no-type (isUndef a) refl }
     is (a ∷ b ∷ es) h = absurd (omega arith)
 
 conditional-plain : PlainForm 31 3
@@ -189,7 +192,7 @@ conditional-plain = record { shape = λ es. conditional (getD es 0 0) (getD es 1
     is [] h = absurd (omega arith)
     is (a ∷ []) h = absurd (omega arith)
     is (a ∷ b ∷ []) h = absurd (omega arith)
-    is (a ∷ b ∷ c ∷ []) h = record { within = refl; apart = refl; known = λ n. refl; operands = refl; words = λ line. simp zero-add; said = no-type (conditional a b c) refl }
+    is (a ∷ b ∷ c ∷ []) h = record { within = refl; apart = refl; known = λ n. refl; operands = refl; words = λ d line. simp zero-add; said = no-type (conditional a b c) refl }
     is (a ∷ b ∷ c ∷ d ∷ es) h = absurd (omega arith)
 
 plain-code : {code m : ℕ} → PlainCode code m → PlainForm code m

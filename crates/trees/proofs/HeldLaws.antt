@@ -12,13 +12,15 @@ use Rattle.laws.proofs.Bounds.{cut-lt}
 use Rattle.laws.proofs.Cases.{AllBelow, from-below, zero-least}
 use Rattle.ocl.specs.Forms.{Quantifier, forAll, exists, Access, ofObject, ofMembers, var, all, castTo}
 use Rattle.sheet.specs.Text.{Bytes}
-use Rattle.sheet.specs.Lines.{leaf, unary, letIn, attribute, quantified, twoOperands, threeNumbers}
+use Rattle.sheet.specs.Lines.{leaf, unary, letIn, attribute, call, quantified, twoOperands, threeNumbers}
 use Rattle.sheet.specs.Sheet.{operandsOf}
-use Rattle.sheet.specs.Refusals.{isNode, isClass, isVariable, leafWithin, unaryWithin, formWithin, twoVariables, leafKnown, unaryKnown, formKnown}
+use Rattle.sheet.specs.Limits.{isNode, isClass, isVariable, isDefinition, leafWithin, unaryWithin, formWithin}
+use Rattle.sheet.specs.Refusals.{twoVariables, leafKnown, unaryKnown, formKnown}
 use Rattle.text.specs.Forms.{shapeBy}
 use Rattle.nodes.specs.Nodes.{leafWords, unaryWords, quantifierCode, accessCode, shapeWords}
 use Rattle.trees.specs.declared.numbers.Numbers.{Numbers}
 use Rattle.trees.specs.Fields.{cut, four, exact, NumbersRead}
+use Rattle.trees.specs.Calls.{calledBy}
 use Rattle.trees.specs.Forms.{StandsFor, FormRead, QuantifierCode, AccessCode}
 use Rattle.trees.proofs.ExactLaws.{chain}
 use Rattle.trees.proofs.FormLaws.{cut-variable, variable-small, below-small, cut-class, nodes-small, numbers-form, isIterate, no-type}
@@ -98,6 +100,19 @@ module _ (at l : List ℕ) (e : at ≡ four (map cut l)) where
     words = λ h k. rw (c, first, second, node-small (getD l 0 0) [] k, below-small (getD l 1 0) 256 (omega arith) h, zero-add);
   }
 
+  call-stands : {line : ℕ} {g : Bool} → StandsFor line (call (getD l 0 0) (getD l 1 0)) (record { spelled = g; words = 36 ∷ getD at 0 0 ∷ getD at 1 0 ∷ 0 ∷ 0 ∷ 0 ∷ 0 ∷ line ∷ []; count = 1; within = ltb (getD at 1 0) 32; apart = true; classes = 0 })
+  unfolding formWithin isDefinition twoVariables formKnown operandsOf shapeWords isIterate calledBy
+  call-stands = record {
+    within = ap (λ (c : ℕ). ltb c 32) second ∙ cut-lt (getD l 1 0) 1000000 32 (omega arith);
+    apart = λ h. refl;
+    known = λ h n q. zero-least n;
+    counted = refl;
+    operands = rw first;
+    type = 0;
+    said = λ h. no-type (call (getD l 0 0) (getD l 1 0)) refl;
+    words = λ h k. rw (first, second, node-small (getD l 0 0) [] k, below-small (getD l 1 0) 32 (omega arith) h, zero-add);
+  }
+
   let-stands : {line : ℕ} {g w : Bool} → w ≡ isVariable (getD at 0 0)
       → StandsFor line (letIn (getD l 0 0) (getD l 1 0) (getD l 2 0)) (record { spelled = g; words = 32 ∷ getD at 1 0 ∷ getD at 2 0 ∷ getD at 0 0 ∷ 0 ∷ 0 ∷ 0 ∷ line ∷ []; count = 2; within = w; apart = true; classes = 0 })
   unfolding formWithin twoVariables formKnown operandsOf shapeWords isIterate
@@ -174,6 +189,11 @@ module _ (line : ℕ) (r : Numbers) (fs : List Bytes) where
   attribute-read c n =
       let q = access-form c in
       record { is = numbers-form 2 fs (λ l. attribute (q .which) (getD l 1 0) (getD l 0 0)) n (q .reads fs) refl (λ l h e. attribute-stands (r .at) l e (q .which) (q .says)); few = omega arith; size = refl }
+
+  pub call-read : NumbersRead (exact 2 fs) r
+      → FormRead line (shapeBy 36 fs) (record { spelled = r .good; words = 36 ∷ getD (r .at) 0 0 ∷ getD (r .at) 1 0 ∷ 0 ∷ 0 ∷ 0 ∷ 0 ∷ line ∷ []; count = 1; within = ltb (getD (r .at) 1 0) 32; apart = true; classes = 0 })
+  unfolding shapeBy chain twoOperands
+  call-read n = record { is = numbers-form 2 fs (λ l. call (getD l 0 0) (getD l 1 0)) n refl refl (λ l h e. call-stands (r .at) l e); few = omega arith; size = refl }
 
   pub let-read : {w : Bool} → NumbersRead (exact 3 fs) r → w ≡ isVariable (getD (r .at) 0 0)
       → FormRead line (shapeBy 32 fs) (record { spelled = r .good; words = 32 ∷ getD (r .at) 1 0 ∷ getD (r .at) 2 0 ∷ getD (r .at) 0 0 ∷ 0 ∷ 0 ∷ 0 ∷ line ∷ []; count = 2; within = w; apart = true; classes = 0 })

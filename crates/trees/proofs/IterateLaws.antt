@@ -20,7 +20,8 @@ use Rattle.sheet.specs.Text.{Bytes, fieldsOf}
 use Rattle.sheet.specs.Spelling.{readType}
 use Rattle.sheet.specs.Lines.{iterate, next, done, each, aNumber, iterateFields}
 use Rattle.sheet.specs.Sheet.{operandsOf}
-use Rattle.sheet.specs.Refusals.{isVariable, simpleClassBelow, classBelow, typeWithin, formWithin, twoVariables, formKnown}
+use Rattle.sheet.specs.Limits.{isVariable, simpleClassBelow, classBelow, typeWithin, formWithin}
+use Rattle.sheet.specs.Refusals.{twoVariables, formKnown}
 use Rattle.types.specs.Flat.{baseType, baseClass, tyOf}
 use Rattle.types.specs.Word.{typeIn}
 use Rattle.types.specs.Reading.{is, typeField, held}

@@ -7,7 +7,10 @@ pub mod IterateLaws
 pub mod OperandLaws
 pub mod MarkLaws
 pub mod ShapeLaws
+pub mod CallLaws
 pub mod PlaceLaws
 pub mod NodeLaws
+pub mod PutLaws
 pub mod LineLaws
 pub mod EndLaws
+pub mod DownLaws

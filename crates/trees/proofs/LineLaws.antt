@@ -21,8 +21,8 @@ use Rattle.text.specs.declared.numbers.Num.the-variants as num
 use Rattle.text.specs.declared.parts.Fields.{Fields}
 use Rattle.text.proofs.NumberLaws.{num-bad, num-is}
 use Rattle.text.proofs.ShapeLaws.{shape-code}
-use Rattle.text.proofs.WordLaws.{is-class-line, is-row-line, is-object-line, is-value-line, is-rule-line, is-node-line}
-use Rattle.tables.specs.Layout.{moved-stop}
+use Rattle.text.proofs.WordLaws.{is-class-line, is-row-line, is-object-line, is-value-line, is-definition-line, is-rule-line, is-node-line}
+use Rattle.tables.specs.Layout.{moved-stop, Took}
 use Rattle.tables.specs.declared.Counts.{Counts}
 use Rattle.tables.specs.declared.Step.{Step}
 use Rattle.tables.specs.declared.Step.the-variants as code
@@ -30,7 +30,7 @@ use Rattle.tables.proofs.Tables.{kept-refl}
 use Rattle.trees.specs.declared.Parsed.{Parsed}
 use Rattle.trees.specs.Fields.{cut}
 use Rattle.trees.specs.Forms.{StandsFor, Spelled, misspelled, spelled, FormRead}
-use Rattle.trees.specs.Rules.{Placed, TookNode}
+use Rattle.trees.specs.Rules.{Placed}
 use Rattle.trees.proofs.FieldLaws.{field-count}
 
 -- ---- the fields
@@ -40,7 +40,7 @@ unfolding firstIsN lineOf
 node-fields [] h = absurd (true≢false (sym h))
 node-fields (w ∷ fs) h =
     let k : byteKind (onlyByte w) ≡ 6 = eqb-true (byteKind (onlyByte w)) 6 (sym (is-node-line w) ∙ h) in
-    rw (is-class-line w, is-row-line w, is-object-line w, is-value-line w, is-rule-line w, h, k)
+    rw (is-class-line w, is-row-line w, is-object-line w, is-value-line w, is-definition-line w, is-rule-line w, h, k)
 
 module _ (fs : List Bytes) (starts : firstIsN fs ≡ true) where
   few-fields : length fs < 3 → lineOf fs ≡ none
@@ -66,28 +66,28 @@ module _ (fs : List Bytes) (starts : firstIsN fs ≡ true) where
 
 -- ---- 3, and a line that spells a node
 
-took-none : {st : Counts} {k : ℕ} {line w : List ℕ} → lineOf (fieldsOf line) ≡ none → TookNode st k line (code.Stop 3) w w
+took-none : {st : Counts} {k : ℕ} {line w0 w : List ℕ} → lineOf (fieldsOf line) ≡ none → Took st k line (code.Stop 3) w0 w w0 w
 unfolding step stepSpelled
-took-none {w = w} e = λ w0. record { is = λ s h. rw e moved-stop; kept0 = kept-refl w0; kept1 = kept-refl w }
+took-none {w0 = w0} {w = w} e = record { is = λ s h. rw e moved-stop; kept0 = kept-refl w0; kept1 = kept-refl w }
 
-took-node : {st : Counts} {k n : ℕ} {line w v : List ℕ} {p : Parsed} {r : Step} (i : ℕ) (x : Shape) → lineOf (fieldsOf line) ≡ some (nodeLine i x) → n ≡ cut i → StandsFor k x p → Placed st n p r w v → TookNode st k line r w v
+took-node : {st : Counts} {k n : ℕ} {line w0 w v : List ℕ} {p : Parsed} {r : Step} (i : ℕ) (x : Shape) → lineOf (fieldsOf line) ≡ some (nodeLine i x) → n ≡ cut i → StandsFor k x p → Placed st n p r w0 w v → Took st k line r w0 w w0 v
 unfolding step stepSpelled
-took-node {k = k} i x e q z d = λ w0. record { is = λ s h. rw e (d .is k w0 s i x q z h); kept0 = kept-refl w0; kept1 = d .kept }
+took-node {k = k} {w0 = w0} i x e q z d = record { is = λ s h. rw e (d .is k s i x q z h); kept0 = kept-refl w0; kept1 = d .kept }
 
 module _ {line : List ℕ} {f : Fields} (is : Cut line f) (starts : firstIsN (fieldsOf line) ≡ true) where
-  pub line-short : {st : Counts} {k : ℕ} {w : List ℕ} → f .count < 3 → TookNode st k line (code.Stop 3) w w
+  pub line-short : {st : Counts} {k : ℕ} {w0 w : List ℕ} → f .count < 3 → Took st k line (code.Stop 3) w0 w w0 w
   line-short h = took-none (few-fields (fieldsOf line) starts (omega (arith, is .counted)))
 
   module _ (long : 3 ≤ f .count) where
     spelled-line : lineOf (fieldsOf line) ≡ onSome (aNumber (getD (fieldsOf line) 1 [])) (λ n. mapSome (nodeLine n) (shapeBy (formCode (getD (fieldsOf line) 2 [])) (drop 3 (fieldsOf line))))
     spelled-line = line-of (fieldsOf line) starts (field-count is long)
 
-    pub line-number : {st : Counts} {k : ℕ} {w : List ℕ} → num.Bad ≡ cutNum (aNumber (getD (fieldsOf line) 1 [])) → TookNode st k line (code.Stop 3) w w
+    pub line-number : {st : Counts} {k : ℕ} {w0 w : List ℕ} → num.Bad ≡ cutNum (aNumber (getD (fieldsOf line) 1 [])) → Took st k line (code.Stop 3) w0 w w0 w
     unfolding onSome
     line-number h = took-none (spelled-line ∙ rw (num-bad (aNumber (getD (fieldsOf line) 1 [])) h))
 
     module _ {k c : ℕ} {p : Parsed} (coded : c ≡ formCode (getD (fieldsOf line) 2 [])) (form : FormRead k (shapeBy c (drop 3 (fieldsOf line))) p) where
-      pub line-form : {st : Counts} {w : List ℕ} → not (p .spelled) ≡ true → TookNode st k line (code.Stop 3) w w
+      pub line-form : {st : Counts} {w0 w : List ℕ} → not (p .spelled) ≡ true → Took st k line (code.Stop 3) w0 w w0 w
       unfolding onSome mapSome
       line-form h = took-none (spelled-line ∙ rw (← coded) (go (aNumber (getD (fieldsOf line) 1 [])) (form .is)))
         where
@@ -95,10 +95,10 @@ module _ {line : List ℕ} {f : Fields} (is : Cut line f) (starts : firstIsN (fi
           go o (misspelled e) = nowhere o _ (λ n. refl)
           go o (spelled e z) = absurd (true≢false (sym e ∙ not-true (p .spelled) h))
 
-      pub line-placed : {st : Counts} {n : ℕ} {r : Step} {w v : List ℕ} → num.Is n ≡ cutNum (aNumber (getD (fieldsOf line) 1 [])) → not (p .spelled) ≡ false → Placed st n p r w v → TookNode st k line r w v
+      pub line-placed : {st : Counts} {n : ℕ} {r : Step} {w0 w v : List ℕ} → num.Is n ≡ cutNum (aNumber (getD (fieldsOf line) 1 [])) → not (p .spelled) ≡ false → Placed st n p r w0 w v → Took st k line r w0 w w0 v
       unfolding onSome mapSome
-      line-placed {st} {n} {r} {w} {v} e h d = go (aNumber (getD (fieldsOf line) 1 [])) refl (num-is (aNumber (getD (fieldsOf line) 1 [])) e) (shapeBy c (drop 3 (fieldsOf line))) refl (form .is)
+      line-placed {st} {n} {r} {w0} {w} {v} e h d = go (aNumber (getD (fieldsOf line) 1 [])) refl (num-is (aNumber (getD (fieldsOf line) 1 [])) e) (shapeBy c (drop 3 (fieldsOf line))) refl (form .is)
         where
-          go : (o : Option ℕ) → aNumber (getD (fieldsOf line) 1 []) ≡ o → Any? (λ i. n ≡ cut i) o → (q : Option Shape) → shapeBy c (drop 3 (fieldsOf line)) ≡ q → Spelled k q p → TookNode st k line r w v
+          go : (o : Option ℕ) → aNumber (getD (fieldsOf line) 1 []) ≡ o → Any? (λ i. n ≡ cut i) o → (q : Option Shape) → shapeBy c (drop 3 (fieldsOf line)) ≡ q → Spelled k q p → Took st k line r w0 w w0 v
           go (some i) a (any-some u) none b (misspelled z) = absurd (true≢false (sym (not-false (p .spelled) h) ∙ z))
           go (some i) a (any-some u) (some x) b (spelled s z) = took-node i x (spelled-line ∙ rw (a, ← coded, b)) u z d

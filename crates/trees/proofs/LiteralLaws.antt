@@ -15,22 +15,24 @@ use Rattle.laws.proofs.Cases.{AllBelow, from-below, zero-least}
 use Rattle.laws.proofs.Options.{nowhere}
 use Rattle.laws.proofs.Tests.{Any?, any-some}
 use Rattle.ocl.specs.Types.{Kind, set, sequence, bag}
-use Rattle.ocl.specs.Evaluation.{inRange}
+use Rattle.ocl.specs.Operations.{inRange}
 use Rattle.ocl.specs.Forms.{number}
 use Rattle.sheet.specs.Text.{Bytes, bytes, after, literal, _or_, whole, atEnd}
 use Rattle.sheet.specs.Lines.{leaf, assemble, next, done, each, aNumber, anInteger, aKind, atMostFour, assembleFields}
 use Rattle.sheet.specs.Sheet.{operandsOf}
-use Rattle.sheet.specs.Refusals.{leafWithin, formWithin, twoVariables, leafKnown, formKnown}
+use Rattle.sheet.specs.Limits.{leafWithin, formWithin}
+use Rattle.sheet.specs.Refusals.{twoVariables, leafKnown, formKnown}
 use Rattle.text.specs.Forms.{shapeBy}
 use Rattle.laws.specs.Integers.{bias}
 use Rattle.text.specs.Numbers.{wholeOf}
 use Rattle.text.specs.Words.{onlyByte}
 use Rattle.text.specs.declared.numbers.Whole.the-variants as integer
 use Rattle.text.proofs.IntegerLaws.{whole-bad, whole-out, whole-is}
-use Rattle.nodes.specs.Nodes.{leafWords, assembleCode, operandWord, shapeWords}
+use Rattle.nodes.specs.Nodes.{Called, leafWords, assembleCode, operandWord, shapeWords}
 use Rattle.trees.specs.declared.Parsed.{Parsed}
 use Rattle.trees.specs.declared.numbers.Numbers.{Numbers}
 use Rattle.trees.specs.Fields.{cut, four, Read, unread, read, NumbersRead}
+use Rattle.trees.specs.Calls.{calledBy, byNumber}
 use Rattle.trees.specs.Forms.{StandsFor, Spelled, misspelled, spelled, FormRead, kindByteCode}
 use Rattle.trees.proofs.ExactLaws.{each-length}
 use Rattle.trees.proofs.FormLaws.{nodes-small, isIterate, no-type}
@@ -161,15 +163,15 @@ assemble-operands (w ∷ x ∷ y ∷ []) m a b h = refl
 assemble-operands (w ∷ x ∷ y ∷ z ∷ []) m a b h = refl
 assemble-operands (w ∷ x ∷ y ∷ z ∷ v ∷ es) m a b h = absurd (omega arith)
 
-assemble-words : (k : Kind) (es : List ℕ) (line : ℕ) → length es ≤ 4
-    → assembleCode k ∷ getD es 0 0 ∷ getD es 1 0 ∷ getD es 2 0 ∷ getD es 3 0 ∷ length es ∷ 0 ∷ line ∷ [] ≡ shapeWords 0 0 line (assemble k es)
+assemble-words : (k : Kind) (es : List ℕ) (d : Called) (line : ℕ) → length es ≤ 4
+    → assembleCode k ∷ getD es 0 0 ∷ getD es 1 0 ∷ getD es 2 0 ∷ getD es 3 0 ∷ length es ∷ 0 ∷ line ∷ [] ≡ shapeWords 0 0 d line (assemble k es)
 unfolding shapeWords operandWord
-assemble-words k [] line h = refl
-assemble-words k (w ∷ []) line h = simp zero-add
-assemble-words k (w ∷ x ∷ []) line h = simp zero-add
-assemble-words k (w ∷ x ∷ y ∷ []) line h = simp zero-add
-assemble-words k (w ∷ x ∷ y ∷ z ∷ []) line h = simp zero-add
-assemble-words k (w ∷ x ∷ y ∷ z ∷ v ∷ es) line h = absurd (omega arith)
+assemble-words k [] d line h = refl
+assemble-words k (w ∷ []) d line h = simp zero-add
+assemble-words k (w ∷ x ∷ []) d line h = simp zero-add
+assemble-words k (w ∷ x ∷ y ∷ []) d line h = simp zero-add
+assemble-words k (w ∷ x ∷ y ∷ z ∷ []) d line h = simp zero-add
+assemble-words k (w ∷ x ∷ y ∷ z ∷ v ∷ es) d line h = absurd (omega arith)
 
 assemble-stands : {line m code : ℕ} {g : Bool} {at : List ℕ} (k : Kind) (es : List ℕ) → code ≡ assembleCode k → length es ≡ m → m ≤ 4 → at ≡ four (map cut es)
     → StandsFor line (assemble k es) (record { spelled = g; words = code ∷ getD at 0 0 ∷ getD at 1 0 ∷ getD at 2 0 ∷ getD at 3 0 ∷ m ∷ 0 ∷ line ∷ []; count = m; within = true; apart = true; classes = 0 })
@@ -182,7 +184,7 @@ assemble-stands {line} k es c n few e = record {
   operands = rw (e, ← n) (assemble-operands es (length es) 0 line (omega arith));
   type = 0;
   said = λ h. no-type (assemble k es) refl;
-  words = λ h q. rw (c, e, nodes-small es q, ← n) (assemble-words k es line (omega arith));
+  words = λ h q. rw (c, e, nodes-small es q, ← n) (assemble-words k es (calledBy byNumber (assemble k es)) line (omega arith));
 }
 
 -- over four members, and no kind
@@ -241,12 +243,12 @@ assemble-read {line} {m} {code} {r} f gs c z n few is = record { is = go (kind-s
 
 -- ---- codes of no form
 
-pub no-code : (k : ℕ) (fs : List Bytes) → 35 < k → shapeBy k fs ≡ none
+pub no-code : (k : ℕ) (fs : List Bytes) → 36 < k → shapeBy k fs ≡ none
 unfolding shapeBy
 no-code k fs h =
-    rw (off 1 (omega arith), off 0 (omega arith), off 2 (omega arith), off 3 (omega arith), off 4 (omega arith), off 5 (omega arith), off 27 (omega arith), off 32 (omega arith), off 31 (omega arith), off 23 (omega arith), off 24 (omega arith), off 7 (omega arith), off 30 (omega arith), off 13 (omega arith), off 14 (omega arith), off 15 (omega arith), off 16 (omega arith), off 17 (omega arith), off 18 (omega arith), off 19 (omega arith), off 33 (omega arith), off 34 (omega arith), off 6 (omega arith), off 12 (omega arith), off 8 (omega arith), off 20 (omega arith), off 9 (omega arith), off 11 (omega arith), off 10 (omega arith), off 21 (omega arith), off 22 (omega arith), off 35 (omega arith), off 25 (omega arith), off 26 (omega arith))
+    rw (off 1 (omega arith), off 0 (omega arith), off 2 (omega arith), off 3 (omega arith), off 4 (omega arith), off 5 (omega arith), off 27 (omega arith), off 32 (omega arith), off 31 (omega arith), off 23 (omega arith), off 24 (omega arith), off 7 (omega arith), off 30 (omega arith), off 13 (omega arith), off 14 (omega arith), off 15 (omega arith), off 16 (omega arith), off 17 (omega arith), off 18 (omega arith), off 19 (omega arith), off 33 (omega arith), off 34 (omega arith), off 36 (omega arith), off 6 (omega arith), off 12 (omega arith), off 8 (omega arith), off 20 (omega arith), off 9 (omega arith), off 11 (omega arith), off 10 (omega arith), off 21 (omega arith), off 22 (omega arith), off 35 (omega arith), off 25 (omega arith), off 26 (omega arith))
   where
-    off : (j : ℕ) → j < 36 → eqb k j ≡ false
+    off : (j : ℕ) → j < 37 → eqb k j ≡ false
     off j l = ne-eqb k j (λ e. omega arith)
 
 pub gap-code : (k : ℕ) (fs : List Bytes) → 28 ≤ k → k < 30 → shapeBy k fs ≡ none

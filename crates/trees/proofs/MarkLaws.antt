@@ -62,6 +62,23 @@ module _ (first n : ℕ) (room : first + n ≤ 768) where
       go true false ih = ih _ _ (omega arith)
       go false u ih = omega arith
 
+  -- a mark does not change a depth
+  pub mark-half : (es : List ℕ) (d : ℕ) (w : List ℕ) → 8192 ≤ length w → (i : ℕ) → getD (wordsOf (marking first n d es w)) i 0 / 2 ≡ getD w i 0 / 2
+  unfolding marking wordsOf
+  mark-half [] d w long i = refl
+  mark-half (a ∷ es) d w long i = go (ltb a n) (eqb (getD w (depthAt first a) 0 % 2) 1) refl refl (mark-half es)
+    where
+      same : a < n → (getD w (depthAt first a) 0 % 2 ≡ 1 → ⊥) → (t : Bool) → eqb i (depthAt first a) ≡ t → getD (set w (depthAt first a) (getD w (depthAt first a) 0 + 1)) i 0 / 2 ≡ getD w i 0 / 2
+      same l u true e = rw (eqb-true i (depthAt first a) e, getD-set-same w (depthAt first a) (getD w (depthAt first a) 0 + 1) 0 (omega arith)) (omega arith)
+      same l u false e = ap (λ (v : ℕ). v / 2) (getD-set-other w (depthAt first a) i (getD w (depthAt first a) 0 + 1) 0 (eqb-false i (depthAt first a) e))
+
+      go : (b u : Bool) → ltb a n ≡ b → eqb (getD w (depthAt first a) 0 % 2) 1 ≡ u
+          → ((d : ℕ) (w : List ℕ) → 8192 ≤ length w → (i : ℕ) → getD (wordsOf (marking first n d es w)) i 0 / 2 ≡ getD w i 0 / 2)
+          → getD (wordsOf (if b then (if u then malformed w else marking first n (max d (min (getD w (depthAt first a) 0 / 2) 1000)) es (set w (depthAt first a) (getD w (depthAt first a) 0 + 1))) else malformed w)) i 0 / 2 ≡ getD w i 0 / 2
+      go true true e f ih = refl
+      go true false e f ih = ih _ _ (simp length-set long) i ∙ same (ltb-true a n e) (eqb-false (getD w (depthAt first a) 0 % 2) 1 f) (eqb i (depthAt first a)) refl
+      go false u e f ih = refl
+
 -- ---- what they hold
 
 unfoldable pub deepestOf : (ℕ → ℕ) → List ℕ → ℕ

@@ -1,61 +1,62 @@
--- A node that is taken, or refused for its operands: the tables afterwards. Assumes nothing.
+-- The tables with one node more. Assumes nothing.
 use mathlib.Core.Path.{_≡_, refl, sym, ap, _∙_}
 use mathlib.Core.Bool.{true, false}
 use mathlib.Core.Option.{Option, none, some}
 use mathlib.Core.List.{List, [], _∷_, _++_}
-use Prim.Native.Nat.{ℕ, zero, suc, _+_, _*_, _<_, _≤_, max}
+use Prim.Native.Nat.{ℕ, zero, suc, _+_, _*_, _/_, _<_, _≤_, max}
 use native.Mathlib.Omega.{arith}
 use native.Mathlib.Decide.{decLt}
-use borrow.Author.Tests.{le-leb}
-use lib.ListN.{length, getD, set, length-append, List·getD-append}
-use lib.Seq.{getD-at, getD-set-same, getD-set-other}
+use lib.ListN.{length, getD, length-append, List·getD-append}
+use lib.Seq.{getD-at}
 use Rattle.laws.specs.Choice.{onSome}
-use Rattle.laws.specs.Lists.{member, Each}
+use Rattle.laws.specs.Lists.{member, Each, each-nil, each-cons}
 use Rattle.laws.proofs.Lists.{member-none, each-imp, each-append, map-each}
 use Rattle.ocl.specs.Forms.{Expr, node, levels}
 use Rattle.sheet.specs.Lines.{Shape, nodeLine}
-use Rattle.sheet.specs.Sheet.{Current, Sheet, added, operandsOf, grow, treeOf, withNode as growRule}
-use Rattle.sheet.specs.Refusals.{formWithin, fresh, suits, operandsFresh, treeHolds}
-use Rattle.nodes.specs.Nodes.{word, shapeWords, treeAt}
+use Rattle.sheet.specs.Sheet.{Current, Sheet, added, operandsOf, grow, treeOf, definitionOf, withNode as growRule}
+use Rattle.sheet.specs.Limits.{formWithin}
+use Rattle.sheet.specs.Refusals.{callBelow}
+use Rattle.nodes.specs.Nodes.{CallSaid, word, shapeWords, treesBelow, treeAt}
 use Rattle.nodes.proofs.Keep.{tree-keep, tree-depth}
+use Rattle.nodes.proofs.Nodes.{below-law}
 use Rattle.nodes.proofs.Shapes.{shape-tree}
-use Rattle.tables.specs.Layout.{tab, linesIn, usedBit, HoldsCurrent, HoldsOpen, closed, opened, Holds, Fine, Kept, moved-next, moved-stop}
+use Rattle.tables.specs.Layout.{tab, linesIn, usedBit, HoldsCurrent, HoldsOpen, closed, opened, Holds, Fine}
 use Rattle.tables.specs.declared.Counts.{Counts}
-use Rattle.tables.specs.declared.Step.the-variants as code
-use Rattle.tables.proofs.Tables.{kept-set, kept-then}
 use Rattle.tables.proofs.Entries.{tables-same}
-use Rattle.tables.proofs.Steps.{malformed-tree, steps-on}
 use Rattle.trees.specs.declared.Parsed.{Parsed}
-use Rattle.trees.specs.Fields.{cut}
-use Rattle.trees.specs.Forms.{operandsAt, StandsFor}
-use Rattle.trees.specs.Operands.{malformed, deepest, depthAt, marking, shifted, WroteWords}
-use Rattle.trees.specs.Rules.{nodeLimits, nodeOrder, nodeCounts, Placed}
-use Rattle.trees.proofs.MarkLaws.{wordsOf, depthOf, Framed, mark-frame, mark-small, Depths, deepestOf, Marks, marks-law, fresh-low, malformed-fresh, deepest-fresh}
-use Rattle.trees.proofs.ShapeLaws.{grow-same, grow-depth, shape-shifted, shape-line}
-use Rattle.trees.proofs.PlaceLaws.{nodes-low, is-open, is-next, limits-same, form-within, operands-small, operands-are, order-same, known-same}
+use Rattle.trees.specs.Forms.{StandsFor}
+use Rattle.trees.specs.Calls.{calledBy, calledAt}
+use Rattle.trees.specs.Rules.{nodeCounts}
+use Rattle.trees.proofs.MarkLaws.{Depths, deepestOf}
+use Rattle.trees.proofs.ShapeLaws.{bodyLevels, grow-same, grow-depth, shape-line}
+use Rattle.trees.proofs.CallLaws.{call-said}
 
--- ---- the rule that is open
+-- ---- the definition or rule that is open
 
 pub record OpenRule (st : Counts) (w1 : List ℕ) (s : Sheet) : Type 0 where
   pub rule : Current
   pub is : s .current ≡ some rule
   pub holds : HoldsCurrent st w1 (length (s .lines)) rule
 
-pub open-rule : {st : Counts} {w0 w1 : List ℕ} {s : Sheet} → Holds st w0 w1 s → st .«open» ≡ 1 → OpenRule st w1 s
+pub open-rule : {st : Counts} {w0 w1 : List ℕ} {s : Sheet} → Holds st w0 w1 s → (st .«open» ≡ 0 → ⊥) → OpenRule st w1 s
 open-rule {st} {w0} {w1} {s} h e = go (s .current) refl (h .current)
   where
     go : (o : Option Current) → s .current ≡ o → HoldsOpen st w1 (length (s .lines)) o → OpenRule st w1 s
-    go none q (closed z) = absurd (omega arith)
+    go none q (closed z) = absurd (e z)
     go (some c) q (opened k) = record { rule = c; is = q; holds = k }
 
 -- its nodes are no deeper than they are many
-rule-depth : {st : Counts} {w1 : List ℕ} {m : ℕ} {c : Current} → HoldsCurrent st w1 m c → m ≤ 768 → (a : ℕ) → a < length (c .trees) → levels (treeOf (c .trees) a) ≤ 1000
+pub rule-depth : {st : Counts} {w1 : List ℕ} {m : ℕ} {c : Current} → HoldsCurrent st w1 m c → m ≤ 768 → (a : ℕ) → a < length (c .trees) → levels (treeOf (c .trees) a) ≤ 1000
 rule-depth {st} {w1} {m} {c} k l a h = rw (k .trees a h) (let d = tree-depth w1 (c .first + a) in omega (arith, k .count))
 
-rule-depths : {st : Counts} {w1 : List ℕ} {m : ℕ} {c : Current} → HoldsCurrent st w1 m c → Depths (c .first) (length (c .trees)) (λ a. levels (treeOf (c .trees) a)) (c .used) w1
+pub rule-depths : {st : Counts} {w1 : List ℕ} {m : ℕ} {c : Current} → HoldsCurrent st w1 m c → Depths (c .first) (length (c .trees)) (λ a. levels (treeOf (c .trees) a)) (c .used) w1
 rule-depths k = record { at = k .depths }
 
--- ---- lines
+-- ---- lists
+
+each-two : {A : Type 0} {P Q R : A → Type 0} {ns : List A} → ((n : A) → P n → Q n → R n) → Each P ns → Each Q ns → Each R ns
+each-two f each-nil each-nil = each-nil
+each-two f (each-cons p ps) (each-cons q qs) = each-cons (f _ p q) (each-two f ps qs)
 
 lines-keep : (w v : List ℕ) (n : ℕ) → ((i : ℕ) → i < 8 * n → getD v i 0 ≡ getD w i 0) → linesIn v n ≡ linesIn w n
 unfolding linesIn
@@ -65,15 +66,17 @@ lines-keep w v (suc n) h = rw (h (8 * n + 7) (omega arith), lines-keep w v n (λ
 -- ---- the tables with one node more: node m, of rule c, with the words v1
 
 module _ {st : Counts} {line : ℕ} {p : Parsed} {w0 w1 v1 : List ℕ} {s : Sheet} {x : Shape} (i : ℕ) (d : ℕ)
-    (h : Holds st w0 w1 s) (fine : Fine st) (o : OpenRule st w1 s) (z : StandsFor line x p) (within : formWithin x ≡ true) (few : length (operandsOf x) ≤ 4)
+    (h : Holds st w0 w1 s) (fine : Fine st) (long : 8192 ≤ length w0) (o : OpenRule st w1 s) (z : StandsFor line x p) (within : formWithin x ≡ true) (few : length (operandsOf x) ≤ 4)
+    (there : callBelow (length (s .definitions)) x ≡ true)
     (smaller : Each (λ a. a < length (o .rule .trees)) (operandsOf x))
-    (deep : d ≡ max 0 (deepestOf (λ a. levels (treeOf (o .rule .trees) a)) (operandsOf x)))
+    (deep : d ≡ max (deepestOf (λ a. levels (treeOf (o .rule .trees) a)) (operandsOf x)) (bodyLevels (definitionOf (s .definitions)) x))
     (low : (j : ℕ) → j < 8 * length (s .lines) → getD v1 j 0 ≡ getD w1 j 0)
-    (words : (j : ℕ) → j < 8 → word v1 (length (s .lines)) j ≡ getD (shapeWords (o .rule .first) (z .type) line x) j 0)
+    (half : (j : ℕ) → j < length (s .lines) → getD v1 (6912 + j) 0 / 2 ≡ getD w1 (6912 + j) 0 / 2)
+    (words : (j : ℕ) → j < 8 → word v1 (length (s .lines)) j ≡ getD (shapeWords (o .rule .first) (z .type) (calledBy (calledAt w0) x) line x) j 0)
     (depth : getD v1 (6912 + length (s .lines)) 0 ≡ 2 * (d + 1))
     (depths : Depths (o .rule .first) (length (o .rule .trees)) (λ a. levels (treeOf (o .rule .trees) a)) (o .rule .used ++ operandsOf x) v1) where
   new : Expr
-  new = node (o .rule .first + length (o .rule .trees)) (grow (treeOf (o .rule .trees)) x)
+  new = node (o .rule .first + length (o .rule .trees)) (grow (treeOf (o .rule .trees)) (definitionOf (s .definitions)) x)
 
   place : o .rule .first + length (o .rule .trees) ≡ length (s .lines)
   place = o .holds .count
@@ -84,10 +87,15 @@ module _ {st : Counts} {line : ℕ} {p : Parsed} {w0 w1 v1 : List ℕ} {s : Shee
   old-tree : (a : ℕ) → a < length (o .rule .trees) → treeOf (o .rule .trees) a ≡ treeAt v1 (o .rule .first + a)
   old-tree a l = o .holds .trees a l ∙ kept-tree (o .rule .first + a) (omega (arith, place))
 
-  new-tree : node (o .rule .first + length (o .rule .trees)) (grow (treeOf (o .rule .trees)) x) ≡ treeAt v1 (o .rule .first + length (o .rule .trees))
+  said : CallSaid (treesBelow v1 (o .rule .first + length (o .rule .trees))) (definitionOf (s .definitions)) (calledBy (calledAt w0) x) x
+  said =
+      call-said (h .definitions) long (omega (arith, h .counted .definitions, fine .definitions)) _ x there
+      (λ r l. below-law v1 (o .rule .first + length (o .rule .trees)) r (omega (arith, place)) ∙ sym (kept-tree r l))
+
+  new-tree : node (o .rule .first + length (o .rule .trees)) (grow (treeOf (o .rule .trees)) (definitionOf (s .definitions)) x) ≡ treeAt v1 (o .rule .first + length (o .rule .trees))
   new-tree =
-      ap (node (o .rule .first + length (o .rule .trees))) (grow-same (treeOf (o .rule .trees)) (λ a. treeAt v1 (o .rule .first + a)) x (each-imp (λ a l. old-tree a l) smaller))
-      ∙ sym (shape-tree v1 (o .rule .first) (length (o .rule .trees)) (z .type) line x within (z .said within) smaller few (rw place words))
+      ap (node (o .rule .first + length (o .rule .trees))) (grow-same (treeOf (o .rule .trees)) (λ a. treeAt v1 (o .rule .first + a)) (definitionOf (s .definitions)) x (each-imp (λ a l. old-tree a l) smaller))
+      ∙ sym (shape-tree v1 (o .rule .first) (length (o .rule .trees)) (z .type) (calledBy (calledAt w0) x) line (definitionOf (s .definitions)) x within (z .said within) said smaller few (rw place words))
 
   more : length (o .rule .trees ++ (new ∷ [])) ≡ length (o .rule .trees) + 1
   more = length-append (o .rule .trees) (new ∷ [])
@@ -105,13 +113,14 @@ module _ {st : Counts} {line : ℕ} {p : Parsed} {w0 w1 v1 : List ℕ} {s : Shee
 
   new-depth : getD v1 (6912 + length (s .lines)) 0 ≡ 2 * levels new + usedBit (member (length (o .rule .trees)) (o .rule .used ++ operandsOf x))
   unfolding levels usedBit new
-  new-depth = rw unused (depth ∙ (let e = grow-depth (treeOf (o .rule .trees)) x in omega arith))
+  new-depth = rw unused (depth ∙ (let e = grow-depth (treeOf (o .rule .trees)) (definitionOf (s .definitions)) x in omega arith))
 
-  more-current : HoldsCurrent (nodeCounts st) v1 (length (s .lines ++ (line ∷ []))) (growRule (o .rule) x)
+  more-current : HoldsCurrent (nodeCounts st) v1 (length (s .lines ++ (line ∷ []))) (growRule (s .definitions) (o .rule) x)
   unfolding nodeCounts growRule new
   more-current = record {
     is-open = o .holds .is-open;
     context = o .holds .context;
+    result = o .holds .result;
     first = o .holds .first;
     count = let e = length-append (s .lines) (line ∷ []) in omega (arith, more, place);
     trees = λ a l. trees a l (decLt a (length (o .rule .trees)));
@@ -132,147 +141,31 @@ module _ {st : Counts} {line : ℕ} {p : Parsed} {w0 w1 v1 : List ℕ} {s : Shee
   unfolding nodeCounts added onSome linesIn
   node-holds = record {
     counted = record {
-      block = refl;
+      block = h .counted .block;
       classes = h .counted .classes;
       rows = h .counted .rows;
       objects = h .counted .objects;
       slots = h .counted .slots;
       cells = h .counted .cells;
       nodes = let e = length-append (s .lines) (line ∷ []) in omega (arith, h .counted .nodes);
+      definitions = h .counted .definitions;
       rules = h .counted .rules;
     };
     tables = tables-same refl refl refl refl refl (h .tables);
+    definitions = record {
+      contexts = h .definitions .contexts;
+      classes = h .definitions .classes;
+      types = h .definitions .types;
+      bodies = sym (map-each (treeAt w1) (treeAt v1) (tab 4640 (length (s .definitions)) w0) (each-imp (λ a l. kept-tree a l) (h .definitions .roots))) ∙ h .definitions .bodies;
+      roots = each-imp (λ a l. let e = length-append (s .lines) (line ∷ []) in omega arith) (h .definitions .roots);
+      depths = each-two (λ a l e. half a l ∙ e ∙ ap levels (kept-tree a l)) (h .definitions .roots) (h .definitions .depths);
+    };
     rules = record {
       bodies = sym (map-each (treeAt w1) (treeAt v1) (tab 4512 (length (s .rules)) w0) (each-imp (λ a l. kept-tree a l) (h .rules .roots))) ∙ h .rules .bodies;
       roots = each-imp (λ a l. let e = length-append (s .lines) (line ∷ []) in omega arith) (h .rules .roots);
       lines =
           let e : length (s .lines ++ (line ∷ [])) ≡ suc (length (s .lines)) = (let k = length-append (s .lines) (line ∷ []) in omega arith) in
-          rw e (rw (lines-keep w1 v1 (length (s .lines)) low, h .rules .lines, words 7 (omega arith), shape-line (o .rule .first) (z .type) line x));
+          rw e (rw (lines-keep w1 v1 (length (s .lines)) low, h .rules .lines, words 7 (omega arith), shape-line (o .rule .first) (z .type) (calledBy (calledAt w0) x) line x));
     };
     current = rw (o .is) (opened more-current);
   }
-
--- ---- 8, and a node that is taken
-
-pub place-room : (st : Counts) (n : ℕ) (p : Parsed) → Fine st → nodeLimits st n p ≡ true → nodeOrder st n p ≡ true → st .first + n ≤ 768
-place-room st n p fine ok ordered = omega (arith, is-next st n p ordered, nodes-low st n p ok, fine .first)
-
-pub deepest-small : (first n d : ℕ) (es : List ℕ) (w v : List ℕ) → first + n ≤ 768 → deepest d v ≡ marking first n 0 es w → d ≤ 1000
-unfolding depthOf
-deepest-small first n d es w v room e = rw (ap depthOf e) (mark-small first n room es 0 w (omega arith))
-
-module _ (st : Counts) (n : ℕ) (p : Parsed) (w1 : List ℕ) (fine : Fine st) (long : 8192 ≤ length w1) (ok : nodeLimits st n p ≡ true) (ordered : nodeOrder st n p ≡ true) (classes : p .classes ≤ st .classes) where
-  room : st .first + n ≤ 768
-  room = place-room st n p fine ok ordered
-
-  module _ {line : ℕ} {w0 : List ℕ} {s : Sheet} {x : Shape} (i : ℕ) (u : n ≡ cut i) (z : StandsFor line x p) (h : Holds st w0 w1 s) (o : OpenRule st w1 s) where
-    its-number : n ≡ length (o .rule .trees)
-    its-number = omega (arith, is-next st n p ordered, o .holds .count, o .holds .first, h .counted .nodes)
-
-    marking-same : marking (st .first) n 0 (operandsAt (p .words) (p .count)) w1 ≡ marking (o .rule .first) (length (o .rule .trees)) 0 (operandsOf x) w1
-    marking-same =
-        ap (λ (es : List ℕ). marking (st .first) n 0 es w1) (operands-are i u z h fine ok)
-        ∙ ap (λ (m : ℕ). marking (st .first) m 0 (operandsOf x) w1) its-number
-        ∙ ap (λ (f : ℕ). marking f (length (o .rule .trees)) 0 (operandsOf x) w1) (o .holds .first)
-
-    marks : Marks (o .rule .first) (length (o .rule .trees)) (λ a. levels (treeOf (o .rule .trees) a)) 0 (o .rule .used) (operandsOf x)
-        (fresh (length (o .rule .trees)) (o .rule .used) (operandsOf x)) (marking (o .rule .first) (length (o .rule .trees)) 0 (operandsOf x) w1)
-    marks =
-        marks-law (o .rule .first) (length (o .rule .trees)) (λ a. levels (treeOf (o .rule .trees) a)) (rule-depth (o .holds) (omega (arith, h .counted .nodes, fine .nodes)))
-        (operandsOf x) 0 (o .rule .used) w1 (omega (arith, o .holds .count, h .counted .nodes, fine .nodes)) long (rule-depths (o .holds))
-
-    tree-test : treeHolds s (nodeLine i x) ≡ fresh (length (o .rule .trees)) (o .rule .used) (operandsOf x)
-    unfolding treeHolds operandsFresh
-    tree-test = ap (λ (c : Option Current). operandsFresh c x) (o .is)
-
-  pub place-8 : {v1 : List ℕ} → malformed v1 ≡ marking (st .first) n 0 (operandsAt (p .words) (p .count)) w1 → Placed st n p (code.Stop 8) w1 v1
-  unfolding suits wordsOf
-  place-8 {v1} e = record {
-    is = λ line w0 s i x u z h.
-        let o = open-rule h (is-open st n p ordered) in
-        rw (malformed-tree s line (nodeLine i x) (sym (limits-same i u z h) ∙ ok) (sym (order-same i u z h fine ok) ∙ ordered) (sym (known-same i u z h fine ok) ∙ le-leb (p .classes) (st .classes) classes) refl
-        (tree-test i u z h o ∙ malformed-fresh (marks i u z h o) (e ∙ marking-same i u z h o))) moved-stop;
-    kept = rw (ap wordsOf e) (mark-frame (st .first) n room (operandsAt (p .words) (p .count)) 0 w1 .kept);
-  }
-
-  module _ {d : ℕ} {u v : List ℕ} (e : deepest d u ≡ marking (st .first) n 0 (operandsAt (p .words) (p .count)) w1) (wrote : WroteWords (8 * st .nodes) 8 (shifted (p .words) (p .count) (st .first)) u v) where
-    framed : Framed w1 u
-    unfolding wordsOf
-    framed = rw (ap wordsOf e) (mark-frame (st .first) n room (operandsAt (p .words) (p .count)) 0 w1)
-
-    low-room : st .nodes < 768
-    low-room = nodes-low st n p ok
-
-    low-after : (j : ℕ) → j < 8 * st .nodes → getD (set v (6912 + st .nodes) (2 * (d + 1))) j 0 ≡ getD w1 j 0
-    low-after j l = getD-set-other v (6912 + st .nodes) j (2 * (d + 1)) 0 (omega (arith, low-room)) ∙ wrote .low j l ∙ framed .low j (omega (arith, low-room))
-
-    words-after : (j : ℕ) → j < 8 → getD (set v (6912 + st .nodes) (2 * (d + 1))) (8 * st .nodes + j) 0 ≡ shifted (p .words) (p .count) (st .first) j
-    words-after j l = getD-set-other v (6912 + st .nodes) (8 * st .nodes + j) (2 * (d + 1)) 0 (omega (arith, low-room)) ∙ wrote .each j l
-
-    depth-after : getD (set v (6912 + st .nodes) (2 * (d + 1))) (6912 + st .nodes) 0 ≡ 2 * (d + 1)
-    depth-after = getD-set-same v (6912 + st .nodes) (2 * (d + 1)) 0 (omega (arith, wrote .kept .size, framed .kept .size, low-room))
-
-    depths-after : (a : ℕ) → a < n → getD (set v (6912 + st .nodes) (2 * (d + 1))) (depthAt (st .first) a) 0 ≡ getD u (depthAt (st .first) a) 0
-    depths-after a l =
-        getD-set-other v (6912 + st .nodes) (depthAt (st .first) a) (2 * (d + 1)) 0 (omega (arith, is-next st n p ordered, fine .first))
-        ∙ wrote .high (depthAt (st .first) a) (omega (arith, low-room))
-
-    kept-after : Kept w1 (set v (6912 + st .nodes) (2 * (d + 1)))
-    kept-after = kept-then (framed .kept) (kept-then (wrote .kept) (kept-set v (6912 + st .nodes) (2 * (d + 1)) (omega (arith, low-room))))
-
-    more-fine : Fine (nodeCounts st)
-    unfolding nodeCounts
-    more-fine = record {
-      classes = fine .classes;
-      rows = fine .rows;
-      objects = fine .objects;
-      slots = fine .slots;
-      cells = fine .cells;
-      nodes = omega (arith, low-room);
-      rules = fine .rules;
-      first = omega (arith, fine .first);
-    }
-
-    module _ {line : ℕ} {w0 : List ℕ} {s : Sheet} {x : Shape} (i : ℕ) (few : p .count ≤ 4) (number : n ≡ cut i) (z : StandsFor line x p) (h : Holds st w0 w1 s) (o : OpenRule st w1 s) where
-      told : (fresh (length (o .rule .trees)) (o .rule .used) (operandsOf x) ≡ true) × (d ≡ max 0 (deepestOf (λ a. levels (treeOf (o .rule .trees) a)) (operandsOf x)))
-          × Depths (o .rule .first) (length (o .rule .trees)) (λ a. levels (treeOf (o .rule .trees) a)) (o .rule .used ++ operandsOf x) u
-      told = deepest-fresh (marks i number z h o) (e ∙ marking-same i number z h o)
-
-      within : formWithin x ≡ true
-      within = form-within i number z h fine ok
-
-      table-words : p .words ≡ shapeWords 0 (z .type) line x
-      table-words = z .words within (operands-small i number z h fine ok)
-
-      new-words : (j : ℕ) → j < 8 → word (set v (6912 + st .nodes) (2 * (d + 1))) (length (s .lines)) j ≡ getD (shapeWords (o .rule .first) (z .type) line x) j 0
-      new-words j l =
-          ap (λ (m : ℕ). getD (set v (6912 + st .nodes) (2 * (d + 1))) (8 * m + j) 0) (sym (h .counted .nodes))
-          ∙ words-after j l
-          ∙ ap (λ (f : ℕ). shifted (p .words) (p .count) f j) (o .holds .first)
-          ∙ ap (λ (ws : List ℕ). shifted ws (p .count) (o .rule .first) j) table-words
-          ∙ ap (λ (m : ℕ). shifted (shapeWords 0 (z .type) line x) m (o .rule .first) j) (z .counted)
-          ∙ shape-shifted (o .rule .first) (z .type) line x (omega (arith, z .counted)) j l
-
-      new-depths : Depths (o .rule .first) (length (o .rule .trees)) (λ a. levels (treeOf (o .rule .trees) a)) (o .rule .used ++ operandsOf x) (set v (6912 + st .nodes) (2 * (d + 1)))
-      new-depths = record {
-        at = λ a l.
-            ap (λ (f : ℕ). getD (set v (6912 + st .nodes) (2 * (d + 1))) (depthAt f a) 0) (sym (o .holds .first))
-            ∙ depths-after a (omega (arith, its-number i number z h o))
-            ∙ ap (λ (f : ℕ). getD u (depthAt f a) 0) (o .holds .first)
-            ∙ told .2 .at a l;
-      }
-
-      next-holds : Holds (nodeCounts st) w0 (set v (6912 + st .nodes) (2 * (d + 1))) (added s line (nodeLine i x))
-      next-holds =
-          node-holds i d h fine o z within (omega (arith, z .counted)) (fresh-low (length (o .rule .trees)) (o .rule .used) (operandsOf x) (told .0)) (told .1)
-          (λ j l. low-after j (omega (arith, h .counted .nodes))) new-words (ap (λ (m : ℕ). getD (set v (6912 + st .nodes) (2 * (d + 1))) (6912 + m) 0) (sym (h .counted .nodes)) ∙ depth-after) new-depths
-
-    pub place-on : {r : Counts} → p .count ≤ 4 → r ≡ nodeCounts st → Placed st n p (code.Next r) w1 (set v (6912 + st .nodes) (2 * (d + 1)))
-    unfolding suits nodeCounts
-    place-on few q = rw q (record {
-      is = λ line w0 s i x number z h.
-          let o = open-rule h (is-open st n p ordered) in
-          rw (steps-on s line (nodeLine i x) (sym (limits-same i number z h) ∙ ok) (sym (order-same i number z h fine ok) ∙ ordered) (sym (known-same i number z h fine ok) ∙ le-leb (p .classes) (st .classes) classes) refl
-          (tree-test i number z h o ∙ told i few number z h o .0)) (moved-next more-fine (next-holds i few number z h o));
-      kept = kept-after;
-    })

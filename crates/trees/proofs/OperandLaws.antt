@@ -11,7 +11,7 @@ use lib.ListN.{length, getD, drop, set, length-drop, drop-of-length-le}
 use lib.Seq.{length-take-le, getD-take, getD-drop, getD-set-same, getD-set-other}
 use Rattle.laws.specs.Lists.{allOf}
 use Rattle.laws.proofs.Parts.{at-next}
-use Rattle.sheet.specs.Refusals.{isNode}
+use Rattle.sheet.specs.Limits.{isNode}
 use Rattle.tables.proofs.Tables.{kept-refl, kept-set, kept-then}
 use Rattle.trees.specs.Forms.{operandsAt}
 use Rattle.trees.specs.Operands.{Marking, malformed, deepest, depthAt, marking, shifted, WroteWords}

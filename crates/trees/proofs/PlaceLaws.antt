@@ -5,25 +5,30 @@ use mathlib.Core.Option.{Option, none, some}
 use mathlib.Core.List.{List, [], _∷_, map}
 use Prim.Native.Nat.{ℕ, _-_, _<_, _≤_}
 use native.Mathlib.Omega.{arith}
-use borrow.Author.Tests.{eq-eqb, ne-eqb, eqb-true, lt-ltb, le-ltb, ltb-true, le-leb, lt-leb, not-true, not-false}
+use borrow.Author.Tests.{eq-eqb, ne-eqb, eqb-true, eqb-false, lt-ltb, le-ltb, ltb-true, le-leb, lt-leb, not-true, not-false}
 use lib.Dec.{eqb, leb, ltb}
 use lib.ListN.{length}
 use Rattle.laws.specs.Lists.{allOf}
 use Rattle.laws.proofs.Bounds.{cut-lt}
 use Rattle.laws.proofs.Tests.{and-true}
+use Rattle.ocl.specs.Types.{Ty}
 use Rattle.sheet.specs.Lines.{Shape, nodeLine}
 use Rattle.sheet.specs.Sheet.{Current, Sheet, operandsOf}
-use Rattle.sheet.specs.Refusals.{isNode, formWithin, twoVariables, formKnown, withinLimits, blockOf, nextNode, numbered, inOrder, partsKnown}
-use Rattle.tables.specs.Layout.{Holds, HoldsOpen, closed, opened, Fine, moved-stop}
+use Rattle.sheet.specs.Limits.{isNode, formWithin, withinLimits}
+use Rattle.sheet.specs.Refusals.{twoVariables, formKnown, blockOf, nextNode, numbered, inOrder, partsKnown, callBelow, hasType, inDefinition, callsSmaller, callsKnown}
+use Rattle.nodes.specs.Nodes.{shapeWords}
+use Rattle.tables.specs.Layout.{openCode, Holds, HoldsOpen, closed, opened, Fine, moved-stop}
 use Rattle.tables.specs.declared.Counts.{Counts}
 use Rattle.tables.specs.declared.Step.the-variants as code
 use Rattle.tables.proofs.Tables.{kept-refl}
-use Rattle.tables.proofs.Steps.{over-limits, out-of-order, unknown-part}
+use Rattle.tables.proofs.Steps.{over-limits, out-of-order, unknown-part, calls-up, calls-none}
 use Rattle.trees.specs.declared.Parsed.{Parsed}
 use Rattle.trees.specs.Fields.{cut}
 use Rattle.trees.specs.Forms.{operandsAt, StandsFor}
+use Rattle.trees.specs.Calls.{calledBy, byNumber, callsIn, calledAt, resolvedIn}
 use Rattle.trees.specs.Rules.{nodeLimits, nodeOrder, Placed}
 use Rattle.trees.proofs.FormLaws.{nodes-small}
+use Rattle.trees.proofs.CallLaws.{calls-shape, resolved-shape}
 
 -- ---- what the code's tests answer
 
@@ -45,21 +50,21 @@ module _ (st : Counts) (n : ℕ) (p : Parsed) where
     unfolding nodeLimits isNode
     limits-nodes h k q = rw (lt-ltb n 768 h, not-false (p .within) k, ← told, not-false b q)
 
-  pub order-block : 4 < st .block → false ≡ nodeOrder st n p
+  pub order-block : 5 < st .block → false ≡ nodeOrder st n p
   unfolding nodeOrder
-  order-block h = rw (lt-leb (st .block) 4 h)
+  order-block h = rw (lt-leb (st .block) 5 h)
 
-  pub order-open : st .block ≤ 4 → (st .«open» ≡ 1 → ⊥) → false ≡ nodeOrder st n p
+  pub order-open : st .block ≤ 5 → st .«open» ≡ 0 → false ≡ nodeOrder st n p
   unfolding nodeOrder
-  order-open h k = rw (le-leb (st .block) 4 h, ne-eqb (st .«open») 1 k)
+  order-open h k = rw (le-leb (st .block) 5 h, eq-eqb (st .«open») 0 k)
 
-  pub order-number : st .block ≤ 4 → st .«open» ≡ 1 → (n ≡ st .nodes - st .first → ⊥) → false ≡ nodeOrder st n p
+  pub order-number : st .block ≤ 5 → (st .«open» ≡ 0 → ⊥) → (n ≡ st .nodes - st .first → ⊥) → false ≡ nodeOrder st n p
   unfolding nodeOrder
-  order-number h k q = rw (le-leb (st .block) 4 h, eq-eqb (st .«open») 1 k, ne-eqb n (st .nodes - st .first) q)
+  order-number h k q = rw (le-leb (st .block) 5 h, ne-eqb (st .«open») 0 k, ne-eqb n (st .nodes - st .first) q)
 
-  pub order-apart : st .block ≤ 4 → st .«open» ≡ 1 → n ≡ st .nodes - st .first → p .apart ≡ nodeOrder st n p
+  pub order-apart : st .block ≤ 5 → (st .«open» ≡ 0 → ⊥) → n ≡ st .nodes - st .first → p .apart ≡ nodeOrder st n p
   unfolding nodeOrder
-  order-apart h k q = rw (le-leb (st .block) 4 h, eq-eqb (st .«open») 1 k, eq-eqb n (st .nodes - st .first) q)
+  order-apart h k q = rw (le-leb (st .block) 5 h, ne-eqb (st .«open») 0 k, eq-eqb n (st .nodes - st .first) q)
 
   -- ---- what a node that passes them has
 
@@ -83,17 +88,25 @@ module _ (st : Counts) (n : ℕ) (p : Parsed) where
     nodes-low = ltb-true (st .nodes) 768 (and-true (isNode n && p .within && allOf isNode (operandsAt (p .words) (p .count))) (ltb (st .nodes) 768) ok .1)
 
   module _ (ok : nodeOrder st n p ≡ true) where
-    behind : (eqb (st .«open») 1 && eqb n (st .nodes - st .first) && p .apart) ≡ true
+    behind : (not (eqb (st .«open») 0) && eqb n (st .nodes - st .first) && p .apart) ≡ true
     unfolding nodeOrder
-    behind = and-true (leb (st .block) 4) _ ok .1
+    behind = and-true (leb (st .block) 5) _ ok .1
 
-    pub is-open : st .«open» ≡ 1
-    is-open = eqb-true (st .«open») 1 (and-true (eqb (st .«open») 1) _ (and-true (eqb (st .«open») 1 && eqb n (st .nodes - st .first)) (p .apart) behind .0) .0)
+    both : (not (eqb (st .«open») 0) && eqb n (st .nodes - st .first)) ≡ true
+    both = and-true (not (eqb (st .«open») 0) && eqb n (st .nodes - st .first)) (p .apart) behind .0
+
+    pub is-open : st .«open» ≡ 0 → ⊥
+    is-open = eqb-false (st .«open») 0 (not-true (eqb (st .«open») 0) (and-true (not (eqb (st .«open») 0)) _ both .0))
 
     pub is-next : n ≡ st .nodes - st .first
-    is-next = eqb-true n (st .nodes - st .first) (and-true (eqb (st .«open») 1) _ (and-true (eqb (st .«open») 1 && eqb n (st .nodes - st .first)) (p .apart) behind .0) .1)
+    is-next = eqb-true n (st .nodes - st .first) (and-true (not (eqb (st .«open») 0)) _ both .1)
 
 -- ---- the two agree
+
+opens : (o : Option Ty) → eqb (openCode o) 0 ≡ false
+unfolding openCode
+opens none = refl
+opens (some t) = refl
 
 nodes-cut : (l : List ℕ) → allOf isNode (map cut l) ≡ allOf isNode l
 unfolding allOf isNode
@@ -121,37 +134,76 @@ module _ {st : Counts} {n line : ℕ} {p : Parsed} {w0 w1 : List ℕ} {s : Sheet
 
     pub order-same : nodeOrder st n p ≡ inOrder s (nodeLine i x)
     unfolding nodeOrder inOrder blockOf numbered nextNode
-    order-same = rw (h .counted .block, z .apart form-within) (ap (λ (b : Bool). leb (s .block) 4 && (b && twoVariables x)) (go (s .current) (h .current)))
+    order-same = rw (h .counted .block, z .apart form-within) (ap (λ (b : Bool). leb (s .block) 5 && (b && twoVariables x)) (go (s .current) (h .current)))
       where
-        go : (o : Option Current) → HoldsOpen st w1 (length (s .lines)) o → (eqb (st .«open») 1 && eqb n (st .nodes - st .first)) ≡ nextNode o i
+        go : (o : Option Current) → HoldsOpen st w1 (length (s .lines)) o → (not (eqb (st .«open») 0) && eqb n (st .nodes - st .first)) ≡ nextNode o i
         go none (closed e) = rw e
         go (some c) (opened q) =
             let l : st .nodes - st .first ≡ length (c .trees) = omega (arith, q .count, q .first, h .counted .nodes) in
-            rw (q .is-open, l, number-is)
+            rw (q .is-open, opens (c .result), l, number-is)
 
     pub known-same : leb (p .classes) (st .classes) ≡ partsKnown s (nodeLine i x)
     unfolding partsKnown
     known-same = z .known form-within (st .classes) (fine .classes) ∙ ap (λ (m : ℕ). formKnown m x) (h .counted .classes)
 
--- ---- 4, 5 and 6
+    form-words : p .words ≡ shapeWords 0 (z .type) (calledBy byNumber x) line x
+    form-words = z .words form-within operands-small
 
-module _ {st : Counts} {n : ℕ} {p : Parsed} (w1 : List ℕ) (fine : Fine st) where
-  pub place-4 : {b : Bool} → b ≡ nodeLimits st n p → not b ≡ true → Placed st n p (code.Stop 4) w1 w1
+    pub calls-same : leb (callsIn (p .words) (p .count)) (st .definitions) ≡ callBelow (length (s .definitions)) x
+    calls-same = rw (form-words, z .counted, h .counted .definitions) (calls-shape (z .type) line (length (s .definitions)) x)
+
+    pub full-words : (v0 : List ℕ) → resolvedIn v0 (p .words) (p .count) ≡ shapeWords 0 (z .type) (calledBy (calledAt v0) x) line x
+    full-words v0 = rw (form-words, z .counted) (resolved-shape (z .type) line v0 x)
+
+-- a definition is open
+defines : {st : Counts} {w1 : List ℕ} {m : ℕ} (o : Option Current) → HoldsOpen st w1 m o → inDefinition o ≡ eqb (st .«open») 2
+unfolding inDefinition hasType openCode
+defines none (closed e) = rw e
+defines (some c) (opened q) = rw (q .is-open) (go (c .result))
+  where
+    go : (o : Option Ty) → hasType o ≡ eqb (openCode o) 2
+    go none = refl
+    go (some t) = refl
+
+-- ---- 4, 5, 6, 23 and 24
+
+module _ {st : Counts} {n : ℕ} {p : Parsed} (w0 w1 : List ℕ) (fine : Fine st) where
+  pub place-4 : {b : Bool} → b ≡ nodeLimits st n p → not b ≡ true → Placed st n p (code.Stop 4) w0 w1 w1
   place-4 {b} e q = record {
-    is = λ line w0 s i x u z h. rw (over-limits s line (nodeLine i x) (sym (limits-same i u z h) ∙ sym e ∙ not-true b q)) moved-stop;
+    is = λ line s i x u z h. rw (over-limits s line (nodeLine i x) (sym (limits-same i u z h) ∙ sym e ∙ not-true b q)) moved-stop;
     kept = kept-refl w1;
   }
 
   module _ (ok : nodeLimits st n p ≡ true) where
-    pub place-5 : {b : Bool} → b ≡ nodeOrder st n p → not b ≡ true → Placed st n p (code.Stop 5) w1 w1
+    pub place-5 : {b : Bool} → b ≡ nodeOrder st n p → not b ≡ true → Placed st n p (code.Stop 5) w0 w1 w1
     place-5 {b} e q = record {
-      is = λ line w0 s i x u z h. rw (out-of-order s line (nodeLine i x) (sym (limits-same i u z h) ∙ ok) (sym (order-same i u z h fine ok) ∙ sym e ∙ not-true b q)) moved-stop;
+      is = λ line s i x u z h. rw (out-of-order s line (nodeLine i x) (sym (limits-same i u z h) ∙ ok) (sym (order-same i u z h fine ok) ∙ sym e ∙ not-true b q)) moved-stop;
       kept = kept-refl w1;
     }
 
-    pub place-6 : nodeOrder st n p ≡ true → st .classes < p .classes → Placed st n p (code.Stop 6) w1 w1
-    place-6 o l = record {
-      is = λ line w0 s i x u z h.
-          rw (unknown-part s line (nodeLine i x) (sym (limits-same i u z h) ∙ ok) (sym (order-same i u z h fine ok) ∙ o) (sym (known-same i u z h fine ok) ∙ lt-leb (p .classes) (st .classes) l)) moved-stop;
-      kept = kept-refl w1;
-    }
+    module _ (o : nodeOrder st n p ≡ true) where
+      pub place-6 : st .classes < p .classes → Placed st n p (code.Stop 6) w0 w1 w1
+      place-6 l = record {
+        is = λ line s i x u z h.
+            rw (unknown-part s line (nodeLine i x) (sym (limits-same i u z h) ∙ ok) (sym (order-same i u z h fine ok) ∙ o) (sym (known-same i u z h fine ok) ∙ lt-leb (p .classes) (st .classes) l)) moved-stop;
+        kept = kept-refl w1;
+      }
+
+      module _ (classes : p .classes ≤ st .classes) {b : Bool} (told : b ≡ leb (callsIn (p .words) (p .count)) (st .definitions)) (upward : b ≡ false) where
+        pub place-23 : st .«open» ≡ 2 → Placed st n p (code.Stop 23) w0 w1 w1
+        unfolding callsSmaller
+        place-23 e = record {
+          is = λ line s i x u z h.
+              rw (calls-up s line (nodeLine i x) (sym (limits-same i u z h) ∙ ok) (sym (order-same i u z h fine ok) ∙ o) (sym (known-same i u z h fine ok) ∙ le-leb (p .classes) (st .classes) classes)
+              (rw (defines (s .current) (h .current), eq-eqb (st .«open») 2 e) (sym (calls-same i u z h fine ok) ∙ sym told ∙ upward))) moved-stop;
+          kept = kept-refl w1;
+        }
+
+        pub place-24 : (st .«open» ≡ 2 → ⊥) → Placed st n p (code.Stop 24) w0 w1 w1
+        unfolding callsSmaller callsKnown
+        place-24 e = record {
+          is = λ line s i x u z h.
+              rw (calls-none s line (nodeLine i x) (sym (limits-same i u z h) ∙ ok) (sym (order-same i u z h fine ok) ∙ o) (sym (known-same i u z h fine ok) ∙ le-leb (p .classes) (st .classes) classes)
+              (rw (defines (s .current) (h .current), ne-eqb (st .«open») 2 e)) (sym (calls-same i u z h fine ok) ∙ sym told ∙ upward)) moved-stop;
+          kept = kept-refl w1;
+        }

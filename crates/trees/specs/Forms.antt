@@ -11,10 +11,12 @@ use Rattle.laws.specs.Lists.{allOf}
 use Rattle.sheet.specs.Text.{byte}
 use Rattle.sheet.specs.Lines.{Shape}
 use Rattle.sheet.specs.Sheet.{operandsOf}
-use Rattle.sheet.specs.Refusals.{isNode, formWithin, twoVariables, formKnown}
+use Rattle.sheet.specs.Limits.{isNode, formWithin}
+use Rattle.sheet.specs.Refusals.{twoVariables, formKnown}
 use Rattle.nodes.specs.Nodes.{TypeSaid, shapeWords}
 use Rattle.trees.specs.declared.Parsed.{Parsed}
 use Rattle.trees.specs.Fields.{cut}
+use Rattle.trees.specs.Calls.{calledBy, byNumber}
 
 -- words 1 to count
 abbrev pub operandsAt : List ℕ → ℕ → List ℕ
@@ -30,7 +32,7 @@ pub record StandsFor (line : ℕ) (x : Shape) (p : Parsed) : Type 0 where
   -- the word of the type that `iter` has
   pub type : ℕ
   pub said : formWithin x ≡ true → TypeSaid type x
-  pub words : formWithin x ≡ true → allOf isNode (operandsOf x) ≡ true → p .words ≡ shapeWords 0 type line x
+  pub words : formWithin x ≡ true → allOf isNode (operandsOf x) ≡ true → p .words ≡ shapeWords 0 type (calledBy byNumber x) line x
 
 pub data Spelled (line : ℕ) : Option Shape → Parsed → Type 0 where
   misspelled : {p : Parsed} → p .spelled ≡ false → Spelled line none p

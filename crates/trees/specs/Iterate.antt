@@ -5,7 +5,7 @@ use mathlib.Core.Option.{Option, none, some}
 use Prim.Native.Nat.{ℕ, _+_}
 use lib.Dec.{leb}
 use Rattle.ocl.specs.Types.{Ty}
-use Rattle.sheet.specs.Refusals.{typeWithin, classBelow}
+use Rattle.sheet.specs.Limits.{typeWithin, classBelow}
 use Rattle.types.specs.Word.{typeIn}
 use Rattle.types.specs.declared.Base.{Base}
 use Rattle.types.specs.declared.Base.the-variants as b

@@ -1,9 +1,10 @@
-// A rule's end: a tree that all of its nodes belong to, and that is not too deep, is stored as its context and its root.
+// The end of a definition or rule: a tree that all of its nodes belong to, and that is not too deep, is stored as its class and its
+// root, with a definition's type.
 ghost use mathlib.Core.Path.{_≡_};
 ghost use Prim.Native.Nat.{_+_, _≤_};
 ghost use lib.ListN.{length};
 ghost use Rattle.tables.specs.Layout.{Fine};
-ghost use Rattle.trees.specs.Rules.{RuleRoom, usedIn, endedCounts, RuleEnded};
+ghost use Rattle.trees.specs.Rules.{RuleRoom, usedIn, endedCounts, definedCounts, PutDown, RuleEnded};
 use tables::Counts;
 use tables::Step;
 
@@ -35,12 +36,40 @@ fn with_rule(st: Counts) -> Counts
     next
 }
 
-// Where no rule is open, nothing changes.
+fn with_definition(st: Counts) -> Counts
+    requires { ⌜ Fine st ⌝ }
+    ensures { λ r. ⌜ r ≡ definedCounts st ⌝ }
+{
+    let mut next = st;
+    next.definitions = st.definitions + 1;
+    next.open = 0;
+    next
+}
+
+// The definition or rule that is open, with its root.
+fn put_down(w0: &mut [u64], st: Counts, root: u64) -> Counts
+    requires { ⌜ (8192 ≤ length (now w0)) × Fine st × RuleRoom st ⌝ }
+    ensures { λ r. ⌜ PutDown st r root (now (w0 .entry)) (now (w0 .exit)) ⌝ }
+{
+    if st.open == 2 {
+        let n = st.definitions as usize;
+        w0[4576 + n] = st.context;
+        w0[4608 + n] = st.result;
+        w0[4640 + n] = root;
+        return with_definition(st);
+    }
+    let n = st.rules as usize;
+    w0[4448 + n] = st.context;
+    w0[4512 + n] = root;
+    with_rule(st)
+}
+
+// Where none is open, nothing changes.
 pub fn end_rule(w0: &mut [u64], w1: &[u64], st: Counts) -> Step
     requires { ⌜ (8192 ≤ length (now w0)) × (8192 ≤ length (now w1)) × Fine st × RuleRoom st ⌝ }
     ensures { λ r. ⌜ RuleEnded st r (now (w0 .entry)) (now (w1 .entry)) (now (w0 .exit)) ⌝ }
 {
-    if st.open != 1 {
+    if st.open == 0 {
         return Step::Next(st);
     }
     let first = st.first as usize;
@@ -55,8 +84,5 @@ pub fn end_rule(w0: &mut [u64], w1: &[u64], st: Counts) -> Step
     if w1[6912 + last] / 2 > MOST_LEVELS {
         return Step::Stop(8);
     }
-    let rule = st.rules as usize;
-    w0[4448 + rule] = st.context;
-    w0[4512 + rule] = last as u64;
-    Step::Next(with_rule(st))
+    Step::Next(put_down(w0, st, last as u64))
 }

@@ -6,7 +6,7 @@ ghost use Prim.Native.Nat.{ℕ, _≤_};
 ghost use lib.ListN.{length, getD, drop};
 ghost use Rattle.sheet.specs.Text.{Bytes, fieldsOf};
 ghost use Rattle.sheet.specs.Lines.{anInteger};
-ghost use Rattle.sheet.specs.Refusals.{isVariable};
+ghost use Rattle.sheet.specs.Limits.{isVariable};
 ghost use Rattle.text.specs.Parts.{Cut};
 ghost use Rattle.text.specs.Forms.{shapeBy};
 ghost use Rattle.text.specs.Numbers.{wholeOf};
@@ -124,6 +124,23 @@ fn attribute_form(line: &[u8], f: Fields, code: u64, k: u64) -> Parsed
         words: [code, at[0], at[1], 0, 0, 0, 0, k],
         count: 1,
         within: at[1] < 256,
+        apart: true,
+        classes: 0,
+    }
+}
+
+// `call e n`
+fn call_form(line: &[u8], f: Fields, k: u64) -> Parsed
+    requires { ⌜ Cut (now line) f × (3 ≤ f .count) ⌝ }
+    ensures { λ r. ⌜ FormRead k (shapeBy 36 (drop 3 (fieldsOf (now (line .entry))))) r ⌝ }
+{
+    let n = exactly(line, f, 2);
+    let at = n.at;
+    Parsed {
+        spelled: n.good,
+        words: [36, at[0], at[1], 0, 0, 0, 0, k],
+        count: 1,
+        within: at[1] < 32,
         apart: true,
         classes: 0,
     }
@@ -262,6 +279,7 @@ pub(crate) fn read_form(line: &[u8], f: Fields, code: u64, k: u64) -> Parsed
         32 => let_form(line, f, k),
         33..=34 => attribute_form(line, f, code, k),
         35 => iterate_form(line, f, k),
+        36 => call_form(line, f, k),
         _ => misspelled(),
     }
 }

@@ -1,5 +1,5 @@
-// A node line: its limits, its order, its parts and its operands are judged in the order of their refusals, 4, 5, 6 and 8; then
-// its words are written.
+// A node line: its limits, its order, its parts, the definition that it calls and its operands are judged in the order of their
+// refusals, 4, 5, 6, 23 or 24, and 8; then its words are written.
 ghost use mathlib.Core.Path.{_≡_};
 ghost use mathlib.Core.Bool.{true};
 ghost use Prim.Native.Nat.{_≤_};
@@ -7,11 +7,15 @@ ghost use lib.ListN.{length};
 ghost use Rattle.sheet.specs.Text.{fieldsOf};
 ghost use Rattle.sheet.specs.Lines.{firstIsN};
 ghost use Rattle.text.specs.Parts.{Cut};
-ghost use Rattle.tables.specs.Layout.{Fine};
-ghost use Rattle.trees.specs.Rules.{nodeLimits, nodeOrder, nodeCounts, Placed, TookNode};
+ghost use Rattle.tables.specs.Layout.{Fine, Took};
+ghost use Rattle.trees.specs.Rules.{nodeLimits, nodeOrder, nodeCounts, Fit, Placed};
 use super::Parsed;
+use super::calls::body_depth;
+use super::calls::calls_below;
+use super::calls::resolved;
 use super::forms::read_form;
 use super::operands::Marked;
+use super::operands::larger;
 use super::operands::mark;
 use super::operands::operands_within;
 use super::operands::put_words;
@@ -44,10 +48,10 @@ fn in_order(st: Counts, n: u64, p: Parsed) -> bool
     requires { ⌜ Fine st ⌝ }
     ensures { λ r. ⌜ r ≡ nodeOrder st n p ⌝ }
 {
-    if st.block > 4 {
+    if st.block > 5 {
         return false;
     }
-    if st.open != 1 {
+    if st.open == 0 {
         return false;
     }
     if n != st.nodes - st.first {
@@ -61,18 +65,35 @@ fn with_node(st: Counts) -> Counts
     ensures { λ r. ⌜ r ≡ nodeCounts st ⌝ }
 {
     let mut next = st;
-    next.block = 4;
     next.nodes = st.nodes + 1;
     next
 }
 
-fn place_node(w1: &mut [u64], st: Counts, n: u64, p: Parsed) -> Step
-    requires { ⌜ (8192 ≤ length (now w1)) × Fine st × (length (p .words) ≡ 8) × (p .count ≤ 4) ⌝ }
-    ensures { λ r. ⌜ Placed st n p r (now (w1 .entry)) (now (w1 .exit)) ⌝ }
+// A node that is refused for nothing but its operands.
+fn put_node(w0: &[u64], w1: &mut [u64], st: Counts, n: u64, p: Parsed) -> Step
+    requires { ⌜ (8192 ≤ length (now w0)) × (8192 ≤ length (now w1)) × Fine st × (length (p .words) ≡ 8) × (p .count ≤ 4) × Fit st n p ⌝ }
+    ensures { λ r. ⌜ Placed st n p r (now (w0 .entry)) (now (w1 .entry)) (now (w1 .exit)) ⌝ }
 {
     let words = p.words;
     let count = p.count;
     let first = st.first;
+    let full = resolved(w0, words, count);
+    let body = body_depth(w1, full, count);
+    let Marked::Deepest(d) = mark(w1, words, count, first, n) else {
+        return Step::Stop(8);
+    };
+    let m = st.nodes as usize;
+    put_words(w1, m, full, count, first);
+    w1[6912 + m] = 2 * (larger(d, body) + 1);
+    Step::Next(with_node(st))
+}
+
+// In a definition all that is not smaller is upward, in a rule it is not on the sheet.
+fn place_node(w0: &[u64], w1: &mut [u64], st: Counts, n: u64, p: Parsed) -> Step
+    requires { ⌜ (8192 ≤ length (now w0)) × (8192 ≤ length (now w1)) × Fine st × (length (p .words) ≡ 8) × (p .count ≤ 4) ⌝ }
+    ensures { λ r. ⌜ Placed st n p r (now (w0 .entry)) (now (w1 .entry)) (now (w1 .exit)) ⌝ }
+{
+    let words = p.words;
     if !within_limits(st, n, p) {
         return Step::Stop(4);
     }
@@ -82,19 +103,19 @@ fn place_node(w1: &mut [u64], st: Counts, n: u64, p: Parsed) -> Step
     if st.classes < p.classes {
         return Step::Stop(6);
     }
-    let Marked::Deepest(d) = mark(w1, words, count, first, n) else {
-        return Step::Stop(8);
-    };
-    let m = st.nodes as usize;
-    put_words(w1, m, words, count, first);
-    w1[6912 + m] = 2 * (d + 1);
-    Step::Next(with_node(st))
+    if calls_below(words, p.count, st.definitions) {
+        return put_node(w0, w1, st, n, p);
+    }
+    if st.open == 2 {
+        return Step::Stop(23);
+    }
+    Step::Stop(24)
 }
 
 // The line k, whose first field is `N`.
-pub fn node_line(line: &[u8], f: Fields, w1: &mut [u64], st: Counts, k: u64) -> Step
-    requires { ⌜ Cut (now line) f × (firstIsN (fieldsOf (now line)) ≡ true) × (8192 ≤ length (now w1)) × Fine st ⌝ }
-    ensures { λ r. ⌜ TookNode st k (now (line .entry)) r (now (w1 .entry)) (now (w1 .exit)) ⌝ }
+pub fn node_line(line: &[u8], f: Fields, w0: &[u64], w1: &mut [u64], st: Counts, k: u64) -> Step
+    requires { ⌜ Cut (now line) f × (firstIsN (fieldsOf (now line)) ≡ true) × (8192 ≤ length (now w0)) × (8192 ≤ length (now w1)) × Fine st ⌝ }
+    ensures { λ r. ⌜ Took st k (now (line .entry)) r (now (w0 .entry)) (now (w1 .entry)) (now (w0 .entry)) (now (w1 .exit)) ⌝ }
 {
     if f.count < 3 {
         return Step::Stop(3);
@@ -106,5 +127,5 @@ pub fn node_line(line: &[u8], f: Fields, w1: &mut [u64], st: Counts, k: u64) -> 
     if !p.spelled {
         return Step::Stop(3);
     }
-    place_node(w1, st, n, p)
+    place_node(w0, w1, st, n, p)
 }

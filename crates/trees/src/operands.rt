@@ -4,7 +4,7 @@ ghost use Prim.Native.Nat.{_+_, _*_, _/_, _≤_, _<_, min, max};
 ghost use mathlib.Core.Bool.{true};
 ghost use lib.ListN.{length};
 ghost use Rattle.laws.specs.Lists.{allOf};
-ghost use Rattle.sheet.specs.Refusals.{isNode};
+ghost use Rattle.sheet.specs.Limits.{isNode};
 ghost use Rattle.trees.specs.Forms.{operandsAt};
 ghost use Rattle.trees.specs.Operands.{shifted, marking, marked, WroteWords};
 
@@ -29,7 +29,7 @@ pub fn operands_within(words: [u64; 8], count: usize) -> bool
     true
 }
 
-fn larger(a: u64, b: u64) -> u64
+pub fn larger(a: u64, b: u64) -> u64
     ensures { λ r. ⌜ r ≡ max a b ⌝ }
 {
     if a < b { b } else { a }
@@ -46,7 +46,7 @@ fn deeper(d: u64, word: u64) -> u64
     larger(d, 1000)
 }
 
-// Marks the operands of the rule's node n as used. If one of them breaks the tree, those before it stay marked: the sheet is
+// Marks the operands of node n of the definition or rule as used. If one of them breaks the tree, those before it stay marked: the sheet is
 // refused then, and nothing reads them.
 pub fn mark(w1: &mut [u64], words: [u64; 8], count: usize, first: u64, n: u64) -> Marked
     requires { ⌜ (8192 ≤ length (now w1)) × (length words ≡ 8) × (count ≤ 4) × (first + n ≤ 768) ⌝ }
@@ -71,7 +71,7 @@ pub fn mark(w1: &mut [u64], words: [u64; 8], count: usize, first: u64, n: u64) -
     Marked::Deepest(deepest)
 }
 
-// A word of a node as the table has it: an operand is counted through all rules.
+// A word of a node as the table has it: an operand is counted through all definitions and rules.
 fn shift(words: [u64; 8], count: usize, first: u64, k: usize) -> u64
     requires { ⌜ (k < 8) × (first ≤ 768) × (allOf isNode (operandsAt words count) ≡ true) ⌝ }
     ensures { λ r. ⌜ r ≡ shifted words count first k ⌝ }

@@ -16,7 +16,7 @@ use Rattle.laws.proofs.Parts.{part-all}
 use Rattle.ocl.specs.Types.{Letter, Ty, void, around, Any, Boolean, Integer, Class, depth}
 use Rattle.sheet.specs.Text.{Bytes, bytes}
 use Rattle.sheet.specs.Lines.{aNumber}
-use Rattle.sheet.specs.Refusals.{typeWithin, classBelow, simpleClassBelow}
+use Rattle.sheet.specs.Limits.{typeWithin, classBelow, simpleClassBelow}
 use Rattle.sheet.specs.Spelling.{readType}
 use Rattle.text.specs.declared.numbers.Num.{Num}
 use Rattle.text.specs.declared.numbers.Num.the-variants as n

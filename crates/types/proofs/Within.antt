@@ -10,7 +10,7 @@ use lib.Dec.{leb}
 use Rattle.laws.specs.Choice.{if_then_else_}
 use Rattle.laws.proofs.Tests.{and-true}
 use Rattle.ocl.specs.Types.{Ty, depth}
-use Rattle.sheet.specs.Refusals.{typeWithin, classBelow, simpleClassBelow}
+use Rattle.sheet.specs.Limits.{typeWithin, classBelow, simpleClassBelow}
 use Rattle.types.specs.declared.GotType.{GotType}
 use Rattle.types.specs.declared.GotType.the-variants as g
 use Rattle.types.specs.declared.Base.{Base}

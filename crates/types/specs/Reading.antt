@@ -10,7 +10,7 @@ use lib.Dec.{eqb, ltb}
 use Rattle.laws.specs.Choice.{if_then_else_, onSome, mapSome}
 use Rattle.ocl.specs.Types.{Letter, Ty, void, around, Any, Boolean, Integer, Class, depth}
 use Rattle.sheet.specs.Text.{Bytes, byte, Parser, literal, behind, _or_, mapped, numberParser}
-use Rattle.sheet.specs.Refusals.{typeWithin}
+use Rattle.sheet.specs.Limits.{typeWithin}
 use Rattle.text.specs.declared.numbers.Num.{Num}
 use Rattle.text.specs.declared.numbers.Num.the-variants as n
 use Rattle.types.specs.declared.GotType.{GotType}

@@ -13,14 +13,14 @@ use Rattle.ocl.specs.Types.{Letter, Ty, void, Parents, subtype}
 use Rattle.ocl.specs.Environment.{Env, extend}
 use Rattle.ocl.specs.Forms.{undef}
 use Rattle.ocl.specs.Model.{Schema}
-use Rattle.ocl.specs.Typing.{typed, refused, Typed, pure, andThen, onCollection, leafType, leafTyping, unaryTyping, isUndefTyping, attributeTyping, iterateTyping}
+use Rattle.ocl.specs.Typing.{typed, refused, Typed, pure, andThen, onCollection, leafType, leafTyping, unaryTyping, isUndefTyping, attributeTyping, callTyping, iterateTyping}
 use Rattle.types.specs.declared.FlatType.{FlatType}
 use Rattle.types.specs.Flat.{parentsIn, letterOf, tyOf}
 use Rattle.types.specs.Parts.{outerCode, memberType}
 use Rattle.types.specs.Word.{typeIn}
 use Rattle.types.proofs.Members.{no-collection, is-collection}
 use Rattle.nodes.specs.Nodes.{word, variable, leafOf, accessOf}
-use Rattle.nodes.proofs.Typing.{operandTyping, leaf-typing, unary-typing, binary-typing, connective-typing, quantified-typing, assemble-typing, isUndef-typing, conditional-typing, let-typing, attribute-typing, iterate-typing, over-typing, none-typing, operand-typing, late-typing}
+use Rattle.nodes.proofs.Typing.{operandTyping, leaf-typing, unary-typing, binary-typing, connective-typing, quantified-typing, assemble-typing, isUndef-typing, conditional-typing, let-typing, attribute-typing, iterate-typing, call-typing, over-typing, none-typing, operand-typing, late-typing}
 use Rattle.judgements.specs.declared.Reply.{Reply}
 use Rattle.judgements.specs.declared.Reply.the-variants as reply
 use Rattle.judgements.specs.Replies.{Tells}
@@ -36,7 +36,7 @@ module _ (m : Schema) (t : List ℕ) (n k : ℕ) (e : k ≡ word t n 0) where
 
   unary-node : 7 ≤ k → k < 13 → nodeAt t n m ≡ singleAt t n k m
   unfolding operandAt operandTyping singleAt singleType unaryTyping
-  unary-node l h = unary-typing m t n k e l h ∙ fun-ext (λ Γ. ap (andThen (operandAt t n 1 m Γ)) (fun-ext (λ u. rw (ne-eqb k 30 (λ q. omega arith), ne-eqb k 33 (λ q. omega arith), ne-eqb k 34 (λ q. omega arith)))))
+  unary-node l h = unary-typing m t n k e l h ∙ fun-ext (λ Γ. ap (andThen (operandAt t n 1 m Γ)) (fun-ext (λ u. rw (ne-eqb k 30 (λ q. omega arith), ne-eqb k 33 (λ q. omega arith), ne-eqb k 34 (λ q. omega arith), ne-eqb k 36 (λ q. omega arith)))))
 
   pub binary-node : 13 ≤ k → k < 23 → nodeAt t n m ≡ binaryAt t n k m
   unfolding operandAt operandTyping
@@ -82,21 +82,26 @@ module _ (m : Schema) (t : List ℕ) (n k : ℕ) (e : k ≡ word t n 0) where
   unfolding operandAt operandTyping
   iterate-node h = iterate-typing m t n k e h
 
+  call-node : k ≡ 36 → nodeAt t n m ≡ singleAt t n k m
+  unfolding operandAt operandTyping singleAt singleType callTyping
+  call-node h = call-typing m t n k e h ∙ fun-ext (λ Γ. rw h)
+
   by-access : (b : Bool) → eqb k 33 ≡ b → 33 ≤ k → k < 35 → nodeAt t n m ≡ singleAt t n k m
   by-access true q l h = attribute-node (eqb-true k 33 q)
   by-access false q l h = collect-node (let d = eqb-false k 33 q in omega arith)
 
-  pub single-node : (k ≡ 30) ⊎ (((7 ≤ k) × (k < 13)) ⊎ ((33 ≤ k) × (k < 35))) → nodeAt t n m ≡ singleAt t n k m
-  single-node (inl h) = isUndef-node h
+  pub single-node : ((k ≡ 30) ⊎ (k ≡ 36)) ⊎ (((7 ≤ k) × (k < 13)) ⊎ ((33 ≤ k) × (k < 35))) → nodeAt t n m ≡ singleAt t n k m
+  single-node (inl (inl h)) = isUndef-node h
+  single-node (inl (inr h)) = call-node h
   single-node (inr (inl (l, h))) = unary-node l h
   single-node (inr (inr (l, h))) = by-access (eqb k 33) refl l h
 
-  pub none-node : 35 ≤ k → (k ≡ 35 → ⊥) → nodeAt t n m ≡ leafTyping n undef
-  none-node l a = none-typing m t n k e (omega arith)
+  pub none-node : 35 ≤ k → (k ≡ 35 → ⊥) → ((k ≡ 30) ⊎ (k ≡ 36) → ⊥) → nodeAt t n m ≡ leafTyping n undef
+  none-node l a b = none-typing m t n k e (let d : k ≡ 36 → ⊥ = (λ q. b (inr q)) in omega arith)
 
 -- the codes of `attr` and `collect` come after that of `let`
-pub from-33 : (k : ℕ) → 30 ≤ k → (k ≡ 30 → ⊥) → (k ≡ 31 → ⊥) → (k ≡ 32 → ⊥) → 33 ≤ k
-from-33 k h a b c = omega arith
+pub from-33 : (k : ℕ) → 30 ≤ k → ((k ≡ 30) ⊎ (k ≡ 36) → ⊥) → (k ≡ 31 → ⊥) → (k ≡ 32 → ⊥) → 33 ≤ k
+from-33 k h a b c = let d : k ≡ 30 → ⊥ = (λ q. a (inl q)) in omega arith
 
 -- ---- operands
 

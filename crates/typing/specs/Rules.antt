@@ -1,10 +1,12 @@
--- A rule's typing, whose marks are added to a table. Document 01, Calls.
+-- The typing of a rule and of a definition, whose marks are added to a table. Document 01, Calls; document 02, F-13.
 use mathlib.Core.Path.{_≡_}
 use mathlib.Core.List.{List}
 use Prim.Native.Nat.{ℕ, _≤_}
 use lib.ListN.{length, take, drop}
 use Rattle.ocl.specs.Model.{Schema}
-use Rattle.ocl.specs.Typing.{typeRule}
+use Rattle.ocl.specs.Forms.{Definition}
+use Rattle.ocl.specs.Typing.{typeRule, typeDefinition}
+use Rattle.types.specs.Word.{typeIn}
 use Rattle.nodes.specs.Nodes.{treeAt}
 use Rattle.judgements.specs.declared.Reply.{Reply}
 use Rattle.judgements.specs.Replies.{meaning, writeMarks, ReadsRows}
@@ -23,5 +25,17 @@ pub record TypesRule (tables : List ℕ) (classes rows : ℕ) (nodes : List ℕ)
   pub is : (k : Schema) → ReadsRows (take classes tables) tables rows k → meaning r ≡ typeRule k context (treeAt nodes root) .answer
   pub marked : (k : Schema) → ReadsRows (take classes tables) tables rows k
       → take 768 after ≡ writeMarks (take 768 before) (typeRule k context (treeAt nodes root) .marks)
+  pub rest : drop 768 after ≡ drop 768 before
+  pub size : length after ≡ length before
+
+-- the definition with its class, the word of its type and its root
+abbrev pub definitionAt : List ℕ → ℕ → ℕ → ℕ → Definition
+definitionAt nodes context declared root = record { context = context; type = typeIn declared; body = treeAt nodes root }
+
+-- and its typing, in the same way
+pub record TypesDefinition (tables : List ℕ) (classes rows : ℕ) (nodes : List ℕ) (context declared root : ℕ) (before after : List ℕ) (r : Reply) : Type 0 where
+  pub is : (k : Schema) → ReadsRows (take classes tables) tables rows k → meaning r ≡ typeDefinition k (definitionAt nodes context declared root) .answer
+  pub marked : (k : Schema) → ReadsRows (take classes tables) tables rows k
+      → take 768 after ≡ writeMarks (take 768 before) (typeDefinition k (definitionAt nodes context declared root) .marks)
   pub rest : drop 768 after ≡ drop 768 before
   pub size : length after ≡ length before

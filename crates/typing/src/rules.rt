@@ -1,4 +1,4 @@
-// A rule's typing, whose marks are added to those of other rules.
+// The typing of a rule and of a definition, whose marks are added to those of others.
 ghost use Prim.Native.Nat.{_<_};
 ghost use lib.ListN.{length};
 ghost use Rattle.ocl.specs.Model.{Schema};
@@ -6,10 +6,12 @@ ghost use Rattle.ocl.specs.Typing.{typeRule};
 ghost use Rattle.nodes.specs.Nodes.{treeAt};
 ghost use Rattle.judgements.specs.Replies.{Tells, ReadsRows};
 ghost use Rattle.typing.specs.Tables.{NodeRoom};
-ghost use Rattle.typing.specs.Rules.{LentTables, TypesRule};
+ghost use Rattle.typing.specs.Rules.{LentTables, TypesRule, TypesDefinition};
 use super::walk::node;
 use judgements::Reply;
 use judgements::environment::start_env;
+use types::order::subtype;
+use types::word::unpack;
 
 // The type of the tree at root, where nothing is bound but `self`, which has the context class.
 fn root_type(
@@ -46,4 +48,31 @@ pub fn type_rule(
     let parents = &tables[..classes];
     let table = &mut marks[..768];
     root_type(nodes, parents, tables, rows, root, context, table)
+}
+
+// The definition whose body is at root, for objects of its class; `declared` is the word of its type. The body is below that type,
+// else 11 at the root.
+pub fn type_definition(
+    tables: &[u64],
+    classes: usize,
+    rows: usize,
+    nodes: &[u64],
+    marks: &mut [u64],
+    context: u8,
+    declared: u64,
+    root: usize,
+) -> Reply
+    requires { ⌜ root < 768 ⌝ }
+    requires { ⌜ LentTables classes rows (length (now tables)) (length (now nodes)) (length (now marks)) ⌝ }
+    ensures { λ r. ⌜ TypesDefinition (now (tables .entry)) classes rows (now (nodes .entry)) context declared root (now (marks .entry)) (now (marks .exit)) r ⌝ }
+{
+    let body = type_rule(tables, classes, rows, nodes, marks, context, root);
+    let Reply::Is(t) = body else {
+        return body;
+    };
+    let whole = unpack(declared);
+    if subtype(&tables[..classes], t, whole) {
+        return Reply::Is(whole);
+    }
+    Reply::No(11, root as u64)
 }

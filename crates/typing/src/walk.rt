@@ -37,7 +37,7 @@ pub fn node(
     let form = node_word(nodes, n, 0);
     match form {
         0..=6 => leaf_type(nodes, form, n, env),
-        7..=12 | 30 | 33..=34 => single(nodes, parents, tables, rows, n, form, env, marks),
+        7..=12 | 30 | 33..=34 | 36 => single(nodes, parents, tables, rows, n, form, env, marks),
         13..=22 => binary(nodes, parents, tables, rows, n, form, env, marks),
         23..=24 => connective(nodes, parents, tables, rows, n, env, marks),
         25..=26 => quantified(nodes, parents, tables, rows, n, env, marks),

@@ -11,7 +11,7 @@ use Rattle.laws.proofs.Integers.{Diff, add-diff, neg-diff}
 use Rattle.laws.proofs.Orders.{compare-lt, compare-eq, compare-gt, Three, less, same, over, three}
 use Rattle.ocl.specs.Values.{orderInt}
 use Rattle.ocl.specs.Forms.{Arith, plus, minus, times, div, modulo}
-use Rattle.ocl.specs.Evaluation.{inRange, isLess, Result, noResult, ranged, unlessZero, quotient, remainder, arithmetic}
+use Rattle.ocl.specs.Operations.{inRange, isLess, Result, noResult, ranged, unlessZero, quotient, remainder, arithmetic}
 use Rattle.values.specs.Cells.{bias, payload}
 use Rattle.values.specs.Integers.{numOf, Calculates, Lesser, distance, alike, side, arithOf}
 use Rattle.values.specs.declared.Computed.{Computed}

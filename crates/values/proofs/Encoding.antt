@@ -11,7 +11,7 @@ use Rattle.laws.proofs.Tests.{test-true}
 use Rattle.laws.proofs.Orders.{compare-same}
 use Rattle.ocl.specs.Types.{set, sequence, bag}
 use Rattle.ocl.specs.Values.{Value, bool, int, obj, coll, Values, nil, cons, count, size, sizes, thenOrder, sort, members, headOrder, order, orders}
-use Rattle.ocl.specs.Evaluation.{inRange}
+use Rattle.ocl.specs.Operations.{inRange}
 use Rattle.ocl.proofs.Order.{then-eq, order-is, by-members}
 use Rattle.ocl.proofs.Ranges.{unbias-bias}
 use Rattle.values.specs.Cells.{bit, payload, head, enc, encs, Fits, fits-bool, fits-int, fits-obj, fits-coll, AllFit, fit-cons, kids, past, lex}

@@ -12,7 +12,7 @@ use Rattle.laws.proofs.Tests.{test-true}
 use Rattle.laws.proofs.Orders.{compare-lt, compare-eq, compare-gt, Three, less, same, over, three, compare-same, compare-like}
 use Rattle.ocl.specs.Types.{Kind, set, sequence, bag, kindCode}
 use Rattle.ocl.specs.Values.{Value, bool, int, obj, coll, Values, count, thenOrder, sort, ofBool, rank, orderInt, members, headOrder}
-use Rattle.ocl.specs.Evaluation.{inRange}
+use Rattle.ocl.specs.Operations.{inRange}
 use Rattle.ocl.proofs.Ranges.{bias-small as ranged-small}
 use Rattle.values.specs.Cells.{bit, bias, payload, head, enc, encs, Fits, fits-bool, fits-int, fits-obj, fits-coll, AllFit, fit-nil, kids}
 

@@ -10,7 +10,7 @@ use Rattle.laws.specs.Choice.{if_then_else_}
 unfoldable pub use Rattle.laws.specs.Integers.{bias}
 use Rattle.ocl.specs.Types.{Kind}
 use Rattle.ocl.specs.Values.{Value, bool, int, obj, coll, Values, nil, cons, count, sort, thenOrder}
-use Rattle.ocl.specs.Evaluation.{inRange}
+use Rattle.ocl.specs.Operations.{inRange}
 
 -- false before true
 unfoldable pub bit : Bool → ℕ

@@ -7,7 +7,7 @@ use lib.Dec.{T, ltb, leb}
 use Rattle.laws.specs.Choice.{if_then_else_}
 use Rattle.ocl.specs.Values.{orderInt}
 use Rattle.ocl.specs.Forms.{Arith, plus, minus, times, div, modulo}
-use Rattle.ocl.specs.Evaluation.{inRange, isLess, Result, result, noResult, overRange, arithmetic}
+use Rattle.ocl.specs.Operations.{inRange, isLess, Result, result, noResult, overRange, arithmetic}
 use Rattle.values.specs.Cells.{bias, payload}
 use Rattle.values.specs.declared.Computed.{Computed}
 use Rattle.values.specs.declared.Computed.the-variants as num

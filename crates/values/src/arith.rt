@@ -4,7 +4,7 @@ use crate::Computed;
 ghost use mathlib.Core.Path.{_≡_};
 ghost use Prim.Native.Nat.{_≤_, _<_};
 ghost use Rattle.ocl.specs.Forms.{Arith};
-ghost use Rattle.ocl.specs.Evaluation.{ranged};
+ghost use Rattle.ocl.specs.Operations.{ranged};
 ghost use Rattle.values.specs.Integers.{Calculates, Lesser, arithOf, numOf, side, distance as distanceOf, alike as alikeOf};
 
 // How 0 is stored.

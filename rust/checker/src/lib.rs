@@ -77,16 +77,17 @@ pub struct Evaluated<'o> {
     pub steps: u64,
 }
 
-/// Reads a sheet and types all its rules. Answers with their types in order, as
-/// `Bool` or `S(#2)`, which stand in the output, one a line. A sheet is accepted
-/// only if all its rules type.
+/// Reads a sheet and types its definitions and all its rules. Answers with the
+/// rules' types in order, as `Bool` or `S(#2)`, which stand in the output, one a
+/// line. A sheet is accepted only if all its definitions and rules type.
 ///
 /// # Errors
 ///
-/// Why it is refused: [`Refusal::SheetTooLong`] to [`Refusal::MalformedTree`], or
-/// [`Refusal::UnboundVariable`] to [`Refusal::TypeTooDeep`] where a rule has no
-/// type; [`Refusal::ShortSlice`] where the output has fewer than [`LEAST_OUTPUT`]
-/// bytes.
+/// Why it is refused: [`Refusal::SheetTooLong`] to [`Refusal::MalformedTree`],
+/// [`Refusal::CallUpward`] and [`Refusal::UnknownDefinition`], or
+/// [`Refusal::UnboundVariable`] to [`Refusal::TypeTooDeep`] where a definition or a
+/// rule has no type; [`Refusal::ShortSlice`] where the output has fewer than
+/// [`LEAST_OUTPUT`] bytes.
 ///
 /// ```
 /// use ocl_checker::{read_types, Memory, Refusal, LEAST_OUTPUT};

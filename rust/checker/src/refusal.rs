@@ -22,7 +22,7 @@ pub enum Refusal {
     UnknownReference,
     /// A row does not take the value, or the object has no such row.
     ValueMismatch,
-    /// The nodes of a rule make no tree, or one that is too deep.
+    /// The nodes of a rule or a definition make no tree, or one that is too deep.
     MalformedTree,
     /// Nothing binds the variable.
     UnboundVariable,
@@ -46,11 +46,15 @@ pub enum Refusal {
     ReportTooLong,
     /// An exact result leaves the Integer range.
     OverRange,
+    /// A definition calls itself or a larger one.
+    CallUpward = 23,
+    /// A rule calls a definition that the sheet does not have.
+    UnknownDefinition,
 }
 
 impl Refusal {
     /// All of them, in the order of their numbers.
-    pub const ALL: [Refusal; 19] = [
+    pub const ALL: [Refusal; 21] = [
         Refusal::ShortSlice,
         Refusal::SheetTooLong,
         Refusal::BadLine,
@@ -70,9 +74,11 @@ impl Refusal {
         Refusal::SizeStop,
         Refusal::ReportTooLong,
         Refusal::OverRange,
+        Refusal::CallUpward,
+        Refusal::UnknownDefinition,
     ];
 
-    /// The refusal of a number from 1 to 19.
+    /// The refusal of a number from 1 to 19, of 23 or of 24.
     pub fn of(number: u64) -> Option<Refusal> {
         Refusal::ALL
             .into_iter()
@@ -106,6 +112,8 @@ impl Refusal {
             Refusal::SizeStop => "size stop",
             Refusal::ReportTooLong => "slip too long",
             Refusal::OverRange => "over the range",
+            Refusal::CallUpward => "call upward",
+            Refusal::UnknownDefinition => "unknown definition",
         }
     }
 
@@ -119,7 +127,7 @@ impl Refusal {
             Refusal::OutOfOrder => "something is out of order, or there twice",
             Refusal::UnknownReference => "the sheet has no such class, row or object",
             Refusal::ValueMismatch => "the value does not suit its row, or the row its object",
-            Refusal::MalformedTree => "the rule's nodes make no tree, or one that is too deep",
+            Refusal::MalformedTree => "the nodes make no tree, or one that is too deep",
             Refusal::UnboundVariable => "nothing binds the variable",
             Refusal::NoCommonType => {
                 "there is no common type, or the cast is between unrelated classes"
@@ -133,6 +141,8 @@ impl Refusal {
             Refusal::SizeStop => "a value of a size over 128 would be formed",
             Refusal::ReportTooLong => "the report is longer than the output",
             Refusal::OverRange => "an exact result leaves the Integer range",
+            Refusal::CallUpward => "the definition calls itself or a larger one",
+            Refusal::UnknownDefinition => "the sheet has no such definition",
         }
     }
 }
@@ -140,7 +150,7 @@ impl Refusal {
 /// A call's refusal, or a stop of its evaluation.
 #[derive(Clone, Copy, PartialEq, Eq, Debug)]
 pub struct Refused {
-    /// The refusal's number. The calls give no other than 1 to 19.
+    /// The refusal's number. The calls give no other than 1 to 19, 23 and 24.
     pub number: u64,
     /// The steps begun where an evaluation was stopped, else 0.
     pub steps: u64,

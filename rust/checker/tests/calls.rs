@@ -95,6 +95,49 @@ fn reading_types_every_rule() {
 }
 
 #[test]
+fn definitions_are_called() {
+    let mut memory = Box::new(Memory::new());
+    let mut output = [0; LEAST_OUTPUT];
+    // The object's own number, and one more: two definitions, a rule for each.
+    let start = "C 0 -|C 1 0|A 0 0 5 Int|O 0 0|O 1 1|V 1 0 9|D 0 0 Int|N 0 self|N 1 attr 0 5";
+    let second = "D 1 0 Any|N 0 self|N 1 call 0 0|N 2 int 1|N 3 plus 1 2";
+    let rules = "R 0 1|N 0 self|N 1 call 0 0|R 1 0|N 0 self|N 1 call 0 1";
+    let text = sheet(&format!("{start}|{second}|{rules}"));
+    // A definition has no line of its own, and a call the type that is declared.
+    let types = read_types(&text, &mut memory, &mut output).unwrap();
+    assert_eq!(types.collect::<Vec<_>>(), ["Int", "Any"]);
+    let value = evaluate_rule(&text, 1, 1, &mut memory, &mut output).unwrap();
+    assert_eq!((value.value, value.steps), ("10", 8));
+    let lines = report(&text, &mut memory, &mut output);
+    assert_eq!(lines, Ok("0 1 9 4\n1 0 u 7\n1 1 10 8\n"));
+    let cases = [
+        ("D 1 0 Int|N 0 self|N 1 call 0 1", Refusal::CallUpward, 12),
+        ("D 1 0 Int|N 0 self|N 1 call 0 2", Refusal::CallUpward, 12),
+        (
+            "R 0 0|N 0 self|N 1 call 0 1",
+            Refusal::UnknownDefinition,
+            12,
+        ),
+        ("D 1 0 Bool|N 0 int 1", Refusal::WrongOperandType, 11),
+        ("D 1 0 Int|N 0 var 1", Refusal::UnboundVariable, 11),
+        (
+            "R 0 0|N 0 undef|N 1 call 0 0",
+            Refusal::WrongOperandType,
+            12,
+        ),
+    ];
+    for (lines, refusal, place) in cases {
+        let text = sheet(&format!("{start}|{lines}"));
+        let refused = refused(refusal, 0, place);
+        let types = read_types(&text, &mut memory, &mut output);
+        assert_eq!(types.unwrap_err(), refused, "{lines}");
+        let value = evaluate_rule(&text, 9, 9, &mut memory, &mut output);
+        assert_eq!(value, Err(refused), "{lines}");
+        assert_eq!(report(&text, &mut memory, &mut output), Err(refused));
+    }
+}
+
+#[test]
 fn a_stop_has_its_steps() {
     let members = vec!["7"; 127].join(",");
     let text = sheet(&format!(
@@ -118,16 +161,21 @@ fn a_stop_has_its_steps() {
 
 #[test]
 fn refusals_have_numbers_and_words() {
-    for number in 1..=19 {
+    for number in (1..=19).chain([23, 24]) {
         let refusal = Refusal::of(number).unwrap();
         assert_eq!(refusal.number(), number);
     }
-    for number in [0, 20, 100, u64::MAX] {
+    for number in [0, 20, 21, 22, 25, 100, u64::MAX] {
         assert_eq!(Refusal::of(number), None);
     }
     assert_eq!(Refusal::MalformedTree.word(), "broken tree");
     let line = refused(Refusal::BadLine, 0, 2).to_string();
     assert_eq!(line, "line 2: bad line (3): the line is misspelled");
+    let line = refused(Refusal::CallUpward, 0, 4).to_string();
+    assert_eq!(
+        line,
+        "line 4: call upward (23): the definition calls itself or a larger one"
+    );
 }
 
 /// A call with short slices: 1, and nothing touched.

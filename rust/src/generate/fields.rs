@@ -3,7 +3,7 @@
 use super::random::Random;
 
 /// Fields that are wrong in most places, or just outside a limit.
-const FIELDS: [&str; 52] = [
+const FIELDS: [&str; 54] = [
     "",
     "-",
     "-0",
@@ -17,6 +17,8 @@ const FIELDS: [&str; 52] = [
     "3",
     "15",
     "16",
+    "31",
+    "32",
     "63",
     "64",
     "95",
@@ -149,7 +151,9 @@ fn number(random: &mut Random, field: &mut Vec<u8>) {
     let end = (start..).find(|place| !digit(place)).unwrap_or(start);
     let old = String::from_utf8_lossy(&field[start..end]).into_owned();
     let new = match (old.parse::<i64>(), random.below(6)) {
-        (_, 0) | (Err(_), _) => *random.pick(&[0, 16, 63, 64, 95, 96, 255, 256, 256, 767, 768]),
+        (_, 0) | (Err(_), _) => {
+            *random.pick(&[0, 16, 31, 32, 63, 64, 95, 96, 255, 256, 256, 767, 768])
+        }
         (Ok(old), 1 | 2) => old.saturating_sub(1),
         (Ok(old), 3) => old.saturating_add(2),
         (Ok(old), _) => old.saturating_add(1),
@@ -176,7 +180,7 @@ const LIKE_FORMS: [&[&str]; 6] = [
         "union",
     ],
     &["forAll", "exists"],
-    &["attr", "as", "collect"],
+    &["attr", "as", "collect", "call"],
     &["all", "var", "int"],
 ];
 

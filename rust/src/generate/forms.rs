@@ -1,4 +1,4 @@
-//! The forms that give one type and few others.
+//! The forms that give one type and few others, and attributes.
 
 use super::rules::{Grown, Growth};
 use crate::types::{Kind, Type};
@@ -207,5 +207,41 @@ impl Growth<'_> {
         let (source, ty) = grown.expect("a collection can always be grown");
         let member = ty.member().cloned();
         (source, member.unwrap_or(Type::Void))
+    }
+
+    /// An attribute whose row suits the type, where one is in reach.
+    pub fn attribute(&mut self, ty: &Type, depth: usize) -> Option<Grown> {
+        let mut reach = vec![self.context];
+        for bound in self.environment.iter().flatten() {
+            if let Type::Class(class) = bound {
+                reach.push(*class);
+            }
+        }
+        let from = *self.random.pick(&reach);
+        let upward: Vec<u8> = self.model.classes.upward(from).collect();
+        let class = *self.random.pick(&upward);
+        let mark = self.draft.lines.len();
+        let (operand, found) = self.solid(&Type::Class(class), depth - 1)?;
+        let Some((name, ty)) = self.named(&found, ty) else {
+            self.draft.lines.truncate(mark);
+            return None;
+        };
+        Some((self.draft.line(&format!("attr % {name}"), &[operand]), ty))
+    }
+
+    /// A name that a class has with a type below the one given, and that type.
+    pub fn named(&mut self, class: &Type, ty: &Type) -> Option<(u8, Type)> {
+        if self.faulty && self.random.one_in(10) {
+            return Some((self.random.below(256) as u8, ty.clone()));
+        }
+        let Type::Class(class) = *class else {
+            return None;
+        };
+        let names: Vec<(u8, Type)> = (0..=255u8)
+            .filter_map(|name| Some((name, self.model.row(class, name)?)))
+            .map(|(name, row)| (name, self.model.rows[usize::from(row)].ty.clone()))
+            .filter(|(_, row)| self.below(row, ty))
+            .collect();
+        (!names.is_empty()).then(|| self.random.pick(&names).clone())
     }
 }

@@ -1,11 +1,16 @@
 //! Sheets at a limit, or over it by one.
 
+use super::definitions::{deep, defined, many, redeclared, shared_nodes, MOST_DEFINITIONS};
 use super::draft::Draft;
 use super::full::full;
 use super::random::Random;
 use crate::tree::DEEPEST_RULE;
 
-pub const KINDS: usize = 17;
+pub const KINDS: usize = 22;
+/// The kinds whose sheets have rules that are about values, steps or depth.
+pub const OF_RULES: [usize; 6] = [5, 8, 10, 11, 14, 15];
+/// The kinds that are about definitions.
+pub const OF_DEFINITIONS: [usize; 5] = [16, 17, 18, 19, 20];
 
 /// A sheet at the limit of the kind, or one over it.
 pub fn limit(random: &mut Random, kind: usize) -> Vec<u8> {
@@ -30,6 +35,15 @@ pub fn limit(random: &mut Random, kind: usize) -> Vec<u8> {
         13 => long_report(random),
         14 => range_end(random, over == 1),
         15 => collected_size(random, over),
+        16 => many(random, MOST_DEFINITIONS + over),
+        17 => deep(random, DEEPEST_RULE + over),
+        18 => shared_nodes() + if over == 1 { "N\t12\tnot\t11\n" } else { "" },
+        19 => {
+            // The rule that calls takes two steps of its own, or more.
+            let text = steps(random, 999_998 + over).into_bytes();
+            return defined(random, &text).unwrap_or(text);
+        }
+        20 => redeclared(random),
         _ => {
             let operands = (0..4 + over).map(|n| format!("\t{n}")).collect::<String>();
             let ints = lines(4 + over, |n| format!("N\t{n}\tint\t{n}"));

@@ -1,6 +1,7 @@
 //! Sheets by seed, and what is asked of the calls about them.
 
 pub mod damage;
+pub mod definitions;
 pub mod draft;
 pub mod fields;
 pub mod forms;
@@ -10,24 +11,22 @@ pub mod limits;
 pub mod random;
 pub mod rules;
 pub mod runs;
+pub mod trees;
 pub mod world;
 
 use crate::calls::{program, LEAST_OUTPUT, LEAST_WORDS, PROGRAM_OUTPUT};
-use crate::model::Model;
 use crate::read::read;
-use crate::tree::DEEPEST_RULE;
-use crate::types::{Type, DEEPEST};
-use draft::Draft;
+use definitions::defined;
 use random::Random;
-use rules::Growth;
 use std::iter;
-use world::{any_type, world, Scale};
+use trees::grown;
 
 /// A sheet for a seed: most type, some are damaged, some stand at a limit.
 pub fn sheet(seed: u64) -> Vec<u8> {
     let mut random = Random::new(seed);
     match random.below(20) {
-        0..=8 => grown(&mut random),
+        0..=7 => grown(&mut random),
+        8 => with_definitions(&mut random),
         9 => large::large(&mut random),
         10..=17 => {
             let text = grown(&mut random);
@@ -45,56 +44,21 @@ pub fn sheet(seed: u64) -> Vec<u8> {
     }
 }
 
-/// A sheet whose rules mostly type.
-fn grown(random: &mut Random) -> Vec<u8> {
-    let (scale, rules, budget) = match random.below(20) {
-        0 => (Scale::LIMIT, 3, 12),
-        1 => (Scale::SMALL, 64, 10),
-        2..=4 => (Scale::SMALL, 2, 300),
-        _ => (Scale::SMALL, 5, 40),
-    };
-    let model = world(random, scale);
-    let mut text = world::spell(&model);
-    let faulty = random.one_in(3);
-    let mut left: usize = 768;
-    for number in 0..random.between(1, rules) {
-        let (context, draft) = rule(random, &model, budget, faulty);
-        if draft.lines.len() > left {
-            break;
+/// A sheet about definitions, or another one with its rules made definitions.
+fn with_definitions(random: &mut Random) -> Vec<u8> {
+    let text = match random.below(4) {
+        0 => grown(random),
+        1 => large::large(random),
+        2 => {
+            let kind = *random.pick(&limits::OF_RULES);
+            limits::limit(random, kind)
         }
-        left -= draft.lines.len();
-        text += &format!("R\t{number}\t{context}\n");
-        text += &draft.spell(random);
-    }
-    text.into_bytes()
-}
-
-/// A rule and its context class, which mostly has objects.
-fn rule(random: &mut Random, model: &Model, budget: usize, faulty: bool) -> (u8, Draft) {
-    let context = if model.objects.is_empty() || random.one_in(8) {
-        random.below(model.classes.0.len()) as u8
-    } else {
-        let class = *random.pick(&model.objects);
-        let upward: Vec<u8> = model.classes.upward(class).collect();
-        *random.pick(&upward)
+        _ => {
+            let kind = *random.pick(&limits::OF_DEFINITIONS);
+            return limits::limit(random, kind);
+        }
     };
-    let ty = match random.below(4) {
-        0 => Type::Bool,
-        _ => any_type(random, &model.classes, DEEPEST),
-    };
-    let depth = random.between(1, DEEPEST_RULE);
-    let mut growth = Growth {
-        random,
-        model,
-        context,
-        budget,
-        faulty,
-        burst: 0,
-        environment: Default::default(),
-        draft: Draft::default(),
-    };
-    growth.grow(&ty, depth);
-    (context, growth.draft)
+    defined(random, &text).unwrap_or(text)
 }
 
 #[derive(Clone, Copy, PartialEq, Eq, Debug)]

@@ -1,9 +1,10 @@
-//! Random rules, grown from the type wanted downward, so that most of them type.
+//! Random rules and bodies, grown from the type wanted downward, so that most type.
 //! Each node is grown with its own type, which may be below the one wanted.
 
+use super::definitions::Callable;
 use super::draft::Draft;
 use super::random::Random;
-use super::world::{any_integer, any_type};
+use super::world::{any_integer, any_type, spelt_type};
 use crate::model::Model;
 use crate::types::{Kind, Type, DEEPEST};
 
@@ -13,6 +14,8 @@ pub type Grown = (usize, Type);
 pub struct Growth<'g> {
     pub random: &'g mut Random,
     pub model: &'g Model,
+    /// The definitions that may be called.
+    pub callable: &'g [Callable],
     pub context: u8,
     /// Nodes after which only leaves are grown.
     pub budget: usize,
@@ -53,6 +56,10 @@ impl Growth<'_> {
                 Some((variable, known)) => self.probe(variable, known, depth),
                 None => self.particular(&ty, depth),
             },
+            10 | 11 => {
+                let grown = self.call(&ty, depth);
+                grown.unwrap_or_else(|| self.particular(&ty, depth))
+            }
             _ => self.particular(&ty, depth),
         }
     }
@@ -251,47 +258,8 @@ impl Growth<'_> {
         let outer = self.environment[usize::from(j)].replace(ty.clone());
         let (body, _) = self.body(i, member, ty, depth);
         self.environment[usize::from(j)] = outer;
-        let mut spelt = Vec::new();
-        ty.spell(&mut spelt);
-        let spelt = String::from_utf8(spelt).expect("spelt in ASCII");
-        let words = format!("iter % {i} {j} {spelt} % %");
+        let words = format!("iter % {i} {j} {} % %", spelt_type(ty));
         (self.draft.line(&words, &[source, start, body]), ty.clone())
-    }
-
-    /// An attribute whose row suits the type, where one is in reach.
-    fn attribute(&mut self, ty: &Type, depth: usize) -> Option<Grown> {
-        let mut reach = vec![self.context];
-        for bound in self.environment.iter().flatten() {
-            if let Type::Class(class) = bound {
-                reach.push(*class);
-            }
-        }
-        let from = *self.random.pick(&reach);
-        let upward: Vec<u8> = self.model.classes.upward(from).collect();
-        let class = *self.random.pick(&upward);
-        let mark = self.draft.lines.len();
-        let (operand, found) = self.solid(&Type::Class(class), depth - 1)?;
-        let Some((name, ty)) = self.named(&found, ty) else {
-            self.draft.lines.truncate(mark);
-            return None;
-        };
-        Some((self.draft.line(&format!("attr % {name}"), &[operand]), ty))
-    }
-
-    /// A name that a class has with a type below the one given, and that type.
-    pub fn named(&mut self, class: &Type, ty: &Type) -> Option<(u8, Type)> {
-        if self.faulty && self.random.one_in(10) {
-            return Some((self.random.below(256) as u8, ty.clone()));
-        }
-        let Type::Class(class) = *class else {
-            return None;
-        };
-        let names: Vec<(u8, Type)> = (0..=255u8)
-            .filter_map(|name| Some((name, self.model.row(class, name)?)))
-            .map(|(name, row)| (name, self.model.rows[usize::from(row)].ty.clone()))
-            .filter(|(_, row)| self.below(row, ty))
-            .collect();
-        (!names.is_empty()).then(|| self.random.pick(&names).clone())
     }
 }
 

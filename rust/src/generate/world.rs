@@ -161,18 +161,22 @@ pub fn any_value(random: &mut Random, model: &Model, ty: &Type, room: usize) -> 
     }
 }
 
-/// The lines of the blocks before the rules.
+pub fn spelt_type(ty: &Type) -> String {
+    let mut spelt = Vec::new();
+    ty.spell(&mut spelt);
+    String::from_utf8(spelt).expect("spelt in ASCII")
+}
+
+/// The lines of the blocks before the definitions.
 pub fn spell(model: &Model) -> String {
     let mut text = String::new();
-    let spelt = |bytes: Vec<u8>| String::from_utf8(bytes).expect("spelt in ASCII");
     for (class, parent) in model.classes.0.iter().enumerate() {
         let parent = parent.map_or("-".to_string(), |parent| parent.to_string());
         text += &format!("C\t{class}\t{parent}\n");
     }
     for (number, row) in model.rows.iter().enumerate() {
-        let mut ty = Vec::new();
-        row.ty.spell(&mut ty);
-        text += &format!("A\t{number}\t{}\t{}\t{}\n", row.class, row.name, spelt(ty));
+        let ty = spelt_type(&row.ty);
+        text += &format!("A\t{number}\t{}\t{}\t{ty}\n", row.class, row.name);
     }
     for (object, class) in model.objects.iter().enumerate() {
         text += &format!("O\t{object}\t{class}\n");
@@ -180,7 +184,8 @@ pub fn spell(model: &Model) -> String {
     for ((object, row), value) in &model.values {
         let mut bytes = Vec::new();
         value.spell(&mut bytes);
-        text += &format!("V\t{object}\t{row}\t{}\n", spelt(bytes));
+        let value = String::from_utf8(bytes).expect("spelt in ASCII");
+        text += &format!("V\t{object}\t{row}\t{value}\n");
     }
     text
 }

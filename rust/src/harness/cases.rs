@@ -1,6 +1,7 @@
-//! What one rule does to the answers for others: the cases that a comparison must
-//! have met, beside each number of each call.
+//! The cases that a comparison must have met, beside each number of each call: what
+//! one rule does to the answers for others, and what definitions and calls do.
 
+use super::definitions::Definitions;
 use crate::calls::Answer;
 use crate::generate::Call;
 use crate::model::Sheet;
@@ -20,10 +21,29 @@ pub enum Case {
     AbsentRule,
     AbsentObject,
     OtherClass,
+    MostDefinitions,
+    CallsItself,
+    CallsLater,
+    CallsAbsent,
+    DeepRule,
+    DeepDefinition,
+    DeepestCall,
+    BodyType,
+    CallOperand,
+    UnusedDefinition,
+    DefinitionAndRule,
+    UntypedDefinition,
+    CallInLoop,
+    SubclassObject,
+    OwnRow,
+    VariableAfter,
+    StepStopCalled,
+    SizeStopCalled,
+    RangeStopCalled,
 }
 
 impl Case {
-    pub const ALL: [Case; 8] = [
+    pub const ALL: [Case; 27] = [
         Case::NoRules,
         Case::MostRules,
         Case::EarlierRule,
@@ -32,6 +52,25 @@ impl Case {
         Case::AbsentRule,
         Case::AbsentObject,
         Case::OtherClass,
+        Case::MostDefinitions,
+        Case::CallsItself,
+        Case::CallsLater,
+        Case::CallsAbsent,
+        Case::DeepRule,
+        Case::DeepDefinition,
+        Case::DeepestCall,
+        Case::BodyType,
+        Case::CallOperand,
+        Case::UnusedDefinition,
+        Case::DefinitionAndRule,
+        Case::UntypedDefinition,
+        Case::CallInLoop,
+        Case::SubclassObject,
+        Case::OwnRow,
+        Case::VariableAfter,
+        Case::StepStopCalled,
+        Case::SizeStopCalled,
+        Case::RangeStopCalled,
     ];
 
     pub fn name(self) -> &'static str {
@@ -44,29 +83,80 @@ impl Case {
             Case::AbsentRule => "evaluate an absent rule, one does not type",
             Case::AbsentObject => "evaluate for an absent object, a rule does not type",
             Case::OtherClass => "evaluate for another class, a rule does not type",
+            Case::MostDefinitions => "as many definitions as a sheet can have",
+            Case::CallsItself => "a definition that calls itself",
+            Case::CallsLater => "a definition that calls a later one",
+            Case::CallsAbsent => "a definition that calls an absent one",
+            Case::DeepRule => "a rule that only its calls make too deep",
+            Case::DeepDefinition => "a definition that only its calls make too deep",
+            Case::DeepestCall => "a rule that its calls make as deep as can be",
+            Case::BodyType => "a body that is not below its type",
+            Case::CallOperand => "a call for what is not of its class",
+            Case::UnusedDefinition => "a definition that no rule reaches does not type",
+            Case::DefinitionAndRule => "a definition does not type, a rule neither",
+            Case::UntypedDefinition => "evaluate a rule, a definition does not type",
+            Case::CallInLoop => "evaluate a rule with a call in an iteration's body",
+            Case::SubclassObject => "evaluate a rule with a call for an object of a subclass",
+            Case::OwnRow => "evaluate a body whose row is not the one of the caller's class",
+            Case::VariableAfter => "evaluate a rule that reads a variable after a call binds it",
+            Case::StepStopCalled => "evaluate a rule with calls up to the step stop",
+            Case::SizeStopCalled => "evaluate a rule with calls up to the size stop",
+            Case::RangeStopCalled => "evaluate a rule with calls up to the range's end",
         }
     }
 }
 
+/// A text, and which rules type if it can be read.
+pub struct Cases<'t> {
+    definitions: Definitions<'t>,
+    rules: Option<Rules>,
+}
+
+impl Cases<'_> {
+    pub fn of(text: &[u8]) -> Cases<'_> {
+        let rules = Rules::of(text);
+        Cases {
+            definitions: Definitions::of(text),
+            rules,
+        }
+    }
+
+    /// The cases that a call with this answer is.
+    pub fn met(&self, call: Call, answer: Answer) -> Vec<Case> {
+        let rules = self.rules.as_ref();
+        let mut met = self.definitions.refused(answer);
+        met.extend(rules.and_then(|rules| rules.case(call, answer)));
+        if let Some(Rules { sheet, typed }) = rules {
+            met.extend(self.definitions.read(sheet, typed, call, answer));
+        }
+        met
+    }
+}
+
 /// A sheet that is read, and which of its rules type.
-pub struct Rules {
+struct Rules {
     sheet: Sheet,
     typed: Vec<bool>,
 }
 
 impl Rules {
-    pub fn of(text: &[u8]) -> Option<Rules> {
+    fn of(text: &[u8]) -> Option<Rules> {
         let mut sheet = read(text).ok()?;
-        let rules = sheet.rules.iter_mut();
-        let typed = rules.map(|rule| type_rule(&sheet.model, rule).is_ok());
+        let Sheet {
+            model,
+            definitions,
+            rules,
+        } = &mut sheet;
+        let rules = rules.iter_mut();
+        let typed = rules.map(|rule| type_rule(model, definitions, rule).is_ok());
         Some(Rules {
             typed: typed.collect(),
             sheet,
         })
     }
 
-    /// The case that a call with this answer is, if it is one.
-    pub fn case(&self, call: Call, answer: Answer) -> Option<Case> {
+    /// The case that a call with this answer is, if it is one of several rules.
+    fn case(&self, call: Call, answer: Answer) -> Option<Case> {
         match (call, answer.number) {
             (Call::Read, 0) if self.typed.is_empty() => Some(Case::NoRules),
             (Call::Read, 0) if self.typed.len() == MOST_RULES => Some(Case::MostRules),
@@ -77,7 +167,10 @@ impl Rules {
 
     /// Where some rule does not type: how it has to do with what was asked for.
     fn untyped(&self, rule: u64, object: u64) -> Option<Case> {
-        let Sheet { model, rules } = &self.sheet;
+        let Sheet { model, rules, .. } = &self.sheet;
+        if !self.typed.contains(&false) {
+            return None;
+        }
         if rule >= rules.len() as u64 {
             return Some(Case::AbsentRule);
         }

@@ -3,6 +3,7 @@
 pub mod cases;
 pub mod clock;
 pub mod compare;
+pub mod definitions;
 #[cfg(feature = "linked")]
 pub mod linked;
 pub mod program;

@@ -1,6 +1,6 @@
 //! Comparisons over many sheets, up to the first difference.
 
-use super::cases::Rules;
+use super::cases::Cases;
 use super::compare::compare;
 use super::program;
 use super::shrink::shrink;
@@ -31,15 +31,12 @@ pub fn sheet(
     tally: &mut Tally,
 ) -> Result<(), Difference> {
     let mut garbage = Random::new(seed);
-    let rules = Rules::of(text);
+    let cases = Cases::of(text);
     for ask in asks.iter().copied() {
         let seed = garbage.word();
         let compared = compare(calls, text, ask, seed);
         tally.add(ask.call, compared.answer);
-        let case = rules
-            .as_ref()
-            .and_then(|rules| rules.case(ask.call, compared.answer));
-        if let Some(case) = case {
+        for case in cases.met(ask.call, compared.answer) {
             tally.add_case(case);
         }
         if compared.difference.is_some() {

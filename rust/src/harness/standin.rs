@@ -1,7 +1,7 @@
 //! Stands in for the product: the second evaluator itself, with a fault or
 //! without, to show that the comparison finds what it must.
 
-use super::cases::{Case, Rules};
+use super::cases::{Case, Cases};
 use super::{second, Calls};
 use crate::calls::{Answer, Words, LEAST_OUTPUT, LEAST_WORDS};
 use crate::generate::Call;
@@ -59,10 +59,22 @@ pub enum Fault {
     AbsentObjectFirst,
     /// 15 before 9 to 13.
     OtherClassFirst,
+    /// A call upward taken for one of an unknown definition.
+    UpwardUnknown,
+    /// An unknown definition taken for another part that is not there.
+    UnknownPart,
+    /// The depth of called bodies forgotten.
+    BareDepth,
+    /// A body taken whatever its type.
+    BodyType,
+    /// Only definitions typed that a rule reaches.
+    UnusedDefinition,
+    /// Rules typed before definitions.
+    RulesFirst,
 }
 
 impl Fault {
-    pub const ALL: [Fault; 25] = [
+    pub const ALL: [Fault; 31] = [
         Fault::Place,
         Fault::PlaceOfStop,
         Fault::Steps,
@@ -88,6 +100,12 @@ impl Fault {
         Fault::AbsentRuleFirst,
         Fault::AbsentObjectFirst,
         Fault::OtherClassFirst,
+        Fault::UpwardUnknown,
+        Fault::UnknownPart,
+        Fault::BareDepth,
+        Fault::BodyType,
+        Fault::UnusedDefinition,
+        Fault::RulesFirst,
     ];
 }
 
@@ -117,6 +135,8 @@ impl Calls for StandIn {
             Fault::StepsOfStop if matches!(number, 17 | 19) => answer.steps = 0,
             Fault::Length if answer.length > 0 => answer.length += 1,
             Fault::Number if number == 10 => answer.number = 11,
+            Fault::UpwardUnknown if number == 23 => answer.number = 24,
+            Fault::UnknownPart if number == 24 => answer.number = 6,
             Fault::WordLeft if number != 1 => middle[LEAST_WORDS - 1] = left.unwrap_or(0),
             Fault::WordBeyond if number != 1 && last.len() > LEAST_WORDS => last[LEAST_WORDS] = 0,
             Fault::WipedWhenShort if number == 1 => first.fill(0),
@@ -149,21 +169,26 @@ impl StandIn {
         }
     }
 
-    /// The answer as if rules were typed in another order, or fewer of them.
+    /// The answer as if something were left out, or done in another order.
     fn reorder(&self, call: Call, text: &[u8], answer: &mut Answer) {
         let refusal = |number| Answer {
             number,
             ..Answer::default()
         };
-        let case = Rules::of(text).and_then(|rules| rules.case(call, *answer));
-        match (self.fault, case) {
-            (Fault::EarlierRule, Some(Case::EarlierRule)) => *answer = refusal(0),
-            (Fault::LaterRule, Some(Case::LaterRule)) => *answer = refusal(0),
-            (Fault::AskedFirst, Some(Case::TwoRules)) => answer.place += 1,
-            (Fault::AbsentRuleFirst, Some(Case::AbsentRule)) => *answer = refusal(14),
-            (Fault::AbsentObjectFirst, Some(Case::AbsentObject)) => *answer = refusal(14),
-            (Fault::OtherClassFirst, Some(Case::OtherClass)) => *answer = refusal(15),
-            _ => {}
+        for case in Cases::of(text).met(call, *answer) {
+            match (self.fault, case) {
+                (Fault::EarlierRule, Case::EarlierRule)
+                | (Fault::LaterRule, Case::LaterRule)
+                | (Fault::BareDepth, Case::DeepRule | Case::DeepDefinition)
+                | (Fault::BodyType, Case::BodyType)
+                | (Fault::UnusedDefinition, Case::UnusedDefinition) => *answer = refusal(0),
+                (Fault::AskedFirst, Case::TwoRules)
+                | (Fault::RulesFirst, Case::DefinitionAndRule) => answer.place += 1,
+                (Fault::AbsentRuleFirst, Case::AbsentRule)
+                | (Fault::AbsentObjectFirst, Case::AbsentObject) => *answer = refusal(14),
+                (Fault::OtherClassFirst, Case::OtherClass) => *answer = refusal(15),
+                _ => {}
+            }
         }
     }
 

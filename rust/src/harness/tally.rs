@@ -1,4 +1,4 @@
-//! Which answers each call was compared in, and which cases of several rules.
+//! Which answers each call was compared in, and which cases.
 
 use super::cases::Case;
 use crate::calls::Answer;
@@ -6,11 +6,13 @@ use crate::generate::Call;
 use std::fmt;
 
 const NAMES: [&str; 3] = ["read", "evaluate", "report"];
+/// The numbers from 0 on; 20 to 22 are given to no call yet.
+pub const NUMBERS: usize = 25;
 
 /// Answers by call and number, and cases in the order of `Case::ALL`.
 #[derive(Default)]
 pub struct Tally {
-    answers: [[u64; 20]; 3],
+    answers: [[u64; NUMBERS]; 3],
     cases: [u64; Case::ALL.len()],
 }
 
@@ -32,9 +34,9 @@ fn position(call: Call) -> usize {
 /// Whether a call can answer with the number.
 fn relevant(call: Call, number: usize) -> bool {
     match call {
-        Call::Read => number <= 13,
-        Call::Evaluate { .. } => number != 18,
-        Call::Report => number <= 13 || number == 18,
+        Call::Read => matches!(number, 0..=13 | 23 | 24),
+        Call::Evaluate { .. } => matches!(number, 0..=17 | 19 | 23 | 24),
+        Call::Report => matches!(number, 0..=13 | 18 | 23 | 24),
     }
 }
 
@@ -80,7 +82,7 @@ impl fmt::Display for Tally {
             write!(out, " {name:>10}")?;
         }
         writeln!(out)?;
-        for number in 0..20 {
+        for number in 0..NUMBERS {
             write!(out, "{number:>6}")?;
             for call in CALLS {
                 match self.answers[position(call)][number] {

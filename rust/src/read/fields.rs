@@ -85,6 +85,10 @@ impl<'a> Fields<'a> {
         self.number(0, 255) as u8
     }
 
+    pub fn definition(&mut self) -> u8 {
+        self.number(0, 31) as u8
+    }
+
     pub fn variable(&mut self) -> u8 {
         self.number(1, 15) as u8
     }

@@ -4,9 +4,10 @@ mod fields;
 mod nodes;
 mod spelling;
 
-use crate::model::{Row, Rule, Sheet};
+use crate::model::{Definition, Row, Rule, Sheet};
 use crate::refusal::{Refusal, Refused};
 use crate::tree::{Node, DEEPEST_RULE};
+use crate::types::Type;
 use fields::Fields;
 
 const MOST_VALUES: usize = 1_024;
@@ -20,12 +21,15 @@ enum Block {
     Attributes,
     Objects,
     Values,
+    Definitions,
     Rules,
 }
 
-/// A rule whose end has not come yet.
-struct OpenRule {
-    context: u8,
+/// A rule or a definition whose end has not come yet.
+struct OpenTree {
+    class: u8,
+    /// What a definition gives; a rule says nothing of it.
+    declared: Option<Type>,
     last_line: usize,
     /// The nodes so far; a node that became an operand has moved into its user.
     nodes: Vec<Option<Node>>,
@@ -37,9 +41,9 @@ struct Reader {
     block: Block,
     /// The sizes of the V lines together.
     value_sizes: usize,
-    /// The nodes of all rules together.
+    /// The nodes of all definitions and rules together.
     nodes: usize,
-    open_rule: Option<OpenRule>,
+    open: Option<OpenTree>,
 }
 
 pub fn read(text: &[u8]) -> Result<Sheet, Refused> {
@@ -50,7 +54,7 @@ pub fn read(text: &[u8]) -> Result<Sheet, Refused> {
         let mut fields = Fields::of(whole.unwrap_or(line));
         let letter = fields.next();
         if letter != b"N" {
-            reader.end_rule()?;
+            reader.end_tree()?;
         }
         if whole.is_none() {
             return Err(Refusal::BadLine.at(place));
@@ -59,7 +63,7 @@ pub fn read(text: &[u8]) -> Result<Sheet, Refused> {
             .line(letter, fields, place)
             .map_err(|refusal| refusal.at(place))?;
     }
-    reader.end_rule()?;
+    reader.end_tree()?;
     Ok(reader.sheet)
 }
 
@@ -70,6 +74,7 @@ impl Reader {
             b"A" => self.attribute(fields),
             b"O" => self.object(fields),
             b"V" => self.value(fields),
+            b"D" => self.definition(fields, place),
             b"R" => self.rule(fields, place),
             b"N" => self.node(fields, place),
             _ => Err(Refusal::BadLine),
@@ -159,36 +164,65 @@ impl Reader {
         Ok(())
     }
 
-    fn rule(&mut self, mut fields: Fields, place: usize) -> Result<(), Refusal> {
-        let number = fields.number(0, 63) as u8;
-        let context = fields.class();
+    fn definition(&mut self, mut fields: Fields, place: usize) -> Result<(), Refusal> {
+        let number = fields.definition();
+        let class = fields.class();
+        let ty = fields.ty();
         fields.end()?;
-        self.in_row(Block::Rules, number, self.sheet.rules.len())?;
-        self.known_class(Some(context))?;
-        self.open_rule = Some(OpenRule {
-            context,
+        self.in_row(Block::Definitions, number, self.sheet.definitions.len())?;
+        self.known_class(Some(class))?;
+        self.known_class(ty.class())?;
+        self.open = Some(OpenTree {
+            class,
+            declared: Some(ty),
             last_line: place,
             nodes: Vec::new(),
         });
         Ok(())
     }
 
-    /// At a rule's end there is a root, every other node is an operand, and the
-    /// tree is not too deep.
-    fn end_rule(&mut self) -> Result<(), Refused> {
-        let Some(mut rule) = self.open_rule.take() else {
+    fn rule(&mut self, mut fields: Fields, place: usize) -> Result<(), Refusal> {
+        let number = fields.number(0, 63) as u8;
+        let class = fields.class();
+        fields.end()?;
+        self.in_row(Block::Rules, number, self.sheet.rules.len())?;
+        self.known_class(Some(class))?;
+        self.open = Some(OpenTree {
+            class,
+            declared: None,
+            last_line: place,
+            nodes: Vec::new(),
+        });
+        Ok(())
+    }
+
+    /// At a rule's or a definition's end there is a root, every other node is an
+    /// operand, and the tree is not too deep.
+    fn end_tree(&mut self) -> Result<(), Refused> {
+        let Some(mut tree) = self.open.take() else {
             return Ok(());
         };
-        let root = rule.nodes.pop().flatten();
-        let all_used = rule.nodes.iter().all(Option::is_none);
-        match root {
-            Some(root) if all_used && root.depth() <= DEEPEST_RULE => {
-                let context = rule.context;
-                self.sheet.rules.push(Rule { context, root });
-                Ok(())
-            }
-            _ => Err(Refusal::MalformedTree.at(rule.last_line)),
+        let malformed = Refusal::MalformedTree.at(tree.last_line);
+        let root = tree.nodes.pop().flatten().ok_or(malformed)?;
+        let all_used = tree.nodes.iter().all(Option::is_none);
+        let depth = root.depth(&self.sheet.definitions);
+        if !all_used || depth > DEEPEST_RULE {
+            return Err(malformed);
         }
+        let class = tree.class;
+        match tree.declared {
+            Some(ty) => self.sheet.definitions.push(Definition {
+                class,
+                ty,
+                root,
+                depth,
+            }),
+            None => self.sheet.rules.push(Rule {
+                context: class,
+                root,
+            }),
+        }
+        Ok(())
     }
 }
 

@@ -1,4 +1,4 @@
-//! The N lines of a rule.
+//! The N lines of a rule or a definition.
 
 use super::fields::Fields;
 use super::{require, Reader};
@@ -85,6 +85,10 @@ impl Parts<'_, '_> {
                 let variable = self.quantified();
                 self.only(Form::Exists(variable), 1)
             }
+            b"call" => {
+                self.operands(1);
+                Form::Call(self.fields.definition())
+            }
             _ => {
                 self.fields.note(Refusal::BadLine);
                 Form::Undef
@@ -134,8 +138,8 @@ impl Reader {
         }
         fields.end()?;
 
-        let rule = self.open_rule.as_mut().ok_or(Refusal::OutOfOrder)?;
-        require(number == rule.nodes.len(), Refusal::OutOfOrder)?;
+        let tree = self.open.as_mut().ok_or(Refusal::OutOfOrder)?;
+        require(number == tree.nodes.len(), Refusal::OutOfOrder)?;
         if let Form::Iter {
             member,
             accumulator,
@@ -151,17 +155,27 @@ impl Reader {
         };
         let known = class.is_none_or(|class| self.sheet.model.classes.holds(class));
         require(known, Refusal::UnknownReference)?;
+        if let Form::Call(called) = form {
+            // Those that are read are all that a rule finds on the sheet, and the
+            // ones smaller than a definition that is being read.
+            let callable = usize::from(called) < self.sheet.definitions.len();
+            let refusal = match tree.declared {
+                Some(_) => Refusal::CallUpward,
+                None => Refusal::UnknownDefinition,
+            };
+            require(callable, refusal)?;
+        }
 
         // A node not there yet and a node moved away already are both refused.
-        let mut take = |operand: usize| rule.nodes.get_mut(operand).and_then(Option::take);
+        let mut take = |operand: usize| tree.nodes.get_mut(operand).and_then(Option::take);
         let operands = operands.into_iter().map(&mut take).collect();
         let operands = Option::ok_or::<Refusal>(operands, Refusal::MalformedTree)?;
-        rule.nodes.push(Some(Node {
+        tree.nodes.push(Some(Node {
             form,
             operands,
             line: place,
         }));
-        rule.last_line = place;
+        tree.last_line = place;
         self.nodes += 1;
         Ok(())
     }

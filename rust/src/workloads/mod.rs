@@ -1,11 +1,13 @@
 //! What the benchmark runs: each workload small and about ten times as large.
 
+mod areas;
 mod cap;
 mod sheets;
 
 use crate::calls::Answer;
 use crate::generate::full::full;
 use crate::generate::Call;
+use areas::areas;
 use cap::cap;
 use sheets::{bags, collected, iterations, nodes, nodes_of, quantifiers, sets, types, values};
 
@@ -92,6 +94,12 @@ pub fn workloads() -> Vec<Workload> {
             Unit::Line,
             Call::Report,
             [40, 400].map(|sheets| (0..sheets).map(cap).collect()),
+        ),
+        workload(
+            "a day of 400 area sheets",
+            Unit::Line,
+            Call::Report,
+            [40, 400].map(|sheets| (0..sheets).map(areas).collect()),
         ),
         workload(
             "steps, forAll in forAll",

@@ -26,7 +26,7 @@ add-node-line : tie.Need-add-node-line
 add-node-line c = search needs
 
 node-line-requires : tie.Need-node-line-requires
-node-line-requires c κs = (c .before .before .before .before .before .cut .ensures, is-node (fieldsOf (c .before .before .before .before .before .before .before .before .before .args .line .now)) (c .before .before .byte-kind .result) (c .before .before .byte-kind .ensures ∙ ap byteKind (c .before .before .before .letter .ensures ∙ ap onlyByte (c .before .before .before .before .field .ensures))) (c .before .if1 .taken), c .before .before .before .before .before .before .before .before .before .pre .1, c .before .before .before .before .before .before .before .before .before .pre .2 .fine)
+node-line-requires c κs = (c .before .before .before .before .before .before .cut .ensures, is-node (fieldsOf (c .before .before .before .before .before .before .before .before .before .before .args .line .now)) (c .before .before .before .byte-kind .result) (c .before .before .before .byte-kind .ensures ∙ ap byteKind (c .before .before .before .before .letter .ensures ∙ ap onlyByte (c .before .before .before .before .before .field .ensures))) (c .before .before .if1 .taken), c .before .before .before .before .before .before .before .before .before .before .pre .0, c .before .before .before .before .before .before .before .before .before .before .pre .1, c .before .before .before .before .before .before .before .before .before .before .pre .2 .fine)
 
 add-placed : tie.Need-add-placed
 add-placed c = search needs
@@ -37,8 +37,11 @@ placed-requires c κs = search needs
 same-length : tie.Need-same-length
 same-length c = search needs
 
+same-length-2 : tie.Need-same-length-2
+same-length-2 c = search needs
+
 returns : tie.Need-returns
-returns c = rw (c .placed .ensures) (node-whole (c .before .before .before .before .before .before .before .before .before .before .before .before .before .args .st) (c .before .before .before .before .before .before .before .before .before .before .before .before .before .args .k) (c .before .before .before .before .before .before .before .before .before .before .before .before .before .args .line .now) (is-node (fieldsOf (c .before .before .before .before .before .before .before .before .before .before .before .before .before .args .line .now)) (c .before .before .before .before .before .before .byte-kind .result) (c .before .before .before .before .before .before .byte-kind .ensures ∙ ap byteKind (c .before .before .before .before .before .before .before .letter .ensures ∙ ap onlyByte (c .before .before .before .before .before .before .before .before .field .ensures))) (c .before .before .before .before .before .if1 .taken)) (c .before .before .before .node-line .ensures (c .before .before .before .before .before .before .before .before .before .before .before .before .before .args .w0 .now)))
+returns c = rw (c .placed .ensures) (node-whole (c .before .before .before .before .before .before .before .before .before .before .before .before .before .before .args .st) (c .before .before .before .before .before .before .before .before .before .before .before .before .before .before .args .k) (c .before .before .before .before .before .before .before .before .before .before .before .before .before .before .args .line .now) (is-node (fieldsOf (c .before .before .before .before .before .before .before .before .before .before .before .before .before .before .args .line .now)) (c .before .before .before .before .before .before .before .byte-kind .result) (c .before .before .before .before .before .before .before .byte-kind .ensures ∙ ap byteKind (c .before .before .before .before .before .before .before .before .letter .ensures ∙ ap onlyByte (c .before .before .before .before .before .before .before .before .before .field .ensures))) (c .before .before .before .before .before .before .if1 .taken)) (c .before .before .before .node-line .ensures))
 
 end-rule-requires : tie.Need-end-rule-requires
 end-rule-requires c κs = (c .before .before .before .before .before .before .before .before .before .before .pre .0, c .before .before .before .before .before .before .before .before .before .before .pre .1, c .before .before .before .before .before .before .before .before .before .before .pre .2 .fine, rule-room (c .before .before .before .before .before .before .before .before .before .before .pre .2 .sheet) (c .before .before .before .before .before .before .before .before .before .before .pre .2 .holds) (c .before .before .before .before .before .before .before .before .before .before .pre .2 .good))
@@ -58,20 +61,20 @@ add-placed-2 c = omega (arith, c .before .before .before .before .before .before
 placed-requires-2 : tie.Need-placed-requires-2
 placed-requires-2 c κs = search needs
 
-same-length-2 : tie.Need-same-length-2
-same-length-2 c = search needs
-
 same-length-3 : tie.Need-same-length-3
 same-length-3 c = search needs
-
-returns-2 : tie.Need-returns-2
-returns-2 c = stop-whole (c .before .before .before .before .before .before .before .before .before .before .before .before .before .before .before .before .args .st) (c .before .before .before .before .before .before .before .before .before .before .before .before .before .before .before .before .args .k) (c .before .before .before .before .before .before .before .before .before .before .before .before .before .before .before .before .args .line .now) (is-other (fieldsOf (c .before .before .before .before .before .before .before .before .before .before .before .before .before .before .before .before .args .line .now)) (c .before .before .before .before .before .before .before .before .before .byte-kind .result) (c .before .before .before .before .before .before .before .before .before .byte-kind .ensures ∙ ap byteKind (c .before .before .before .before .before .before .before .before .before .before .letter .ensures ∙ ap onlyByte (c .before .before .before .before .before .before .before .before .before .before .before .field .ensures))) (c .before .before .before .before .before .before .before .before .if1 .left)) (rw (c .before .n .given .1) at (c .before .before .before .before .before .end-rule .ensures))
 
 same-length-4 : tie.Need-same-length-4
 same-length-4 c = search needs
 
+returns-2 : tie.Need-returns-2
+returns-2 c = stop-whole (c .before .before .before .before .before .before .before .before .before .before .before .before .before .before .before .before .args .st) (c .before .before .before .before .before .before .before .before .before .before .before .before .before .before .before .before .args .k) (c .before .before .before .before .before .before .before .before .before .before .before .before .before .before .before .before .args .line .now) (is-other (fieldsOf (c .before .before .before .before .before .before .before .before .before .before .before .before .before .before .before .before .args .line .now)) (c .before .before .before .before .before .before .before .before .before .byte-kind .result) (c .before .before .before .before .before .before .before .before .before .byte-kind .ensures ∙ ap byteKind (c .before .before .before .before .before .before .before .before .before .before .letter .ensures ∙ ap onlyByte (c .before .before .before .before .before .before .before .before .before .before .before .field .ensures))) (c .before .before .before .before .before .before .before .before .if1 .left)) (rw (c .before .n .given .1) at (c .before .before .before .before .before .end-rule .ensures))
+
 same-length-5 : tie.Need-same-length-5
 same-length-5 c = search needs
+
+same-length-6 : tie.Need-same-length-6
+same-length-6 c = search needs
 
 returns-3 : tie.Need-returns-3
 returns-3 c = rw (c .placed2 .ensures) (next-whole (c .before .before .before .before .before .before .before .before .before .before .before .before .before .before .before .before .before .before .before .before .before .args .st) (c .before .before .before .before .before .before .before .before .before .before .before .before .before .before .before .before .before .before .before .before .before .args .k) (c .before .before .before .before .before .before .before .before .before .before .before .before .before .before .before .before .before .before .before .before .before .args .line .now) (is-other (fieldsOf (c .before .before .before .before .before .before .before .before .before .before .before .before .before .before .before .before .before .before .before .before .before .args .line .now)) (c .before .before .before .before .before .before .before .before .before .before .before .before .before .before .byte-kind .result) (c .before .before .before .before .before .before .before .before .before .before .before .before .before .before .byte-kind .ensures ∙ ap byteKind (c .before .before .before .before .before .before .before .before .before .before .before .before .before .before .before .letter .ensures ∙ ap onlyByte (c .before .before .before .before .before .before .before .before .before .before .before .before .before .before .before .before .field .ensures))) (c .before .before .before .before .before .before .before .before .before .before .before .before .before .if1 .left)) (rw (c .before .before .before .before .before .before .next .given .1) at (c .before .before .before .before .before .before .before .before .before .before .end-rule .ensures)) (c .before .before .before .other-line .ensures (c .before .before .before .before .before .before .before .before .before .before .before .before .before .before .before .before .before .before .before .before .before .args .w1 .now) (c .before .before .before .before .before .before .before .before .before .before .before .before .before .before .before .before .before .before .before .before .before .args .k + 1)))
@@ -89,6 +92,7 @@ line-read-spec =
     add-placed
     placed-requires
     same-length
+    same-length-2
     returns
     end-rule-requires
     enum-known-n
@@ -96,9 +100,9 @@ line-read-spec =
     other-line-requires
     add-placed-2
     placed-requires-2
-    same-length-2
     same-length-3
-    returns-2
     same-length-4
+    returns-2
     same-length-5
+    same-length-6
     returns-3)

@@ -2,7 +2,7 @@
 use borrow.Author.Needs.{needs}
 use Rattle.sheet.specs.Text.{fieldsOf}
 use Rattle.declarations.proofs.TakenLaws.{unspelled}
-use Rattle.reader.proofs.Laws.{class-letter, row-letter, object-letter, value-letter, rule-letter, unknown-line, by-any, by-slot}
+use Rattle.reader.proofs.Laws.{class-letter, row-letter, object-letter, value-letter, rule-letter, definition-letter, unknown-line, by-any, by-slot}
 use Rattle.reader.proofs.other_line.Statement.{statement}
 use Rattle.reader.proofs.other_line.Tie as tie
 
@@ -20,6 +20,9 @@ value-line-requires c κs = (c .before .before .before .before .pre .0, value-le
 
 rule-line-requires : tie.Need-rule-line-requires
 rule-line-requires c κs = (record { cut = c .before .before .before .pre .0; is-letter = rule-letter (fieldsOf (c .before .before .before .args .line .now)) (c .before .before .before .args .kind) (c .before .before .before .pre .1) (c .match .keys5) }, c .before .before .before .pre .4)
+
+definition-line-requires : tie.Need-definition-line-requires
+definition-line-requires c κs = (record { cut = c .before .before .before .pre .0; is-letter = definition-letter (fieldsOf (c .before .before .before .args .line .now)) (c .before .before .before .args .kind) (c .before .before .before .pre .1) (c .match .keys6) }, c .before .before .before .pre .4)
 
 same-length : tie.Need-same-length
 same-length c = search needs
@@ -49,7 +52,10 @@ returns-5 : tie.Need-returns-5
 returns-5 c = λ w1 k. by-any (c .rule-line .ensures (c .before .before .before .before .args .w0 .now) w1 k)
 
 returns-6 : tie.Need-returns-6
-returns-6 c = λ w1 k. by-any (unspelled (c .before .before .before .args .st) k (c .before .before .before .args .w0 .now) w1 (c .before .before .before .args .line .now) (unknown-line (fieldsOf (c .before .before .before .args .line .now)) (c .before .before .before .args .kind) (c .before .before .before .pre .1) (c .match .rest .0 .0 .0 .0 .1) (c .match .rest .0 .0 .0 .1) (c .match .rest .0 .0 .1) (c .match .rest .0 .1) (c .match .rest .1) (c .before .before .before .pre .2)))
+returns-6 c = λ w1 k. by-any (c .definition-line .ensures (c .before .before .before .before .args .w0 .now) w1 k)
+
+returns-7 : tie.Need-returns-7
+returns-7 c = λ w1 k. by-any (unspelled (c .before .before .before .args .st) k (c .before .before .before .args .w0 .now) w1 (c .before .before .before .args .line .now) (unknown-line (fieldsOf (c .before .before .before .args .line .now)) (c .before .before .before .args .kind) (c .before .before .before .pre .1) (c .match .rest .0 .0 .0 .0 .0 .1) (c .match .rest .0 .0 .0 .0 .1) (c .match .rest .0 .0 .0 .1) (c .match .rest .0 .0 .1) (c .match .rest .0 .1) (c .match .rest .1) (c .before .before .before .pre .2)))
 
 pub other-line-spec : {M : Type 1} → statement M
 other-line-spec =
@@ -60,6 +66,7 @@ other-line-spec =
     object-line-requires
     value-line-requires
     rule-line-requires
+    definition-line-requires
     same-length
     returns
     same-length-2
@@ -69,4 +76,5 @@ other-line-spec =
     same-length-4
     returns-4
     returns-5
-    returns-6)
+    returns-6
+    returns-7)

@@ -1,5 +1,5 @@
 -- `single_type` meets its contract. Assumes nothing.
-use Rattle.judgements.proofs.Singles.{undef-single, attribute-single, collect-single, unary-single}
+use Rattle.judgements.proofs.Singles.{undef-single, attribute-single, collect-single, call-single, unary-single}
 use borrow.Author.Needs.{needs}
 use Rattle.judgements.proofs.single.single_type.Statement.{statement}
 use Rattle.judgements.proofs.single.single_type.Tie as tie
@@ -18,6 +18,18 @@ node-word-requires-2 c κs = search needs
 
 collect-type-requires : tie.Need-collect-type-requires
 collect-type-requires c κs = search needs
+
+node-word-requires-3 : tie.Need-node-word-requires-3
+node-word-requires-3 c κs = search needs
+
+node-word-requires-4 : tie.Need-node-word-requires-4
+node-word-requires-4 c κs = search needs
+
+unpack-requires : tie.Need-unpack-requires
+unpack-requires c κs = search needs
+
+call-type-requires : tie.Need-call-type-requires
+call-type-requires c κs = search needs
 
 unary-type-requires : tie.Need-unary-type-requires
 unary-type-requires c κs = search needs
@@ -38,7 +50,10 @@ returns-3 : tie.Need-returns-3
 returns-3 c = λ m h. collect-single m _ _ _ _ (c .before .before .before .before .before .match .keys3) (c .before .before .before .before .node-word2 .ensures) (c .before .before .collect-type .ensures m h)
 
 returns-4 : tie.Need-returns-4
-returns-4 c = λ m h. unary-single m _ _ _ _ (c .before .match .rest .0 .0 .1) (c .before .match .rest .0 .1) (c .before .match .rest .1) (c .unary-type .ensures m (h .classes .parent))
+returns-4 c = λ m h. call-single m _ _ _ _ (c .before .before .before .before .match .keys4) (c .before .before .before .node-word3 .ensures) (c .before .before .node-word4 .ensures) (c .before .unpack .ensures) (c .call-type .ensures m (h .classes .parent))
+
+returns-5 : tie.Need-returns-5
+returns-5 c = λ m h. unary-single m _ _ _ _ (c .before .match .rest .0 .0 .0 .1) (c .before .match .rest .0 .0 .1) (c .before .match .rest .0 .1) (c .before .match .rest .1) (c .unary-type .ensures m (h .classes .parent))
 
 pub single-type-spec : {M : Type 1} → statement M
 single-type-spec =
@@ -49,10 +64,15 @@ single-type-spec =
     attribute-type-requires
     node-word-requires-2
     collect-type-requires
+    node-word-requires-3
+    node-word-requires-4
+    unpack-requires
+    call-type-requires
     unary-type-requires
     returns
     same-length
     returns-2
     same-length-2
     returns-3
-    returns-4)
+    returns-4
+    returns-5)

@@ -1,6 +1,6 @@
 -- `steps_of` meets its contract. Assumes nothing.
 use mathlib.Core.Path.{sym, ap}
-use Rattle.ocl.specs.Evaluation.{stepsOf}
+use Rattle.ocl.specs.Operations.{stepsOf}
 use Rattle.report.proofs.LineLaws.{outcome-is}
 use borrow.Author.Needs.{needs}
 use Rattle.report.proofs.lines.steps_of.Statement.{statement}

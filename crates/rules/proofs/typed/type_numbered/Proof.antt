@@ -1,6 +1,5 @@
 use borrow.Author.Needs.{needs}
-use native.Mathlib.Omega.{arith}
-use Rattle.rules.proofs.Typings.{rule-known, types-numbered}
+use Rattle.rules.proofs.Typings.{tables-lent, rule-low, rule-root, types-numbered}
 use Rattle.rules.proofs.typed.type_numbered.Statement.{statement}
 use Rattle.rules.proofs.typed.type_numbered.Tie as tie
 
@@ -20,7 +19,7 @@ shared-slice-read-context : tie.Need-shared-slice-read-context
 shared-slice-read-context c = search needs
 
 cast-context : tie.Need-cast-context
-cast-context c = let k = rule-known (c .before .before .before .before .before .before .pre .1 .0) (c .before .before .before .before .before .before .pre .1 .1) in omega (arith, k .1 .context, k .1 .low-context)
+cast-context c = search rule-low
 
 add-wide : tie.Need-add-wide
 add-wide c = search needs
@@ -35,7 +34,7 @@ wide-requires-3 : tie.Need-wide-requires-3
 wide-requires-3 c κs = search needs
 
 type-rule-requires : tie.Need-type-rule-requires
-type-rule-requires c κs = let k = rule-known (c .before .before .before .before .before .before .before .before .before .pre .1 .0) (c .before .before .before .before .before .before .before .before .before .pre .1 .1) in (omega (arith, k .1 .root), record { in-classes = omega arith; in-rows = omega arith; in-tables = omega arith; all-nodes = omega arith; all-marks = omega arith })
+type-rule-requires c κs = (search rule-root, search tables-lent)
 
 same-length : tie.Need-same-length
 same-length c = search needs

@@ -1,7 +1,5 @@
 -- `end_rule` meets its contract.
 use Rattle.trees.proofs.EndLaws.{end-none, end-empty, end-unused, end-deep, end-down}
-use lib.ListN.{length-set}
-use native.Mathlib.Omega.{arith}
 use borrow.Author.Needs.{needs}
 use Rattle.trees.proofs.ending.end_rule.Statement.{statement}
 use Rattle.trees.proofs.ending.end_rule.Tie as tie
@@ -36,32 +34,14 @@ shared-slice-read-if4 c = search needs
 returns-4 : tie.Need-returns-4
 returns-4 c = end-deep _ (c .before .before .before .before .before .if1 .left) (c .before .before .before .before .before .before .before .before .before .pre .2) (c .before .before .before .before .if2 .left) (c .before .before .before .all-used .ensures) (c .before .before .if3 .left) (c .if4 .taken)
 
-add-w0 : tie.Need-add-w0
-add-w0 c = search needs
-
-mul-w0 : tie.Need-mul-w0
-mul-w0 c = search needs
-
-slice-write-w0 : tie.Need-slice-write-w0
-slice-write-w0 c = search needs
-
-add-w0-2 : tie.Need-add-w0-2
-add-w0-2 c = search needs
-
-mul-w0-2 : tie.Need-mul-w0-2
-mul-w0-2 c = search needs
-
-slice-write-w0-2 : tie.Need-slice-write-w0-2
-slice-write-w0-2 c = simp length-set (omega (arith, c .before .before .before .before .before .before .before .before .before .pre .2 .rules))
-
-with-rule-requires : tie.Need-with-rule-requires
-with-rule-requires c κs = search needs
+put-down-requires : tie.Need-put-down-requires
+put-down-requires c κs = search needs
 
 same-length : tie.Need-same-length
 same-length c = search needs
 
 returns-5 : tie.Need-returns-5
-returns-5 c = end-down _ (c .before .before .before .before .before .before .if1 .left) (c .before .before .before .before .before .before .before .before .before .before .pre .2) (c .before .before .before .before .before .if2 .left) (c .before .before .before .before .all-used .ensures) (c .before .before .before .if3 .left) (c .before .if4 .left) (c .before .before .before .before .before .before .before .before .before .before .pre .0) (c .before .before .before .before .before .before .before .before .before .before .pre .3) (c .with-rule .ensures)
+returns-5 c = end-down _ _ (c .before .before .before .before .before .before .before .before .before .if1 .left) (c .before .before .before .before .before .before .before .before .before .before .before .before .before .pre .2) (c .before .before .before .before .before .before .before .before .if2 .left) (c .before .before .before .before .before .before .before .all-used .ensures) (c .before .before .before .before .before .before .if3 .left) (c .before .before .before .before .if4 .left) (c .before .before .put-down .ensures)
 
 pub end-rule-spec : {M : Type 1} → statement M
 end-rule-spec =
@@ -77,12 +57,6 @@ end-rule-spec =
     mul-if4
     shared-slice-read-if4
     returns-4
-    add-w0
-    mul-w0
-    slice-write-w0
-    add-w0-2
-    mul-w0-2
-    slice-write-w0-2
-    with-rule-requires
+    put-down-requires
     same-length
     returns-5)

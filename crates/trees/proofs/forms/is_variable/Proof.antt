@@ -1,5 +1,5 @@
 -- `is_variable` meets its contract.
-use Rattle.sheet.specs.Refusals.{isVariable}
+use Rattle.sheet.specs.Limits.{isVariable}
 use borrow.Author.Tests.{le-leb, lt-leb}
 use Rattle.trees.proofs.forms.is_variable.Statement.{statement}
 use Rattle.trees.proofs.forms.is_variable.Tie as tie

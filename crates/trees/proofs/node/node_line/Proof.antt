@@ -9,7 +9,7 @@ use Rattle.trees.proofs.node.node_line.Statement.{statement}
 use Rattle.trees.proofs.node.node_line.Tie as tie
 
 returns : tie.Need-returns
-returns c = line-short (c .before .before .before .before .pre .0) (c .before .before .before .before .pre .1) (c .if1 .taken)
+returns c = line-short (c .before .before .before .before .before .pre .0) (c .before .before .before .before .before .pre .1) (c .if1 .taken)
 
 field-requires : tie.Need-field-requires
 field-requires c κs = search needs
@@ -24,7 +24,7 @@ enum-told : tie.Need-enum-told
 enum-told c = search needs
 
 returns-2 : tie.Need-returns-2
-returns-2 c = line-number (c .before .before .before .before .before .before .before .before .pre .0) (c .before .before .before .before .before .before .before .before .pre .1) (c .before .before .before .before .if1 .left) (sym (c .enum-told .given .1) ∙ c .before .before .number .ensures ∙ ap (λ x. cutNum (aNumber x)) (c .before .before .before .field .ensures))
+returns-2 c = line-number (c .before .before .before .before .before .before .before .before .before .pre .0) (c .before .before .before .before .before .before .before .before .before .pre .1) (c .before .before .before .before .if1 .left) (sym (c .enum-told .given .1) ∙ c .before .before .number .ensures ∙ ap (λ x. cutNum (aNumber x)) (c .before .before .before .field .ensures))
 
 field-requires-2 : tie.Need-field-requires-2
 field-requires-2 c κs = search needs
@@ -36,7 +36,7 @@ read-form-requires : tie.Need-read-form-requires
 read-form-requires c κs = search needs
 
 returns-3 : tie.Need-returns-3
-returns-3 c = line-form (c .before .before .before .before .before .before .before .before .before .before .before .before .before .before .pre .0) (c .before .before .before .before .before .before .before .before .before .before .before .before .before .before .pre .1) (c .before .before .before .before .before .before .before .before .before .before .if1 .left) (c .before .before .before .form-code .ensures ∙ ap formCode (c .before .before .before .before .field2 .ensures)) (c .before .before .read-form .ensures) (c .if2 .taken)
+returns-3 c = line-form (c .before .before .before .before .before .before .before .before .before .before .before .before .before .before .before .pre .0) (c .before .before .before .before .before .before .before .before .before .before .before .before .before .before .before .pre .1) (c .before .before .before .before .before .before .before .before .before .before .if1 .left) (c .before .before .before .form-code .ensures ∙ ap formCode (c .before .before .before .before .field2 .ensures)) (c .before .before .read-form .ensures) (c .if2 .taken)
 
 place-node-requires : tie.Need-place-node-requires
 place-node-requires c κs = search needs
@@ -45,7 +45,7 @@ same-length : tie.Need-same-length
 same-length c = search needs
 
 returns-4 : tie.Need-returns-4
-returns-4 c = line-placed (c .before .before .before .before .before .before .before .before .before .before .before .before .before .before .before .before .before .before .pre .0) (c .before .before .before .before .before .before .before .before .before .before .before .before .before .before .before .before .before .before .pre .1) (c .before .before .before .before .before .before .before .before .before .before .before .before .before .before .if1 .left) (c .before .before .before .before .before .before .before .form-code .ensures ∙ ap formCode (c .before .before .before .before .before .before .before .before .field2 .ensures)) (c .before .before .before .before .before .before .read-form .ensures) (sym (c .before .before .before .before .before .before .before .before .before .before .n .given .1) ∙ c .before .before .before .before .before .before .before .before .before .before .before .before .number .ensures ∙ ap (λ x. cutNum (aNumber x)) (c .before .before .before .before .before .before .before .before .before .before .before .before .before .field .ensures)) (c .before .before .before .before .if2 .left) (c .before .before .place-node .ensures)
+returns-4 c = line-placed (c .before .before .before .before .before .before .before .before .before .before .before .before .before .before .before .before .before .before .before .pre .0) (c .before .before .before .before .before .before .before .before .before .before .before .before .before .before .before .before .before .before .before .pre .1) (c .before .before .before .before .before .before .before .before .before .before .before .before .before .before .if1 .left) (c .before .before .before .before .before .before .before .form-code .ensures ∙ ap formCode (c .before .before .before .before .before .before .before .before .field2 .ensures)) (c .before .before .before .before .before .before .read-form .ensures) (sym (c .before .before .before .before .before .before .before .before .before .before .n .given .1) ∙ c .before .before .before .before .before .before .before .before .before .before .before .before .number .ensures ∙ ap (λ x. cutNum (aNumber x)) (c .before .before .before .before .before .before .before .before .before .before .before .before .before .field .ensures)) (c .before .before .before .before .if2 .left) (c .before .before .place-node .ensures)
 
 pub node-line-spec : {M : Type 1} → statement M
 node-line-spec =

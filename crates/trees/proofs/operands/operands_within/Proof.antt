@@ -1,7 +1,7 @@
 -- `operands_within` meets its contract.
 use Rattle.trees.proofs.OperandLaws.{within-not, within-next, within-end}
 use Rattle.trees.specs.Forms.{operandsAt}
-use Rattle.sheet.specs.Refusals.{isNode}
+use Rattle.sheet.specs.Limits.{isNode}
 use Rattle.laws.specs.Lists.{allOf}
 use lib.ListN.{drop}
 use mathlib.Core.Path.{_≡_, refl}

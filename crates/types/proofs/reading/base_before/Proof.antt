@@ -1,7 +1,7 @@
 -- `base_before` meets its contract: the words in turn, then a class.
 use mathlib.Core.Path.{refl, sym, ap, _∙_}
 use Rattle.sheet.specs.Text.{bytes}
-use Rattle.sheet.specs.Refusals.{typeWithin, classBelow, simpleClassBelow}
+use Rattle.sheet.specs.Limits.{typeWithin, classBelow, simpleClassBelow}
 use Rattle.ocl.specs.Types.{void, Boolean, Integer, Any, depth}
 use Rattle.types.specs.Reading.{held}
 use Rattle.types.proofs.TypeFields.{is-field, bad-field, void-base, bool-base, int-base, any-base, empty-base, no-base, class-base}

@@ -104,7 +104,7 @@ module _ (t : ℕ) where
   returns-8 c = λ m h. as-form (assemble-node m _ _ _ (c .before .before .before .before .before .before .before .before .before .before .before .node-word .ensures) (c .before .before .before .before .before .if5 .left) (c .before .before .before .before .if6 .taken)) (c .before .before .coll .ensures m h)
 
   returns-9 : lts.Need-returns-9 calls (node-at t) node.Post
-  returns-9 c = λ m h. as-form (none-node m _ _ _ (c .before .before .before .before .before .before .before .before .before .node-word .ensures) (c .before .if7 .left) (c .before .before .before .before .before .before .before .before .match .rest .1)) (undef-done _ _ (c .plain .ensures))
+  returns-9 c = λ m h. as-form (none-node m _ _ _ (c .before .before .before .before .before .before .before .before .before .node-word .ensures) (c .before .if7 .left) (c .before .before .before .before .before .before .before .before .match .rest .1) (c .before .before .before .before .before .before .before .before .match .rest .0 .0 .0 .1)) (undef-done _ _ (c .plain .ensures))
 
   same-length-8 : lts.Need-same-length-8 calls (node-at t) node.Post
   same-length-8 c = search needs

@@ -1,0 +1,73 @@
+// `D n c T`: definition n of class c and type T, whose node lines follow. Document 02, F-13.
+ghost use mathlib.Core.Path.{_≡_};
+ghost use mathlib.Core.Bool.{true};
+ghost use mathlib.Core.List.{List};
+ghost use Prim.Native.Nat.{ℕ};
+ghost use Rattle.sheet.specs.Limits.{typeWithin};
+ghost use Rattle.types.specs.Flat.{tyOf};
+ghost use Rattle.tables.specs.Layout.{Fine, Took};
+ghost use Rattle.declarations.specs.Taken.{Lettered, TookDefinition};
+use super::rows::class_known;
+use tables::Counts;
+use tables::Step;
+use text::numbers::Num;
+use text::numbers::number;
+use text::parts::Fields;
+use text::parts::field;
+use types::FlatType;
+use types::GotType;
+use types::reading::read_type;
+use types::word::pack;
+
+// No word changes: the definition goes into its tables when it ends.
+pub fn definition_line(line: &[u8], f: Fields, st: Counts) -> Step
+    requires { ⌜ Lettered "D" (now line) f × Fine st ⌝ }
+    ensures { λ r. ⌜ ((w0 w1 : List ℕ) (k : ℕ) → Took st k (now (line .entry)) r w0 w1 w0 w1) ⌝ }
+{
+    if f.count != 4 {
+        return Step::Stop(3);
+    }
+    let Num::Is(n) = number(field(line, f, 1)) else {
+        return Step::Stop(3);
+    };
+    let Num::Is(c) = number(field(line, f, 2)) else {
+        return Step::Stop(3);
+    };
+    match read_type(field(line, f, 3)) {
+        GotType::Bad => Step::Stop(3),
+        GotType::Big => Step::Stop(4),
+        GotType::Is(t) => open_definition(st, n, c, t),
+    }
+}
+
+// The definition, whose type is within its limits.
+fn open_definition(st: Counts, n: u64, c: u64, t: FlatType) -> Step
+    requires { ⌜ Fine st × (typeWithin (tyOf t) ≡ true) ⌝ }
+    ensures { λ r. ⌜ TookDefinition st n c (tyOf t) r ⌝ }
+{
+    if 32 <= n {
+        return Step::Stop(4);
+    }
+    if 64 <= c {
+        return Step::Stop(4);
+    }
+    if 4 < st.block {
+        return Step::Stop(5);
+    }
+    if n != st.definitions {
+        return Step::Stop(5);
+    }
+    if st.classes <= c {
+        return Step::Stop(6);
+    }
+    if !class_known(t, st.classes) {
+        return Step::Stop(6);
+    }
+    let mut next = st;
+    next.block = 4;
+    next.open = 2;
+    next.context = c;
+    next.result = pack(t);
+    next.first = st.nodes;
+    Step::Next(next)
+}

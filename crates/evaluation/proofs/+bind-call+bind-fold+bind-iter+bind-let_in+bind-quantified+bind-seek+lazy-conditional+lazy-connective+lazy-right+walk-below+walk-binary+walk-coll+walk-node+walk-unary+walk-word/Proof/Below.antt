@@ -1,0 +1,47 @@
+-- The needs of `below`.
+use mathlib.Core.Path.{_∙_}
+use Rattle.evaluation.proofs.NodeLaws.{below-done, below-stop, below-late, below-levels}
+use Prim.Native.Nat.{ℕ}
+use borrow.Author.Needs.{needs}
+use native.Mathlib.Omega.{arith}
+use Rattle.evaluation.proofs.walk.below.Reads as below
+use Rattle.evaluation.proofs.walk.word.Reads as word
+use Rattle.operations.proofs.answers.unpack.Reads as unpack-reads
+use Rattle.nodes.proofs.node_word.Reads as node-word-reads
+use Rattle.types.proofs.classes.wide.Reads as wide-reads
+use Rattle.evaluation.proofs.+bind-call+bind-fold+bind-iter+bind-let_in+bind-quantified+bind-seek+lazy-conditional+lazy-connective+lazy-right+walk-below+walk-binary+walk-coll+walk-node+walk-unary+walk-word.Lts-walk-below as lts
+use Rattle.evaluation.proofs.+bind-call+bind-fold+bind-iter+bind-let_in+bind-quantified+bind-seek+lazy-conditional+lazy-connective+lazy-right+walk-below+walk-binary+walk-coll+walk-node+walk-unary+walk-word.Proof.Base.{below-at, word-below}
+
+module _ (t : ℕ) where
+  abbrev calls : lts.Claims
+  calls = (node-word-reads.Asked, node-word-reads.Learnt, wide-reads.Asked, wide-reads.Learnt, word-below t, word.Post, unpack-reads.Asked, unpack-reads.Learnt)
+
+  returns : lts.Need-returns calls (below-at t) below.Post
+  returns c = below-stop _ _ _ (c .if1 .taken)
+
+  node-word-requires : lts.Need-node-word-requires calls (below-at t) below.Post
+  node-word-requires c κs = search needs
+
+  wide-requires : lts.Need-wide-requires calls (below-at t) below.Post
+  wide-requires c κs = search needs
+
+  word-requires : lts.Need-word-requires calls (below-at t) below.Post
+  word-requires c κs = omega (arith, c .before .before .before .before .before .before .before .before .pre, c .before .before .before .before .if1 .left, below-levels (c .before .before .before .before .before .before .before .before .args .nodes .now) (c .before .before .before .before .before .before .before .before .args .n) (c .before .before .before .before .before .before .before .before .args .k) (c .before .before .wide .result) (c .before .before .wide .ensures ∙ c .before .before .before .node-word .ensures) (c .before .if2 .taken))
+
+  unpack-requires : lts.Need-unpack-requires calls (below-at t) below.Post
+  unpack-requires c κs = search needs
+
+  same-length : lts.Need-same-length calls (below-at t) below.Post
+  same-length c = search needs
+
+  returns-2 : lts.Need-returns-2 calls (below-at t) below.Post
+  returns-2 c = rw (c .unpack .ensures) (below-done _ _ _ _ (c .before .before .before .before .before .before .wide .ensures ∙ c .before .before .before .before .before .before .before .node-word .ensures) (c .before .before .before .before .before .if2 .taken) (c .before .before .before .word .ensures))
+
+  add-t : lts.Need-add-t13 calls (below-at t) below.Post
+  add-t c = search needs
+
+  returns-3 : lts.Need-returns-3 calls (below-at t) below.Post
+  returns-3 c = below-late _ _ _ _ (c .before .wide .ensures ∙ c .before .before .node-word .ensures) (c .if2 .left) (c .before .before .before .if1 .left)
+
+  pub closed : {M : Type 1} → lts.Closed calls (below-at t) below.Post M
+  closed = lts.spec calls (below-at t) below.Post returns node-word-requires wide-requires word-requires unpack-requires same-length returns-2 add-t returns-3

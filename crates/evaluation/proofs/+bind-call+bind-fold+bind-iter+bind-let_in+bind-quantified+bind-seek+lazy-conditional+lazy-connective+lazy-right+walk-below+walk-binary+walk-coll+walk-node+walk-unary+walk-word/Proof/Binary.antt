@@ -1,0 +1,70 @@
+-- The needs of `binary`.
+use Rattle.evaluation.proofs.Composition.{bounds}
+use Rattle.evaluation.proofs.FormLaws.{binary-first, binary-stuck, binary-second, binary-done}
+use Prim.Native.Nat.{ℕ}
+use borrow.Author.Needs.{needs}
+use native.Mathlib.Omega.{arith}
+use Rattle.evaluation.proofs.walk.below.Reads as below
+use Rattle.evaluation.proofs.walk.binary.Reads as binary
+use Rattle.operations.proofs.apply.binary_apply.Reads as binary-apply-reads
+use Rattle.operations.proofs.apply.left_fits.Reads as left-fits-reads
+use Rattle.evaluation.proofs.+bind-call+bind-fold+bind-iter+bind-let_in+bind-quantified+bind-seek+lazy-conditional+lazy-connective+lazy-right+walk-below+walk-binary+walk-coll+walk-node+walk-unary+walk-word.Lts-walk-binary as lts
+use Rattle.evaluation.proofs.+bind-call+bind-fold+bind-iter+bind-let_in+bind-quantified+bind-seek+lazy-conditional+lazy-connective+lazy-right+walk-below+walk-binary+walk-coll+walk-node+walk-unary+walk-word.Proof.Base.{below-below, binary-at}
+
+module _ (t : ℕ) where
+  abbrev calls : lts.Claims
+  calls = (below-below t, below.Post, left-fits-reads.Asked, left-fits-reads.Learnt, binary-apply-reads.Asked, binary-apply-reads.Learnt)
+
+  below-requires : lts.Need-below-requires calls (binary-at t) binary.Post
+  below-requires c κs = search needs
+
+  enum-known-first : lts.Need-enum-known-first calls (binary-at t) binary.Post
+  enum-known-first c = search needs
+
+  same-length : lts.Need-same-length calls (binary-at t) binary.Post
+  same-length c = search needs
+
+  returns : lts.Need-returns calls (binary-at t) binary.Post
+  returns c = binary-first _ _ _ (c .before .before .before .below .ensures) (c .match .keys2)
+
+  mul-left-fits : lts.Need-mul-left-fits calls (binary-at t) binary.Post
+  mul-left-fits c = search needs
+
+  slice-read-left-fits : lts.Need-slice-read-left-fits calls (binary-at t) binary.Post
+  slice-read-left-fits c = search needs
+
+  left-fits-requires : lts.Need-left-fits-requires calls (binary-at t) binary.Post
+  left-fits-requires c κs = search needs
+
+  add-below : lts.Need-add-below calls (binary-at t) binary.Post
+  add-below c = omega (arith, bounds (c .before .before .before .before .before .before .before .before .before .below .ensures .small) (c .before .before .before .before .before .first .given .1), c .before .before .before .before .before .before .before .before .before .before .before .before .before .before .pre)
+
+  below-requires-2 : lts.Need-below-requires-2 calls (binary-at t) binary.Post
+  below-requires-2 c κs = omega (arith, bounds (c .before .before .before .before .before .before .before .before .before .below .ensures .small) (c .before .before .before .before .before .first .given .1), c .before .before .before .before .before .before .before .before .before .before .before .before .before .before .pre, c .before .before .before .before .before .before .before .before .before .below .kept)
+
+  enum-known-second : lts.Need-enum-known-second calls (binary-at t) binary.Post
+  enum-known-second c = search needs
+
+  same-length-2 : lts.Need-same-length-2 calls (binary-at t) binary.Post
+  same-length-2 c = search needs
+
+  returns-2 : lts.Need-returns-2 calls (binary-at t) binary.Post
+  returns-2 c = binary-second _ _ _ (c .before .before .before .before .before .before .before .before .before .before .before .before .before .below .ensures) (c .before .before .before .before .before .before .before .before .before .first .given .1) (c .before .before .before .before .before .before .left-fits .ensures) (c .before .before .before .before .before .if1 .taken) (c .before .before .before .below2 .ensures) (c .match2 .keys2)
+
+  binary-apply-requires : lts.Need-binary-apply-requires calls (binary-at t) binary.Post
+  binary-apply-requires c κs = omega (arith, bounds (c .before .before .before .before .before .before .before .before .before .before .before .before .before .before .before .before .below .ensures .small) (c .before .before .before .before .before .before .before .before .before .before .before .before .first .given .1), bounds (c .before .before .before .before .before .before .below2 .ensures .small) (c .before .before .second .given .1), c .before .before .before .before .before .before .before .before .before .before .before .before .before .before .before .before .before .before .before .before .before .pre, c .before .before .before .before .before .before .before .before .before .before .before .before .before .before .before .before .below .kept, c .before .before .before .before .before .before .below2 .kept)
+
+  same-length-3 : lts.Need-same-length-3 calls (binary-at t) binary.Post
+  same-length-3 c = search needs
+
+  returns-3 : lts.Need-returns-3 calls (binary-at t) binary.Post
+  returns-3 c = binary-done _ _ _ (c .before .before .before .before .before .before .before .before .before .before .before .before .before .before .before .before .before .before .before .below .ensures) (c .before .before .before .before .before .before .before .before .before .before .before .before .before .before .before .first .given .1) (c .before .before .before .before .before .before .before .before .before .before .before .before .left-fits .ensures) (c .before .before .before .before .before .before .before .before .before .before .before .if1 .taken) (c .before .before .before .before .before .before .before .before .before .below2 .ensures) (c .before .before .before .before .before .second .given .1) (c .before .before .binary-apply .ensures)
+
+  same-length-4 : lts.Need-same-length-4 calls (binary-at t) binary.Post
+  same-length-4 c = search needs
+
+  returns-4 : lts.Need-returns-4 calls (binary-at t) binary.Post
+  returns-4 c = binary-stuck _ _ _ (c .before .before .before .before .before .before .before .before .below .ensures) (c .before .before .before .before .first .given .1) (c .before .left-fits .ensures) (c .if1 .left)
+
+  pub closed : {M : Type 1} → lts.Closed calls (binary-at t) binary.Post M
+  closed = lts.spec calls (binary-at t) binary.Post below-requires enum-known-first same-length returns mul-left-fits slice-read-left-fits left-fits-requires add-below below-requires-2 enum-known-second same-length-2 returns-2 binary-apply-requires same-length-3 returns-3 same-length-4 returns-4

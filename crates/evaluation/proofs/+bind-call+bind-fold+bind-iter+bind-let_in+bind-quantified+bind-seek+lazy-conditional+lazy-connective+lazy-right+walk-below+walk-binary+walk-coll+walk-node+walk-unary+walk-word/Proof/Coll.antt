@@ -1,0 +1,85 @@
+-- The needs of `coll`.
+use mathlib.Core.Path.{_∙_}
+use Prim.Native.Nat.{_+_, _-_, ℕ}
+use Rattle.nodes.specs.Nodes.{kindOf}
+use Rattle.nodes.proofs.Levels.{some-level}
+use Rattle.evaluation.specs.Evaluating.{ReadsWorld, operandTree}
+use Rattle.evaluation.proofs.Composition.{bounds}
+use Rattle.evaluation.proofs.AssembleLaws.{Gathering, gather-starts, assemble-done, assemble-early, assemble-again, assemble-over, kind-number}
+use borrow.Author.Needs.{needs}
+use native.Mathlib.Omega.{arith}
+use Rattle.evaluation.proofs.walk.below.Reads as below
+use Rattle.values.proofs.collections.assemble.Reads as assemble-reads
+use Rattle.evaluation.proofs.walk.coll.Reads as coll
+use Rattle.operations.proofs.answers.formed.Reads as formed-reads
+use Rattle.nodes.proofs.node_word.Reads as node-word-reads
+use Rattle.types.proofs.classes.wide.Reads as wide-reads
+use Rattle.evaluation.proofs.+bind-call+bind-fold+bind-iter+bind-let_in+bind-quantified+bind-seek+lazy-conditional+lazy-connective+lazy-right+walk-below+walk-binary+walk-coll+walk-node+walk-unary+walk-word.Lts-walk-coll as lts
+use Rattle.evaluation.proofs.+bind-call+bind-fold+bind-iter+bind-let_in+bind-quantified+bind-seek+lazy-conditional+lazy-connective+lazy-right+walk-below+walk-binary+walk-coll+walk-node+walk-unary+walk-word.Proof.Base.{below-below, coll-at}
+
+module _ (t : ℕ) where
+  abbrev calls : lts.Claims
+  calls = (node-word-reads.Asked, node-word-reads.Learnt, wide-reads.Asked, wide-reads.Learnt, below-below t, below.Post, assemble-reads.Asked, assemble-reads.Learnt, formed-reads.Asked, formed-reads.Learnt)
+
+  abbrev Inv : lts.InvT-loop
+  Inv tables st nodes n form env stack₀ sp left steps count end₀ s₀ k₀ stack end s k = Gathering (ReadsWorld st tables nodes) nodes n (kindOf form) env sp left count stack₀ stack s₀ s end k
+
+  abbrev μ : lts.MeasureT-loop
+  μ tables st nodes n form env stack₀ sp left steps count end₀ s₀ k₀ stack end s k = count - k
+
+  node-word-requires : lts.Need-node-word-requires calls (coll-at t) coll.Post Inv μ
+  node-word-requires c κs = search needs
+
+  wide-requires : lts.Need-wide-requires calls (coll-at t) coll.Post Inv μ
+  wide-requires c κs = search needs
+
+  returns : lts.Need-returns calls (coll-at t) coll.Post Inv μ
+  returns c = assemble-over _ _ _ (c .before .wide .ensures ∙ c .before .before .node-word .ensures) (c .if1 .taken)
+
+  loop-holds : lts.Need-loop-holds calls (coll-at t) coll.Post Inv μ
+  loop-holds c = gather-starts
+
+  add-below : lts.Need-add-below calls (coll-at t) coll.Post Inv μ
+  add-below c = search needs
+
+  below-requires : lts.Need-below-requires calls (coll-at t) coll.Post Inv μ
+  below-requires c κs = omega (arith, c .before .before .before .before .before .before .before .before .before .pre .0, c .before .before .before .before .before .before .before .before .before .pre .1 .0, c .before .before .loop .inv .long, c .before .before .loop .inv .near, c .before .loop-test .taken, c .before .before .before .if1 .left, c .before .before .before .before .before .before .before .before .before .pre .1 .1 .2 .members (omega (arith, c .before .before .before .before .wide .ensures, c .before .before .before .before .before .node-word .ensures, c .before .before .before .if1 .left)) (c .before .before .loop .k) (omega (arith, c .before .before .before .before .wide .ensures, c .before .before .before .before .before .node-word .ensures, c .before .loop-test .taken)))
+
+  enum-known-member : lts.Need-enum-known-member calls (coll-at t) coll.Post Inv μ
+  enum-known-member c = search needs
+
+  same-length : lts.Need-same-length calls (coll-at t) coll.Post Inv μ
+  same-length c = (c .before .before .before .below .kept .1 .1 .1 .1 .1 .1 .0) ∙ c .before .before .before .before .before .before .loop .inv .long
+
+  returns-2 : lts.Need-returns-2 calls (coll-at t) coll.Post Inv μ
+  returns-2 c = assemble-early _ _ _ (c .before .before .before .before .before .before .before .before .wide .ensures ∙ c .before .before .before .before .before .before .before .before .before .node-word .ensures) (c .before .before .before .before .before .before .before .if1 .left) (c .before .before .before .before .before .before .loop .inv) (c .before .before .before .before .before .loop-test .taken) (c .before .before .before .below .ensures) (c .match .keys2)
+
+  add-end : lts.Need-add-end calls (coll-at t) coll.Post Inv μ
+  add-end c = omega (arith, bounds (c .before .before .before .before .before .below .ensures .small) (c .before .member .given .1), c .before .before .before .before .before .before .before .before .loop .inv .room, c .before .before .before .before .before .before .before .before .before .before .before .before .before .before .before .pre .1 .0)
+
+  add-k : lts.Need-add-k calls (coll-at t) coll.Post Inv μ
+  add-k c = search needs
+
+  loop-less : lts.Need-loop-less calls (coll-at t) coll.Post Inv μ
+  loop-less c = omega (arith, c .before .before .before .before .before .before .before .loop-test .taken)
+
+  loop-again : lts.Need-loop-again calls (coll-at t) coll.Post Inv μ
+  loop-again c = assemble-again _ _ _ (c .before .before .before .before .before .before .before .before .before .before .wide .ensures ∙ c .before .before .before .before .before .before .before .before .before .before .before .node-word .ensures) (c .before .before .before .before .before .before .before .before .before .if1 .left) (c .before .before .before .before .before .before .before .before .loop .inv) (c .before .before .before .before .before .before .before .loop-test .taken) (c .before .before .before .before .before .below .ensures) (c .before .member .given .1) (c .before .before .before .before .before .below .kept .1 .1 .1 .1 .1 .1 .0) (omega (arith, some-level (operandTree (c .before .before .before .before .before .before .before .before .before .before .before .before .before .before .before .args .nodes .now) (c .before .before .before .before .before .before .before .before .before .before .before .before .before .before .before .args .n) (c .before .before .before .before .before .before .before .before .loop .k + 1)), c .before .before .before .before .before .before .before .before .before .before .before .before .before .before .before .pre .1 .1 .2 .members (omega (arith, c .before .before .before .before .before .before .before .before .before .before .wide .ensures, c .before .before .before .before .before .before .before .before .before .before .before .node-word .ensures, c .before .before .before .before .before .before .before .before .before .if1 .left)) (c .before .before .before .before .before .before .before .before .loop .k) (omega (arith, c .before .before .before .before .before .before .before .before .before .before .wide .ensures, c .before .before .before .before .before .before .before .before .before .before .before .node-word .ensures, c .before .before .before .before .before .before .before .loop-test .taken)))) (omega (arith, c .before .before .before .before .before .before .before .before .loop .inv .long, c .before .before .before .before .before .before .before .before .loop .inv .room, c .before .before .before .before .before .before .before .before .before .before .before .before .before .before .before .pre .1 .0, (c .before .before .before .before .before .below .kept .1 .1 .1 .1 .1 .1 .0)))
+
+  sub-assemble : lts.Need-sub-assemble calls (coll-at t) coll.Post Inv μ
+  sub-assemble c = search needs
+
+  assemble-requires : lts.Need-assemble-requires calls (coll-at t) coll.Post Inv μ
+  assemble-requires c κs = omega (arith, c .before .before .loop .inv .long, c .before .before .loop .inv .room, c .before .before .loop .inv .up, c .before .before .before .before .before .before .before .before .before .pre .1 .0, c .before .before .before .before .before .before .before .before .before .pre .1 .1 .0, c .before .before .before .before .before .before .before .before .before .pre .1 .1 .1)
+
+  formed-requires : lts.Need-formed-requires calls (coll-at t) coll.Post Inv μ
+  formed-requires c κs = search needs
+
+  same-length-2 : lts.Need-same-length-2 calls (coll-at t) coll.Post Inv μ
+  same-length-2 c = c .before .before .before .assemble .kept .0 ∙ c .before .before .before .before .before .before .loop .inv .long
+
+  returns-3 : lts.Need-returns-3 calls (coll-at t) coll.Post Inv μ
+  returns-3 c = assemble-done _ _ _ (c .before .before .before .before .before .before .before .before .wide .ensures ∙ c .before .before .before .before .before .before .before .before .before .node-word .ensures) (c .before .before .before .before .before .before .before .if1 .left) (c .before .before .before .before .before .before .loop .inv) _ (c .before .before .before .before .before .loop-test .left) (kind-number (c .before .before .before .before .before .before .before .before .before .before .before .before .before .args .form) (c .before .before .before .before .before .before .before .before .before .before .before .before .before .pre .1 .1 .0) (c .before .before .before .before .before .before .before .before .before .before .before .before .before .pre .1 .1 .1)) (omega (arith, c .before .before .before .before .before .before .loop .inv .long, c .before .before .before .before .before .before .before .before .before .before .before .before .before .pre .1 .0)) (c .before .before .before .assemble .ensures) (c .formed .ensures)
+
+  pub closed : {M : Type 1} → lts.Closed calls (coll-at t) coll.Post M
+  closed = lts.spec calls (coll-at t) coll.Post Inv μ node-word-requires wide-requires returns loop-holds add-below below-requires enum-known-member same-length returns-2 add-end add-k loop-less loop-again sub-assemble assemble-requires formed-requires same-length-2 returns-3

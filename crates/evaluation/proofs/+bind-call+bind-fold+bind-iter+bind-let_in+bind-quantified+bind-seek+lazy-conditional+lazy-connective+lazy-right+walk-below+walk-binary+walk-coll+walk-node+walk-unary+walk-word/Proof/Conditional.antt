@@ -1,0 +1,61 @@
+-- The needs of `conditional`.
+use Rattle.evaluation.proofs.FormLaws.{conditional-first, conditional-stuck, conditional-then, conditional-else}
+use Prim.Native.Nat.{ℕ}
+use borrow.Author.Needs.{needs}
+use Rattle.evaluation.proofs.walk.below.Reads as below
+use Rattle.evaluation.proofs.lazy.conditional.Reads as conditional
+use Rattle.operations.proofs.answers.truth.Reads as truth-reads
+use Rattle.evaluation.proofs.+bind-call+bind-fold+bind-iter+bind-let_in+bind-quantified+bind-seek+lazy-conditional+lazy-connective+lazy-right+walk-below+walk-binary+walk-coll+walk-node+walk-unary+walk-word.Lts-lazy-conditional as lts
+use Rattle.evaluation.proofs.+bind-call+bind-fold+bind-iter+bind-let_in+bind-quantified+bind-seek+lazy-conditional+lazy-connective+lazy-right+walk-below+walk-binary+walk-coll+walk-node+walk-unary+walk-word.Proof.Base.{below-below, conditional-at}
+
+module _ (t : ℕ) where
+  abbrev calls : lts.Claims
+  calls = (below-below t, below.Post, truth-reads.Asked, truth-reads.Learnt)
+
+  below-requires : lts.Need-below-requires calls (conditional-at t) conditional.Post
+  below-requires c κs = search needs
+
+  enum-known-first : lts.Need-enum-known-first calls (conditional-at t) conditional.Post
+  enum-known-first c = search needs
+
+  same-length : lts.Need-same-length calls (conditional-at t) conditional.Post
+  same-length c = search needs
+
+  returns : lts.Need-returns calls (conditional-at t) conditional.Post
+  returns c = conditional-first _ _ (c .before .before .before .below .ensures) (c .match .keys2)
+
+  mul-truth : lts.Need-mul-truth calls (conditional-at t) conditional.Post
+  mul-truth c = search needs
+
+  slice-read-truth : lts.Need-slice-read-truth calls (conditional-at t) conditional.Post
+  slice-read-truth c = search needs
+
+  truth-requires : lts.Need-truth-requires calls (conditional-at t) conditional.Post
+  truth-requires c κs = search needs
+
+  below-requires-2 : lts.Need-below-requires-2 calls (conditional-at t) conditional.Post
+  below-requires-2 c κs = search needs
+
+  same-length-2 : lts.Need-same-length-2 calls (conditional-at t) conditional.Post
+  same-length-2 c = search needs
+
+  returns-2 : lts.Need-returns-2 calls (conditional-at t) conditional.Post
+  returns-2 c = conditional-then _ _ (c .before .before .before .before .before .before .before .before .before .before .before .before .below .ensures) (c .before .before .before .before .before .before .before .before .first .given .1) (c .before .before .before .before .before .truth .ensures) (c .before .before .before .before .if1 .taken) (c .before .before .below2 .ensures)
+
+  below-requires-3 : lts.Need-below-requires-3 calls (conditional-at t) conditional.Post
+  below-requires-3 c κs = search needs
+
+  same-length-3 : lts.Need-same-length-3 calls (conditional-at t) conditional.Post
+  same-length-3 c = search needs
+
+  returns-3 : lts.Need-returns-3 calls (conditional-at t) conditional.Post
+  returns-3 c = conditional-else _ _ (c .before .before .before .before .before .before .before .before .before .before .before .before .before .below .ensures) (c .before .before .before .before .before .before .before .before .before .first .given .1) (c .before .before .before .before .before .before .truth .ensures) (c .before .before .before .before .if2 .taken) (c .before .before .below3 .ensures)
+
+  same-length-4 : lts.Need-same-length-4 calls (conditional-at t) conditional.Post
+  same-length-4 c = search needs
+
+  returns-4 : lts.Need-returns-4 calls (conditional-at t) conditional.Post
+  returns-4 c = conditional-stuck _ _ (c .before .before .before .before .before .before .before .before .before .below .ensures) (c .before .before .before .before .before .first .given .1) (c .before .before .truth .ensures) (c .before .if1 .left) (c .if2 .left)
+
+  pub closed : {M : Type 1} → lts.Closed calls (conditional-at t) conditional.Post M
+  closed = lts.spec calls (conditional-at t) conditional.Post below-requires enum-known-first same-length returns mul-truth slice-read-truth truth-requires below-requires-2 same-length-2 returns-2 below-requires-3 same-length-3 returns-3 same-length-4 returns-4

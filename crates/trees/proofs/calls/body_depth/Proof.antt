@@ -1,0 +1,47 @@
+-- `body_depth` meets its contract.
+use native.Mathlib.Omega.{arith}
+use Rattle.trees.proofs.CallLaws.{depth-none, depth-far, depth-is}
+use borrow.Author.Needs.{needs}
+use Rattle.trees.proofs.calls.body_depth.Statement.{statement}
+use Rattle.trees.proofs.calls.body_depth.Tie as tie
+
+is-call-requires : tie.Need-is-call-requires
+is-call-requires c κs = search needs
+
+returns : tie.Need-returns
+returns c = depth-none _ _ (c .before .is-call .ensures) _ (c .if1 .taken)
+
+array-read-root : tie.Need-array-read-root
+array-read-root c = search needs
+
+returns-2 : tie.Need-returns-2
+returns-2 c = depth-far _ _ (c .before .before .is-call .ensures) _ (c .before .if1 .left) (c .if2 .taken)
+
+add-h : tie.Need-add-h
+add-h c = search needs
+
+mul-h : tie.Need-mul-h
+mul-h c = search needs
+
+shared-slice-read-h : tie.Need-shared-slice-read-h
+shared-slice-read-h c = search needs
+
+returns-3 : tie.Need-returns-3
+returns-3 c = depth-is _ _ (c .before .before .before .before .is-call .ensures) _ (c .before .before .before .if1 .left) (c .before .before .if2 .left) (omega arith)
+
+returns-4 : tie.Need-returns-4
+returns-4 c = depth-is _ _ (c .before .before .before .before .is-call .ensures) _ (c .before .before .before .if1 .left) (c .before .before .if2 .left) (omega arith)
+
+pub body-depth-spec : {M : Type 1} → statement M
+body-depth-spec =
+    tie.close
+    (tie.spec
+    is-call-requires
+    returns
+    array-read-root
+    returns-2
+    add-h
+    mul-h
+    shared-slice-read-h
+    returns-3
+    returns-4)

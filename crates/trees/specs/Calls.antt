@@ -1,0 +1,52 @@
+-- A call's words: the line gives the definition's number, the tables the rest.
+use mathlib.Core.Bool.{Bool, _&&_}
+use mathlib.Core.List.{List, [], _∷_}
+use Prim.Native.Nat.{ℕ, suc, _+_, _/_, min}
+use lib.ListN.{getD}
+use lib.Dec.{eqb, ltb}
+use Rattle.laws.specs.Choice.{if_then_else_}
+use Rattle.sheet.specs.Lines.{Shape, leaf, unary, binary, connective, isUndef, conditional, letIn, attribute, call, quantified, iterate, assemble}
+use Rattle.nodes.specs.Nodes.{Called}
+
+-- the definition that a form calls, by what g says of its number, where nothing calls definition 0
+unfoldable pub calledBy : (ℕ → Called) → Shape → Called
+calledBy g (leaf l) = g 0
+calledBy g (unary op a) = g 0
+calledBy g (binary op a b) = g 0
+calledBy g (connective c a b) = g 0
+calledBy g (isUndef a) = g 0
+calledBy g (conditional c a b) = g 0
+calledBy g (letIn i a b) = g 0
+calledBy g (attribute x name a) = g 0
+calledBy g (call a n) = g n
+calledBy g (quantified q i a b) = g 0
+calledBy g (iterate i j t a e b) = g 0
+calledBy g (assemble k es) = g 0
+
+-- a line knows the number alone
+abbrev pub byNumber : ℕ → Called
+byNumber n = record { root = n; context = 0; type = 0 }
+
+-- words with the code of `call`, and its one operand
+unfoldable pub isCall : List ℕ → ℕ → Bool
+isCall words count = eqb count 1 && eqb (getD words 0 0) 36
+
+-- how many definitions there must be for the one that is called
+unfoldable pub callsIn : List ℕ → ℕ → ℕ
+callsIn words count = if isCall words count then suc (getD words 2 0) else 0
+
+-- definition n in the tables
+abbrev pub calledAt : List ℕ → ℕ → Called
+calledAt w0 n = record { root = getD w0 (4640 + n) 0; context = getD w0 (4576 + n) 0; type = getD w0 (4608 + n) 0 }
+
+-- a call with its definition's root, class and type in the number's place
+unfoldable pub resolvedIn : List ℕ → List ℕ → ℕ → List ℕ
+resolvedIn w0 words count =
+    if isCall words count
+    then 36 ∷ getD words 1 0 ∷ getD w0 (4640 + getD words 2 0) 0 ∷ getD w0 (4576 + getD words 2 0) 0 ∷ getD w0 (4608 + getD words 2 0) 0 ∷ 0 ∷ 0 ∷ getD words 7 0 ∷ []
+    else words
+
+-- the depth of the body that a call's words name, 0 where there is none
+unfoldable pub bodyDepth : List ℕ → List ℕ → ℕ → ℕ
+bodyDepth w1 words count =
+    if isCall words count && ltb (getD words 2 0) 768 then min (getD w1 (6912 + getD words 2 0) 0 / 2) 1000 else 0
