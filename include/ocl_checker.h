@@ -82,7 +82,7 @@ enum ocl_number {
  * `S(#2)`, with a line feed at the end of each. A sheet is accepted only if all its definitions and rules type. The other two
  * read and type it too, and refuse it with the same number and place.
  */
-ocl_answer ocl_read_types(
+ocl_answer ocl_read_sheet(
     const uint8_t *text, size_t text_length,
     uint64_t *words0, size_t words0_length,
     uint64_t *words1, size_t words1_length,

@@ -34,7 +34,7 @@ static ocl_answer call(enum call which, const void *text, size_t text_length)
     }
     switch (which) {
     case READ:
-        return ocl_read_types(text, text_length, w[0], lengths[0], w[1], lengths[1], w[2], lengths[2], out, room);
+        return ocl_read_sheet(text, text_length, w[0], lengths[0], w[1], lengths[1], w[2], lengths[2], out, room);
     case EVALUATE:
         return ocl_evaluate_rule(
             text, text_length, 0, 0, w[0], lengths[0], w[1], lengths[1], w[2], lengths[2], out, room);

@@ -41,7 +41,7 @@ static void run(void)
     frame = (uintptr_t)__builtin_frame_address(0);
     switch (which) {
     case READ:
-        answer = ocl_read_types(TEXT, WORDS, OUTPUT);
+        answer = ocl_read_sheet(TEXT, WORDS, OUTPUT);
         break;
     case EVALUATE:
         answer = ocl_evaluate_rule(TEXT, rule, object, WORDS, OUTPUT);

@@ -118,7 +118,7 @@ int main(int argc, char **argv)
         perror(argv[1]);
         return 2;
     }
-    ocl_answer answer = ocl_read_types(TEXT, WORDS, types, sizeof types);
+    ocl_answer answer = ocl_read_sheet(TEXT, WORDS, types, sizeof types);
     if (answer.number != OCL_ANSWERED) {
         print_refusal(answer);
         return 1;

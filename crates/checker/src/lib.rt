@@ -15,7 +15,7 @@ use rules::all::accept;
 use tables::Counts;
 
 pub mod evaluate_call; // ocl_evaluate_rule
-pub mod read_call; // ocl_read_types
+pub mod read_call; // ocl_read_sheet
 pub mod report_call; // ocl_report
 
 // What a call returns: 0 or a refusal's number, the steps of an evaluation, a line number, and the bytes written.

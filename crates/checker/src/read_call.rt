@@ -53,7 +53,7 @@ fn read_answer(
 // Reads a sheet and types all its rules in order: 0 with one type a line in out, else a refusal, which leaves out as it is. Each
 // word slice has at least 8,192 words, out at least 2,048 bytes.
 #[no_mangle]
-pub extern "C" fn ocl_read_types(
+pub extern "C" fn ocl_read_sheet(
     text: &[u8],
     w0: &mut [u64],
     w1: &mut [u64],

@@ -24,7 +24,7 @@ pub type Words<'w> = [&'w mut [u64]; 3];
 
 // A slice is a pointer and a length in elements.
 extern "C" {
-    fn ocl_read_types(
+    fn ocl_read_sheet(
         text: *const u8,
         text_length: usize,
         words0: *mut u64,
@@ -93,7 +93,7 @@ macro_rules! call {
 
 /// Reads a sheet, types all its rules and writes the types, one a line.
 pub fn read_types(text: &[u8], words: Words, output: &mut [u8]) -> Answer {
-    call!(ocl_read_types, text, [], words, output)
+    call!(ocl_read_sheet, text, [], words, output)
 }
 
 /// Reads and types, evaluates a rule for an object and writes its value.

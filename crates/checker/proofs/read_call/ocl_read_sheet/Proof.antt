@@ -1,10 +1,10 @@
--- `ocl_read_types` meets its contract. Assumes nothing.
+-- `ocl_read_sheet` meets its contract. Assumes nothing.
 use borrow.Author.Needs.{needs}
 use Rattle.sheet.specs.Calls.{readCall}
 use Rattle.checker.proofs.Answers.{all-lent, still-long, short-call, long-call}
 use Rattle.checker.proofs.ReadCalls.{read-number}
-use Rattle.checker.proofs.read_call.ocl_read_types.Statement.{statement}
-use Rattle.checker.proofs.read_call.ocl_read_types.Tie as tie
+use Rattle.checker.proofs.read_call.ocl_read_sheet.Statement.{statement}
+use Rattle.checker.proofs.read_call.ocl_read_sheet.Tie as tie
 
 short-lent-requires : tie.Need-short-lent-requires
 short-lent-requires c κs = search needs
@@ -50,8 +50,8 @@ returns-2 : tie.Need-returns-2
 unfolding readCall
 returns-2 c = search (long-call, read-number)
 
-pub ocl-read-types-spec : {M : Type 1} → statement M
-ocl-read-types-spec =
+pub ocl-read-sheet-spec : {M : Type 1} → statement M
+ocl-read-sheet-spec =
     tie.close
     (tie.spec
     short-lent-requires
