@@ -15,7 +15,8 @@
  *
  * Each is a pointer and a length, counted in elements: bytes of the text and the output, words of the rest. A pointer leads
  * to that many elements and is aligned for them. It may be null only where its length is 0. No slice overlaps another one.
- * While the call runs nothing else writes to any of them, or reads the words and the output.
+ * While the call runs nothing else writes to any of them, or reads the words and the output. Floating point is in the state in
+ * which a program starts: it rounds to nearest and keeps subnormal numbers.
  *
  * What the memory holds afterwards:
  *
@@ -38,7 +39,7 @@ extern "C" {
 #endif
 
 #define OCL_LEAST_WORDS 8192    /* the fewest words of each word slice */
-#define OCL_LEAST_OUTPUT 2048   /* the fewest bytes of an output: every value, and the types of all rules, fit */
+#define OCL_LEAST_OUTPUT 2560   /* the fewest bytes of an output: every value, and the types of all rules, fit */
 #define OCL_LONGEST_TEXT 49152  /* the most bytes of a sheet */
 #define OCL_REPORT_OUTPUT 65536 /* the bytes that the program ocl_report lends for a report */
 #define OCL_MOST_STEPS 1000000  /* the most steps of an evaluation */
@@ -72,7 +73,7 @@ enum ocl_number {
     OCL_STEP_STOP = 16,          /* stopped: over OCL_MOST_STEPS steps are due (E, with the steps) */
     OCL_SIZE_STOP = 17,          /* stopped: a value of a size over 128 would be formed (E, with the steps) */
     OCL_REPORT_TOO_LONG = 18,    /* the output is too short for the report (P) */
-    OCL_OVER_RANGE = 19,         /* stopped: an exact result leaves the Integer range (E, with the steps) */
+    OCL_OVER_RANGE = 19,         /* stopped: a result of Integers leaves their range, or one of Reals is infinite (E, with the steps) */
     OCL_CALL_UPWARD = 23,        /* a definition calls itself or a larger one (REP, place) */
     OCL_UNKNOWN_DEFINITION = 24  /* a rule calls a definition that the sheet does not have (REP, place) */
 };
@@ -91,8 +92,8 @@ ocl_answer ocl_read_sheet(
 
 /*
  * Evaluates a rule for an object, both counted from 0 as on the sheet, and writes the value, as `t` or `S(@1,@4)`; `u` is
- * undefined. The sheet is read and typed first: one with a rule or a definition that has no type is refused, whichever rule is
- * asked for.
+ * undefined. A number that is no Integer is written as `r` and the 16 hexadecimal digits of its binary64 bits. The sheet is
+ * read and typed first: one with a rule or a definition that has no type is refused, whichever rule is asked for.
  */
 ocl_answer ocl_evaluate_rule(
     const uint8_t *text, size_t text_length,

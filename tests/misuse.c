@@ -92,6 +92,9 @@ int main(void)
     static const char upward[] = "C\t0\t-\nD\t0\t0\tBool\nN\t0\tself\nN\t1\tcall\t0\t0\n";
     static const char unknown[] = "C\t0\t-\nR\t0\t0\nN\t0\tself\nN\t1\tcall\t0\t0\n";
     static const char body[] = "C\t0\t-\nO\t0\t0\nD\t0\t0\tBool\nN\t0\tself\nR\t0\t0\nN\t0\ttrue\n";
+    static const char real[] = "C\t0\t-\nO\t0\t0\nR\t0\t0\nN\t0\tint\t3\nN\t1\tint\t2\nN\t2\tover\t0\t1\n";
+    static const char whole[] = "C\t0\t-\nR\t0\t0\nN\t0\treal\tr3ff0000000000000\n";
+    static const char infinity[] = "C\t0\t-\nR\t0\t0\nN\t0\treal\tr7ff0000000000000\n";
     static const uint8_t longer[OCL_LONGEST_TEXT + 1];
     static const size_t little[] = {0, 1, OCL_LEAST_WORDS - 1};
     const size_t most = OCL_LEAST_WORDS, sheet_length = sizeof sheet - 1;
@@ -114,10 +117,14 @@ int main(void)
         expect(which, sheet, sheet_length, OCL_SHORT_SLICE, "");
         lend(most, most, most, OCL_LEAST_OUTPUT - 1);
         expect(which, sheet, sheet_length, OCL_SHORT_SLICE, "");
+        /* enough for the longest value, and still too little */
+        lend(most, most, most, 2288);
+        expect(which, sheet, sheet_length, OCL_SHORT_SLICE, "");
     }
     for (enum call which = READ; which <= REPORT; which++) {
         static const char *const written[] = {"Bool\n", "t", "0 0 t 1\n"};
         static const char *const of_call[] = {"Bool\n", "t", "0 0 t 3\n"};
+        static const char *const of_real[] = {"Real\n", "r3ff8000000000000", "0 0 r3ff8000000000000 3\n"};
         lend(most, most, most, OCL_LEAST_OUTPUT);
         expect(which, sheet, sheet_length, OCL_ANSWERED, written[which]);
         expect(which, bad, sizeof bad - 1, OCL_UNKNOWN_REFERENCE, "");
@@ -128,6 +135,9 @@ int main(void)
         expect(which, upward, sizeof upward - 1, OCL_CALL_UPWARD, "");
         expect(which, unknown, sizeof unknown - 1, OCL_UNKNOWN_DEFINITION, "");
         expect(which, body, sizeof body - 1, OCL_WRONG_OPERAND_TYPE, "");
+        expect(which, real, sizeof real - 1, OCL_ANSWERED, of_real[which]);
+        expect(which, whole, sizeof whole - 1, OCL_BAD_LINE, "");
+        expect(which, infinity, sizeof infinity - 1, OCL_OUT_OF_LIMITS, "");
         expect(which, longer, sizeof longer, OCL_SHEET_TOO_LONG, "");
         /* the text of no bytes is a sheet without rules */
         expect(which, NULL, 0, which == EVALUATE ? OCL_NOT_FOUND : OCL_ANSWERED, "");

@@ -11,7 +11,7 @@ use crate::typing::type_rules;
 
 pub const LONGEST_SHEET: usize = 49_152;
 pub const LEAST_WORDS: usize = 8_192;
-pub const LEAST_OUTPUT: usize = 2_048;
+pub const LEAST_OUTPUT: usize = 2_560;
 /// The output bytes the program lends.
 pub const PROGRAM_OUTPUT: usize = 65_536;
 

@@ -1,6 +1,9 @@
-//! The evaluation of a rule. It reads no types, only the rows typing marked.
+//! The evaluation of a rule. It reads no types, only what typing marked.
+
+mod arithmetic;
 
 use crate::model::{Definition, Model, Rule, Sheet};
+use crate::numbers::Number;
 use crate::tree::{Form, Node};
 use crate::types::Kind;
 use crate::values::{Collection, Value};
@@ -43,6 +46,11 @@ struct Evaluation<'m> {
 
 /// What a rule ends with for an object (`None` is undefined), and the steps begun.
 pub fn evaluate(sheet: &Sheet, rule: &Rule, object: u8) -> (Result<Option<Value>, Stop>, u64) {
+    evaluate_node(sheet, &rule.root, object)
+}
+
+/// The same of a node below which no variable is read that is bound above it.
+pub fn evaluate_node(sheet: &Sheet, root: &Node, object: u8) -> (Result<Option<Value>, Stop>, u64) {
     let mut evaluation = Evaluation {
         model: &sheet.model,
         definitions: &sheet.definitions,
@@ -50,7 +58,7 @@ pub fn evaluate(sheet: &Sheet, rule: &Rule, object: u8) -> (Result<Option<Value>
         steps: 0,
         environment: Default::default(),
     };
-    let outcome = match evaluation.node(&rule.root) {
+    let outcome = match evaluation.node(root) {
         Ok(value) => Ok(Some(value)),
         Err(End::Undefined) => Ok(None),
         Err(End::Stop(stop)) => Err(stop),
@@ -69,7 +77,8 @@ impl Evaluation<'_> {
             Form::True => Ok(Value::Bool(true)),
             Form::False => Ok(Value::Bool(false)),
             Form::Undef => Err(End::Undefined),
-            Form::Int(number) => Ok(Value::Int(*number)),
+            Form::Int(number) => Ok(integer(*number)),
+            Form::Real(number) => Ok(Value::Number(*number)),
             Form::SelfObject => Ok(Value::Object(self.object)),
             Form::Var(variable) => {
                 let bound = &self.environment[usize::from(*variable)];
@@ -101,16 +110,13 @@ impl Evaluation<'_> {
                 let right = self.node(&operands[1])?;
                 Ok(Value::Bool(left == right))
             }
-            Form::Less => {
-                let left = self.integer(&operands[0])?;
-                let right = self.integer(&operands[1])?;
-                Ok(Value::Bool(left < right))
-            }
-            Form::Plus => self.arithmetic(operands, |a, b| Some(a + b)),
-            Form::Minus => self.arithmetic(operands, |a, b| Some(a - b)),
-            Form::Times => self.arithmetic(operands, |a, b| Some(a * b)),
-            Form::Div => self.arithmetic(operands, i64::checked_div),
-            Form::Mod => self.arithmetic(operands, i64::checked_rem),
+            Form::Less(_)
+            | Form::Plus(_)
+            | Form::Minus(_)
+            | Form::Times(_)
+            | Form::Div
+            | Form::Mod
+            | Form::Over => self.arithmetic(&node.form, operands),
             Form::Attr { row, .. } => {
                 let row = row.expect("typing marks the row of every attr");
                 let value = self.node(&operands[0])?;
@@ -141,7 +147,7 @@ impl Evaluation<'_> {
             },
             Form::Size => {
                 let source = self.collection(&operands[0])?;
-                Ok(Value::Int(source.members.len() as i32))
+                Ok(integer(source.members.len() as i32))
             }
             Form::Includes => {
                 let source = self.collection(&operands[0])?;
@@ -248,16 +254,6 @@ impl Evaluation<'_> {
         Ok(Value::Bool(!deciding))
     }
 
-    /// No operation on two Integers of 32 bits overflows 64: only a zero divisor
-    /// gives none, and an exact result that leaves the range is a stop.
-    fn arithmetic(&mut self, operands: &[Node], operation: fn(i64, i64) -> Option<i64>) -> Outcome {
-        let left = i64::from(self.integer(&operands[0])?);
-        let right = i64::from(self.integer(&operands[1])?);
-        let exact = operation(left, right).ok_or(End::Undefined)?;
-        let within = i32::try_from(exact).map_err(|_| End::Stop(Stop::Range))?;
-        Ok(Value::Int(within))
-    }
-
     /// The value of a row for an object of the row's class or below.
     fn in_row(&self, row: u8, value: &Value) -> Result<Option<Value>, End> {
         let class = self.model.rows[usize::from(row)].class;
@@ -273,19 +269,16 @@ impl Evaluation<'_> {
         truth(self.node(node)?)
     }
 
-    fn integer(&mut self, node: &Node) -> Result<i32, End> {
-        match self.node(node)? {
-            Value::Int(number) => Ok(number),
-            _ => Err(STUCK),
-        }
-    }
-
     fn collection(&mut self, node: &Node) -> Result<Rc<Collection>, End> {
         match self.node(node)? {
             Value::Collection(collection) => Ok(collection),
             _ => Err(STUCK),
         }
     }
+}
+
+fn integer(integer: i32) -> Value {
+    Value::Number(Number::from(integer))
 }
 
 fn truth(value: Value) -> Result<bool, End> {

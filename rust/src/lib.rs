@@ -1,12 +1,14 @@
 //! An independent second evaluator for the job sheet's rule checker, written
 //! from documents 01 and 02 alone: the yardstick the product is compared with.
 
+pub mod binary64;
 pub mod calls;
 pub mod eval;
 pub mod generate;
 pub mod harness;
 pub mod load;
 pub mod model;
+pub mod numbers;
 pub mod read;
 pub mod refusal;
 pub mod report;

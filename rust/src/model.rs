@@ -74,7 +74,8 @@ impl Model {
     pub fn belongs(&self, value: &Value, ty: &Type) -> bool {
         match (value, ty) {
             (Value::Bool(_), Type::Bool | Type::Any) => true,
-            (Value::Int(_), Type::Int | Type::Any) => true,
+            (Value::Number(number), Type::Int) => number.integer().is_some(),
+            (Value::Number(_), Type::Real | Type::Any) => true,
             (Value::Object(_), Type::Any) => true,
             (Value::Object(object), Type::Class(class)) => self.is_of(*object, *class),
             (Value::Collection(collection), Type::Of(kind, member)) => {

@@ -1,9 +1,9 @@
 //! How often the generated sheets reach each refusal, form, outcome and value kind.
 
-use crate::calls::{Answer, LEAST_WORDS, LONGEST_SHEET};
+use crate::calls::LONGEST_SHEET;
 use crate::eval::{evaluate, Stop};
-use crate::generate::{asks, sheet, Ask};
-use crate::harness::second;
+use crate::generate::{asks, sheet};
+use crate::harness::answer;
 use crate::harness::tally::NUMBERS;
 use crate::read::read;
 use crate::tree::Node;
@@ -13,11 +13,12 @@ use crate::values::Value;
 use std::collections::BTreeMap;
 use std::fmt;
 
-const FORMS: [&str; 35] = [
+const FORMS: [&str; 37] = [
     "true",
     "false",
     "undef",
     "int",
+    "real",
     "self",
     "var",
     "coll",
@@ -34,6 +35,7 @@ const FORMS: [&str; 35] = [
     "times",
     "div",
     "mod",
+    "over",
     "attr",
     "collect",
     "all",
@@ -51,7 +53,9 @@ const FORMS: [&str; 35] = [
     "call",
 ];
 const OUTCOMES: [&str; 6] = ["value", "undefined", "16", "17", "19", "stuck"];
-const KINDS: [&str; 7] = ["f", "t", "Integer", "object", "Set", "Sequence", "Bag"];
+const KINDS: [&str; 8] = [
+    "f", "t", "Integer", "Real", "object", "Set", "Sequence", "Bag",
+];
 
 /// The objects evaluated for each rule, so that large sheets do not take all the time.
 const OBJECTS: usize = 4;
@@ -135,19 +139,12 @@ impl Statistics {
     }
 }
 
-/// The second evaluator's answer, what it writes left aside.
-fn answer(text: &[u8], ask: Ask) -> Answer {
-    let mut slices: [Vec<u64>; 3] = ask.words.map(|length| vec![0; length.min(LEAST_WORDS)]);
-    let words = slices.each_mut().map(Vec::as_mut_slice);
-    let mut out = vec![0; ask.out];
-    second(ask.call, text, words, &mut out)
-}
-
 fn kind(value: &Value) -> &'static str {
     match value {
         Value::Bool(false) => "f",
         Value::Bool(true) => "t",
-        Value::Int(_) => "Integer",
+        Value::Number(number) if number.integer().is_some() => "Integer",
+        Value::Number(_) => "Real",
         Value::Object(_) => "object",
         Value::Collection(collection) => match collection.kind {
             Kind::Set => "Set",

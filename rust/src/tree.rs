@@ -1,10 +1,19 @@
 //! The nodes of a rule or of a definition's body, as a tree that owns its operands.
 
+use crate::binary64::Operation;
 use crate::model::Definition;
+use crate::numbers::Number;
 use crate::types::{Kind, Type};
 
 /// The greatest depth of a rule and of a body, the root being depth 1.
 pub const DEEPEST_RULE: usize = 19;
+
+/// The numbers a node computes with: Integers alone, or both kinds widened.
+#[derive(Clone, Copy, PartialEq, Eq, Debug)]
+pub enum Scale {
+    Integers,
+    Reals,
+}
 
 /// What a node does, without its operands.
 #[derive(Clone, PartialEq, Eq, Debug)]
@@ -13,6 +22,7 @@ pub enum Form {
     False,
     Undef,
     Int(i32),
+    Real(Number),
     SelfObject,
     Var(u8),
     Coll(Kind),
@@ -23,12 +33,14 @@ pub enum Form {
     Not,
     IsUndef,
     Eq,
-    Less,
-    Plus,
-    Minus,
-    Times,
+    /// Typing marks these four with the numbers they take.
+    Less(Option<Scale>),
+    Plus(Option<Scale>),
+    Minus(Option<Scale>),
+    Times(Option<Scale>),
     Div,
     Mod,
+    Over,
     /// Typing marks the row that is read.
     Attr {
         name: u8,
@@ -66,6 +78,7 @@ impl Form {
             Form::False => "false",
             Form::Undef => "undef",
             Form::Int(_) => "int",
+            Form::Real(_) => "real",
             Form::SelfObject => "self",
             Form::Var(_) => "var",
             Form::Coll(_) => "coll",
@@ -76,12 +89,13 @@ impl Form {
             Form::Not => "not",
             Form::IsUndef => "isUndef",
             Form::Eq => "eq",
-            Form::Less => "less",
-            Form::Plus => "plus",
-            Form::Minus => "minus",
-            Form::Times => "times",
+            Form::Less(_) => "less",
+            Form::Plus(_) => "plus",
+            Form::Minus(_) => "minus",
+            Form::Times(_) => "times",
             Form::Div => "div",
             Form::Mod => "mod",
+            Form::Over => "over",
             Form::Attr { .. } => "attr",
             Form::Collect { .. } => "collect",
             Form::All(_) => "all",
@@ -97,6 +111,17 @@ impl Form {
             Form::ForAll(_) => "forAll",
             Form::Exists(_) => "exists",
             Form::Call(_) => "call",
+        }
+    }
+
+    /// What it does with Reals, if it computes with them.
+    pub fn operation(&self) -> Option<Operation> {
+        match self {
+            Form::Plus(_) => Some(Operation::Plus),
+            Form::Minus(_) => Some(Operation::Minus),
+            Form::Times(_) => Some(Operation::Times),
+            Form::Over => Some(Operation::Over),
+            _ => None,
         }
     }
 }

@@ -34,6 +34,7 @@ pub enum Type {
     Void,
     Bool,
     Int,
+    Real,
     Any,
     Class(u8),
     /// A Set, Sequence or Bag of the member type.
@@ -71,8 +72,8 @@ impl Type {
         use Type::*;
         match (self, other) {
             (Void, _) => true,
-            (Bool | Int | Class(_) | Any, Any) => true,
-            (Bool, Bool) | (Int, Int) => true,
+            (Bool | Int | Real | Class(_) | Any, Any) => true,
+            (Bool, Bool) | (Int, Int) | (Int | Real, Real) => true,
             (Class(low), Class(high)) => classes.is_below(*low, *high),
             (Of(k, low), Of(l, high)) => k == l && low.is_below(high, classes),
             (Of(_, low) | Collection(low), Collection(high)) => low.is_below(high, classes),
@@ -92,6 +93,7 @@ impl Type {
             (Of(..) | Collection(_), _) | (_, Of(..) | Collection(_)) => return None,
             (Class(left), Class(right)) => classes.common(*left, *right).map_or(Any, Class),
             (left, right) if left == right => left.clone(),
+            (Int, Real) | (Real, Int) => Real,
             _ => Any,
         })
     }
@@ -101,6 +103,7 @@ impl Type {
             Type::Void => return out.extend(b"Void"),
             Type::Bool => return out.extend(b"Bool"),
             Type::Int => return out.extend(b"Int"),
+            Type::Real => return out.extend(b"Real"),
             Type::Any => return out.extend(b"Any"),
             Type::Class(class) => return out.extend(format!("#{class}").as_bytes()),
             Type::Of(kind, member) => (kind.letter(), member),

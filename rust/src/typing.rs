@@ -1,8 +1,9 @@
-//! The types of definitions and rules, and the row each `attr` and `collect` reads.
+//! The types of definitions and rules, the row each `attr` and `collect` reads,
+//! and the numbers that arithmetic and `less` take.
 
 use crate::model::{Definition, Model, Rule, Sheet};
 use crate::refusal::{Refusal, Refused};
-use crate::tree::{Form, Node};
+use crate::tree::{Form, Node, Scale};
 use crate::types::{Kind, Type, DEEPEST};
 
 /// The types of the variables, by number.
@@ -125,6 +126,7 @@ impl<'m> Typing<'m> {
             Form::True | Form::False => Ok(Type::Bool),
             Form::Undef => Ok(Type::Void),
             Form::Int(_) => Ok(Type::Int),
+            Form::Real(_) => Ok(Type::Real),
             Form::SelfObject => Ok(Type::Class(self.context)),
             Form::Var(variable) => {
                 let bound = &self.environment[usize::from(*variable)];
@@ -149,13 +151,25 @@ impl<'m> Typing<'m> {
                 self.common(&types[0], &types[1])?;
                 Ok(Type::Bool)
             }
-            Form::Less => {
-                self.all_below(types, &Type::Int)?;
+            Form::Less(mark) => {
+                *mark = Some(self.scale(types)?);
                 Ok(Type::Bool)
             }
-            Form::Plus | Form::Minus | Form::Times | Form::Div | Form::Mod => {
+            Form::Plus(mark) | Form::Minus(mark) | Form::Times(mark) => {
+                let scale = self.scale(types)?;
+                *mark = Some(scale);
+                Ok(match scale {
+                    Scale::Integers => Type::Int,
+                    Scale::Reals => Type::Real,
+                })
+            }
+            Form::Div | Form::Mod => {
                 self.all_below(types, &Type::Int)?;
                 Ok(Type::Int)
+            }
+            Form::Over => {
+                self.all_below(types, &Type::Real)?;
+                Ok(Type::Real)
             }
             Form::Attr { name, row } => {
                 let (found, ty) = self.row(&types[0], *name)?;
@@ -225,6 +239,15 @@ impl<'m> Typing<'m> {
         };
         let row = self.model.row(*class, name).ok_or(Refusal::NoAttribute)?;
         Ok((row, self.model.rows[usize::from(row)].ty.clone()))
+    }
+
+    /// Integers where both operands are typed below Int, else both kinds.
+    fn scale(&self, types: &[Type]) -> Result<Scale, Refusal> {
+        if self.all_below(types, &Type::Int).is_ok() {
+            return Ok(Scale::Integers);
+        }
+        self.all_below(types, &Type::Real)?;
+        Ok(Scale::Reals)
     }
 
     fn below(&self, low: &Type, high: &Type) -> Result<(), Refusal> {

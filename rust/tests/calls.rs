@@ -172,13 +172,13 @@ fn a_short_slice_goes_before_all_and_leaves_all_untouched() {
         for length in [0, 1, 8_191] {
             let mut lengths = [8_192; 3];
             lengths[slice] = length;
-            let short = lent_with(lengths, 2_048, |words, out| {
+            let short = lent_with(lengths, 2_560, |words, out| {
                 calls::read_types(&long, words, out)
             });
             assert_eq!(short, answer(1, 0, 0, ""));
         }
     }
-    for room in [0, 2_047] {
+    for room in [0, 2_559] {
         // Though the types of a sheet without rules need no room.
         for text in [&long[..], b""] {
             let short = lent_with([8_192; 3], room, |words, out| {
@@ -201,9 +201,9 @@ fn a_report_may_fill_the_output_but_not_exceed_it() {
     let objects: String = (0..96).map(|n| format!("O {n} 0|")).collect();
     let value = i32::MIN;
     let sheet = text(&format!(
-        "C 0 -|{objects}R 0 0|N 0 int {value}|N 1 int 0|N 2 coll B 0 1"
+        "C 0 -|{objects}R 0 0|N 0 int {value}|N 1 int {value}|N 2 int 0|N 3 coll B 0 1 2"
     ));
-    let line = "0 0 B(-2147483648,0) 3\n".len();
+    let line = "0 0 B(-2147483648,-2147483648,0) 4\n".len();
     let length = 96 * line + 86;
     let fits = lent_with([8_192; 3], length, |words, out| {
         calls::report(&sheet, words, out)
@@ -220,7 +220,7 @@ fn a_report_may_fill_the_output_but_not_exceed_it() {
 fn a_report_types_all_rules_before_it_is_too_long() {
     let objects: String = (0..96).map(|n| format!("O {n} 0|")).collect();
     let sheet = text(&format!(
-        "C 0 -|{objects}R 0 0|N 0 int -1000000000|N 1 int 1|N 2 coll B 0 1|R 1 0|N 0 var 1"
+        "C 0 -|{objects}R 0 0|N 0 int -1000000000|N 1 int 1000000000|N 2 coll B 0 1|R 1 0|N 0 var 1"
     ));
     let refused = lent(|words, out| calls::report(&sheet, words, out));
     assert_eq!(refused, answer(9, 0, 103, ""));

@@ -4,23 +4,15 @@ use second_evaluator::calls::{Answer, Words};
 use second_evaluator::generate::{self, Ask, Call};
 use second_evaluator::harness::cases::Case;
 use second_evaluator::harness::compare::compare;
+use second_evaluator::harness::faults::Fault;
+use second_evaluator::harness::operations::{Counts, Operations, OF_SHEET};
 use second_evaluator::harness::run;
 use second_evaluator::harness::shrink::shrink;
-use second_evaluator::harness::standin::{Fault, StandIn};
+use second_evaluator::harness::standin::StandIn;
 use second_evaluator::harness::tally::Tally;
-use second_evaluator::harness::{second, Calls};
+use second_evaluator::harness::{answer, second, Calls};
 use std::collections::BTreeSet;
 use std::sync::Mutex;
-
-fn first_difference(fault: Fault, sheets: u64) -> Option<run::Difference> {
-    let standin = StandIn { fault };
-    let mut tally = Tally::default();
-    (0..sheets).find_map(|seed| {
-        let text = generate::sheet(seed);
-        let asks = generate::asks(seed, &text);
-        run::sheet(&standin, &text, seed, &asks, &mut tally).err()
-    })
-}
 
 #[test]
 fn no_fault_is_no_difference_and_everything_is_reached() {
@@ -41,11 +33,51 @@ fn no_fault_is_no_difference_and_everything_is_reached() {
     assert!(tally.missing().is_empty(), "{tally}");
 }
 
+/// The text for a seed, and what is asked about it.
+struct Sheet {
+    seed: u64,
+    text: Vec<u8>,
+    asks: Vec<Ask>,
+}
+
+impl Sheet {
+    fn new(seed: u64) -> Sheet {
+        let text = generate::sheet(seed);
+        let asks = generate::asks(seed, &text);
+        Sheet { seed, text, asks }
+    }
+
+    fn takes_long(&self) -> bool {
+        let mut asks = self.asks.iter();
+        asks.any(|ask| answer(&self.text, *ask).steps > 10_000)
+    }
+
+    /// Whether the comparison finds the fault here.
+    fn shows(&self, fault: Fault) -> bool {
+        let compared = |ask: &Ask| compare(&StandIn { fault }, &self.text, *ask, self.seed);
+        let mut asks = self.asks.iter();
+        asks.any(|ask| compared(ask).difference.is_some())
+    }
+}
+
+/// A sheet is compared for the faults that none before it has shown; the few that take
+/// nearly all of the time come last.
 #[test]
 fn every_fault_is_found() {
-    for fault in Fault::ALL {
-        assert!(first_difference(fault, 3_000).is_some(), "{fault:?}");
+    let mut hidden = Fault::ALL.to_vec();
+    let mut long = Vec::new();
+    for sheet in (0..3_000).map(Sheet::new) {
+        if sheet.takes_long() {
+            long.push(sheet);
+            continue;
+        }
+        hidden.retain(|fault| !sheet.shows(*fault));
+        if hidden.is_empty() {
+            return;
+        }
     }
+    hidden.retain(|fault| !long.iter().any(|sheet| sheet.shows(*fault)));
+    assert!(hidden.is_empty(), "{hidden:?}");
 }
 
 #[test]
@@ -81,6 +113,37 @@ fn tallies_add_up() {
     }
 }
 
+/// Writes one digit of its reports wrong.
+struct OneDigit;
+
+impl Calls for OneDigit {
+    fn stack(&self) -> usize {
+        2 * 1024 * 1024
+    }
+
+    fn call(&self, call: Call, text: &[u8], words: Words, out: &mut [u8]) -> Answer {
+        let answer = second(call, text, words, out);
+        let real = out.iter().rposition(|byte| *byte == b'r').unwrap();
+        out[real + 16] ^= 1;
+        answer
+    }
+}
+
+#[test]
+fn a_wrong_digit_of_one_operation_is_found() {
+    let operations = Operations::new(3);
+    let mut counts = Counts::default();
+    let report = operations.report(&mut counts);
+    assert_eq!(counts.total(), OF_SHEET);
+    let right = StandIn { fault: Fault::None };
+    assert_eq!(operations.difference(&right, &report), None);
+    let how = operations.difference(&OneDigit, &report).unwrap();
+    assert!(how.contains("\nexpected 6"), "{how}");
+    let shorter = &report[..report.len() - 1];
+    let how = operations.difference(&right, shorter).unwrap();
+    assert!(how.contains("length"), "{how}");
+}
+
 /// Keeps what each call is lent, before it runs.
 #[derive(Default)]
 struct Keeper {
@@ -107,7 +170,7 @@ fn every_slice_of_every_call_is_lent_with_other_garbage() {
     let ask = Ask {
         call: Call::Report,
         words: [8_192; 3],
-        out: 2_048,
+        out: 2_560,
     };
     let result = run::sheet(&keeper, b"", 7, &[ask; 9], &mut Tally::default());
     assert!(result.is_ok());
@@ -122,7 +185,7 @@ fn a_difference_says_where() {
     let ask = Ask {
         call: Call::Read,
         words: [8_192; 3],
-        out: 2_048,
+        out: 2_560,
     };
     let how = |fault, ask| compare(&StandIn { fault }, b"C\t0\n", ask, 7).difference;
     assert_eq!(how(Fault::None, ask), None);

@@ -55,7 +55,7 @@ unfolding shortOutput
 all-lent {w0} {w1} {w2} {out} e q =
     let a = or-false (shortWords w0 w1 w2) (shortOutput out) (sym e ∙ q) in
     let l = long-words w0 w1 w2 (a .0) in
-    record { words0 = l .0; words1 = l .1; words2 = l .2; output = ltb-false (length out) 2048 (a .1) }
+    record { words0 = l .0; words1 = l .1; words2 = l .2; output = ltb-false (length out) 2560 (a .1) }
 
 -- the words are as many after as before
 pub still-lent : {text : Bytes} {r : SheetRead} {w0 w1 w2 v0 v1 v2 : List ℕ} {out : Bytes} → Lent w0 w1 w2 out → OpensText text r w0 w1 w2 v0 v1 v2 → Lent v0 v1 v2 out

@@ -24,12 +24,12 @@ use Rattle.checker.specs.Outcomes.{Fitting, GivesEnded}
 use Rattle.checker.proofs.Answers.{gives-refusal, gives-written}
 
 module _ {w2 : List ℕ} {e : Ended} {len steps : ℕ} (f : Fitting w2 e) (q : e ≡ end.Value len steps) where
-  value-room : (o : Outcome) → Ends 1 w2 o (end.Value len steps) → ((v : Value) (n : ℕ) → o ≡ value v n → length (spellValue v) ≤ 2048)
-      → (room : ℕ) → 8192 ≤ length w2 → 2048 ≤ room → (len ≤ 128) × ValueFits 0 w2 1 (1 + len) room
+  value-room : (o : Outcome) → Ends 1 w2 o (end.Value len steps) → ((v : Value) (n : ℕ) → o ≡ value v n → length (spellValue v) ≤ 2560)
+      → (room : ℕ) → 8192 ≤ length w2 → 2560 ≤ room → (len ≤ 128) × ValueFits 0 w2 1 (1 + len) room
   value-room o (ends-value {v} {len} {s} l small) h room a b =
       (small, record { v = v; fits = l .fits; order = omega arith; within = omega arith; lies = l .cells; enough = rw (zero-add (length (spellValue v))) (let k = h v s refl in omega arith) })
 
-  pub value-fits : (room : ℕ) → 8192 ≤ length w2 → 2048 ≤ room → (len ≤ 128) × ValueFits 0 w2 1 (1 + len) room
+  pub value-fits : (room : ℕ) → 8192 ≤ length w2 → 2560 ≤ room → (len ≤ 128) × ValueFits 0 w2 1 (1 + len) room
   value-fits = value-room (f .outcome) (rw q at (f .ends)) (f .short)
 
 module _ {w2 : List ℕ} {e : Ended} {a : Answer} {out after : Bytes} where

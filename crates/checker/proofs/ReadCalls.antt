@@ -68,7 +68,7 @@ pub lines-none : (w2 : List ℕ) (n : ℕ) (out : Bytes) → LinesTo w2 n out ou
 unfolding typeLines
 lines-none w2 n out = record { is = λ ts i c. puts-nothing 0 out; size = refl; within = omega arith }
 
-module _ {w2 : List ℕ} {n : ℕ} {before now : Bytes} {r at : ℕ} (wait : Waiting w2 n) (room : 2048 ≤ length before) (so : LinesTo w2 n before now r at) where
+module _ {w2 : List ℕ} {n : ℕ} {before now : Bytes} {r at : ℕ} (wait : Waiting w2 n) (room : 2560 ≤ length before) (so : LinesTo w2 n before now r at) where
   pub type-room : at + 40 ≤ length now
   type-room = omega (arith, so .is (wait .types) (wait .waiting) (wait .count) .end, lines-within r (wait .types), wait .short, so .size)
 

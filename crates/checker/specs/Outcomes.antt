@@ -13,11 +13,11 @@ use Rattle.operations.specs.Answers.{Ends}
 use Rattle.checker.specs.declared.Answer.{Answer}
 use Rattle.checker.specs.Parts.{GivesAnswer}
 
--- it is the end of an outcome whose value, if it has one, is spelled in at most 2,048 bytes
+-- it is the end of an outcome whose value, if it has one, is spelled in at most 2,560 bytes
 pub record Fitting (w2 : List ℕ) (e : Ended) : Type 0 where
   pub outcome : Outcome
   pub ends : Ends 1 w2 outcome e
-  pub short : (v : Value) (n : ℕ) → outcome ≡ value v n → length (spellValue v) ≤ 2048
+  pub short : (v : Value) (n : ℕ) → outcome ≡ value v n → length (spellValue v) ≤ 2560
 
 -- the answer for each outcome that it is the end of
 pub record GivesEnded (w2 : List ℕ) (e : Ended) (a : Answer) (before after : Bytes) : Type 0 where

@@ -11,7 +11,7 @@ use Rattle.ocl.specs.Types.{Ty}
 use Rattle.ocl.specs.Values.{Value, size}
 use Rattle.ocl.specs.Model.{Model, belongs}
 use Rattle.ocl.specs.Operations.{Stop}
-use Rattle.ocl.specs.Laws.{integersInRange, Formed}
+use Rattle.ocl.specs.Laws.{numbersKept, Formed}
 use Rattle.sheet.specs.Text.{Bytes, bytes, linesOf}
 use Rattle.sheet.specs.Spelling.{spellType, spellValue}
 use Rattle.sheet.specs.Sheet.{modelOf}
@@ -30,7 +30,7 @@ pub record Says (w : Bytes) (a : Answer) (out : Bytes) : Type 0 where
 -- how the call may answer for a rule of type t: as `Ending` says of its definition
 pub data AnswerEnding (m : Model) (t : Ty) (a : Answer) (out : Bytes) : Type 0 where
   undefined-said : Says (bytes "u") a out → AnswerEnding m t a out
-  value-said : (v : Value) → T (belongs m t v) → size v ≤ 128 → T (integersInRange v) → Formed v → Says (spellValue v) a out
+  value-said : (v : Value) → T (belongs m t v) → size v ≤ 128 → T (numbersKept v) → Formed v → Says (spellValue v) a out
       → AnswerEnding m t a out
   stop-said : Stop (a .number) → AnswerEnding m t a out
 

@@ -27,7 +27,7 @@ use types::classes::wide;
 
 // How an evaluation ended, as an answer: a value, which lies in w2 from 1 on, or `u` is put into out.
 fn put_outcome(e: Ended, w2: &[u64], out: &mut [u8]) -> Answer
-    requires { ⌜ (8192 ≤ length (now w2)) × (2048 ≤ length (now out)) × Fitting (now w2) e ⌝ }
+    requires { ⌜ (8192 ≤ length (now w2)) × (2560 ≤ length (now out)) × Fitting (now w2) e ⌝ }
     ensures { λ a. ⌜ GivesEnded (now (w2 .entry)) e a (now (out .entry)) (now (out .exit)) ⌝ }
 {
     match e {
@@ -110,7 +110,7 @@ fn evaluate_answer(
 }
 
 // Evaluates a rule for an object: 0 with `u` or the value's spelling in out, and the steps; else a refusal or a stop. Each word
-// slice has at least 8,192 words, out at least 2,048 bytes.
+// slice has at least 8,192 words, out at least 2,560 bytes.
 #[no_mangle]
 pub extern "C" fn ocl_evaluate_rule(
     text: &[u8],

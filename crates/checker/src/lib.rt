@@ -64,14 +64,14 @@ fn short(w0: &[u64], w1: &[u64], w2: &[u64]) -> bool
     w2.len() < 8192
 }
 
-// Whether a word slice has fewer than 8,192 words, or the output fewer than 2,048 bytes.
+// Whether a word slice has fewer than 8,192 words, or the output fewer than 2,560 bytes.
 fn short_lent(w0: &[u64], w1: &[u64], w2: &[u64], out: &[u8]) -> bool
     ensures { λ r. ⌜ r ≡ (shortWords (now (w0 .entry)) (now (w1 .entry)) (now (w2 .entry)) || shortOutput (now (out .entry))) ⌝ }
 {
     if short(w0, w1, w2) {
         return true;
     }
-    out.len() < 2048
+    out.len() < 2560
 }
 
 // A text of any length: its sheet in the words, or a refusal.

@@ -20,7 +20,7 @@ use types::word::unpack;
 
 // Puts the types that wait in w2 into out, one a line, and answers where the last line ends.
 fn put_types(w2: &[u64], rules: usize, out: &mut [u8]) -> usize
-    requires { ⌜ (8192 ≤ length (now w2)) × (2048 ≤ length (now out)) × Waiting (now w2) rules ⌝ }
+    requires { ⌜ (8192 ≤ length (now w2)) × (2560 ≤ length (now out)) × Waiting (now w2) rules ⌝ }
     ensures { λ r. ⌜ PutsTypes (now (w2 .entry)) rules (now (out .entry)) (now (out .exit)) r ⌝ }
 {
     let mut at: usize = 0;
@@ -51,7 +51,7 @@ fn read_answer(
 }
 
 // Reads a sheet and types all its rules in order: 0 with one type a line in out, else a refusal, which leaves out as it is. Each
-// word slice has at least 8,192 words, out at least 2,048 bytes.
+// word slice has at least 8,192 words, out at least 2,560 bytes.
 #[no_mangle]
 pub extern "C" fn ocl_read_sheet(
     text: &[u8],

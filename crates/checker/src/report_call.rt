@@ -47,7 +47,7 @@ fn report_answer(
 }
 
 // Writes the report of a sheet: 0 with its lines in out, else a refusal, which leaves out as it is. Each word slice has at
-// least 8,192 words, out at least 2,048 bytes.
+// least 8,192 words, out at least 2,560 bytes.
 #[no_mangle]
 pub extern "C" fn ocl_report(
     text: &[u8],

@@ -23,27 +23,29 @@ use Rattle.declarations.specs.Fields.{namedIn}
 -- ---- the class inside a type
 
 module _ (n : ℕ) where
-  no-class : (a : Base) → (baseTag a ≡ 4 → ⊥) → true ≡ classBelow n (baseType a)
+  no-class : (a : Base) → (baseTag a ≡ 5 → ⊥) → true ≡ classBelow n (baseType a)
   unfolding classBelow simpleClassBelow
   no-class b.Void h = refl
   no-class b.Bool h = refl
   no-class b.Int h = refl
   no-class b.Any h = refl
+  no-class b.Real h = refl
   no-class (b.Class c) h = absurd (h refl)
 
-  a-class : (a : Base) → baseTag a ≡ 4 → ltb (baseClass a) n ≡ classBelow n (baseType a)
+  a-class : (a : Base) → baseTag a ≡ 5 → ltb (baseClass a) n ≡ classBelow n (baseType a)
   unfolding classBelow simpleClassBelow
   a-class b.Void h = absurd (omega arith)
   a-class b.Bool h = absurd (omega arith)
   a-class b.Int h = absurd (omega arith)
   a-class b.Any h = absurd (omega arith)
+  a-class b.Real h = absurd (omega arith)
   a-class (b.Class c) h = refl
 
   module _ (t : FlatType) {r : ℕ} (told : r ≡ baseTag (t .base)) where
-    pub known-without : (r ≡ 4 → ⊥) → true ≡ classBelow n (tyOf t)
+    pub known-without : (r ≡ 5 → ⊥) → true ≡ classBelow n (tyOf t)
     known-without h = no-class (t .base) (λ e. h (told ∙ e)) ∙ sym (type-class n t)
 
-    pub known-class : {c : ℕ} → r ≡ 4 → c ≡ baseClass (t .base) → ltb c n ≡ classBelow n (tyOf t)
+    pub known-class : {c : ℕ} → r ≡ 5 → c ≡ baseClass (t .base) → ltb c n ≡ classBelow n (tyOf t)
     known-class h e = ap (λ (x : ℕ). ltb x n) e ∙ a-class (t .base) (sym told ∙ h) ∙ sym (type-class n t)
 
 -- ---- the names

@@ -115,7 +115,7 @@ pub fn class_known(t: FlatType, classes: u64) -> bool
     ensures { λ r. ⌜ r ≡ classBelow classes (tyOf t) ⌝ }
 {
     let b = t.base;
-    if tag(b) != 4 {
+    if tag(b) != 5 {
         return true;
     }
     (class_in(b) as u64) < classes

@@ -7,7 +7,7 @@ use native.Mathlib.Omega.{arith}
 use lib.ListN.{length, getD, take, drop, set, replicate}
 use Rattle.laws.specs.Choice.{if_then_else_}
 use Rattle.ocl.specs.Types.{class}
-use Rattle.ocl.specs.Values.{Value, bool, int, obj, coll}
+use Rattle.ocl.specs.Values.{Value, bool, num, obj, coll}
 use Rattle.ocl.specs.Model.{Model, isA}
 use Rattle.ocl.specs.Environment.{Env, start}
 use Rattle.ocl.specs.Operations.{Outcome, value, stuck, onObj}
@@ -29,7 +29,7 @@ module _ (m : Model) (c : ℕ) where
   not-called : (v : Value) (k : ℕ → Outcome) → false ≡ objectOf m c v → onObj v (λ o. if isA m o (class c) then k o else stuck) ≡ stuck
   unfolding objectOf
   not-called (bool b) k e = refl
-  not-called (int z) k e = refl
+  not-called (num x) k e = refl
   not-called (obj o) k e = rw (← e)
   not-called (coll j vs) k e = refl
 
@@ -41,7 +41,7 @@ module _ (m : Model) (c : ℕ) where
   is-called : (v : Value) → true ≡ objectOf m c v → IsCalled v
   unfolding objectOf
   is-called (bool b) e = absurd (let z : _≡_ {A = ℕ} 0 1 = cc in omega arith)
-  is-called (int z) e = absurd (let z : _≡_ {A = ℕ} 0 1 = cc in omega arith)
+  is-called (num x) e = absurd (let z : _≡_ {A = ℕ} 0 1 = cc in omega arith)
   is-called (obj o) e = record { o = o; is = refl; below = sym e }
   is-called (coll j vs) e = absurd (let z : _≡_ {A = ℕ} 0 1 = cc in omega arith)
 

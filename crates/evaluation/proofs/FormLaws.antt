@@ -18,6 +18,7 @@ use Rattle.values.specs.Cells.{encs}
 use Rattle.values.specs.Contracts.{SortOf}
 use Rattle.values.proofs.Adding.{header}
 use Rattle.nodes.specs.Nodes.{word, variable, binaryOf, quantifierOf}
+use Rattle.nodes.specs.Marks.{Marked}
 use Rattle.tables.specs.declared.Counts.{Counts}
 use Rattle.operations.specs.declared.Ended.{Ended}
 use Rattle.operations.specs.declared.Ended.the-variants as ended
@@ -57,35 +58,35 @@ module _ {st : Counts} {w0 : List ℕ} (t : List ℕ) (n k : ℕ) {env B A : Lis
 
 -- ---- two strict operands
 
-module _ {Ok : World → Type 0} (t : List ℕ) (n k : ℕ) {env B A : List ℕ} {sp s : ℕ} {r : Ended} (x : Evals Ok (operandFor t n 1) env sp s B A r) where
+module _ {st : Counts} {w0 : List ℕ} (t : List ℕ) (n k : ℕ) {env B A : List ℕ} {sp s : ℕ} {r : Ended} (x : Evals (ReadsWorld st w0 t) (operandFor t n 1) env sp s B A r) where
   abbrev binaryRest : World → Env Value → Value → ℕ → Outcome
-  binaryRest w ρ v n' = if leftFits (binaryOf k) v then bind (operandFor t n 2 w ρ n') (λ y n'. binaryApply (binaryOf k) v y n') else stuck
+  binaryRest w ρ v n' = if leftFits (w .mark n) (binaryOf k) v then bind (operandFor t n 2 w ρ n') (λ y n'. binaryApply (w .mark n) (binaryOf k) v y n') else stuck
 
-  pub binary-first : Other r → Evals Ok (binaryNode t n k) env sp s B A r
+  pub binary-first : Other r → Evals (ReadsWorld st w0 t) (binaryNode t n k) env sp s B A r
   unfolding binaryNode binaryRun
   binary-first o = early binaryRest (λ w ρ. refl) x o
 
-  module _ {la sa : ℕ} {b : Bool} (q : r ≡ ended.Value la sa) (z : FitsLeft k (getD A sp 0) b) where
-    fitting : {v : Value} → Lies v sp la A → b ≡ leftFits (binaryOf k) v
-    fitting {v} l = z .is v (l .fits) (head-at l)
+  module _ {la sa : ℕ} {b : Bool} (h : n < 768) (q : r ≡ ended.Value la sa) (z : FitsLeft k (markIn t n) (getD A sp 0) b) where
+    fitting : {w : World} {v : Value} → ReadsWorld st w0 t w → Lies v sp la A → b ≡ leftFits (w .mark n) (binaryOf k) v
+    fitting {w} {v} ok l = z .is (w .mark n) (ok .mark n h) v (l .fits) (head-at l)
 
-    pub binary-stuck : b ≡ false → Evals Ok (binaryNode t n k) env sp s B A ended.Stuck
+    pub binary-stuck : b ≡ false → Evals (ReadsWorld st w0 t) (binaryNode t n k) env sp s B A ended.Stuck
     unfolding binaryNode binaryRun
-    binary-stuck e = after binaryRest (λ w ρ. refl) x q tt (λ w ok ρ rel v l u. rw (sym (fitting l) ∙ e) (ran-stuck-at u))
+    binary-stuck e = after binaryRest (λ w ρ. refl) x q tt (λ w ok ρ rel v l u. rw (sym (fitting ok l) ∙ e) (ran-stuck-at u))
 
-    module _ {C : List ℕ} {r' : Ended} (e : b ≡ true) (y : Evals Ok (operandFor t n 2) env (sp + la) sa A C r') where
-      pub binary-second : Other r' → Evals Ok (binaryNode t n k) env sp s B C r'
+    module _ {C : List ℕ} {r' : Ended} (e : b ≡ true) (y : Evals (ReadsWorld st w0 t) (operandFor t n 2) env (sp + la) sa A C r') where
+      pub binary-second : Other r' → Evals (ReadsWorld st w0 t) (binaryNode t n k) env sp s B C r'
       unfolding binaryNode binaryRun
       binary-second o = after binaryRest (λ w ρ. refl) x q (y .small)
-          (λ w ok ρ rel v l u. rw (sym (fitting l) ∙ e) (falls (operandFor t n 2 w ρ sa) (λ y n'. binaryApply (binaryOf k) v y n') (omega arith) u (y .ran w ok ρ (rel-kept (omega arith) u rel)) o))
+          (λ w ok ρ rel v l u. rw (sym (fitting ok l) ∙ e) (falls (operandFor t n 2 w ρ sa) (λ y n'. binaryApply (w .mark n) (binaryOf k) v y n') (omega arith) u (y .ran w ok ρ (rel-kept (omega arith) u rel)) o))
 
-      pub binary-done : {lb sb : ℕ} {D : List ℕ} {r'' : Ended} → r' ≡ ended.Value lb sb → OfTwo (binaryApply (binaryOf k)) sp la lb sb C D r'' → Evals Ok (binaryNode t n k) env sp s B D r''
+      pub binary-done : {lb sb : ℕ} {D : List ℕ} {r'' : Ended} → r' ≡ ended.Value lb sb → OfTwo (Marked (markIn t n)) (λ m. binaryApply m (binaryOf k)) sp la lb sb C D r'' → Evals (ReadsWorld st w0 t) (binaryNode t n k) env sp s B D r''
       unfolding binaryNode binaryRun
       binary-done p g = after binaryRest (λ w ρ. refl) x q (g .small)
           (λ w ok ρ rel v l u.
           let d = valued (y .ran w ok ρ (rel-kept (omega arith) u rel)) p in
-          rw (sym (fitting l) ∙ e, d .is)
-          (ran-from (under-then (under-down (omega arith) (d .kept)) u) (g .ran v (d .v) (lies-kept (omega arith) (d .kept) l) (d .lies))))
+          rw (sym (fitting ok l) ∙ e, d .is)
+          (ran-from (under-then (under-down (omega arith) (d .kept)) u) (g .ran (w .mark n) (ok .mark n h) v (d .v) (lies-kept (omega arith) (d .kept) l) (d .lies))))
 
 -- ---- `if`
 

@@ -1,6 +1,7 @@
 -- A node by its form's code, an operand by its node, an answer as a word, and a rule by its root. Assumes nothing.
 use mathlib.Core.Path.{_≡_, refl, ap, _∙_}
 use mathlib.Core.Bool.{Bool, true, false}
+use mathlib.Core.Logic.{_⊎_, inl, inr}
 use mathlib.Core.Option.{none}
 use mathlib.Core.List.{List}
 use Prim.Native.Nat.{ℕ, _+_, _<_, _≤_}
@@ -65,6 +66,11 @@ single-levels t n k e (low-code a b) = unary-levels t n k e a b
 single-levels t n k e (lone-code a) = isUndef-levels t n k e a
 single-levels t n k e (high-code a b) = attribute-levels t n k e a b
 
+-- those of the forms with two strict operands
+pub two-codes : {k : ℕ} → (k ≡ 37) ⊎ ((13 ≤ k) × (k < 23)) → 13 ≤ k
+two-codes (inl e) = omega arith
+two-codes (inr h) = h .0
+
 -- a strict form is undefined where its operand is
 strict : (o : Outcome) (f g : Value → ℕ → Outcome) (u : ℕ → Outcome) → ((v : Value) (s : ℕ) → f v s ≡ g v s) → ((s : ℕ) → u s ≡ undefined s) → resume o f u ≡ bind o g
 strict (value v s) f g u a b = a v s
@@ -100,9 +106,9 @@ module _ {Ok : World → Type 0} (t : List ℕ) (n k : ℕ) {env B A : List ℕ}
   node-unary (lone-code a) x = tick-on _ (λ w. isUndef-run (w .model) (w .mark) t n k e a) h (runs-as (λ w ρ. isUndef-as t n k w ρ (s + 1) a) x)
   node-unary (high-code a b) x = tick-on _ (λ w. attribute-run (w .model) (w .mark) t n k e a b) h (runs-as (λ w ρ. attribute-as t n k w ρ (s + 1) a) x)
 
-  pub node-binary : 13 ≤ k → k < 23 → Evals Ok (binaryNode t n k) env sp (s + 1) B A r → Evals Ok (nodeFor t n) env sp s B A r
+  pub node-binary : (k ≡ 37) ⊎ ((13 ≤ k) × (k < 23)) → Evals Ok (binaryNode t n k) env sp (s + 1) B A r → Evals Ok (nodeFor t n) env sp s B A r
   unfolding nodeFor binaryNode operandFor operandRun
-  node-binary a b x = tick-on (binaryNode t n k) (λ w. binary-run (w .model) (w .mark) t n k e a b) h x
+  node-binary a x = tick-on (binaryNode t n k) (λ w. binary-run (w .model) (w .mark) t n k e a) h x
 
   pub node-connective : 23 ≤ k → k < 25 → Evals Ok (connectiveNode t n k) env sp (s + 1) B A r → Evals Ok (nodeFor t n) env sp s B A r
   unfolding nodeFor connectiveNode operandFor operandRun
@@ -132,7 +138,7 @@ module _ {Ok : World → Type 0} (t : List ℕ) (n k : ℕ) {env B A : List ℕ}
   unfolding nodeFor callNode operandFor operandRun
   node-call a x = tick-on (callNode t n) (λ w. call-run (w .model) (w .mark) t n k e a) h x
 
-pub node-none : {Ok : World → Type 0} (t : List ℕ) (n k : ℕ) {env B : List ℕ} {sp s : ℕ} → k ≡ word t n 0 → s < 1000000 → 36 < k → Evals Ok (nodeFor t n) env sp s B B (ended.Undef (s + 1))
+pub node-none : {Ok : World → Type 0} (t : List ℕ) (n k : ℕ) {env B : List ℕ} {sp s : ℕ} → k ≡ word t n 0 → s < 1000000 → 37 < k → Evals Ok (nodeFor t n) env sp s B B (ended.Undef (s + 1))
 unfolding nodeFor undefNode
 node-none t n k e h a = tick-on undefNode (λ w. none-run (w .model) (w .mark) t n k e a) h undef-done
 
@@ -203,8 +209,8 @@ shallow t n k left e a b h = record { members = λ c i m. let l = assemble-level
 
 -- ---- codes of no form
 
-pub over-36 : (k : ℕ) → 35 ≤ k → (k ≡ 35 → ⊥) → (k ≡ 36 → ⊥) → 36 < k
-over-36 k h a b = omega arith
+pub over-37 : (k : ℕ) → 35 ≤ k → (k ≡ 37 → ⊥) → (k ≡ 35 → ⊥) → (k ≡ 36 → ⊥) → 37 < k
+over-37 k h a b c = omega arith
 
 -- those of `attr` and `collect` come after that of `let`
 pub from-33 : (k : ℕ) → 30 ≤ k → (k ≡ 30 → ⊥) → (k ≡ 31 → ⊥) → (k ≡ 32 → ⊥) → 33 ≤ k

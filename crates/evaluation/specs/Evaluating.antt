@@ -66,7 +66,7 @@ unfoldable pub unaryNode : List ℕ → ℕ → ℕ → Meaning
 unaryNode t n k w ρ s = resume (operandFor t n 1 w ρ s) (ofValue (w .model) k (word t n) (w .mark n)) (ofUndefined k)
 
 unfoldable pub binaryNode : List ℕ → ℕ → ℕ → Meaning
-binaryNode t n k w = binaryRun (binaryOf k) (operandFor t n 1 w) (operandFor t n 2 w)
+binaryNode t n k w = binaryRun (w .mark n) (binaryOf k) (operandFor t n 1 w) (operandFor t n 2 w)
 
 unfoldable pub connectiveNode : List ℕ → ℕ → ℕ → Meaning
 connectiveNode t n k w = connectiveRun (connectiveOf k) (operandFor t n 1 w) (operandFor t n 2 w)

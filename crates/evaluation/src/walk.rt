@@ -1,5 +1,5 @@
 // The recursion over operand nodes: an operand, a node by its form, and the forms that run each operand once. Every function of the
-// recursion takes the tables and their counts; the nodes, with the marks of `attr` nodes behind them; a node; for each variable,
+// recursion takes the tables and their counts; the nodes, with their marks behind them; a node; for each variable,
 // 1 + the index of its first cell, or 0 if it is unbound; the stack and its top sp; how many levels may still follow; and the steps
 // begun so far.
 use crate::bind::call;
@@ -16,6 +16,7 @@ use operations::answers::unpack;
 use operations::apply::binary_apply;
 use operations::apply::left_fits;
 use operations::leaves::leaf;
+use operations::operand::MARKS;
 use operations::operand::of_undefined;
 use operations::operand::of_value;
 use tables::Counts;
@@ -101,7 +102,7 @@ fn node(
     match form {
         0..=6 => leaf(tables, st, form, node_word(nodes, n, 1), env, stack, sp, s),
         7..=12 | 30 | 33..=34 => unary(tables, st, nodes, n, form, env, stack, sp, deeper, s),
-        13..=22 => binary(tables, st, nodes, n, form, env, stack, sp, deeper, s),
+        13..=22 | 37 => binary(tables, st, nodes, n, form, env, stack, sp, deeper, s),
         23..=24 => connective(tables, st, nodes, n, form, env, stack, sp, deeper, s),
         25..=26 => {
             let i = wide(node_word(nodes, n, 3) % 16);
@@ -158,19 +159,20 @@ fn binary(
     steps: u64,
 ) -> Ended
     requires { ⌜ StackRoom st (length (now tables)) (length (now nodes)) (length (now stack)) n sp (left + 1) ⌝ }
-    requires { ⌜ (13 ≤ form) × (form < 23) × (levels (operandTree (now nodes) n 1) ≤ left) × (levels (operandTree (now nodes) n 2) ≤ left) ⌝ }
+    requires { ⌜ (13 ≤ form) × (levels (operandTree (now nodes) n 1) ≤ left) × (levels (operandTree (now nodes) n 2) ≤ left) ⌝ }
     ensures { λ r. ⌜ Evals (ReadsWorld st (now (tables .entry)) (now (nodes .entry))) (binaryNode (now (nodes .entry)) n form) env sp steps (now (stack .entry)) (now (stack .exit)) r ⌝ }
 {
+    let mark = nodes[MARKS + n];
     let first = below(tables, st, nodes, n, 1, env, stack, sp, left, steps);
     let Ended::Value { len: la, steps: sa } = first else {
         return first;
     };
-    if left_fits(form, stack[sp]) {
+    if left_fits(form, mark, stack[sp]) {
         let second = below(tables, st, nodes, n, 2, env, stack, sp + la, left, sa);
         let Ended::Value { len: lb, steps: sb } = second else {
             return second;
         };
-        binary_apply(form, stack, sp, la, lb, sb)
+        binary_apply(form, mark, stack, sp, la, lb, sb)
     } else {
         Ended::Stuck
     }

@@ -10,10 +10,11 @@ use lib.Seq.{getD-take, getD-drop}
 use lib.Dec.{eqb}
 use borrow.Author.Tests.{ne-eqb}
 use Rattle.laws.specs.Choice.{if_then_else_}
-use Rattle.ocl.specs.Types.{any, boolean, integer, class, kindCode, sameKind, Letter, exactly, Ty, void, simple, around}
+use Rattle.ocl.specs.Types.{any, boolean, integer, real, class, kindCode, sameKind, Letter, exactly, Ty, void, simple, around}
 use Rattle.ocl.specs.Forms.{ofObject, ofMembers}
 use Rattle.ocl.specs.Model.{Row, Schema, rowRead}
-use Rattle.ocl.specs.Typing.{Answer, Mark, ofRow, ofRows, rowMarked, kindMarked, typed, refused, Typed, pure, thenFor, andThen, wrap, onClass, collectKind, rowType, attributeType}
+use Rattle.ocl.specs.Typing.{Answer, typed, refused, Typed, pure, thenFor, andThen, wrap, onClass, collectKind, rowType, attributeType}
+use Rattle.ocl.specs.Marks.{Mark, ofRow, ofRows, rowMarked, kindMarked}
 use Rattle.types.specs.declared.FlatType.{FlatType}
 use Rattle.types.specs.declared.ClassNumber.{ClassNumber}
 use Rattle.types.specs.declared.ClassNumber.the-variants as number
@@ -41,6 +42,7 @@ no-class x k void h = refl
 no-class x k (simple any) h = refl
 no-class x k (simple boolean) h = refl
 no-class x k (simple integer) h = refl
+no-class x k (simple real) h = refl
 no-class x k (simple (class c)) h = absurd (Option·none-ne-some _ h)
 no-class x k (around l t) h = refl
 

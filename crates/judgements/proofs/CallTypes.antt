@@ -5,7 +5,7 @@ use mathlib.Core.Option.{none, some, Option·none-ne-some}
 use mathlib.Core.List.{List}
 use Prim.Native.Nat.{ℕ}
 use Rattle.laws.specs.Choice.{if_then_else_}
-use Rattle.ocl.specs.Types.{any, boolean, integer, class, Ty, void, simple, around, Parents, simpleSubtype, subtype}
+use Rattle.ocl.specs.Types.{any, boolean, integer, real, class, Ty, void, simple, around, Parents, simpleSubtype, subtype}
 use Rattle.ocl.specs.Model.{Schema}
 use Rattle.ocl.specs.Typing.{typed, refused, onClass, callType}
 use Rattle.types.specs.declared.ClassNumber.{ClassNumber}
@@ -22,6 +22,7 @@ module _ (m : Schema) (ps : List ℕ) (e : m .parent ≡ parentsIn ps) (n c : �
   call-not (simple any) h = refl
   call-not (simple boolean) h = refl
   call-not (simple integer) h = refl
+  call-not (simple real) h = refl
   call-not (simple (class d)) h = absurd (Option·none-ne-some _ h)
   call-not (around l u) h = refl
 

@@ -5,7 +5,8 @@ use Prim.Native.Nat.{ℕ}
 use lib.ListN.{set}
 use Rattle.ocl.specs.Types.{Ty}
 use Rattle.ocl.specs.Environment.{Env}
-use Rattle.ocl.specs.Typing.{Answer, typed, refused, Marks, Typed, Typing, pure, thenFor, andThen}
+use Rattle.ocl.specs.Typing.{Answer, typed, refused, Typed, Typing, pure, thenFor, andThen}
+use Rattle.ocl.specs.Marks.{Marks}
 use Rattle.types.specs.declared.FlatType.{FlatType}
 use Rattle.types.specs.Flat.{tyOf}
 use Rattle.judgements.specs.declared.Reply.{Reply}

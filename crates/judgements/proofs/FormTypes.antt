@@ -1,16 +1,17 @@
 -- The type of each form as the code finds it: one law for each answer. Assumes nothing.
 use mathlib.Core.Path.{_≡_, refl, sym, ap, _∙_}
-use mathlib.Core.Bool.{Bool, true, false, _||_}
+use mathlib.Core.Bool.{Bool, true, false, _&&_, _||_}
 use mathlib.Core.Option.{none, some, Option·none-ne-some}
 use mathlib.Core.List.{List}
 use Prim.Native.Nat.{ℕ, zero, suc, _+_, _-_, _<_, _≤_}
 use native.Mathlib.Omega.{arith}
-use borrow.Author.Tests.{eq-eqb, ne-eqb, le-leb, lt-leb, lt-ltb, le-ltb}
+use borrow.Author.Tests.{eq-eqb, ne-eqb, le-leb, lt-leb}
 use Rattle.laws.specs.Choice.{if_then_else_}
-use Rattle.ocl.specs.Types.{any, boolean, integer, class, Kind, set, sequence, bag, kindCode, sameKind, Letter, collection, exactly, Ty, void, simple, around, Boolean, Integer, Class, depth, Parents, simpleSubtype, subtype, join}
+use Rattle.reals.specs.Words.{numberIn}
+use Rattle.ocl.specs.Types.{any, boolean, integer, real, class, Kind, set, sequence, bag, kindCode, sameKind, Letter, collection, exactly, Ty, void, simple, around, Boolean, Integer, Class, depth, Parents, simpleSubtype, subtype, join}
 use Rattle.ocl.specs.Environment.{Env}
-use Rattle.ocl.specs.Model.{Schema}
-use Rattle.ocl.specs.Typing.{Answer, typed, refused, below, common, wrap, onCollection, onKind, boundType, leafType, castType, unaryType, bothBelow, binaryType, conditionalType}
+use Rattle.ocl.specs.Model.{Schema, numberType}
+use Rattle.ocl.specs.Typing.{Answer, typed, refused, below, common, wrap, onCollection, onKind, boundType, leafType, castType, unaryType, bothBelow, includesType, includingType, unionType, conditionalType}
 use Rattle.types.specs.declared.FlatType.{FlatType}
 use Rattle.types.specs.declared.Joined.{Joined}
 use Rattle.types.specs.declared.Joined.the-variants as j
@@ -19,7 +20,7 @@ use Rattle.types.specs.declared.ClassNumber.the-variants as number
 use Rattle.types.specs.Flat.{parentsIn, letterOf, tyOf, joinedType}
 use Rattle.types.specs.Parts.{codeOf, outerCode, memberType, simpleClass, classOf, isAny, classNumber}
 use Rattle.types.proofs.Members.{no-collection, is-collection, class-is}
-use Rattle.nodes.specs.Nodes.{variable, classIn, leafOf, unaryOf, binaryOf}
+use Rattle.nodes.specs.Nodes.{variable, classIn, leafOf, unaryOf}
 use Rattle.judgements.proofs.Joins.{joined-yes, joined-no}
 
 -- ---- collections and kinds
@@ -63,6 +64,14 @@ module _ (n d : ℕ) (l : Letter) (t : Ty) (h : d ≡ depth t) where
   unfolding wrap
   wrap-no k = rw (← h, lt-leb d 2 k)
 
+-- ---- two tests
+
+pub under-both : {a b x y : Bool} → x ≡ a → x ≡ true → y ≡ b → y ≡ (a && b)
+under-both h k g = rw (← h, k) g
+
+pub under-none : {a x : Bool} (b : Bool) → x ≡ a → x ≡ false → false ≡ (a && b)
+under-none b h k = rw (← h, k)
+
 -- ---- forms with no operand
 
 module _ (n : ℕ) (w : ℕ → ℕ) (Γ : Env Ty) where
@@ -76,9 +85,9 @@ module _ (n : ℕ) (w : ℕ → ℕ) (Γ : Env Ty) where
   unfolding leafType leafOf
   leaf-void k q e = rw q (ap typed e)
 
-  pub leaf-number : (k : ℕ) {r : Ty} → k ≡ 3 → r ≡ Integer → typed r ≡ leafType n (leafOf k w) Γ
+  pub leaf-number : (k : ℕ) {v : ℕ} {r : Ty} → k ≡ 3 → v ≡ w 1 → r ≡ simple (numberType (numberIn v)) → typed r ≡ leafType n (leafOf k w) Γ
   unfolding leafType leafOf
-  leaf-number k q e = rw q (ap typed e)
+  leaf-number k q g e = rw (q, ← g) (ap typed e)
 
   pub leaf-self : (k : ℕ) {a : Answer} → k ≡ 4 → a ≡ boundType n (Γ 0) → a ≡ leafType n (leafOf k w) Γ
   unfolding leafType leafOf
@@ -113,17 +122,20 @@ module _ (m : Schema) (ps : List ℕ) (e : m .parent ≡ parentsIn ps) (n : ℕ)
   below-no t w h = rw (e, ← h)
 
   module _ (w r t u : Ty) where
-    pub both-yes : true ≡ subtype (parentsIn ps) t w → true ≡ subtype (parentsIn ps) u w → typed r ≡ bothBelow m n w r t u
-    unfolding bothBelow
-    both-yes h k = rw (e, ← h, ← k)
+    both-by : (a b c : Bool) → c ≡ (a && b) → (if c then typed r else refused 11 n) ≡ (if a then (if b then typed r else refused 11 n) else refused 11 n)
+    both-by true b c h = rw h
+    both-by false b c h = rw h
 
-    pub both-second : true ≡ subtype (parentsIn ps) t w → false ≡ subtype (parentsIn ps) u w → refused 11 n ≡ bothBelow m n w r t u
-    unfolding bothBelow
-    both-second h k = rw (e, ← h, ← k)
+    module _ {b : Bool} (under : b ≡ (subtype (parentsIn ps) t w && subtype (parentsIn ps) u w)) where
+      both-is : (if b then typed r else refused 11 n) ≡ bothBelow m n w r t u
+      unfolding bothBelow
+      both-is = rw e (both-by (subtype (parentsIn ps) t w) (subtype (parentsIn ps) u w) b under)
 
-    pub both-first : false ≡ subtype (parentsIn ps) t w → refused 11 n ≡ bothBelow m n w r t u
-    unfolding bothBelow
-    both-first h = rw (e, ← h)
+      pub both-yes : b ≡ true → typed r ≡ bothBelow m n w r t u
+      both-yes k = rw k at both-is
+
+      pub both-no : b ≡ false → refused 11 n ≡ bothBelow m n w r t u
+      both-no k = rw k at both-is
 
   -- the common type, and whatever it leads to
   module _ (t u : Ty) (k : Ty → Answer) (x : Joined) (h : joinedType x ≡ join (parentsIn ps) t u) where
@@ -153,6 +165,7 @@ module _ (m : Schema) (ps : List ℕ) (e : m .parent ≡ parentsIn ps) (n : ℕ)
     cast-any (simple any) h p = ap typed p
     cast-any (simple boolean) h p = absurd (let z : _≡_ {A = ℕ} 0 1 = cc in omega arith)
     cast-any (simple integer) h p = absurd (let z : _≡_ {A = ℕ} 0 1 = cc in omega arith)
+    cast-any (simple real) h p = absurd (let z : _≡_ {A = ℕ} 0 1 = cc in omega arith)
     cast-any (simple (class d)) h p = absurd (let z : _≡_ {A = ℕ} 0 1 = cc in omega arith)
     cast-any (around l t) h p = absurd (let z : _≡_ {A = ℕ} 0 1 = cc in omega arith)
 
@@ -162,6 +175,7 @@ module _ (m : Schema) (ps : List ℕ) (e : m .parent ≡ parentsIn ps) (n : ℕ)
     cast-not (simple any) h p = absurd (let z : _≡_ {A = ℕ} 0 1 = cc in omega arith)
     cast-not (simple boolean) h p = refl
     cast-not (simple integer) h p = refl
+    cast-not (simple real) h p = refl
     cast-not (simple (class d)) h p = absurd (Option·none-ne-some _ p)
     cast-not (around l t) h p = refl
 
@@ -238,50 +252,34 @@ module _ (m : Schema) (n : ℕ) where
       let y : k - 7 ≡ 2 + (k - 9) = omega arith in
       rw x (convert-by w (k - 9) t (omega arith) (rw y at p))
 
-  module _ (k : ℕ) (t u : Ty) {a : Answer} where
-    pub binary-equal : k ≡ 13 → a ≡ common n (join (m .parent) t u) (λ w. typed Boolean) → a ≡ binaryType m n (binaryOf k) t u
-    unfolding binaryType binaryOf
-    binary-equal q h = rw q h
-
-    pub binary-less : {x y : Ty} → k ≡ 14 → x ≡ Integer → y ≡ Boolean → a ≡ bothBelow m n x y t u → a ≡ binaryType m n (binaryOf k) t u
-    unfolding binaryType binaryOf
-    binary-less q v z h = rw q (rw (v, z) at h)
-
-    pub binary-arith : {x y : Ty} → 15 ≤ k → k ≤ 19 → x ≡ Integer → y ≡ Integer → a ≡ bothBelow m n x y t u → a ≡ binaryType m n (binaryOf k) t u
-    unfolding binaryType binaryOf
-    binary-arith l q v z h = rw (ne-eqb k 13 (λ p. omega arith), ne-eqb k 14 (λ p. omega arith), lt-ltb k 20 (omega arith)) (rw (v, z) at h)
-
-    pub binary-includes : k ≡ 20 → a ≡ onCollection t (refused 11 n) (λ l x. common n (join (m .parent) x u) (λ w. typed Boolean)) → a ≡ binaryType m n (binaryOf k) t u
-    unfolding binaryType binaryOf
-    binary-includes q h = rw q h
-
-    pub binary-including : k ≡ 21 → a ≡ binaryType m n (binaryOf 21) t u → a ≡ binaryType m n (binaryOf k) t u
-    binary-including q h = rw q h
-
-    pub binary-union : 22 ≤ k → a ≡ binaryType m n (binaryOf 22) t u → a ≡ binaryType m n (binaryOf k) t u
-    unfolding binaryOf
-    binary-union l h = rw (ne-eqb k 13 (λ p. omega arith), ne-eqb k 14 (λ p. omega arith), le-ltb k 20 (omega arith), ne-eqb k 20 (λ p. omega arith), ne-eqb k 21 (λ p. omega arith)) h
-
-  -- ---- `including` and `union`
+  -- ---- `includes`, `including` and `union`
 
   module _ (t u : Ty) (c : ℕ) (h : c ≡ outerCode t) where
-    pub including-no : c ≤ 1 → refused 11 n ≡ binaryType m n (binaryOf 21) t u
-    unfolding binaryType binaryOf
+    pub includes-no : c ≡ 0 → refused 11 n ≡ includesType m n t u
+    unfolding includesType
+    includes-no z = no-members (refused 11 n) (λ l x. common n (join (m .parent) x u) (λ w. typed Boolean)) t h z
+
+    pub includes-yes : {x : Ty} {a : Answer} → (c ≡ 0 → ⊥) → x ≡ memberType t → a ≡ common n (join (m .parent) x u) (λ w. typed Boolean) → a ≡ includesType m n t u
+    unfolding includesType
+    includes-yes z e p = on-members (refused 11 n) (λ l x. common n (join (m .parent) x u) (λ w. typed Boolean)) t h z (rw (← e) p)
+
+    pub including-no : c ≤ 1 → refused 11 n ≡ includingType m n t u
+    unfolding includingType
     including-no z = no-kind (refused 11 n) (λ k x. common n (join (m .parent) x u) (wrap n (exactly k))) t (omega arith)
 
-    pub including-yes : {x : Ty} {a : Answer} → 1 < c → x ≡ memberType t → a ≡ common n (join (m .parent) x u) (wrap n (letterOf c)) → a ≡ binaryType m n (binaryOf 21) t u
-    unfolding binaryType binaryOf
+    pub including-yes : {x : Ty} {a : Answer} → 1 < c → x ≡ memberType t → a ≡ common n (join (m .parent) x u) (wrap n (letterOf c)) → a ≡ includingType m n t u
+    unfolding includingType
     including-yes z e p = on-kind (refused 11 n) (λ k x. common n (join (m .parent) x u) (wrap n (exactly k))) t (omega arith) (λ k l s. rw (← l, ← h, ← e) p)
 
-    pub union-no : c ≤ 1 → refused 11 n ≡ binaryType m n (binaryOf 22) t u
-    unfolding binaryType binaryOf both-kinds
+    pub union-no : c ≤ 1 → refused 11 n ≡ unionType m n t u
+    unfolding unionType both-kinds
     union-no z = no-kind (refused 11 n) (both-kinds m n u) t (omega arith)
 
     module _ (d : ℕ) (g : d ≡ outerCode u) (z : 1 < c) where
-      pub union-other : (d ≡ c → ⊥) → refused 11 n ≡ binaryType m n (binaryOf 22) t u
-      unfolding binaryType binaryOf both-kinds
+      pub union-other : (d ≡ c → ⊥) → refused 11 n ≡ unionType m n t u
+      unfolding unionType both-kinds
       union-other ne = on-kind (refused 11 n) (both-kinds m n u) t (omega arith) (λ k l s. other-kind m n u k (memberType t) d g (λ e. ne (omega arith)))
 
-      pub union-yes : {x y : Ty} {a : Answer} → d ≡ c → x ≡ memberType t → y ≡ memberType u → a ≡ common n (join (m .parent) x y) (wrap n (letterOf c)) → a ≡ binaryType m n (binaryOf 22) t u
-      unfolding binaryType binaryOf both-kinds
+      pub union-yes : {x y : Ty} {a : Answer} → d ≡ c → x ≡ memberType t → y ≡ memberType u → a ≡ common n (join (m .parent) x y) (wrap n (letterOf c)) → a ≡ unionType m n t u
+      unfolding unionType both-kinds
       union-yes q v w p = on-kind (refused 11 n) (both-kinds m n u) t (omega arith) (λ k l s. same-kind m n u k (memberType t) (omega arith) (rw (← w, ← v, ← l, ← h) p))

@@ -5,3 +5,5 @@ pub mod CallTypes
 pub mod Joins
 pub mod Composition
 pub mod Singles
+pub mod Binaries
+pub mod Numbers

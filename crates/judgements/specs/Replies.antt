@@ -9,7 +9,8 @@ use Rattle.laws.specs.Choice.{if_then_else_, onSome}
 use Rattle.ocl.specs.Types.{Ty, Parents, join}
 use Rattle.ocl.specs.Environment.{Env}
 use Rattle.ocl.specs.Model.{Schema}
-use Rattle.ocl.specs.Typing.{Answer, typed, refused, Marks, Typed}
+use Rattle.ocl.specs.Typing.{Answer, typed, refused, Typed}
+use Rattle.ocl.specs.Marks.{Marks}
 use Rattle.types.specs.declared.Base.the-variants as b
 use Rattle.types.specs.Flat.{tyOf, bare}
 use Rattle.nodes.specs.Classes.{HoldsClasses}

@@ -1,17 +1,21 @@
 // The type of each form with no operand or with strict operands, and of `if`, from the types of its operands. `n` is the node's
 // number, which a refusal names; `parents` is the table that subtyping reads. "Else 11" says: any other type is refused with 11.
 ghost use mathlib.Core.Path.{_≡_};
+ghost use mathlib.Core.Bool.{_&&_};
 ghost use Prim.Native.Nat.{_<_, _≤_};
 ghost use lib.ListN.{length};
-ghost use Rattle.ocl.specs.Types.{Boolean, Integer, join as joinOf};
-ghost use Rattle.ocl.specs.Model.{Schema};
-ghost use Rattle.ocl.specs.Typing.{typed, refused, below, common, onCollection, castType, callType, bothBelow, leafType, unaryType, binaryType, conditionalType, wrap as wrapType};
+ghost use Rattle.reals.specs.Words.{numberIn};
+ghost use Rattle.ocl.specs.Types.{Boolean, Integer, simple, subtype as isBelow, join as joinOf};
+ghost use Rattle.ocl.specs.Model.{Schema, numberType};
+ghost use Rattle.ocl.specs.Typing.{typed, refused, below, common, onCollection, castType, callType, bothBelow, leafType, unaryType, includesType, includingType, unionType, conditionalType, wrap as wrapType};
 ghost use Rattle.types.specs.Flat.{parentsIn, tyOf, letterOf, joinedType};
-ghost use Rattle.nodes.specs.Nodes.{word, leafOf, unaryOf, binaryOf};
+ghost use Rattle.nodes.specs.Nodes.{word, leafOf, unaryOf};
 ghost use Rattle.judgements.specs.Replies.{meaning, envOf, joinMore};
 use super::Reply;
 use super::TypeEnv;
 use super::environment::bound;
+use floats::Number;
+use floats::cells::number_of;
 use nodes::node_word;
 use types::Base;
 use types::ClassNumber;
@@ -42,6 +46,16 @@ pub fn condition(parents: &[u64], n: u64, t: FlatType) -> Reply
     Reply::No(11, n)
 }
 
+// Whether both operands are below w.
+pub fn both_under(parents: &[u64], w: FlatType, t: FlatType, u: FlatType) -> bool
+    ensures { λ r. ⌜ r ≡ (isBelow (parentsIn (now (parents .entry))) (tyOf t) (tyOf w) && isBelow (parentsIn (now (parents .entry))) (tyOf u) (tyOf w)) ⌝ }
+{
+    if subtype(parents, t, w) {
+        return subtype(parents, u, w);
+    }
+    false
+}
+
 // Both operands must be below w, else 11; the result has type r.
 pub fn both_below(
     parents: &[u64],
@@ -53,11 +67,8 @@ pub fn both_below(
 ) -> Reply
     ensures { λ a. ⌜ ((m : Schema) → m .parent ≡ parentsIn (now (parents .entry)) → meaning a ≡ bothBelow m n (tyOf w) (tyOf r) (tyOf t) (tyOf u)) ⌝ }
 {
-    if subtype(parents, t, w) {
-        if subtype(parents, u, w) {
-            return Reply::Is(r);
-        }
-        return Reply::No(11, n);
+    if both_under(parents, w, t, u) {
+        return Reply::Is(r);
     }
     Reply::No(11, n)
 }
@@ -73,7 +84,7 @@ pub fn common_type(parents: &[u64], n: u64, t: FlatType, u: FlatType) -> Reply
 }
 
 // Bool, if both have a common type, else 10.
-fn comparable(parents: &[u64], n: u64, t: FlatType, u: FlatType) -> Reply
+pub fn comparable(parents: &[u64], n: u64, t: FlatType, u: FlatType) -> Reply
     ensures { λ r. ⌜ ((m : Schema) → m .parent ≡ parentsIn (now (parents .entry)) → meaning r ≡ common n (joinOf (m .parent) (tyOf t) (tyOf u)) (λ w. typed Boolean)) ⌝ }
 {
     let Joined::Is(w) = join(parents, t, u) else {
@@ -116,6 +127,17 @@ pub fn around_common(n: u64, code: u8, joined: Joined) -> Reply
 
 // ---- forms with no operand
 
+// The type of the number in a word.
+fn number_type(w: u64) -> FlatType
+    ensures { λ r. ⌜ tyOf r ≡ simple (numberType (numberIn w)) ⌝ }
+{
+    let x = number_of(w);
+    match x {
+        Number::Integer { biased } => plain(Base::Int),
+        Number::Real(_) => plain(Base::Real),
+    }
+}
+
 pub fn leaf_type(nodes: &[u64], form: u64, n: usize, env: TypeEnv) -> Reply
     requires { ⌜ (n < 768) × (6144 ≤ length (now nodes)) ⌝ }
     ensures { λ r. ⌜ meaning r ≡ leafType n (leafOf form (word (now (nodes .entry)) n)) (envOf env) ⌝ }
@@ -123,7 +145,7 @@ pub fn leaf_type(nodes: &[u64], form: u64, n: usize, env: TypeEnv) -> Reply
     match form {
         0..=1 => Reply::Is(plain(Base::Bool)),
         2 => Reply::Is(plain(Base::Void)),
-        3 => Reply::Is(plain(Base::Int)),
+        3 => Reply::Is(number_type(node_word(nodes, n, 1))),
         4 => bound(n as u64, 0, env),
         5 => bound(n as u64, wide(node_word(nodes, n, 1)) % 16, env),
         _ => Reply::Is(set_of_class((node_word(nodes, n, 1) % 256) as u8)),
@@ -200,8 +222,8 @@ pub fn unary_type(parents: &[u64], nodes: &[u64], form: u64, n: usize, t: FlatTy
 // ---- forms with two strict operands
 
 // `includes` takes a collection, else 11; its member type and u must have a common type, else 10.
-fn includes_type(parents: &[u64], n: u64, t: FlatType, u: FlatType) -> Reply
-    ensures { λ r. ⌜ ((m : Schema) → m .parent ≡ parentsIn (now (parents .entry)) → meaning r ≡ onCollection (tyOf t) (refused 11 n) (λ l e. common n (joinOf (m .parent) e (tyOf u)) (λ w. typed Boolean))) ⌝ }
+pub fn includes_type(parents: &[u64], n: u64, t: FlatType, u: FlatType) -> Reply
+    ensures { λ r. ⌜ ((m : Schema) → m .parent ≡ parentsIn (now (parents .entry)) → meaning r ≡ includesType m n (tyOf t) (tyOf u)) ⌝ }
 {
     if outer_code(t) == 0 {
         return Reply::No(11, n);
@@ -210,8 +232,8 @@ fn includes_type(parents: &[u64], n: u64, t: FlatType, u: FlatType) -> Reply
 }
 
 // `including` takes a Set, Sequence or Bag, else 11; its member type and u must have a common type, else 10.
-fn including_type(parents: &[u64], n: u64, t: FlatType, u: FlatType) -> Reply
-    ensures { λ r. ⌜ ((m : Schema) → m .parent ≡ parentsIn (now (parents .entry)) → meaning r ≡ binaryType m n (binaryOf 21) (tyOf t) (tyOf u)) ⌝ }
+pub fn including_type(parents: &[u64], n: u64, t: FlatType, u: FlatType) -> Reply
+    ensures { λ r. ⌜ ((m : Schema) → m .parent ≡ parentsIn (now (parents .entry)) → meaning r ≡ includingType m n (tyOf t) (tyOf u)) ⌝ }
 {
     let code = outer_code(t);
     if code <= 1 {
@@ -221,8 +243,8 @@ fn including_type(parents: &[u64], n: u64, t: FlatType, u: FlatType) -> Reply
 }
 
 // `union` takes two Sets, two Sequences or two Bags, else 11; their member types must have a common type, else 10.
-fn union_type(parents: &[u64], n: u64, t: FlatType, u: FlatType) -> Reply
-    ensures { λ r. ⌜ ((m : Schema) → m .parent ≡ parentsIn (now (parents .entry)) → meaning r ≡ binaryType m n (binaryOf 22) (tyOf t) (tyOf u)) ⌝ }
+pub fn union_type(parents: &[u64], n: u64, t: FlatType, u: FlatType) -> Reply
+    ensures { λ r. ⌜ ((m : Schema) → m .parent ≡ parentsIn (now (parents .entry)) → meaning r ≡ unionType m n (tyOf t) (tyOf u)) ⌝ }
 {
     let code = outer_code(t);
     if code <= 1 {
@@ -232,20 +254,6 @@ fn union_type(parents: &[u64], n: u64, t: FlatType, u: FlatType) -> Reply
         return Reply::No(11, n);
     }
     around_common(n, code, join(parents, member_type(t), member_type(u)))
-}
-
-pub fn binary_type(parents: &[u64], form: u64, n: u64, t: FlatType, u: FlatType) -> Reply
-    requires { ⌜ 13 ≤ form ⌝ }
-    ensures { λ r. ⌜ ((m : Schema) → m .parent ≡ parentsIn (now (parents .entry)) → meaning r ≡ binaryType m n (binaryOf form) (tyOf t) (tyOf u)) ⌝ }
-{
-    match form {
-        13 => comparable(parents, n, t, u),
-        14 => both_below(parents, n, plain(Base::Int), plain(Base::Bool), t, u),
-        15..=19 => both_below(parents, n, plain(Base::Int), plain(Base::Int), t, u),
-        20 => includes_type(parents, n, t, u),
-        21 => including_type(parents, n, t, u),
-        _ => union_type(parents, n, t, u),
-    }
 }
 
 // ---- `if`

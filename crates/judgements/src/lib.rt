@@ -5,6 +5,7 @@ pub mod environment; // the types of the variables, by value
 pub mod forms; // forms with no operand or strict operands, and `if`
 pub mod attributes; // `attr` and `collect`
 pub mod single; // all forms with a single operand, by code
+pub mod binary; // all forms with two strict operands, by code
 
 use types::FlatType;
 

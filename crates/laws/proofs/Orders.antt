@@ -134,10 +134,10 @@ compare-chain a b c = go (three a b) (three b c)
     go (over l) (over m) = rw (compare-gt a b l, compare-gt b c m, compare-gt a c (omega arith)) twice
 
 -- what is enough for a total order
-pub total-order : {A : Type 0} (order : A → A → Ordering) → ((x y : A) → order x y ≡ Ordering·eq → x ≡ y) → ((x y : A) → order y x ≡ reverse (order x y))
-    → ((x y z : A) → Chain (order x y) (order y z) (order x z)) → TotalOrder order
-total-order order one turn chain = record {
-  same = λ x y. (one x y, λ e. ap (order x) (sym e) ∙ reverse-same (order x x) (turn x x));
+pub total-order : {A : Type 0} (P : A → Type 0) (order : A → A → Ordering) → ((x y : A) → P x → P y → order x y ≡ Ordering·eq → x ≡ y)
+    → ((x y : A) → order y x ≡ reverse (order x y)) → ((x y z : A) → Chain (order x y) (order y z) (order x z)) → TotalOrder P order
+total-order P order one turn chain = record {
+  same = λ x y p q. (one x y p q, λ e. ap (order x) (sym e) ∙ reverse-same (order x x) (turn x x));
   turned = turn;
   chained = λ x y z. chain-less (order x y) (order y z) (chain x y z);
 }

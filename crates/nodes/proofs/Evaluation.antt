@@ -1,10 +1,11 @@
 -- What evaluation makes of a node by the range that its code is in: one law for each. Assumes nothing.
 use mathlib.Core.Path.{_≡_, sym, ap, _∙_}
+use mathlib.Core.Logic.{_⊎_}
 use mathlib.Core.List.{List}
 use Prim.Native.Nat.{ℕ, _<_, _≤_}
 use Rattle.ocl.specs.Model.{Model}
 use Rattle.ocl.specs.Forms.{Form, undef}
-use Rattle.ocl.specs.Typing.{Mark}
+use Rattle.ocl.specs.Marks.{Mark}
 use Rattle.ocl.specs.Evaluation.{Run, tick, leafRun, unaryRun, binaryRun, connectiveRun, isUndefRun, conditionalRun, letRun, attributeRun, callRun, quantifiedRun, iterateRun, assembleRun, evaluation, formRun, operandsRun}
 use Rattle.nodes.specs.Nodes.{word, variable, classIn, leafOf, unaryOf, binaryOf, connectiveOf, quantifierOf, kindOf, accessOf, operandsIn, formOf, treesBelow, treeAt}
 use Rattle.nodes.proofs.Nodes.{tree-law, below-law, late-law, no-form, leaf-range, unary-range, binary-range, connective-range, quantified-range, assemble-range, attribute-range, assemble-over, isUndef-code, conditional-code, let-code, iterate-code, call-code}
@@ -27,9 +28,9 @@ module _ (s : Model) (mark : ℕ → Mark) (t : List ℕ) (n : ℕ) where
     unfolding evaluation operandRun
     unary-run l h = by-form k e (unary-range (treesBelow t n) (word t n) k l h)
 
-    pub binary-run : (l : 13 ≤ k) → (h : k < 23) → evaluation s mark (treeAt t n) ≡ tick (binaryRun (binaryOf k) (operandRun s mark t n 1) (operandRun s mark t n 2))
+    pub binary-run : (k ≡ 37) ⊎ ((13 ≤ k) × (k < 23)) → evaluation s mark (treeAt t n) ≡ tick (binaryRun (mark n) (binaryOf k) (operandRun s mark t n 1) (operandRun s mark t n 2))
     unfolding evaluation operandRun
-    binary-run l h = by-form k e (binary-range (treesBelow t n) (word t n) k l h)
+    binary-run h = by-form k e (binary-range (treesBelow t n) (word t n) k h)
 
     pub connective-run : (l : 23 ≤ k) → (h : k < 25) → evaluation s mark (treeAt t n) ≡ tick (connectiveRun (connectiveOf k) (operandRun s mark t n 1) (operandRun s mark t n 2))
     unfolding evaluation operandRun
@@ -71,7 +72,7 @@ module _ (s : Model) (mark : ℕ → Mark) (t : List ℕ) (n : ℕ) where
     unfolding evaluation operandRun
     over-run l h c = by-form k e (assemble-over (treesBelow t n) (word t n) k l h c)
 
-    pub none-run : (h : 36 < k) → evaluation s mark (treeAt t n) ≡ tick (leafRun s undef)
+    pub none-run : (h : 37 < k) → evaluation s mark (treeAt t n) ≡ tick (leafRun s undef)
     unfolding evaluation operandRun
     none-run h = by-form k e (no-form (treesBelow t n) (word t n) k h)
 

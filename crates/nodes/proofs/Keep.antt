@@ -66,11 +66,11 @@ module _ (f : ℕ → Expr) (b : ℕ) (low : (a : ℕ) → levels (f a) ≤ b) w
   form-depth : (w : ℕ → ℕ) (k : ℕ) → Low (formOf f w k)
   unfolding Low formOf levelsIn
   form-depth w k =
-      by-if Low (ltb 36 k) _ _ (λ h. omega arith) (λ h. by-if Low (ltb k 7) _ _ (λ h. omega arith) (λ h. by-if Low (ltb k 13) _ _ (λ h. low _)
+      by-if Low (ltb 37 k) _ _ (λ h. omega arith) (λ h. by-if Low (ltb k 7) _ _ (λ h. omega arith) (λ h. by-if Low (ltb k 13) _ _ (λ h. low _)
       (λ h. by-if Low (ltb k 23) _ _ (λ h. two) (λ h. by-if Low (ltb k 25) _ _ (λ h. two) (λ h. by-if Low (ltb k 27) _ _ (λ h. two)
       (λ h. by-if Low (ltb k 30) _ _ (λ h. by-if Low (ltb 4 (w 5)) _ _ (λ h. omega arith) (λ h. operands-depth w (w 5) 1))
       (λ h. by-if Low (eqb k 30) _ _ (λ h. low _) (λ h. by-if Low (eqb k 31) _ _ (λ h. three) (λ h. by-if Low (eqb k 32) _ _ (λ h. two)
-      (λ h. by-if Low (ltb k 35) _ _ (λ h. low _) (λ h. by-if Low (eqb k 35) _ _ (λ h. three) (λ h. two))))))))))))
+      (λ h. by-if Low (ltb k 35) _ _ (λ h. low _) (λ h. by-if Low (eqb k 35) _ _ (λ h. three) (λ h. by-if Low (eqb k 36) _ _ (λ h. two) (λ h. two)))))))))))))
     where
       two : max (levels (f (w 1))) (levels (f (w 2))) ≤ b
       two = omega (arith, low (w 1), low (w 2))

@@ -1,5 +1,6 @@
 -- An operand has fewer levels than its node: one law for each range of codes. Assumes nothing.
 use mathlib.Core.Path.{_≡_, sym, ap, _∙_}
+use mathlib.Core.Logic.{_⊎_}
 use mathlib.Core.List.{List}
 use Prim.Native.Nat.{ℕ, zero, suc, _+_, _<_, _≤_, max}
 use native.Mathlib.Omega.{arith}
@@ -41,9 +42,9 @@ module _ (t : List ℕ) (n : ℕ) where
     unfolding levels
     unary-levels l h = let a = by-form k e (unary-range (treesBelow t n) (word t n) k l h) in omega arith
 
-    pub binary-levels : 13 ≤ k → k < 23 → (levels (treesBelow t n (word t n 1)) < levels (treeAt t n)) × (levels (treesBelow t n (word t n 2)) < levels (treeAt t n))
+    pub binary-levels : (k ≡ 37) ⊎ ((13 ≤ k) × (k < 23)) → (levels (treesBelow t n (word t n 1)) < levels (treeAt t n)) × (levels (treesBelow t n (word t n 2)) < levels (treeAt t n))
     unfolding levels
-    binary-levels l h = let a = by-form k e (binary-range (treesBelow t n) (word t n) k l h) in (omega arith, omega arith)
+    binary-levels h = let a = by-form k e (binary-range (treesBelow t n) (word t n) k h) in (omega arith, omega arith)
 
     pub connective-levels : 23 ≤ k → k < 25 → (levels (treesBelow t n (word t n 1)) < levels (treeAt t n)) × (levels (treesBelow t n (word t n 2)) < levels (treeAt t n))
     unfolding levels

@@ -1,6 +1,7 @@
 -- A node's tree is its form over smaller trees, and one range of codes is one constructor: what a match with ranges needs. Assumes nothing.
 use mathlib.Core.Path.{_≡_, refl}
 use mathlib.Core.Bool.{Bool, true, false}
+use mathlib.Core.Logic.{_⊎_, inl, inr}
 use mathlib.Core.List.{List}
 use Prim.Native.Nat.{ℕ, zero, suc, _<_, _≤_}
 use native.Mathlib.Omega.{arith}
@@ -35,38 +36,43 @@ late-law t (suc n) a h = let q : a ≡ n → ⊥ = (λ e. omega arith) in rw (ne
 -- ---- ranges of codes
 
 module _ (f : ℕ → Expr) (w : ℕ → ℕ) (k : ℕ) where
-  pub no-form : 36 < k → formOf f w k ≡ leaf undef
+  pub no-form : 37 < k → formOf f w k ≡ leaf undef
   unfolding formOf
-  no-form h = rw (lt-ltb 36 k h)
+  no-form h = rw (lt-ltb 37 k h)
 
   pub leaf-range : k < 7 → formOf f w k ≡ leaf (leafOf k w)
   unfolding formOf
-  leaf-range h = rw (le-ltb 36 k (omega arith), lt-ltb k 7 h)
+  leaf-range h = rw (le-ltb 37 k (omega arith), lt-ltb k 7 h)
 
   pub unary-range : 7 ≤ k → k < 13 → formOf f w k ≡ unary (unaryOf k w) (f (w 1))
   unfolding formOf
-  unary-range l h = rw (le-ltb 36 k (omega arith), le-ltb k 7 l, lt-ltb k 13 h)
+  unary-range l h = rw (le-ltb 37 k (omega arith), le-ltb k 7 l, lt-ltb k 13 h)
 
-  pub binary-range : 13 ≤ k → k < 23 → formOf f w k ≡ binary (binaryOf k) (f (w 1)) (f (w 2))
+  strict-range : 13 ≤ k → k < 23 → formOf f w k ≡ binary (binaryOf k) (f (w 1)) (f (w 2))
   unfolding formOf
-  binary-range l h = rw (le-ltb 36 k (omega arith), le-ltb k 7 (omega arith), le-ltb k 13 l, lt-ltb k 23 h)
+  strict-range l h = rw (le-ltb 37 k (omega arith), le-ltb k 7 (omega arith), le-ltb k 13 l, lt-ltb k 23 h)
+
+  pub binary-range : (k ≡ 37) ⊎ ((13 ≤ k) × (k < 23)) → formOf f w k ≡ binary (binaryOf k) (f (w 1)) (f (w 2))
+  unfolding formOf
+  binary-range (inl e) = rw e
+  binary-range (inr x) = strict-range (x .0) (x .1)
 
   pub connective-range : 23 ≤ k → k < 25 → formOf f w k ≡ connective (connectiveOf k) (f (w 1)) (f (w 2))
   unfolding formOf
-  connective-range l h = rw (le-ltb 36 k (omega arith), le-ltb k 7 (omega arith), le-ltb k 13 (omega arith), le-ltb k 23 l, lt-ltb k 25 h)
+  connective-range l h = rw (le-ltb 37 k (omega arith), le-ltb k 7 (omega arith), le-ltb k 13 (omega arith), le-ltb k 23 l, lt-ltb k 25 h)
 
   pub quantified-range : 25 ≤ k → k < 27 → formOf f w k ≡ quantified (quantifierOf k) (variable (w 3)) (f (w 1)) (f (w 2))
   unfolding formOf
-  quantified-range l h = rw (le-ltb 36 k (omega arith), le-ltb k 7 (omega arith), le-ltb k 13 (omega arith), le-ltb k 23 (omega arith), le-ltb k 25 l, lt-ltb k 27 h)
+  quantified-range l h = rw (le-ltb 37 k (omega arith), le-ltb k 7 (omega arith), le-ltb k 13 (omega arith), le-ltb k 23 (omega arith), le-ltb k 25 l, lt-ltb k 27 h)
 
   pub assemble-range : 27 ≤ k → k < 30 → w 5 ≤ 4 → formOf f w k ≡ assemble (kindOf k) (operandsIn f w (w 5) 1)
   unfolding formOf
-  assemble-range l h c = rw (le-ltb 36 k (omega arith), le-ltb k 7 (omega arith), le-ltb k 13 (omega arith), le-ltb k 23 (omega arith), le-ltb k 25 (omega arith), le-ltb k 27 l, lt-ltb k 30 h, le-ltb 4 (w 5) c)
+  assemble-range l h c = rw (le-ltb 37 k (omega arith), le-ltb k 7 (omega arith), le-ltb k 13 (omega arith), le-ltb k 23 (omega arith), le-ltb k 25 (omega arith), le-ltb k 27 l, lt-ltb k 30 h, le-ltb 4 (w 5) c)
 
   pub attribute-range : 33 ≤ k → k < 35 → formOf f w k ≡ attribute (accessOf k) (w 2) (f (w 1))
   unfolding formOf
   attribute-range l h =
-      rw (le-ltb 36 k (omega arith), le-ltb k 7 (omega arith), le-ltb k 13 (omega arith), le-ltb k 23 (omega arith), le-ltb k 25 (omega arith), le-ltb k 27 (omega arith), le-ltb k 30 (omega arith), ne-eqb k 30 (λ e. omega arith), ne-eqb k 31 (λ e. omega arith), ne-eqb k 32 (λ e. omega arith), lt-ltb k 35 h)
+      rw (le-ltb 37 k (omega arith), le-ltb k 7 (omega arith), le-ltb k 13 (omega arith), le-ltb k 23 (omega arith), le-ltb k 25 (omega arith), le-ltb k 27 (omega arith), le-ltb k 30 (omega arith), ne-eqb k 30 (λ e. omega arith), ne-eqb k 31 (λ e. omega arith), ne-eqb k 32 (λ e. omega arith), lt-ltb k 35 h)
 
 -- ---- single codes
 
@@ -74,7 +80,7 @@ module _ (f : ℕ → Expr) (w : ℕ → ℕ) where
   -- more than four operands, which no accepted sheet has
   pub assemble-over : (k : ℕ) → 27 ≤ k → k < 30 → 4 < w 5 → formOf f w k ≡ leaf undef
   unfolding formOf
-  assemble-over k l h c = rw (le-ltb 36 k (omega arith), le-ltb k 7 (omega arith), le-ltb k 13 (omega arith), le-ltb k 23 (omega arith), le-ltb k 25 (omega arith), le-ltb k 27 l, lt-ltb k 30 h, lt-ltb 4 (w 5) c)
+  assemble-over k l h c = rw (le-ltb 37 k (omega arith), le-ltb k 7 (omega arith), le-ltb k 13 (omega arith), le-ltb k 23 (omega arith), le-ltb k 25 (omega arith), le-ltb k 27 l, lt-ltb k 30 h, lt-ltb 4 (w 5) c)
 
   pub isUndef-code : formOf f w 30 ≡ isUndef (f (w 1))
   unfolding formOf

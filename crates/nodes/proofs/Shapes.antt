@@ -1,31 +1,25 @@
 -- A node whose words are those of a node line has the line's form over its operands' trees. Assumes nothing.
-use mathlib.Core.Path.{_≡_, refl, ap, _∙_}
+use mathlib.Core.Path.{_≡_, refl, sym, ap, _∙_, subst}
 use mathlib.Core.Bool.{true, false, _&&_}
 use mathlib.Core.List.{List, [], _∷_}
-use Prim.Native.Nat.{ℕ, _+_, _%_, _<_, _≤_}
+use Prim.Native.Nat.{ℕ, _+_, _<_, _≤_}
 use native.Mathlib.Omega.{arith}
-use lib.IntN.{ℤ}
 use lib.ListN.{length, getD}
-use lib.Dec.{leb}
+use lib.Dec.{T, leb}
 use borrow.Author.Tests.{leb-true, ltb-true}
-use Rattle.laws.specs.Integers.{bias, unbias}
 use Rattle.laws.specs.Lists.{Each, each-nil, each-cons}
 use Rattle.laws.proofs.Tests.{and-true}
 use Rattle.ocl.specs.Types.{Kind, set, sequence, bag, Ty}
-use Rattle.ocl.specs.Operations.{inRange}
-use Rattle.ocl.specs.Forms.{plus, minus, times, div, modulo, Connective, and, or, Quantifier, forAll, exists, Access, ofObject, ofMembers, Leaf, truth, undef, number, self, var, all, Unary, negation, sizeOf, convert, castTo, Binary, equal, less, arith as calculation, includes, including, union, Expr, node, Form, Definition}
+use Rattle.ocl.specs.Forms.{plus, minus, times, div, modulo, Connective, and, or, Quantifier, forAll, exists, Access, ofObject, ofMembers, Leaf, truth, undef, number, self, var, all, Unary, negation, sizeOf, convert, castTo, Binary, equal, less, arith as calculation, divide, over, includes, including, union, Expr, node, Form, Definition}
 use Rattle.sheet.specs.Lines.{Shape, leaf, unary, binary, connective, isUndef, conditional, letIn, attribute, call, quantified, iterate, assemble}
 use Rattle.sheet.specs.Sheet.{operandsOf, growAll, grow}
 use Rattle.sheet.specs.Limits.{isVariable, isClass, typeWithin, leafWithin, unaryWithin, formWithin}
 use Rattle.types.specs.Word.{typeIn}
-use Rattle.ocl.proofs.Ranges.{unbias-bias, bias-small}
-use Rattle.nodes.specs.Nodes.{Called, TypeSaid, CallSaid, word, variable, classIn, leafOf, unaryOf, arithByCode, binaryOf, connectiveOf, quantifierOf, kindOf, accessOf, operandsIn, formOf, treesBelow, treeAt, leafWords, unaryWords, arithCode, binaryCode, connectiveCode, quantifierCode, accessCode, assembleCode, operandWord, shapeWords}
+use Rattle.reals.proofs.Onto.{number-back}
+use Rattle.nodes.specs.Nodes.{Called, TypeSaid, CallSaid, word, variable, classIn, leafOf, unaryOf, arithByCode, divisionByCode, binaryOf, connectiveOf, quantifierOf, kindOf, accessOf, operandsIn, formOf, treesBelow, treeAt, leafWords, unaryWords, arithCode, divisionCode, binaryCode, connectiveCode, quantifierCode, accessCode, assembleCode, operandWord, shapeWords}
 use Rattle.nodes.proofs.Nodes.{tree-law, below-law, assemble-range}
 
 -- ---- numbers that the words hold
-
-integer-back : (z : ℤ) → inRange z ≡ true → unbias (bias z % 4294967296) ≡ z
-integer-back z h = let q : bias z % 4294967296 ≡ bias z = omega (arith, bias-small z h) in rw q (unbias-bias z h)
 
 variable-back : (i : ℕ) → isVariable i ≡ true → variable i ≡ i
 unfolding isVariable
@@ -66,7 +60,7 @@ module _ (f g : ℕ → Expr) (w : ℕ → ℕ) (first n type : ℕ) (d : Called
   leaf-grow (truth false) h ws = rw (ws 0 (omega arith))
   leaf-grow (truth true) h ws = rw (ws 0 (omega arith))
   leaf-grow undef h ws = rw (ws 0 (omega arith))
-  leaf-grow (number z) h ws = rw (ws 0 (omega arith), ws 1 (omega arith), integer-back z h)
+  leaf-grow (number x) h ws = rw (ws 0 (omega arith), ws 1 (omega arith), number-back x (subst T (sym h) tt))
   leaf-grow self h ws = rw (ws 0 (omega arith))
   leaf-grow (var i) h ws = rw (ws 0 (omega arith), ws 1 (omega arith), variable-back i h)
   leaf-grow (all c) h ws = rw (ws 0 (omega arith), ws 1 (omega arith), class-back c h)
@@ -81,14 +75,15 @@ module _ (f g : ℕ → Expr) (w : ℕ → ℕ) (first n type : ℕ) (d : Called
   unary-grow (castTo c) a h l ws = rw (ws 0 (omega arith), ws 1 (omega arith), ws 2 (omega arith), near a l, class-back c h)
 
   binary-grow : (op : Binary) (a b : ℕ) → a < n → b < n → Words (binary op a b) → formOf f w (w 0) ≡ Form.binary op (g a) (g b)
-  unfolding Words shapeWords binaryCode arithCode formOf binaryOf arithByCode
+  unfolding Words shapeWords binaryCode arithCode divisionCode formOf binaryOf arithByCode divisionByCode
   binary-grow equal a b l m ws = rw (ws 0 (omega arith), ws 1 (omega arith), ws 2 (omega arith), near a l, near b m)
   binary-grow less a b l m ws = rw (ws 0 (omega arith), ws 1 (omega arith), ws 2 (omega arith), near a l, near b m)
   binary-grow (calculation plus) a b l m ws = rw (ws 0 (omega arith), ws 1 (omega arith), ws 2 (omega arith), near a l, near b m)
   binary-grow (calculation minus) a b l m ws = rw (ws 0 (omega arith), ws 1 (omega arith), ws 2 (omega arith), near a l, near b m)
   binary-grow (calculation times) a b l m ws = rw (ws 0 (omega arith), ws 1 (omega arith), ws 2 (omega arith), near a l, near b m)
-  binary-grow (calculation div) a b l m ws = rw (ws 0 (omega arith), ws 1 (omega arith), ws 2 (omega arith), near a l, near b m)
-  binary-grow (calculation modulo) a b l m ws = rw (ws 0 (omega arith), ws 1 (omega arith), ws 2 (omega arith), near a l, near b m)
+  binary-grow (divide div) a b l m ws = rw (ws 0 (omega arith), ws 1 (omega arith), ws 2 (omega arith), near a l, near b m)
+  binary-grow (divide modulo) a b l m ws = rw (ws 0 (omega arith), ws 1 (omega arith), ws 2 (omega arith), near a l, near b m)
+  binary-grow over a b l m ws = rw (ws 0 (omega arith), ws 1 (omega arith), ws 2 (omega arith), near a l, near b m)
   binary-grow includes a b l m ws = rw (ws 0 (omega arith), ws 1 (omega arith), ws 2 (omega arith), near a l, near b m)
   binary-grow including a b l m ws = rw (ws 0 (omega arith), ws 1 (omega arith), ws 2 (omega arith), near a l, near b m)
   binary-grow union a b l m ws = rw (ws 0 (omega arith), ws 1 (omega arith), ws 2 (omega arith), near a l, near b m)

@@ -1,5 +1,6 @@
 -- What typing makes of a node by the range that its code is in: one law for each. Assumes nothing.
 use mathlib.Core.Path.{_≡_, sym, ap, _∙_}
+use mathlib.Core.Logic.{_⊎_}
 use mathlib.Core.List.{List}
 use Prim.Native.Nat.{ℕ, _<_, _≤_}
 use Rattle.ocl.specs.Model.{Schema}
@@ -27,9 +28,9 @@ module _ (s : Schema) (t : List ℕ) (n : ℕ) where
     unfolding typing operandTyping
     unary-typing l h = by-form k e (unary-range (treesBelow t n) (word t n) k l h)
 
-    pub binary-typing : (l : 13 ≤ k) → (h : k < 23) → typing s (treeAt t n) ≡ binaryTyping s n (binaryOf k) (operandTyping s t n 1) (operandTyping s t n 2)
+    pub binary-typing : (k ≡ 37) ⊎ ((13 ≤ k) × (k < 23)) → typing s (treeAt t n) ≡ binaryTyping s n (binaryOf k) (operandTyping s t n 1) (operandTyping s t n 2)
     unfolding typing operandTyping
-    binary-typing l h = by-form k e (binary-range (treesBelow t n) (word t n) k l h)
+    binary-typing h = by-form k e (binary-range (treesBelow t n) (word t n) k h)
 
     pub connective-typing : (l : 23 ≤ k) → (h : k < 25) → typing s (treeAt t n) ≡ connectiveTyping s n (operandTyping s t n 1) (operandTyping s t n 2)
     unfolding typing operandTyping
@@ -71,7 +72,7 @@ module _ (s : Schema) (t : List ℕ) (n : ℕ) where
     unfolding typing operandTyping
     over-typing l h c = by-form k e (assemble-over (treesBelow t n) (word t n) k l h c)
 
-    pub none-typing : (h : 36 < k) → typing s (treeAt t n) ≡ leafTyping n undef
+    pub none-typing : (h : 37 < k) → typing s (treeAt t n) ≡ leafTyping n undef
     unfolding typing operandTyping
     none-typing h = by-form k e (no-form (treesBelow t n) (word t n) k h)
 

@@ -1,19 +1,27 @@
--- A node's mark as one word: its row, and 64 more where `collect` gives a Sequence. Rows are below 64 and `collect` gives no Set
--- (crates/ocl's `MarkAt`), so that the word tells both, and an `attr` node's word is its row.
+-- A node's mark as one word: its row, 64 more where `collect` gives a Sequence, and 128 where the numbers are Reals (document 02,
+-- F-8). Rows are below 64 and `collect` gives no Set (crates/ocl's `MarkAt`), so that the word tells all three, and an `attr`
+-- node's word is its row.
 use mathlib.Core.Path.{_≡_}
 use Prim.Native.Nat.{ℕ, _+_, _%_}
 use lib.Dec.{ltb}
 use Rattle.laws.specs.Choice.{if_then_else_}
 use Rattle.ocl.specs.Types.{Kind, sequence, bag, sameKind}
-use Rattle.ocl.specs.Typing.{Mark, rowMarked, kindMarked}
+use Rattle.ocl.specs.Marks.{Scale, integers, reals, Mark, ofRow, ofRows, ofNumbers, rowMarked, kindMarked, scaleMarked}
 
 unfoldable pub markWord : Mark → ℕ
-markWord m = if sameKind (kindMarked m) sequence then 64 + rowMarked m else rowMarked m
+markWord (ofRow i) = i
+markWord (ofRows k i) = if sameKind k sequence then 64 + i else i
+markWord (ofNumbers integers) = 0
+markWord (ofNumbers reals) = 128
 
 unfoldable pub kindIn : ℕ → Kind
-kindIn word = if ltb word 64 then bag else sequence
+kindIn word = if ltb (word % 128) 64 then bag else sequence
+
+unfoldable pub scaleIn : ℕ → Scale
+scaleIn word = if ltb word 128 then integers else reals
 
 -- what evaluation reads in the word of a mark
 pub record Marked (word : ℕ) (m : Mark) : Type 0 where
   pub row : rowMarked m ≡ word % 64
   pub kind : kindMarked m ≡ kindIn word
+  pub scale : scaleMarked m ≡ scaleIn word

@@ -7,9 +7,9 @@ use Prim.Native.Nat.{ℕ, zero, suc, _+_, _*_, _%_}
 use lib.ListN.{length, getD}
 use lib.Dec.{eqb, ltb}
 use Rattle.laws.specs.Choice.{if_then_else_}
-use Rattle.laws.specs.Integers.{bias, unbias}
+use Rattle.reals.specs.Words.{cell, numberIn}
 use Rattle.ocl.specs.Types.{Kind, set, sequence, bag, Ty}
-use Rattle.ocl.specs.Forms.{Arith, plus, minus, times, div, modulo, Connective, and, or, Quantifier, forAll, exists, Access, ofObject, ofMembers, Leaf, truth, undef, number, self, var, all, Unary, negation, sizeOf, convert, castTo, Binary, equal, less, arith, includes, including, union, Expr, node, Form, leaf, unary, binary, connective, isUndef, conditional, letIn, attribute, call, quantified, iterate, assemble, Operands, noOperand, operand, Definition}
+use Rattle.ocl.specs.Forms.{Arith, plus, minus, times, Division, div, modulo, Connective, and, or, Quantifier, forAll, exists, Access, ofObject, ofMembers, Leaf, truth, undef, number, self, var, all, Unary, negation, sizeOf, convert, castTo, Binary, equal, less, arith, divide, over, includes, including, union, Expr, node, Form, leaf, unary, binary, connective, isUndef, conditional, letIn, attribute, call, quantified, iterate, assemble, Operands, noOperand, operand, Definition}
 use Rattle.sheet.specs.Lines.{Shape}
 use Rattle.types.specs.Word.{typeIn}
 
@@ -33,7 +33,7 @@ leafOf k w =
     if eqb k 0 then truth false
     else if eqb k 1 then truth true
     else if eqb k 2 then undef
-    else if eqb k 3 then number (unbias (w 1 % 4294967296))
+    else if eqb k 3 then number (numberIn (w 1))
     else if eqb k 4 then self
     else if eqb k 5 then var (variable (w 1))
     else all (classIn (w 1))
@@ -48,19 +48,24 @@ unaryOf k w =
     else if eqb k 11 then convert bag
     else castTo (classIn (w 2))
 
--- codes 15 to 19 of the binary forms
+-- codes 15 to 17 of the binary forms
 unfoldable pub arithByCode : ℕ → Arith
-arithByCode k =
-    if eqb k 15 then plus else if eqb k 16 then minus else if eqb k 17 then times else if eqb k 18 then div else modulo
+arithByCode k = if eqb k 15 then plus else if eqb k 16 then minus else times
 
--- codes 13 to 22
+-- codes 18 and 19
+unfoldable pub divisionByCode : ℕ → Division
+divisionByCode k = if eqb k 18 then div else modulo
+
+-- codes 13 to 22, and 37
 unfoldable pub binaryOf : ℕ → Binary
 binaryOf k =
     if eqb k 13 then equal
     else if eqb k 14 then less
-    else if ltb k 20 then arith (arithByCode k)
+    else if ltb k 18 then arith (arithByCode k)
+    else if ltb k 20 then divide (divisionByCode k)
     else if eqb k 20 then includes
     else if eqb k 21 then including
+    else if eqb k 37 then over
     else union
 
 -- codes 23 and 24
@@ -87,7 +92,7 @@ operandsIn f w (suc c) k = operand (f (w k)) (operandsIn f w c (k + 1))
 -- over the trees f of the nodes before it; what no accepted sheet has counts as `undef`
 unfoldable pub formOf : (ℕ → Expr) → (ℕ → ℕ) → ℕ → Form
 formOf f w k =
-    if ltb 36 k then leaf undef
+    if ltb 37 k then leaf undef
     else if ltb k 7 then leaf (leafOf k w)
     else if ltb k 13 then unary (unaryOf k w) (f (w 1))
     else if ltb k 23 then binary (binaryOf k) (f (w 1)) (f (w 2))
@@ -99,7 +104,8 @@ formOf f w k =
     else if eqb k 32 then letIn (variable (w 3)) (f (w 1)) (f (w 2))
     else if ltb k 35 then attribute (accessOf k) (w 2) (f (w 1))
     else if eqb k 35 then iterate (variable (w 4)) (variable (w 5)) (typeIn (w 6)) (f (w 1)) (f (w 2)) (f (w 3))
-    else call (classIn (w 3)) (typeIn (w 4)) (f (w 1)) (f (w 2))
+    else if eqb k 36 then call (classIn (w 3)) (typeIn (w 4)) (f (w 1)) (f (w 2))
+    else binary (binaryOf k) (f (w 1)) (f (w 2))
 
 -- the trees of the nodes below n; an operand that is not smaller, which no accepted sheet has, counts as `undef`
 unfoldable pub treesBelow : List ℕ → ℕ → ℕ → Expr
@@ -123,7 +129,7 @@ unfoldable pub leafWords : Leaf → ℕ × ℕ
 leafWords (truth false) = (0, 0)
 leafWords (truth true) = (1, 0)
 leafWords undef = (2, 0)
-leafWords (number z) = (3, bias z)
+leafWords (number x) = (3, cell x)
 leafWords self = (4, 0)
 leafWords (var i) = (5, i)
 leafWords (all c) = (6, c)
@@ -141,13 +147,17 @@ unfoldable pub arithCode : Arith → ℕ
 arithCode plus = 15
 arithCode minus = 16
 arithCode times = 17
-arithCode div = 18
-arithCode modulo = 19
+
+unfoldable pub divisionCode : Division → ℕ
+divisionCode div = 18
+divisionCode modulo = 19
 
 unfoldable pub binaryCode : Binary → ℕ
 binaryCode equal = 13
 binaryCode less = 14
 binaryCode (arith o) = arithCode o
+binaryCode (divide o) = divisionCode o
+binaryCode over = 37
 binaryCode includes = 20
 binaryCode including = 21
 binaryCode union = 22

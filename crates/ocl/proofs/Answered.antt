@@ -1,16 +1,18 @@
 -- What holds of every type that typing answers with, where it holds of the types that a tree names, of the rows' and of the variables':
 -- one induction over the forms. Assumes nothing.
 use mathlib.Core.Path.{_≡_}
-use mathlib.Core.Bool.{true, _||_}
+use mathlib.Core.Bool.{true, _&&_, _||_}
 use mathlib.Core.Option.{Option, none, some}
 use Prim.Native.Nat.{ℕ}
 use lib.Dec.{T, eqb, leb}
 use Rattle.laws.proofs.Tests.{by-if, All?, all-none, all-some}
+use Rattle.reals.specs.Reals.{Number, int, real}
 use Rattle.ocl.specs.Environment.{Env, extend, start}
-use Rattle.ocl.specs.Types.{any, boolean, integer, class, set, Letter, exactly, Ty, void, simple, around, Boolean, Integer, Class, depth, sameKind, subtype, join}
-use Rattle.ocl.specs.Model.{Schema, rowRead}
-use Rattle.ocl.specs.Forms.{Access, ofObject, ofMembers, Leaf, truth, undef, number, self, var, all, Unary, negation, sizeOf, convert, castTo, Binary, equal, less, arith, includes, including, union, Expr, node, Form, leaf, unary, binary, connective, isUndef, conditional, letIn, attribute, call, quantified, iterate, assemble, Operands, noOperand, operand}
-use Rattle.ocl.specs.Typing.{Answer, typed, Mark, ofRow, ofRows, wrap, collectKind, boundType, leafType, castType, unaryType, bothBelow, binaryType, conditionalType, rowType, attributeType, leafTyping, unaryTyping, binaryTyping, connectiveTyping, isUndefTyping, conditionalTyping, letTyping, attributeTyping, callType, callTyping, quantifiedTyping, iterateTyping, noOperandTyping, operandTyping, assembleTyping, typing, formTyping, operandsTyping, typeRule}
+use Rattle.ocl.specs.Types.{Simple, any, boolean, integer, class, set, Letter, exactly, Ty, void, simple, around, Boolean, Integer, Real, Class, depth, sameKind, subtype, join}
+use Rattle.ocl.specs.Model.{Schema, numberType, rowRead}
+use Rattle.ocl.specs.Forms.{Access, ofObject, ofMembers, Leaf, truth, undef, number, self, var, all, Unary, negation, sizeOf, convert, castTo, Binary, equal, less, arith, divide, over, includes, including, union, Expr, node, Form, leaf, unary, binary, connective, isUndef, conditional, letIn, attribute, call, quantified, iterate, assemble, Operands, noOperand, operand}
+use Rattle.ocl.specs.Marks.{Scale, integers, reals, Mark, ofRow, ofRows}
+use Rattle.ocl.specs.Typing.{Answer, typed, scaleType, scaled, onNumbers, includesType, includingType, unionType, wrap, collectKind, boundType, leafType, castType, unaryType, bothBelow, binaryType, conditionalType, rowType, attributeType, leafTyping, unaryTyping, binaryTyping, connectiveTyping, isUndefTyping, conditionalTyping, letTyping, attributeTyping, callType, callTyping, quantifiedTyping, iterateTyping, noOperandTyping, operandTyping, assembleTyping, typing, formTyping, operandsTyping, typeRule}
 use Rattle.ocl.specs.Laws.{Agree}
 use Rattle.ocl.proofs.Means.{Gives, no-type, gives, gives-type, gives-if, gives-common, gives-collection, gives-class, gives-kind, Means, means-pure, means-then, means-collection, means-class, means-if}
 
@@ -19,7 +21,7 @@ use Rattle.ocl.proofs.Means.{Gives, no-type, gives, gives-type, gives-i
 unfoldable pub leafNames : Leaf → Option Ty
 leafNames (truth b) = none
 leafNames undef = none
-leafNames (number z) = none
+leafNames (number x) = none
 leafNames self = none
 leafNames (var i) = none
 leafNames (all c) = some (Class c)
@@ -58,6 +60,7 @@ pub record Closed (s : Schema) (W : Ty → Type 0) : Type 0 where
   pub of-void : W void
   pub of-boolean : W Boolean
   pub of-integer : W Integer
+  pub of-real : W Real
   pub inside : (l : Letter) (t : Ty) → W (around l t) → W t
   pub outside : (l : Letter) (t : Ty) → T (leb (depth t) 2) → W t → W (around l t)
   pub joined : (t u : Ty) → W t → W u → All? W (join (s .parent) t u)
@@ -80,11 +83,16 @@ module _ (s : Schema) (mark : ℕ → Mark) (W : Ty → Type 0) (k : Closed s W)
   unfolding wrap
   wrapped p l t h = gives-if (leb (depth t) 2) (λ d. gives (k .outside l t d h)) no-type
 
+  number-type : (x : Number) → W (simple (numberType x))
+  unfolding numberType
+  number-type (int z) = k .of-integer
+  number-type (real r) = k .of-real
+
   leaf-type : (p : ℕ) (l : Leaf) {Γ : Env Ty} → All? W (leafNames l) → Bound Γ → Gives W (leafType p l Γ)
   unfolding leafType leafNames depth
   leaf-type p (truth b) h g = gives (k .of-boolean)
   leaf-type p undef h g = gives (k .of-void)
-  leaf-type p (number z) h g = gives (k .of-integer)
+  leaf-type p (number x) h g = gives (number-type x)
   leaf-type p self h g = bound-type p (g 0)
   leaf-type p (var i) h g = bound-type p (g i)
   leaf-type p (all c) (all-some h) g = gives (k .outside (exactly set) (Class c) tt h)
@@ -95,6 +103,7 @@ module _ (s : Schema) (mark : ℕ → Mark) (W : Ty → Type 0) (k : Closed s W)
   cast-type p c (simple any) h = gives h
   cast-type p c (simple boolean) h = no-type
   cast-type p c (simple integer) h = no-type
+  cast-type p c (simple Simple.real) h = no-type
   cast-type p c (simple (class d)) h = gives-if (subtype (s .parent) (Class d) (Class c) || subtype (s .parent) (Class c) (Class d)) (λ z. gives h) no-type
   cast-type p c (around l t) h = no-type
 
@@ -109,17 +118,34 @@ module _ (s : Schema) (mark : ℕ → Mark) (W : Ty → Type 0) (k : Closed s W)
   unfolding bothBelow
   both-below p w r t u h = gives-if (subtype (s .parent) t w) (λ z. gives-if (subtype (s .parent) u w) (λ y. gives h) no-type) no-type
 
-  binary-type : (p : ℕ) (op : Binary) (t u : Ty) → W t → W u → Gives W (binaryType s p op t u)
-  unfolding binaryType
-  binary-type p equal t u h i = gives-common p (k .joined t u h i) (λ w j. gives (k .of-boolean))
-  binary-type p less t u h i = both-below p Integer Boolean t u (k .of-boolean)
-  binary-type p (arith o) t u h i = both-below p Integer Integer t u (k .of-integer)
-  binary-type p includes t u h i = gives-collection W p t h (λ l m j. gives-common p (k .joined m u (k .inside l m j) i) (λ w q. gives (k .of-boolean)))
-  binary-type p including t u h i =
-      gives-collection W p t h (λ l m j. gives-kind (λ c. W (around c m)) p l j (λ c y. gives-common p (k .joined m u (k .inside l m j) i) (λ w q. wrapped p (exactly c) w q)))
-  binary-type p union t u h i =
+  scale-type : (x : Scale) → W (scaleType x)
+  unfolding scaleType
+  scale-type integers = k .of-integer
+  scale-type reals = k .of-real
+
+  scaled-type : (p : ℕ) (type : Scale → Ty) (x : Scale) → W (type x) → Means mark W (scaled p type x)
+  unfolding scaled
+  scaled-type p type x h = record { means = λ t e z. gives-type {G = W} (gives h) e }
+
+  numbers-type : (p : ℕ) (type : Scale → Ty) (t u : Ty) → ((x : Scale) → W (type x)) → Means mark W (onNumbers s p type t u)
+  unfolding onNumbers
+  numbers-type p type t u h =
+      means-if (subtype (s .parent) t Integer && subtype (s .parent) u Integer) (λ z. scaled-type p type integers (h integers))
+      (means-if (subtype (s .parent) t Real && subtype (s .parent) u Real) (λ z. scaled-type p type reals (h reals)) (means-pure no-type))
+
+  binary-type : (p : ℕ) (op : Binary) (t u : Ty) → W t → W u → Means mark W (binaryType s p op t u)
+  unfolding binaryType includesType includingType unionType
+  binary-type p equal t u h i = means-pure (gives-common p (k .joined t u h i) (λ w j. gives (k .of-boolean)))
+  binary-type p less t u h i = numbers-type p (λ x. Boolean) t u (λ x. k .of-boolean)
+  binary-type p (arith o) t u h i = numbers-type p scaleType t u scale-type
+  binary-type p (divide o) t u h i = means-pure (both-below p Integer Integer t u (k .of-integer))
+  binary-type p over t u h i = means-pure (both-below p Real Real t u (k .of-real))
+  binary-type p includes t u h i = means-pure (gives-collection W p t h (λ l m j. gives-common p (k .joined m u (k .inside l m j) i) (λ w q. gives (k .of-boolean))))
+  binary-type p including t u h i = means-pure (
+      gives-collection W p t h (λ l m j. gives-kind (λ c. W (around c m)) p l j (λ c y. gives-common p (k .joined m u (k .inside l m j) i) (λ w q. wrapped p (exactly c) w q))))
+  binary-type p union t u h i = means-pure (
       gives-collection W p t h (λ l m j. gives-kind (λ c. W (around c m)) p l j (λ c y. gives-collection W p u i (λ r n z. gives-kind (λ c. W (around c n)) p r z (λ d x.
-      gives-if (sameKind c d) (λ e. gives-common p (k .joined m n (k .inside l m j) (k .inside r n z)) (λ w q. wrapped p (exactly c) w q)) no-type))))
+      gives-if (sameKind c d) (λ e. gives-common p (k .joined m n (k .inside l m j) (k .inside r n z)) (λ w q. wrapped p (exactly c) w q)) no-type)))))
 
   row-type : (p : ℕ) (m : ℕ → Mark) (f : Ty → Answer) (o : Option ℕ) → ((i : ℕ) → Gives W (f (s .row i .type))) → Means mark W (rowType s p m f o)
   unfolding rowType
@@ -146,7 +172,7 @@ module _ (s : Schema) (mark : ℕ → Mark) (W : Ty → Type 0) (k : Closed s W)
     answered-form : (f : Form) (p : ℕ) {Γ : Env Ty} → NamedIn W f → Bound Γ → Means mark W (formTyping s p f Γ)
     answered-form (leaf l) p n b = means-pure (leaf-type p l n b)
     answered-form (unary op a) p n b = means-then (answered a (n .1) b) (λ t h. means-pure (unary-type p op t (n .0) h))
-    answered-form (binary op a c) p n b = means-then (answered a (n .0) b) (λ t h. means-then (answered c (n .1) b) (λ u i. means-pure (binary-type p op t u h i)))
+    answered-form (binary op a c) p n b = means-then (answered a (n .0) b) (λ t h. means-then (answered c (n .1) b) (λ u i. binary-type p op t u h i))
     answered-form (connective o a c) p n b = means-then (answered a (n .0) b) (λ t h. means-then (answered c (n .1) b) (λ u i. means-pure (both-below p Boolean Boolean t u (k .of-boolean))))
     answered-form (isUndef a) p n b = means-then (answered a n b) (λ t h. means-pure (gives (k .of-boolean)))
     answered-form (conditional c a e) p n b = means-then (answered c (n .0) b) (λ t h. means-then (answered a (n .1) b) (λ u i. means-then (answered e (n .2) b) (λ w j.

@@ -7,15 +7,16 @@ use lib.IntN.{ℤ}
 use lib.Dec.{T, eqb}
 use Rattle.laws.specs.Choice.{if_then_else_}
 use Rattle.laws.proofs.Tests.{All?, all-none, all-some, Any?, any-some, all-imp}
+use Rattle.reals.specs.Reals.{Number, int, real, Result}
 use Rattle.ocl.specs.Environment.{Env, extend}
-use Rattle.ocl.specs.Types.{Parents, boolean, integer, class, Kind, Letter, exactly, Ty, around, Boolean, Integer, Class, simpleSubtype, letterSubtype, subtype, join, climbs, height, up, sameSimple, simpleCode}
-use Rattle.ocl.specs.Values.{Value, bool, int, obj, coll, Values, nil, cons, count, size, sizes}
-use Rattle.ocl.specs.Model.{Model, schemaOf, classIsA, isA}
+use Rattle.ocl.specs.Types.{Parents, boolean, integer, class, Kind, Letter, exactly, Ty, simple, around, Boolean, Integer, Real, Class, Simple, simpleSubtype, letterSubtype, subtype, join, climbs, height, up, sameSimple, simpleCode}
+use Rattle.ocl.specs.Values.{Value, bool, num, obj, coll, Values, nil, cons, count, size, sizes}
+use Rattle.ocl.specs.Model.{Model, schemaOf, classIsA, isA, numberType}
 use Rattle.ocl.specs.Typing.{Answer, below}
-use Rattle.ocl.specs.Operations.{Outcome, value, form, given, Result, resulting, onBool, onInt, onObj, onColl, isInt, isColl}
+use Rattle.ocl.specs.Operations.{Outcome, value, form, given, resulting, onBool, onInt, onObj, onColl, isInt, isColl, onNum, isNum}
 use Rattle.ocl.specs.Evaluation.{Run, Gather}
 use Rattle.ocl.specs.Soundness.{AcceptedModel}
-use Rattle.ocl.proofs.SimpleTypes.{class-not-boolean, class-not-integer, boolean-not-class, integer-not-class}
+use Rattle.ocl.proofs.SimpleTypes.{class-not-boolean, class-not-integer, class-not-real, boolean-not-class, integer-not-class, real-not-class}
 use Rattle.ocl.proofs.Types.{join-upper}
 use Rattle.ocl.proofs.Values.{Every, every-nil, every-cons, every-imp, count-sizes, Belongs, belongs-up}
 use Rattle.ocl.proofs.Runs.{Safe, safe-value, safe-undefined, safe-form, safe-over, IsBool, safe-bool}
@@ -45,13 +46,22 @@ pub record SemAll (s : Model) (Γ : Env Ty) (k : ℕ) (t : Ty) (g : Gather) : Ty
 -- ---- what a value may be
 
 pub data IsInt : Value → Type 0 where
-  is-int : {z : ℤ} → IsInt (int z)
+  is-int : {z : ℤ} → IsInt (num (int z))
 
 pub int-sem : {P : Value → Type 0} {k : ℕ} {f : ℤ → ℕ → Outcome} {v : Value} → IsInt v → ((z : ℤ) → Safe P k (f z)) → Safe P k (λ n. onInt v (λ z. f z n))
 int-sem (is-int {z}) g = g z
 
 pub int-fits : {v : Value} → IsInt v → T (isInt v)
 int-fits is-int = tt
+
+pub data IsNum : Value → Type 0 where
+  is-num : {x : Number} → IsNum (num x)
+
+pub num-sem : {P : Value → Type 0} {k : ℕ} {f : Number → ℕ → Outcome} {v : Value} → IsNum v → ((x : Number) → Safe P k (f x)) → Safe P k (λ n. onNum v (λ x. f x n))
+num-sem (is-num {x}) g = g x
+
+pub num-fits : {v : Value} → IsNum v → T (isNum v)
+num-fits is-num = tt
 
 pub data IsColl (s : Model) (l : Letter) (t : Ty) : Value → Type 0 where
   is-coll : {k : Kind} {vs : Values} → T (letterSubtype (exactly k) l) → Every (Ok s t) vs → count vs ≤ 127 → IsColl s l t (coll k vs)
@@ -65,6 +75,16 @@ obj-not-integer : (parent : Parents) (c : Option ℕ) → T (classIsA parent c i
 unfolding classIsA
 obj-not-integer parent none h = h
 obj-not-integer parent (some c) h = class-not-integer parent c h
+
+obj-not-real : (parent : Parents) (c : Option ℕ) → T (classIsA parent c Simple.real) → ⊥
+unfolding classIsA
+obj-not-real parent none h = h
+obj-not-real parent (some c) h = class-not-real parent c h
+
+pub number-not-class : (parent : Parents) (x : Number) (c : ℕ) → T (simpleSubtype parent (numberType x) (class c)) → ⊥
+unfolding numberType
+number-not-class parent (int z) c h = integer-not-class parent c h
+number-not-class parent (real r) c h = real-not-class parent c h
 
 -- ---- subtypes, where parents are smaller classes
 
@@ -102,12 +122,13 @@ module _ {s : Model} where
   ok-up {v} h p = record { bel = h .up-to v (p .bel); fits = p .fits }
 
   pub is-bool : {t : Ty} (v : Value) → Below s t Boolean → Ok s t v → IsBool v
-  unfolding Belongs IsBool simpleSubtype climbs height up sameSimple simpleCode isA
+  unfolding Belongs IsBool numberType simpleSubtype climbs height up sameSimple simpleCode isA
   is-bool v h p = go v (ok-up h p .bel)
     where
       go : (v : Value) → Belongs s Boolean v → IsBool v
       go (bool b) h = tt
-      go (int z) h = h
+      go (num (int z)) h = h
+      go (num (real r)) h = h
       go (obj o) h = obj-not-boolean (s .parent) (s .classOf o) h
       go (coll k vs) h = h
 
@@ -115,19 +136,30 @@ module _ {s : Model} where
   bool-sem v h p g = safe-bool v (is-bool v h p) g
 
   pub int-of : {t : Ty} (v : Value) → Below s t Integer → Ok s t v → IsInt v
-  unfolding Belongs simpleSubtype climbs height up sameSimple simpleCode isA
+  unfolding Belongs numberType simpleSubtype climbs height up sameSimple simpleCode isA
   int-of v h p = go v (ok-up h p .bel)
     where
       go : (v : Value) → Belongs s Integer v → IsInt v
       go (bool b) h = absurd h
-      go (int z) h = is-int
+      go (num (int z)) h = is-int
+      go (num (real r)) h = absurd h
       go (obj o) h = absurd (obj-not-integer (s .parent) (s .classOf o) h)
+      go (coll k vs) h = absurd h
+
+  pub num-of : {t : Ty} (v : Value) → Below s t Real → Ok s t v → IsNum v
+  unfolding Belongs simpleSubtype climbs height up sameSimple simpleCode isA
+  num-of v h p = go v (ok-up h p .bel)
+    where
+      go : (v : Value) → Belongs s Real v → IsNum v
+      go (bool b) h = absurd h
+      go (num x) h = is-num
+      go (obj o) h = absurd (obj-not-real (s .parent) (s .classOf o) h)
       go (coll k vs) h = absurd h
 
   pub obj-sem : {P : Value → Type 0} {k c : ℕ} {f : ℕ → ℕ → Outcome} (v : Value) → Ok s (Class c) v → ((o : ℕ) → T (isA s o (class c)) → Safe P k (f o)) → Safe P k (λ n. onObj v (λ o. f o n))
   unfolding Belongs
   obj-sem {c} (bool b) h g = absurd (boolean-not-class (s .parent) c (h .bel))
-  obj-sem {c} (int z) h g = absurd (integer-not-class (s .parent) c (h .bel))
+  obj-sem {c} (num x) h g = absurd (number-not-class (s .parent) x c (h .bel))
   obj-sem (obj o) h g = g o (h .bel)
   obj-sem (coll d vs) h g = absurd (h .bel)
 
@@ -139,7 +171,7 @@ module _ {s : Model} where
   pub coll-of : {l : Letter} {t : Ty} (v : Value) → Ok s (around l t) v → IsColl s l t v
   unfolding Belongs size
   coll-of (bool b) h = absurd (h .bel)
-  coll-of (int z) h = absurd (h .bel)
+  coll-of (num x) h = absurd (h .bel)
   coll-of (obj o) h = absurd (h .bel)
   coll-of {t = t} (coll k vs) h =
       let z : sizes vs ≤ 127 = omega (arith, h .fits) in
@@ -156,22 +188,35 @@ module _ {s : Model} where
   unfolding Belongs size simpleSubtype climbs height sameSimple simpleCode
   bool-ok b = record { bel = tt; fits = omega arith }
 
-  pub int-ok : (z : ℤ) → Ok s Integer (int z)
-  unfolding Belongs size simpleSubtype climbs height sameSimple simpleCode
-  int-ok z = record { bel = tt; fits = omega arith }
+  pub num-ok : (x : Number) → Ok s (simple (numberType x)) (num x)
+  unfolding Belongs size numberType simpleSubtype climbs height sameSimple simpleCode
+  num-ok (int z) = record { bel = tt; fits = omega arith }
+  num-ok (real r) = record { bel = tt; fits = omega arith }
+
+  pub int-ok : (z : ℤ) → Ok s Integer (num (int z))
+  unfolding numberType
+  int-ok z = num-ok (int z)
+
+  pub real-ok : (x : Number) → Ok s Real (num x)
+  unfolding Belongs size numberType simpleSubtype climbs height up sameSimple simpleCode
+  real-ok (int z) = record { bel = tt; fits = omega arith }
+  real-ok (real r) = record { bel = tt; fits = omega arith }
 
   pub give-bool : {k : ℕ} (b : Bool) → Safe (Ok s Boolean) k (λ n. value (bool b) n)
   give-bool b = safe-value (bool b) (bool-ok b)
 
-  pub give-int : {k : ℕ} (z : ℤ) → Safe (Ok s Integer) k (λ n. value (int z) n)
-  give-int z = safe-value (int z) (int-ok z)
+  pub give-num : {k : ℕ} (x : Number) → Safe (Ok s (simple (numberType x))) k (λ n. value (num x) n)
+  give-num x = safe-value (num x) (num-ok x)
+
+  pub give-int : {k : ℕ} (z : ℤ) → Safe (Ok s Integer) k (λ n. value (num (int z)) n)
+  give-int z = safe-value (num (int z)) (int-ok z)
 
   pub given-sem : {t : Ty} {k : ℕ} {o : Option Value} → All? (Ok s t) o → Safe (Ok s t) k (λ n. given o n)
   given-sem all-none = safe-undefined
   given-sem (all-some {x} h) = safe-value x h
 
   pub result-sem : {t : Ty} {k : ℕ} {r : Result} → Results (Ok s t) r → Safe (Ok s t) k (λ n. resulting r n)
-  result-sem (results {v} h) = safe-value v h
+  result-sem (results {x} h) = safe-value (num x) h
   result-sem no-result = safe-undefined
   result-sem over-range = safe-over
 

@@ -1,6 +1,6 @@
 -- What holds of every value that a run may end in, whatever else it ends in: a law for each piece that evaluation is written in.
 -- Assumes nothing.
-use mathlib.Core.Path.{_≡_, subst}
+use mathlib.Core.Path.{_≡_, refl, subst}
 use mathlib.Core.Bool.{Bool, true, false, not, Bool·beq}
 use mathlib.Core.Option.{Option}
 use Prim.Native.Nat.{ℕ, zero, suc, _+_, _≤_}
@@ -8,12 +8,15 @@ use native.Mathlib.Omega.{arith}
 use lib.IntN.{ℤ, pos, negsuc}
 use lib.Dec.{T, leb, ltb, leb→le}
 use Rattle.laws.specs.Choice.{if_then_else_}
+use Rattle.reals.specs.Reals.{Number, int, real, inRange, kept, Operation, Result, result, noResult, overRange, calculated}
+use Rattle.reals.proofs.Keeping.{results-kept}
 use Rattle.ocl.specs.Types.{Kind}
-use Rattle.ocl.specs.Values.{Value, bool, int, obj, coll, Values, nil, addAll, size}
+use Rattle.ocl.specs.Values.{Value, bool, num, obj, coll, Values, nil, addAll, size}
 use Rattle.ocl.specs.Environment.{Env}
-use Rattle.ocl.specs.Forms.{Arith, plus, minus, times, div, modulo, Quantifier}
-use Rattle.ocl.specs.Operations.{Outcome, value, undefined, stuck, stop, form, given, formAll, onBool, onInt, onObj, onColl, inRange, Result, result, noResult, overRange, resulting, ranged, unlessZero, arithmetic}
+use Rattle.ocl.specs.Forms.{Arith, plus, minus, times, div, modulo, Quantifier, Division}
+use Rattle.ocl.specs.Operations.{Outcome, value, undefined, stuck, stop, form, given, formAll, onBool, onInt, onObj, onColl, resulting, ranged, unlessZero, arithmetic, onNum, onTwo, division}
 use Rattle.ocl.specs.Evaluation.{Run, resume, bind, tick, bound, endsAt, seek, fold}
+use Rattle.ocl.specs.Marks.{Scale, integers, reals}
 use Rattle.laws.proofs.Tests.{by-if, All?, all-none, all-some}
 use Rattle.ocl.proofs.Values.{Every, every-nil, every-cons}
 
@@ -69,26 +72,38 @@ ends-bound n (all-some p) = ends-value p
 
 pub ends-bool : {P : Value → Type 0} {k : Bool → Outcome} (v : Value) → ((b : Bool) → Ends P (k b)) → Ends P (onBool v k)
 ends-bool (bool b) h = h b
-ends-bool (int z) h = ends-stuck
+ends-bool (num x) h = ends-stuck
 ends-bool (obj o) h = ends-stuck
 ends-bool (coll c vs) h = ends-stuck
 
+pub ends-num : {P : Value → Type 0} {k : Number → Outcome} (v : Value) → ((x : Number) → Ends P (k x)) → Ends P (onNum v k)
+ends-num (bool b) h = ends-stuck
+ends-num (num x) h = h x
+ends-num (obj o) h = ends-stuck
+ends-num (coll c vs) h = ends-stuck
+
 pub ends-int : {P : Value → Type 0} {k : ℤ → Outcome} (v : Value) → ((z : ℤ) → Ends P (k z)) → Ends P (onInt v k)
 ends-int (bool b) h = ends-stuck
-ends-int (int z) h = h z
+ends-int (num (int z)) h = h z
+ends-int (num (real r)) h = ends-stuck
 ends-int (obj o) h = ends-stuck
 ends-int (coll c vs) h = ends-stuck
 
+pub ends-two : {P : Value → Type 0} {f : ℤ → ℤ → Outcome} {g : Number → Number → Outcome} (x : Scale) (v w : Value)
+    → ((y z : ℤ) → Ends P (f y z)) → ((y z : Number) → Ends P (g y z)) → Ends P (onTwo x v w f g)
+ends-two integers v w h k = ends-int v (λ y. ends-int w (λ z. h y z))
+ends-two reals v w h k = ends-num v (λ y. ends-num w (λ z. k y z))
+
 pub ends-obj : {P : Value → Type 0} {k : ℕ → Outcome} (v : Value) → ((o : ℕ) → Ends P (k o)) → Ends P (onObj v k)
 ends-obj (bool b) h = ends-stuck
-ends-obj (int z) h = ends-stuck
+ends-obj (num x) h = ends-stuck
 ends-obj (obj o) h = h o
 ends-obj (coll c vs) h = ends-stuck
 
 -- what is known of the operand is known of the collection
 pub ends-coll : (P : Value → Type 0) {Q : Value → Type 0} {k : Kind → Values → Outcome} (v : Value) → P v → ((c : Kind) (vs : Values) → P (coll c vs) → Ends Q (k c vs)) → Ends Q (onColl v k)
 ends-coll P (bool b) p h = ends-stuck
-ends-coll P (int z) p h = ends-stuck
+ends-coll P (num x) p h = ends-stuck
 ends-coll P (obj o) p h = ends-stuck
 ends-coll P (coll c vs) p h = h c vs p
 
@@ -106,11 +121,11 @@ unfolding fold
 ends-fold a n every-nil q g = ends-value q
 ends-fold a n (every-cons {v} p h) q g = ends-bind (g v a n p q) (λ b m r. ends-fold b m h r g)
 
--- ---- Integers: what holds of those in range holds of what arithmetic gives
+-- ---- numbers: what holds of those that are kept holds of what arithmetic gives
 
--- P of the value, if there is one
+-- P of the number, if there is one
 pub data Results (P : Value → Type 0) : Result → Type 0 where
-  results : {v : Value} → P v → Results P (result v)
+  results : {x : Number} → P (num x) → Results P (result x)
   no-result : Results P noResult
   over-range : Results P overRange
 
@@ -119,7 +134,7 @@ ends-result n (results p) = ends-value p
 ends-result n no-result = ends-undefined
 ends-result n over-range = ends-stop
 
-module _ (P : Value → Type 0) (h : (z : ℤ) → T (inRange z) → P (int z)) where
+module _ (P : Value → Type 0) (h : (z : ℤ) → T (inRange z) → P (num (int z))) where
   ranged-all : (z : ℤ) → Results P (ranged z)
   unfolding ranged
   ranged-all z = by-if (Results P) (inRange z) (result (int z)) overRange (λ t. results (h z t)) (λ t. over-range)
@@ -135,5 +150,16 @@ module _ (P : Value → Type 0) (h : (z : ℤ) → T (inRange z) → P (int z)) 
   arithmetic-all plus x y = ranged-all _
   arithmetic-all minus x y = ranged-all _
   arithmetic-all times x y = ranged-all _
-  arithmetic-all div x y = unless-all y _
-  arithmetic-all modulo x y = unless-all y _
+
+  pub division-all : (o : Division) (x y : ℤ) → Results P (division o x y)
+  unfolding division
+  division-all div x y = unless-all y _
+  division-all modulo x y = unless-all y _
+
+pub calculated-all : (P : Value → Type 0) → ((x : Number) → T (kept x) → P (num x)) → (op : Operation) (x y : Number) → Results P (calculated op x y)
+calculated-all P h op x y = go (calculated op x y) (λ n e. results-kept op x y n e)
+  where
+    go : (r : Result) → ((n : Number) → r ≡ result n → T (kept n)) → Results P r
+    go (result n) k = results (h n (k n refl))
+    go noResult k = no-result
+    go overRange k = over-range

@@ -5,7 +5,7 @@ use Rattle.laws.proofs.Tests.{all-imp, all-self}
 use Rattle.ocl.specs.Types.{Kind}
 use Rattle.ocl.specs.Values.{Value, coll, Values, nil, add}
 use Rattle.ocl.specs.Model.{Model}
-use Rattle.ocl.specs.Laws.{literals, Sorted, sorted-nil, Formed, formed-bool, formed-int, formed-obj, formed-coll, FormedAll, formed-nil, formed-cons, Adding, FormedModel, FormedEndsLaw}
+use Rattle.ocl.specs.Laws.{literals, Sorted, sorted-nil, Formed, formed-bool, formed-num, formed-obj, formed-coll, FormedAll, formed-nil, formed-cons, Adding, FormedModel, FormedEndsLaw}
 use Rattle.ocl.proofs.Values.{Every, every-nil, every-cons, every-imp, add-every, addAll-every}
 use Rattle.ocl.proofs.Sorted.{add-sorted, addAll-sorted, Under, under, instances-under, instances-sorted}
 use Rattle.ocl.proofs.Kept.{Keeps, kept-ends, kept-rule}
@@ -42,9 +42,9 @@ formed-kept : (s : Model) → FormedModel s → Keeps s Formed (λ k vs. Formed 
 formed-kept s ok = record {
   of-bool = λ b. formed-bool;
   of-object = λ o. formed-obj;
-  of-integer = λ z h. formed-int;
+  of-number = λ x h. formed-num;
   of-stored = ok .stored-formed;
-  of-count = λ h. formed-int;
+  of-count = λ h. formed-num;
   of-members = members-formed;
   held = λ h. h;
   formed = λ h l. h;
@@ -63,6 +63,6 @@ adding = record {
 
 pub formed-ends : FormedEndsLaw
 formed-ends s ok mark e = record {
-  from = λ ρ r. kept-ends (formed-kept s ok) mark e (each-all (λ z. formed-int) (literals e)) ρ (record { variable = λ i. all-imp (λ v q. r .bound-formed i v q) (all-self (ρ i)) });
-  of-rule = kept-rule (formed-kept s ok) mark e (each-all (λ z. formed-int) (literals e));
+  from = λ ρ r. kept-ends (formed-kept s ok) mark e (each-all (λ z. formed-num) (literals e)) ρ (record { variable = λ i. all-imp (λ v q. r .bound-formed i v q) (all-self (ρ i)) });
+  of-rule = kept-rule (formed-kept s ok) mark e (each-all (λ z. formed-num) (literals e));
 }

@@ -6,31 +6,32 @@ use mathlib.Core.Option.{Option, some}
 use mathlib.Core.List.{_++_}
 use Prim.Native.Nat.{ℕ, _≤_}
 use lib.IntN.{ℤ, pos}
-use lib.Dec.{T, eqb}
 use Rattle.laws.specs.Choice.{if_then_else_, onSome, mapSome}
 use Rattle.laws.specs.Lists.{Each}
+use Rattle.reals.specs.Reals.{Number, int, inRange, orderInt, isLess, kept, Operation, lesser}
 use Rattle.ocl.specs.Types.{class, Kind, set, sameKind}
-use Rattle.ocl.specs.Values.{Value, bool, int, obj, coll, Values, nil, cons, count, size, orderInt, same, has, add, addAll}
+use Rattle.ocl.specs.Values.{Value, bool, num, obj, coll, Values, nil, cons, count, size, same, has, add, addAll}
 use Rattle.ocl.specs.Model.{Model, isA, every}
 use Rattle.ocl.specs.Environment.{Env, extend, start}
-use Rattle.ocl.specs.Forms.{Connective, Quantifier, Access, ofObject, ofMembers, Leaf, truth, undef, number, self, var, all, Unary, negation, sizeOf, convert, castTo, Binary, equal, less, arith, includes, including, union, Expr, node, Form, leaf, unary, binary, connective, isUndef, conditional, letIn, attribute, call, quantified, iterate, assemble, Operands, noOperand, operand}
+use Rattle.ocl.specs.Forms.{Connective, Quantifier, Access, ofObject, ofMembers, Leaf, truth, undef, number, self, var, all, Unary, negation, sizeOf, convert, castTo, Binary, equal, less, arith, divide, over, includes, including, union, Expr, node, Form, leaf, unary, binary, connective, isUndef, conditional, letIn, attribute, call, quantified, iterate, assemble, Operands, noOperand, operand}
 use Rattle.ocl.specs.Laws.{leafLiterals, literals, literalsIn, literalsOf}
-use Rattle.ocl.specs.Typing.{Mark, rowMarked, kindMarked}
-use Rattle.ocl.specs.Operations.{value, isLess, inRange, instances, cast, unaryApply, leftFits, binaryApply, hasRow, valueInRow, valuesInRow, access}
+use Rattle.ocl.specs.Marks.{Mark, rowMarked, kindMarked, scaleMarked}
+use Rattle.ocl.specs.Operations.{value, instances, cast, unaryApply, leftFits, binaryApply, hasRow, valueInRow, valuesInRow, access, operationOf}
 use Rattle.ocl.specs.Evaluation.{Run, leafRun, unaryRun, binaryRun, decides, connectiveRun, isUndefRun, conditionalRun, letRun, attributeRun, callRun, quantifiedRun, iterateRun, Gather, noOperandRun, operandRun, assembleRun, evaluation, formRun, operandsRun, evaluateRule}
 use Rattle.laws.proofs.Tests.{All?, all-none, all-some, all-imp, all-self}
 use Rattle.laws.proofs.Lists.{each-head, each-left, each-right}
 use Rattle.ocl.proofs.Values.{Every, every-nil, every-cons, all-each}
-use Rattle.ocl.proofs.Ends.{Ends, ends-value, ends-undefined, ends-stuck, ends-at, ends-resume, ends-bind, ends-if, ends-tick, ends-form, ends-given, ends-bound, ends-bool, ends-int, ends-obj, ends-coll, ends-seek, ends-fold, ends-all, ends-result, arithmetic-all}
+use Rattle.ocl.proofs.Ends.{Ends, ends-value, ends-undefined, ends-stuck, ends-at, ends-resume, ends-bind, ends-if, ends-tick, ends-form, ends-given, ends-bound, ends-bool, ends-int, ends-obj, ends-coll, ends-seek, ends-fold, ends-all, ends-result, arithmetic-all, ends-num, ends-two, division-all, calculated-all}
+use lib.Dec.{T, eqb}
 
 -- P of a value, and Held of the members of a collection that is being gathered
 pub record Keeps (s : Model) (P : Value → Type 0) (Held : Kind → Values → Type 0) : Type 0 where
   pub of-bool : (b : Bool) → P (bool b)
   pub of-object : (o : ℕ) → P (obj o)
-  pub of-integer : (z : ℤ) → T (inRange z) → P (int z)
+  pub of-number : (x : Number) → T (kept x) → P (num x)
   pub of-stored : (o i : ℕ) (v : Value) → s .valueOf o i ≡ some v → P v
   -- a collection says so much of its members, and of how many there are
-  pub of-count : {k : Kind} {vs : Values} → P (coll k vs) → P (int (pos (count vs)))
+  pub of-count : {k : Kind} {vs : Values} → P (coll k vs) → P (num (int (pos (count vs))))
   pub of-members : {k : Kind} {vs : Values} → P (coll k vs) → Every P vs
   pub held : {k : Kind} {vs : Values} → P (coll k vs) → Held k vs
   -- and is formed of as many as are allowed
@@ -75,7 +76,7 @@ module _ {s : Model} {P : Value → Type 0} {Held : Kind → Values → Type 0} 
 
   -- ---- each form
 
-  leaf-kept : (l : Leaf) → Each (λ z. P (int z)) (leafLiterals l) → Kept (leafRun s l)
+  leaf-kept : (l : Leaf) → Each (λ x. P (num x)) (leafLiterals l) → Kept (leafRun s l)
   unfolding leafRun leafLiterals
   leaf-kept (truth b) h = record { run = λ ρ r n. give-bool b }
   leaf-kept undef h = record { run = λ ρ r n. ends-undefined }
@@ -87,7 +88,7 @@ module _ {s : Model} {P : Value → Type 0} {Held : Kind → Values → Type 0} 
   cast-ends : (c n : ℕ) (v : Value) → Ends P (cast s c v n)
   unfolding cast
   cast-ends c n (bool b) = ends-undefined
-  cast-ends c n (int z) = ends-undefined
+  cast-ends c n (num x) = ends-undefined
   cast-ends c n (obj o) = ends-if (isA s o (class c)) (ends-value (ok .of-object o)) ends-undefined
   cast-ends c n (coll k vs) = ends-stuck
 
@@ -102,19 +103,26 @@ module _ {s : Model} {P : Value → Type 0} {Held : Kind → Values → Type 0} 
   unfolding unaryRun
   unary-kept op h = record { run = λ ρ r n. ends-bind (h .run ρ r n) (unary-ends op) }
 
-  binary-ends : (op : Binary) (v w : Value) (n : ℕ) → P v → P w → Ends P (binaryApply op v w n)
-  unfolding binaryApply
-  binary-ends equal v w n p q = give-bool (same v w)
-  binary-ends less v w n p q = ends-int v (λ x. ends-int w (λ y. give-bool (isLess (orderInt x y))))
-  binary-ends (arith o) v w n p q = ends-int v (λ x. ends-int w (λ y. ends-result n (arithmetic-all P (ok .of-integer) o x y)))
-  binary-ends includes v w n p q = ends-coll P v p (λ k vs h. give-bool (has w vs))
-  binary-ends including v w n p q = ends-coll P v p (λ k vs h. ends-form _ n (ok .formed (ok .of-added k w q (ok .held h))))
-  binary-ends union v w n p q = ends-coll P v p (λ j vs h. ends-coll P w q (λ k ws g. ends-if (sameKind j k) (ends-form _ n (ok .formed (all-held j (ok .of-members g) (ok .held h)))) ends-stuck))
+  of-integer : (z : ℤ) → T (inRange z) → P (num (int z))
+  unfolding kept
+  of-integer z h = ok .of-number (int z) h
 
-  binary-kept : (op : Binary) {f g : Run} → Kept f → Kept g → Kept (binaryRun op f g)
+  binary-ends : (m : Mark) (op : Binary) (v w : Value) (n : ℕ) → P v → P w → Ends P (binaryApply m op v w n)
+  unfolding binaryApply
+  binary-ends m equal v w n p q = give-bool (same v w)
+  binary-ends m less v w n p q = ends-two (scaleMarked m) v w (λ x y. give-bool (isLess (orderInt x y))) (λ x y. give-bool (lesser x y))
+  binary-ends m (arith o) v w n p q =
+      ends-two (scaleMarked m) v w (λ x y. ends-result n (arithmetic-all P of-integer o x y)) (λ x y. ends-result n (calculated-all P (ok .of-number) (operationOf o) x y))
+  binary-ends m (divide o) v w n p q = ends-int v (λ x. ends-int w (λ y. ends-result n (division-all P of-integer o x y)))
+  binary-ends m over v w n p q = ends-num v (λ x. ends-num w (λ y. ends-result n (calculated-all P (ok .of-number) Operation.over x y)))
+  binary-ends m includes v w n p q = ends-coll P v p (λ k vs h. give-bool (has w vs))
+  binary-ends m including v w n p q = ends-coll P v p (λ k vs h. ends-form _ n (ok .formed (ok .of-added k w q (ok .held h))))
+  binary-ends m union v w n p q = ends-coll P v p (λ j vs h. ends-coll P w q (λ k ws g. ends-if (sameKind j k) (ends-form _ n (ok .formed (all-held j (ok .of-members g) (ok .held h)))) ends-stuck))
+
+  binary-kept : (m : Mark) (op : Binary) {f g : Run} → Kept f → Kept g → Kept (binaryRun m op f g)
   unfolding binaryRun
-  binary-kept op hf hg = record {
-    run = λ ρ r n. ends-bind (hf .run ρ r n) (λ v m p. ends-if (leftFits op v) (ends-bind (hg .run ρ r m) (λ w l q. binary-ends op v w l p q)) ends-stuck);
+  binary-kept m op hf hg = record {
+    run = λ ρ r n. ends-bind (hf .run ρ r n) (λ v i p. ends-if (leftFits m op v) (ends-bind (hg .run ρ r i) (λ w l q. binary-ends m op v w l p q)) ends-stuck);
   }
 
   connective-kept : (c : Connective) {f g : Run} → Kept f → Kept g → Kept (connectiveRun c f g)
@@ -142,7 +150,7 @@ module _ {s : Model} {P : Value → Type 0} {Held : Kind → Values → Type 0} 
   row-kept : (i : ℕ) (v : Value) → All? P (valueInRow s i v)
   unfolding valueInRow
   row-kept i (bool b) = all-none
-  row-kept i (int z) = all-none
+  row-kept i (num x) = all-none
   row-kept i (obj o) = value-kept o i
   row-kept i (coll k vs) = all-none
 
@@ -205,13 +213,13 @@ module _ {s : Model} {P : Value → Type 0} {Held : Kind → Values → Type 0} 
     mutual
       unfolding evaluation literals
 
-      all-kept : (e : Expr) → Each (λ z. P (int z)) (literals e) → Kept (evaluation s mark e)
+      all-kept : (e : Expr) → Each (λ x. P (num x)) (literals e) → Kept (evaluation s mark e)
       all-kept (node p f) h = record { run = λ ρ r n. ends-tick (formRun s mark p f) ρ n (form-kept p f h .run ρ r) }
 
-      form-kept : (p : ℕ) (f : Form) → Each (λ z. P (int z)) (literalsIn f) → Kept (formRun s mark p f)
+      form-kept : (p : ℕ) (f : Form) → Each (λ x. P (num x)) (literalsIn f) → Kept (formRun s mark p f)
       form-kept p (leaf l) h = leaf-kept l h
       form-kept p (unary op a) h = unary-kept op (all-kept a h)
-      form-kept p (binary op a b) h = binary-kept op (all-kept a (each-left (literals a) (literals b) h)) (all-kept b (each-right (literals a) h))
+      form-kept p (binary op a b) h = binary-kept (mark p) op (all-kept a (each-left (literals a) (literals b) h)) (all-kept b (each-right (literals a) h))
       form-kept p (connective c a b) h = connective-kept c (all-kept a (each-left (literals a) (literals b) h)) (all-kept b (each-right (literals a) h))
       form-kept p (isUndef a) h = isUndef-kept (all-kept a h)
       form-kept p (conditional c a b) h = let l = each-right (literals c) h in
@@ -224,13 +232,13 @@ module _ {s : Model} {P : Value → Type 0} {Held : Kind → Values → Type 0} 
           iterate-kept i j (all-kept a (each-left (literals a) (literals e ++ literals b) h)) (all-kept e (each-left (literals e) (literals b) l)) (all-kept b (each-right (literals e) l))
       form-kept p (assemble k es) h = assemble-kept k (operands-gather es h)
 
-      operands-gather : (es : Operands) → Each (λ z. P (int z)) (literalsOf es) → Gathers (operandsRun s mark es)
+      operands-gather : (es : Operands) → Each (λ x. P (num x)) (literalsOf es) → Gathers (operandsRun s mark es)
       operands-gather noOperand h = no-operand-gathers
       operands-gather (operand e es) h = operand-gathers (all-kept e (each-left (literals e) (literalsOf es) h)) (operands-gather es (each-right (literals e) h))
 
-    pub kept-ends : (e : Expr) → Each (λ z. P (int z)) (literals e) → (ρ : Env Value) → Bound P ρ → (n m : ℕ) (v : Value) → evaluation s mark e ρ n ≡ value v m → P v
+    pub kept-ends : (e : Expr) → Each (λ x. P (num x)) (literals e) → (ρ : Env Value) → Bound P ρ → (n m : ℕ) (v : Value) → evaluation s mark e ρ n ≡ value v m → P v
     kept-ends e h ρ r n m v q = ends-at (all-kept e h .run ρ r n) q
 
-    pub kept-rule : (e : Expr) → Each (λ z. P (int z)) (literals e) → (o m : ℕ) (v : Value) → evaluateRule s mark e o ≡ value v m → P v
+    pub kept-rule : (e : Expr) → Each (λ x. P (num x)) (literals e) → (o m : ℕ) (v : Value) → evaluateRule s mark e o ≡ value v m → P v
     unfolding evaluateRule
     kept-rule e h o m v q = kept-ends e h (start (obj o)) (start-bound o) 0 m v q

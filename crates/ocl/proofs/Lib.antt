@@ -2,17 +2,19 @@ pub mod SimpleTypes
 pub mod Types
 pub mod Subtyping
 pub mod Values
+pub mod HeadOrder
 pub mod Order
 pub mod Ranges
 pub mod Sorted
 pub mod Ends
 pub mod Kept
 pub mod Formed
-pub mod InRange
+pub mod NumbersKept
 pub mod Runs
 pub mod Steps
 pub mod Marks
 pub mod Places
+pub mod MarksRead
 pub mod Means
 pub mod Answered
 pub mod ByType
@@ -23,3 +25,4 @@ pub mod Worked
 pub mod Mistakes
 pub mod Collect
 pub mod Definitions
+pub mod RealCases

@@ -1,19 +1,20 @@
 -- A rule's marks are made at nodes of its tree, so with distinct node numbers evaluation reads each as it was made. Assumes nothing.
 use mathlib.Core.Path.{_≡_, refl, sym, _∙_, subst}
 use mathlib.Core.Logic.{_≢_}
-use mathlib.Core.Bool.{Bool, true, false}
+use mathlib.Core.Bool.{Bool, true, false, _&&_}
 use mathlib.Core.Option.{Option, none, some}
-use mathlib.Core.List.{List, [], _∷_, _++_, append-nil}
+use mathlib.Core.List.{List, [], _∷_, _++_, append-nil, append-assoc}
 use Prim.Native.Nat.{ℕ}
 use lib.Dec.{eqb}
 use borrow.Author.Tests.{eq-eqb, ne-eqb}
 use Rattle.laws.specs.Choice.{if_then_else_}
 use Rattle.ocl.specs.Environment.{Env, extend, start}
-use Rattle.ocl.specs.Types.{any, boolean, integer, class, Letter, Ty, void, simple, around, Class, subtype}
+use Rattle.ocl.specs.Types.{any, boolean, integer, real, class, Letter, Ty, void, simple, around, Integer, Real, Class, subtype}
 use Rattle.ocl.specs.Model.{Schema, rowRead}
-use Rattle.ocl.specs.Forms.{Access, ofObject, ofMembers, Expr, node, Form, leaf, unary, binary, connective, isUndef, conditional, letIn, attribute, call, quantified, iterate, assemble, Operands, noOperand, operand, Definition}
+use Rattle.ocl.specs.Forms.{Access, ofObject, ofMembers, Binary, equal, less, arith, divide, over, includes, including, union, Expr, node, Form, leaf, unary, binary, connective, isUndef, conditional, letIn, attribute, call, quantified, iterate, assemble, Operands, noOperand, operand, Definition}
 use Rattle.ocl.specs.Laws.{numbers, numbersIn, numbersOf, EachMark, no-mark, mark-then, Agree}
-use Rattle.ocl.specs.Typing.{Answer, typed, refused, Mark, Marks, Typed, pure, thenFor, andThen, onCollection, onClass, rowType, attributeType, leafTyping, unaryTyping, binaryTyping, connectiveTyping, isUndefTyping, conditionalTyping, letTyping, attributeTyping, callTyping, quantifiedTyping, iterateTyping, noOperandTyping, operandTyping, assembleTyping, typing, formTyping, operandsTyping, typeRule, typeDefinition, markOr}
+use Rattle.ocl.specs.Marks.{Scale, Mark, Marks, markOr}
+use Rattle.ocl.specs.Typing.{Answer, typed, refused, scaled, onNumbers, binaryType, Typed, pure, thenFor, andThen, onCollection, onClass, rowType, attributeType, leafTyping, unaryTyping, binaryTyping, connectiveTyping, isUndefTyping, conditionalTyping, letTyping, attributeTyping, callTyping, quantifiedTyping, iterateTyping, noOperandTyping, operandTyping, assembleTyping, typing, formTyping, operandsTyping, typeRule, typeDefinition}
 use Rattle.laws.specs.Lists.{Each, each-nil, each-cons, Distinct, distinct-nil, distinct-cons}
 
 pub marks-left : {P : ℕ → Mark → Type 0} (m n : Marks) → EachMark P (m ++ n) → EachMark P m
@@ -79,6 +80,7 @@ marked-class void p h = p
 marked-class (simple any) p h = p
 marked-class (simple boolean) p h = p
 marked-class (simple integer) p h = p
+marked-class (simple real) p h = p
 marked-class (simple (class c)) p h = h c
 marked-class (around l m) p h = p
 
@@ -97,6 +99,23 @@ module _ (s : Schema) where
   attribute-part p ofObject name t = marked-class t marked-pure (λ c. row-part p _ _ (rowRead s c name))
   attribute-part p ofMembers name t = marked-collection t marked-pure (λ l m. marked-class m marked-pure (λ c. row-part p _ _ (rowRead s c name)))
 
+  numbers-part : (p : ℕ) (type : Scale → Ty) (t u : Ty) → Marked (p ∷ []) (onNumbers s p type t u)
+  unfolding onNumbers scaled
+  numbers-part p type t u =
+      marked-if (subtype (s .parent) t Integer && subtype (s .parent) u Integer) (record { part = part-take part-nil })
+      (marked-if (subtype (s .parent) t Real && subtype (s .parent) u Real) (record { part = part-take part-nil }) marked-pure)
+
+  binary-part : (p : ℕ) (op : Binary) (t u : Ty) → Marked (p ∷ []) (binaryType s p op t u)
+  unfolding binaryType
+  binary-part p equal t u = marked-pure
+  binary-part p less t u = numbers-part p _ t u
+  binary-part p (arith o) t u = numbers-part p _ t u
+  binary-part p (divide o) t u = marked-pure
+  binary-part p over t u = marked-pure
+  binary-part p includes t u = marked-pure
+  binary-part p including t u = marked-pure
+  binary-part p union t u = marked-pure
+
   own : {ns : List ℕ} {x : Typed} (p : ℕ) → Marked ns x → Marked (ns ++ (p ∷ [])) x
   own p h = record { part = part-left (p ∷ []) (h .part) }
 
@@ -109,7 +128,9 @@ module _ (s : Schema) where
     marked-form : (p : ℕ) (f : Form) (Γ : Env Ty) → Marked (numbersIn f ++ (p ∷ [])) (formTyping s p f Γ)
     marked-form p (leaf l) Γ = marked-pure
     marked-form p (unary op a) Γ = own p (marked-last (marked a Γ) (λ z. marked-pure))
-    marked-form p (binary op a b) Γ = own p (marked-then (marked a Γ) (λ t. marked-last (marked b Γ) (λ z. marked-pure)))
+    marked-form p (binary op a b) Γ =
+        subst (λ ns. Marked ns (formTyping s p (binary op a b) Γ)) (sym (append-assoc (numbers a) (numbers b) (p ∷ [])))
+        (marked-then (marked a Γ) (λ t. marked-then (marked b Γ) (λ u. binary-part p op t u)))
     marked-form p (connective c a b) Γ = own p (marked-then (marked a Γ) (λ t. marked-last (marked b Γ) (λ z. marked-pure)))
     marked-form p (isUndef a) Γ = own p (marked-last (marked a Γ) (λ z. marked-pure))
     marked-form p (conditional c a b) Γ = own p (marked-then (marked c Γ) (λ t. marked-then (marked a Γ) (λ u. marked-last (marked b Γ) (λ z. marked-pure))))

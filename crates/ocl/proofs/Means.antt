@@ -8,10 +8,11 @@ use native.Mathlib.Omega.{arith as linear}
 use lib.Dec.{T, leb}
 use Rattle.laws.specs.Choice.{if_then_else_}
 use Rattle.laws.proofs.Tests.{All?, all-none, all-some}
-use Rattle.ocl.specs.Types.{any, boolean, integer, class, Kind, Letter, collection, exactly, Ty, void, simple, around, Class, depth, subtype}
+use Rattle.ocl.specs.Types.{any, boolean, integer, real, class, Kind, Letter, collection, exactly, Ty, void, simple, around, Class, depth, subtype}
 use Rattle.ocl.specs.Model.{Schema}
 use Rattle.ocl.specs.Forms.{Definition}
-use Rattle.ocl.specs.Typing.{Answer, typed, refused, Mark, Marks, Typed, pure, thenFor, andThen, below, common, wrap, onCollection, onClass, onKind, typeRule, root, typeDefinition}
+use Rattle.ocl.specs.Marks.{Mark, Marks}
+use Rattle.ocl.specs.Typing.{Answer, typed, refused, Typed, pure, thenFor, andThen, below, common, wrap, onCollection, onClass, onKind, typeRule, root, typeDefinition}
 use Rattle.ocl.specs.Laws.{Agree}
 use Rattle.ocl.proofs.Marks.{marks-left, marks-right}
 
@@ -73,6 +74,7 @@ means-class H p void h g = means-pure no-type
 means-class H p (simple any) h g = means-pure no-type
 means-class H p (simple boolean) h g = means-pure no-type
 means-class H p (simple integer) h g = means-pure no-type
+means-class H p (simple real) h g = means-pure no-type
 means-class H p (simple (class c)) h g = g c h
 means-class H p (around l m) h g = means-pure no-type
 
@@ -86,6 +88,7 @@ gives-class H p void h g = no-type
 gives-class H p (simple any) h g = no-type
 gives-class H p (simple boolean) h g = no-type
 gives-class H p (simple integer) h g = no-type
+gives-class H p (simple real) h g = no-type
 gives-class H p (simple (class c)) h g = g c h
 gives-class H p (around l m) h g = no-type
 

@@ -1,20 +1,21 @@
 -- Where typing refuses and marks: one induction over the forms, with a law for each piece that typing is written in. Assumes nothing.
-use mathlib.Core.Path.{_≡_, refl, subst}
+use mathlib.Core.Path.{_≡_, subst}
 use mathlib.Core.Bool.{Bool, true, false, _&&_, _||_}
 use mathlib.Core.Option.{Option, none, some}
 use mathlib.Core.List.{List, [], _∷_, _++_}
-use Prim.Native.Nat.{ℕ, _≤_, _<_}
+use Prim.Native.Nat.{ℕ, _≤_}
 use native.Mathlib.Omega.{arith as linear}
-use lib.Dec.{T, eqb, leb, leb→le}
+use lib.Dec.{T, leb, leb→le}
 use Rattle.laws.specs.Choice.{if_then_else_}
 use Rattle.laws.specs.Lists.{member, Each}
 use Rattle.ocl.specs.Environment.{Env, extend, start}
-use Rattle.ocl.specs.Types.{any, boolean, integer, class, Kind, set, sequence, bag, Letter, collection, exactly, Ty, void, simple, around, Class, Boolean, Integer, depth, sameKind, subtype, join}
+use Rattle.ocl.specs.Types.{any, boolean, integer, class, Kind, set, sequence, bag, Letter, collection, exactly, Ty, void, simple, around, Class, Boolean, Integer, depth, sameKind, subtype, join, real, Real}
 use Rattle.ocl.specs.Model.{Schema}
-use Rattle.ocl.specs.Forms.{Access, ofObject, ofMembers, Leaf, truth, undef, number, self, var, all, Unary, negation, sizeOf, convert, castTo, Binary, equal, less, arith, includes, including, union, Expr, node, Form, leaf, unary, binary, connective, isUndef, conditional, letIn, attribute, call, quantified, iterate, assemble, Operands, noOperand, operand, Definition}
-use Rattle.ocl.specs.Typing.{Answer, typed, refused, Mark, ofRow, ofRows, rowMarked, kindMarked, Marks, Typed, pure, thenFor, andThen, below, common, wrap, onCollection, onClass, onKind, boundType, leafType, castType, unaryType, bothBelow, binaryType, conditionalType, collectKind, rowType, attributeType, leafTyping, unaryTyping, binaryTyping, connectiveTyping, isUndefTyping, conditionalTyping, letTyping, attributeTyping, callType, callTyping, quantifiedTyping, iterateTyping, noOperandTyping, operandTyping, assembleTyping, typing, formTyping, operandsTyping, typeRule, root, typeDefinition, markOr, markIn}
-use Rattle.ocl.specs.Laws.{Refusal, EachMark, no-mark, mark-then, TypingPlacesLaw, numbers, numbersIn, numbersOf}
-use Rattle.laws.proofs.Tests.{and-l, and-r, by-if, All?, all-none, all-some}
+use Rattle.ocl.specs.Forms.{Access, ofObject, ofMembers, Leaf, truth, undef, number, self, var, all, Unary, negation, sizeOf, convert, castTo, Binary, equal, less, arith, includes, including, union, Expr, node, Form, leaf, unary, binary, connective, isUndef, conditional, letIn, attribute, call, quantified, iterate, assemble, Operands, noOperand, operand, Definition, divide, over}
+use Rattle.ocl.specs.Marks.{Scale, Mark, ofRow, ofRows, ofNumbers, kindMarked, Marks}
+use Rattle.ocl.specs.Typing.{Answer, typed, refused, Typed, pure, thenFor, andThen, below, common, wrap, onCollection, onClass, onKind, boundType, leafType, castType, unaryType, bothBelow, binaryType, conditionalType, collectKind, rowType, attributeType, leafTyping, unaryTyping, binaryTyping, connectiveTyping, isUndefTyping, conditionalTyping, letTyping, attributeTyping, callType, callTyping, quantifiedTyping, iterateTyping, noOperandTyping, operandTyping, assembleTyping, typing, formTyping, operandsTyping, typeRule, root, typeDefinition, scaled, onNumbers, includesType, includingType, unionType}
+use Rattle.ocl.specs.Laws.{Refusal, MarkAt, EachMark, no-mark, mark-then, TypingPlacesLaw, numbers, numbersIn, numbersOf, RowBelow, row-below, rows-below, no-row}
+use Rattle.laws.proofs.Tests.{and-l, and-r, All?, all-none, all-some, all-imp}
 use Rattle.laws.proofs.Lists.{each-left, each-right, each-head, each-member}
 use Rattle.ocl.proofs.Values.{rowRead-row}
 
@@ -22,7 +23,7 @@ pub each-mark-append : {P : ℕ → Mark → Type 0} {m n : Marks} → EachMark 
 each-mark-append no-mark k = k
 each-mark-append (mark-then p h) k = mark-then p (each-mark-append h k)
 
-each-mark-imp : {P Q : ℕ → Mark → Type 0} {m : Marks} → ((p : ℕ) (x : Mark) → P p x → Q p x) → EachMark P m → EachMark Q m
+pub each-mark-imp : {P Q : ℕ → Mark → Type 0} {m : Marks} → ((p : ℕ) (x : Mark) → P p x → Q p x) → EachMark P m → EachMark Q m
 each-mark-imp f no-mark = no-mark
 each-mark-imp f (mark-then {p} {x} h k) = mark-then (f p x h) (each-mark-imp f k)
 
@@ -33,7 +34,7 @@ module _ (s : Schema) (P : ℕ → Type 0) where
     no-type : {n p : ℕ} → T (leb 9 n && leb n 13) → P p → Says (refused n p)
 
   record Plain (m : Mark) : Type 0 where
-    row : rowMarked m < s .rowCount
+    row : RowBelow (s .rowCount) m
     no-set : kindMarked m ≡ set → ⊥
 
   record Known (x : Typed) : Type 0 where
@@ -74,6 +75,7 @@ module _ (s : Schema) (P : ℕ → Type 0) where
   known-class (simple any) h g = h
   known-class (simple boolean) h g = h
   known-class (simple integer) h g = h
+  known-class (simple real) h g = h
   known-class (simple (class c)) h g = g c
   known-class (around l m) h g = h
 
@@ -126,6 +128,7 @@ module _ (s : Schema) (P : ℕ → Type 0) where
   cast-says c (simple any) q = yes-type
   cast-says c (simple boolean) q = no-type tt q
   cast-says c (simple integer) q = no-type tt q
+  cast-says c (simple real) q = no-type tt q
   cast-says c (simple (class d)) q = says-if (subtype (s .parent) (Class d) (Class c) || subtype (s .parent) (Class c) (Class d)) yes-type (no-type tt q)
   cast-says c (around l t) q = no-type tt q
 
@@ -140,15 +143,27 @@ module _ (s : Schema) (P : ℕ → Type 0) where
   unfolding bothBelow
   both-says w r t u q = says-below t w q (says-below u w q yes-type)
 
-  binary-says : {p : ℕ} (op : Binary) (t u : Ty) → P p → Says (binaryType s p op t u)
-  unfolding binaryType
-  binary-says equal t u q = says-common (join (s .parent) t u) q (λ w. yes-type)
-  binary-says less t u q = both-says Integer Boolean t u q
-  binary-says (arith o) t u q = both-says Integer Integer t u q
-  binary-says includes t u q = says-collection t q (λ l m. says-common (join (s .parent) m u) q (λ w. yes-type))
-  binary-says including t u q = says-collection t q (λ l m. says-kind l q (λ k. says-common (join (s .parent) m u) q (λ w. says-wrap (exactly k) w q)))
-  binary-says union t u q = says-collection t q (λ l m. says-kind l q (λ j. says-collection u q (λ r n. says-kind r q (λ k.
-      says-if (sameKind j k) (says-common (join (s .parent) m n) q (λ w. says-wrap (exactly j) w q)) (no-type tt q)))))
+  number-plain : {x : Scale} → Plain (ofNumbers x)
+  unfolding kindMarked
+  number-plain = record { row = no-row; no-set = λ e. absurd (let z : _≡_ {A = ℕ} 0 1 = cc in omega linear) }
+
+  numbers-known : {p : ℕ} (type : Scale → Ty) (t u : Ty) → P p → Known (onNumbers s p type t u)
+  unfolding onNumbers scaled
+  numbers-known type t u q =
+      known-if (subtype (s .parent) t Integer && subtype (s .parent) u Integer) (record { says = yes-type; marks = mark-then (q, number-plain) no-mark })
+      (known-if (subtype (s .parent) t Real && subtype (s .parent) u Real) (record { says = yes-type; marks = mark-then (q, number-plain) no-mark }) (known-pure (no-type tt q)))
+
+  binary-known : {p : ℕ} (op : Binary) (t u : Ty) → P p → Known (binaryType s p op t u)
+  unfolding binaryType includesType includingType unionType
+  binary-known equal t u q = known-pure (says-common (join (s .parent) t u) q (λ w. yes-type))
+  binary-known less t u q = numbers-known _ t u q
+  binary-known (arith o) t u q = numbers-known _ t u q
+  binary-known (divide o) t u q = known-pure (both-says Integer Integer t u q)
+  binary-known over t u q = known-pure (both-says Real Real t u q)
+  binary-known includes t u q = known-pure (says-collection t q (λ l m. says-common (join (s .parent) m u) q (λ w. yes-type)))
+  binary-known including t u q = known-pure (says-collection t q (λ l m. says-kind l q (λ k. says-common (join (s .parent) m u) q (λ w. says-wrap (exactly k) w q))))
+  binary-known union t u q = known-pure (says-collection t q (λ l m. says-kind l q (λ j. says-collection u q (λ r n. says-kind r q (λ k.
+      says-if (sameKind j k) (says-common (join (s .parent) m n) q (λ w. says-wrap (exactly j) w q)) (no-type tt q))))))
 
   conditional-says : {p : ℕ} (c t u : Ty) → P p → Says (conditionalType s p c t u)
   unfolding conditionalType
@@ -160,6 +175,7 @@ module _ (s : Schema) (P : ℕ → Type 0) where
   says-class (simple any) q h = no-type tt q
   says-class (simple boolean) q h = no-type tt q
   says-class (simple integer) q h = no-type tt q
+  says-class (simple real) q h = no-type tt q
   says-class (simple (class c)) q h = h c
   says-class (around l t) q h = no-type tt q
 
@@ -179,18 +195,13 @@ module _ (s : Schema) (P : ℕ → Type 0) where
   collect-no-set (exactly sequence) e = absurd (let z : _≡_ {A = ℕ} 0 1 = cc in omega linear)
   collect-no-set (exactly bag) e = absurd (let z : _≡_ {A = ℕ} 0 1 = cc in omega linear)
 
-  -- the row that is found, with what it is marked with
-  plain-row : (mark : ℕ → Mark) {o : Option ℕ} → ((i : ℕ) → rowMarked (mark i) ≡ i) → ((i : ℕ) → kindMarked (mark i) ≡ set → ⊥) → All? (λ i. i < s .rowCount) o → All? (λ i. Plain (mark i)) o
-  plain-row mark e g all-none = all-none
-  plain-row mark e g (all-some {x = i} h) = all-some {x = i} (record { row = rw (e i) h; no-set = g i })
-
   attribute-known : {p : ℕ} (x : Access) (name : ℕ) (t : Ty) → P p → Known (attributeType s p x name t)
-  unfolding attributeType rowMarked kindMarked
+  unfolding attributeType kindMarked
   attribute-known ofObject name t q = known-class t (known-pure (no-type tt q)) (λ c. row-known ofRow typed q (λ t. yes-type)
-      (plain-row ofRow (λ i. refl) (λ i e. absurd (let z : _≡_ {A = ℕ} 0 1 = cc in omega linear)) (rowRead-row s c name)))
+      (all-imp (λ i l. record { row = row-below l; no-set = λ e. absurd (let z : _≡_ {A = ℕ} 0 1 = cc in omega linear) }) (rowRead-row s c name)))
   attribute-known {p} ofMembers name t q = known-collection t (known-pure (no-type tt q)) (λ l m. known-class m (known-pure (no-type tt q)) (λ c.
       row-known (ofRows (collectKind l)) (wrap p (exactly (collectKind l))) q (λ t. says-wrap (exactly (collectKind l)) t q)
-      (plain-row (ofRows (collectKind l)) (λ i. refl) (λ i. collect-no-set l) (rowRead-row s c name))))
+      (all-imp (λ i n. record { row = rows-below n; no-set = collect-no-set l }) (rowRead-row s c name))))
 
   -- ---- the induction
 
@@ -203,7 +214,7 @@ module _ (s : Schema) (P : ℕ → Type 0) where
     known-form : (f : Form) (p : ℕ) → Each P (numbersIn f) → P p → (Γ : Env Ty) → Known (formTyping s p f Γ)
     known-form (leaf l) p h q Γ = known-pure (leaf-says l Γ q)
     known-form (unary op a) p h q Γ = known-last (known a h Γ) (λ t. unary-says op t q)
-    known-form (binary op a b) p h q Γ = known-then (known a (each-left (numbers a) _ h) Γ) (λ t. known-last (known b (each-right (numbers a) h) Γ) (λ u. binary-says op t u q))
+    known-form (binary op a b) p h q Γ = known-then (known a (each-left (numbers a) _ h) Γ) (λ t. known-then (known b (each-right (numbers a) h) Γ) (λ u. binary-known op t u q))
     known-form (connective c a b) p h q Γ =
         known-then (known a (each-left (numbers a) _ h) Γ) (λ t. known-last (known b (each-right (numbers a) h) Γ) (λ u. both-says Boolean Boolean t u q))
     known-form (isUndef a) p h q Γ = known-last (known a h Γ) (λ t. yes-type)
@@ -241,12 +252,15 @@ root-member : (e : Expr) → T (member (root e) (numbers e))
 unfolding root numbers
 root-member (node p f) = each-head (each-right (numbersIn f) (each-member (numbersIn f ++ (p ∷ []))))
 
+marks-known : {s : Schema} {ns : List ℕ} {m : Marks} → EachMark (λ p x. T (member p ns) × Plain s (λ p. T (member p ns)) x) m → EachMark (MarkAt s ns) m
+marks-known h = each-mark-imp (λ p i q. record { placed = q .0; is-row = q .1 .row; no-set = q .1 .no-set }) h
+
 pub typing-places : TypingPlacesLaw
 typing-places s e Γ =
     let h = known s (λ m. T (member m (numbers e))) e (each-member (numbers e)) Γ in
     record {
       refusals = λ n p r. refusal-of (h .says) r;
-      marked = each-mark-imp (λ p i q. record { placed = q .0; is-row = q .1 .row; no-set = q .1 .no-set }) (h .marks);
+      marked = marks-known (h .marks);
     }
 
 -- a definition's, its root's too
@@ -258,33 +272,5 @@ definition-known s d = known-last s (λ m. T (member m (numbers (d .body)))) (kn
 pub definition-places : (s : Schema) (d : Definition) (n p : ℕ) → typeDefinition s d .answer ≡ refused n p → Refusal (numbers (d .body)) n p
 definition-places s d n p e = refusal-of (definition-known s d .says) e
 
--- ---- the marks as evaluation reads them
-
-each-or : (P : Mark → Type 0) (d : Mark) {m : Marks} (p : ℕ) → P d → EachMark (λ q x. P x) m → P (markOr d m p)
-unfolding markOr
-each-or P d p h no-mark = h
-each-or P d p h (mark-then {p = q} {x} l k) = each-or P (if eqb p q then x else d) p (by-if P (eqb p q) x d (λ t. l) (λ t. h)) k
-
--- each node's row is below n, if the rows are
-pub mark-below : {n : ℕ} {m : Marks} (p : ℕ) → 0 < n → EachMark (λ q x. rowMarked x < n) m → rowMarked (markIn m p) < n
-unfolding markIn rowMarked
-mark-below {n} p h k = each-or (λ x. rowMarked x < n) (ofRow 0) p h k
-
-pub rule-rows : (s : Schema) (c : ℕ) (e : Expr) {n : ℕ} → s .rowCount ≤ n → EachMark (λ q x. rowMarked x < n) (typeRule s c e .marks)
-unfolding typeRule
-rule-rows s c e l = each-mark-imp (λ q x k. let r = k .is-row in omega linear) (typing-places s e (start (Class c)) .marked)
-
-pub definition-rows : (s : Schema) (d : Definition) {n : ℕ} → s .rowCount ≤ n → EachMark (λ q x. rowMarked x < n) (typeDefinition s d .marks)
-definition-rows s d l = each-mark-imp (λ q x k. let r = k .1 .row in omega linear) (definition-known s d .marks)
-
--- and its kind is no Set, if none is
-pub mark-no-set : {m : Marks} (p : ℕ) → EachMark (λ q x. kindMarked x ≡ set → ⊥) m → kindMarked (markIn m p) ≡ set → ⊥
-unfolding markIn kindMarked
-mark-no-set p k = each-or (λ x. kindMarked x ≡ set → ⊥) (ofRow 0) p (λ e. absurd (let z : _≡_ {A = ℕ} 0 1 = cc in omega linear)) k
-
-pub rule-no-set : (s : Schema) (c : ℕ) (e : Expr) → EachMark (λ q x. kindMarked x ≡ set → ⊥) (typeRule s c e .marks)
-unfolding typeRule
-rule-no-set s c e = each-mark-imp (λ q x k. k .no-set) (typing-places s e (start (Class c)) .marked)
-
-pub definition-no-set : (s : Schema) (d : Definition) → EachMark (λ q x. kindMarked x ≡ set → ⊥) (typeDefinition s d .marks)
-definition-no-set s d = each-mark-imp (λ q x k. k .1 .no-set) (definition-known s d .marks)
+pub definition-marked : (s : Schema) (d : Definition) → EachMark (MarkAt s (numbers (d .body))) (typeDefinition s d .marks)
+definition-marked s d = marks-known (definition-known s d .marks)

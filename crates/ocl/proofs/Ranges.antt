@@ -6,7 +6,7 @@ use native.Mathlib.Omega.{arith}
 use borrow.Author.Tests.{lt-ltb, le-ltb, ltb-true}
 use lib.IntN.{ℤ, pos, negsuc}
 use Rattle.laws.specs.Integers.{bias, unbias}
-use Rattle.ocl.specs.Operations.{inRange}
+use Rattle.reals.specs.Reals.{inRange}
 
 pub unbias-bias : (z : ℤ) → inRange z ≡ true → unbias (bias z) ≡ z
 unfolding bias unbias inRange

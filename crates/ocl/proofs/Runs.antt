@@ -8,12 +8,12 @@ use lib.Dec.{T, leb, ltb, leb→le, nltb→le}
 use Rattle.laws.specs.Choice.{if_then_else_}
 use Rattle.ocl.specs.Environment.{Env}
 use Rattle.ocl.specs.Types.{Ty}
-use Rattle.ocl.specs.Values.{Value, bool, int, obj, coll, Values, count, size}
+use Rattle.ocl.specs.Values.{Value, bool, num, obj, coll, Values, count, size}
 use Rattle.ocl.specs.Model.{Model, belongs}
 use Rattle.ocl.specs.Forms.{Quantifier}
 use Rattle.ocl.specs.Operations.{Outcome, value, undefined, stuck, stop, Stop, step-stop, size-stop, range-stop, stepsOf, form, onBool}
 use Rattle.ocl.specs.Evaluation.{Run, resume, bind, tick, endsAt, seek, fold}
-use Rattle.ocl.specs.Laws.{integersInRange, Formed}
+use Rattle.ocl.specs.Laws.{Formed, numbersKept}
 use Rattle.ocl.specs.Soundness.{Sound}
 use Rattle.laws.proofs.Tests.{by-if}
 use Rattle.ocl.proofs.Values.{Every, every-nil, every-cons}
@@ -112,14 +112,14 @@ safe-fold a (every-cons {v} p h) q g = safe-le (omega arith) (safe-bind (g v a p
 
 unfoldable pub IsBool : Value → Type 0
 IsBool (bool b) = Unit
-IsBool (int z) = ⊥
+IsBool (num x) = ⊥
 IsBool (obj o) = ⊥
 IsBool (coll k vs) = ⊥
 
 pub safe-bool : {P : Value → Type 0} {k : ℕ} {f : Bool → ℕ → Outcome} (v : Value) → IsBool v → ((b : Bool) → Safe P k (f b)) → Safe P k (λ n. onBool v (λ b. f b n))
 unfolding IsBool
 safe-bool (bool b) h g = g b
-safe-bool (int z) h g = absurd h
+safe-bool (num x) h g = absurd h
 safe-bool (obj o) h g = absurd h
 safe-bool (coll c vs) h g = absurd h
 
@@ -145,14 +145,14 @@ fine-steps P k (undefined n) h = h
 fine-steps P k stuck h = absurd h
 fine-steps P k (stop c n) h = h .0
 
-pub fine-sound : (s : Model) (t : Ty) (k : ℕ) (o : Outcome) → Fine (Fits s t) k o → ((v : Value) (n : ℕ) → o ≡ value v n → T (integersInRange v))
+pub fine-sound : (s : Model) (t : Ty) (k : ℕ) (o : Outcome) → Fine (Fits s t) k o → ((v : Value) (n : ℕ) → o ≡ value v n → T (numbersKept v))
     → ((v : Value) (n : ℕ) → o ≡ value v n → Formed v) → Sound s t k o
 unfolding Fine
 fine-sound s t k o h r f = record {
   not-stuck = λ e. subst (Fine (Fits s t) k) e h;
   of-type = λ v n e. (subst (Fine (Fits s t) k) e h) .0 .belong;
   of-size = λ v n e. (subst (Fine (Fits s t) k) e h) .0 .small;
-  in-range = r;
+  numbers-kept = r;
   formed = f;
   known-stop = λ c n e. (subst (Fine (Fits s t) k) e h) .2;
   in-reach = fine-steps (Fits s t) k o h;

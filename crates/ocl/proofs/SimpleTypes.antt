@@ -6,7 +6,7 @@ use mathlib.Core.Option.{Option, none, some}
 use Prim.Native.Nat.{ℕ, zero, suc, _≤_}
 use native.Mathlib.Omega.{arith}
 use lib.Dec.{T, eqb→eq, eqb-refl, T-not}
-use Rattle.ocl.specs.Types.{Simple, any, boolean, integer, class, Parents, parentOr, up, height, simpleCode, sameSimple, climbs, simpleSubtype, firstAbove}
+use Rattle.ocl.specs.Types.{Simple, any, boolean, integer, real, class, Parents, parentOr, up, height, simpleCode, sameSimple, climbs, simpleSubtype, firstAbove}
 use Rattle.ocl.specs.Laws.{Small}
 use Rattle.laws.proofs.Tests.{or-l, or-r, or-e, by-if}
 
@@ -16,13 +16,15 @@ decode : ℕ → Simple
 decode zero = any
 decode (suc zero) = boolean
 decode (suc (suc zero)) = integer
-decode (suc (suc (suc n))) = class n
+decode (suc (suc (suc zero))) = real
+decode (suc (suc (suc (suc n)))) = class n
 
 decode-simple : (a : Simple) → decode (simpleCode a) ≡ a
 unfolding decode simpleCode
 decode-simple any = refl
 decode-simple boolean = refl
 decode-simple integer = refl
+decode-simple real = refl
 decode-simple (class n) = refl
 
 sameSimple→eq : (a b : Simple) → T (sameSimple a b) → a ≡ b
@@ -63,6 +65,7 @@ unfolding height
 height-zero any h = refl
 height-zero boolean h = absurd (omega arith)
 height-zero integer h = absurd (omega arith)
+height-zero real h = absurd (omega arith)
 height-zero (class n) h = absurd (omega arith)
 
 module _ (parent : Parents) (small : Small parent) where
@@ -76,6 +79,7 @@ module _ (parent : Parents) (small : Small parent) where
   height-up any f h = omega arith
   height-up boolean f h = omega arith
   height-up integer f h = omega arith
+  height-up real f h = omega arith
   height-up (class n) f h = let r = height-parent n (parent n) refl in omega arith
 
   pub climb→climbs : (f : ℕ) (a b : Simple) → height a ≤ f → Climb parent a b → T (climbs parent f a b)
@@ -135,12 +139,14 @@ fromClass : Simple → Bool
 fromClass any = true
 fromClass boolean = false
 fromClass integer = false
+fromClass real = false
 fromClass (class n) = true
 
 noClass : Simple → Bool
 noClass any = true
 noClass boolean = true
 noClass integer = true
+noClass real = true
 noClass (class n) = false
 
 fromClass-parent : (o : Option ℕ) → T (fromClass (parentOr o))
@@ -152,7 +158,8 @@ fromClass-up : (parent : Parents) (a : Simple) → T (fromClass a) → T (fromCl
 unfolding fromClass up
 fromClass-up parent any h = tt
 fromClass-up parent boolean h = tt
-fromClass-up parent integer h = tt
+fromClass-up parent integer h = absurd h
+fromClass-up parent real h = tt
 fromClass-up parent (class n) h = fromClass-parent (parent n)
 
 noClass-up : (parent : Parents) (a : Simple) → T (noClass a) → T (noClass (up parent a))
@@ -160,6 +167,7 @@ unfolding noClass up
 noClass-up parent any h = tt
 noClass-up parent boolean h = tt
 noClass-up parent integer h = tt
+noClass-up parent real h = tt
 noClass-up parent (class n) h = absurd h
 
 fromClass-climb : {parent : Parents} {a b : Simple} → Climb parent a b → T (fromClass a) → T (fromClass b)
@@ -178,6 +186,10 @@ pub class-not-integer : (parent : Parents) (n : ℕ) → T (simpleSubtype parent
 unfolding simpleSubtype fromClass
 class-not-integer parent n h = fromClass-climb (climbs→climb parent _ _ _ h) tt
 
+pub class-not-real : (parent : Parents) (n : ℕ) → T (simpleSubtype parent (class n) real) → ⊥
+unfolding simpleSubtype fromClass
+class-not-real parent n h = fromClass-climb (climbs→climb parent _ _ _ h) tt
+
 pub boolean-not-class : (parent : Parents) (n : ℕ) → T (simpleSubtype parent boolean (class n)) → ⊥
 unfolding simpleSubtype noClass
 boolean-not-class parent n h = noClass-climb (climbs→climb parent _ _ _ h) tt
@@ -185,3 +197,7 @@ boolean-not-class parent n h = noClass-climb (climbs→climb parent _ _ _ h) tt
 pub integer-not-class : (parent : Parents) (n : ℕ) → T (simpleSubtype parent integer (class n)) → ⊥
 unfolding simpleSubtype noClass
 integer-not-class parent n h = noClass-climb (climbs→climb parent _ _ _ h) tt
+
+pub real-not-class : (parent : Parents) (n : ℕ) → T (simpleSubtype parent real (class n)) → ⊥
+unfolding simpleSubtype noClass
+real-not-class parent n h = noClass-climb (climbs→climb parent _ _ _ h) tt

@@ -5,8 +5,9 @@ use Prim.Native.Nat.{ℕ, zero, suc, _<_, Ordering, Ordering·lt, Ordering·eq, 
 use native.Mathlib.Omega.{arith}
 use lib.Dec.{T}
 use Rattle.laws.specs.Orders.{reverse}
+use Rattle.reals.specs.Reals.{orderInt}
 use Rattle.ocl.specs.Types.{class, Kind, set, sequence, bag}
-use Rattle.ocl.specs.Values.{Value, obj, Values, nil, cons, thenOrder, sort, rank, orderInt, headOrder, order, put, insert, append, add, addAll}
+use Rattle.ocl.specs.Values.{Value, obj, Values, nil, cons, thenOrder, sort, rank, headOrder, order, put, insert, append, add, addAll}
 use Rattle.ocl.specs.Model.{Model, isA}
 use Rattle.ocl.specs.Operations.{instances}
 use Rattle.ocl.specs.Laws.{InOrder, ascends, repeats, anyhow, Sorted, sorted-nil, sorted-one, sorted-cons}

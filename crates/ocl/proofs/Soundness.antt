@@ -9,26 +9,28 @@ use native.Mathlib.Omega.{arith as linear}
 use lib.Dec.{T, T-not}
 use Rattle.laws.specs.Choice.{onSome, mapSome}
 use Rattle.laws.specs.Lists.{Each}
+use Rattle.reals.specs.Reals.{kept}
 use Rattle.ocl.specs.Environment.{Env, extend, start}
 use Rattle.ocl.specs.Types.{class, Kind, Letter, exactly, Ty, void, around, Boolean, Class, letterSubtype, subtype}
-use Rattle.ocl.specs.Values.{Value, bool, int, obj, coll, Values, nil, cons, size, add}
+use Rattle.ocl.specs.Values.{Value, bool, num, obj, coll, Values, nil, cons, size, add}
 use Rattle.ocl.specs.Model.{Model, schemaOf, isA, every}
 use Rattle.ocl.specs.Forms.{Connective, Quantifier, Access, ofObject, ofMembers, Expr, node, Form, leaf, unary, binary, connective, isUndef, conditional, letIn, attribute, call, quantified, iterate, assemble, Operands, noOperand, operand, Definition, reach, inside, reaches}
 use Rattle.ocl.specs.Laws.{literals, calls, callsIn, callsOf, Agree}
-use Rattle.ocl.specs.Typing.{Answer, typed, Mark, ofRow, ofRows, rowMarked, kindMarked, wrap, collectKind, bothBelow, conditionalType, rowType, attributeType, leafTyping, unaryTyping, binaryTyping, connectiveTyping, isUndefTyping, conditionalTyping, letTyping, attributeTyping, callType, callTyping, quantifiedTyping, iterateTyping, noOperandTyping, operandTyping, assembleTyping, typing, formTyping, operandsTyping, typeRule, root, typeDefinition}
-use Rattle.ocl.specs.Operations.{inRange, hasRow, valueInRow, valuesInRow, formAll, access}
+use Rattle.ocl.specs.Marks.{Mark, ofRow, ofRows, rowMarked, kindMarked}
+use Rattle.ocl.specs.Typing.{Answer, typed, wrap, collectKind, bothBelow, conditionalType, rowType, attributeType, leafTyping, unaryTyping, binaryTyping, connectiveTyping, isUndefTyping, conditionalTyping, letTyping, attributeTyping, callType, callTyping, quantifiedTyping, iterateTyping, noOperandTyping, operandTyping, assembleTyping, typing, formTyping, operandsTyping, typeRule, root, typeDefinition}
+use Rattle.ocl.specs.Operations.{hasRow, valueInRow, valuesInRow, formAll, access}
 use Rattle.ocl.specs.Evaluation.{Run, decides, connectiveRun, isUndefRun, conditionalRun, letRun, attributeRun, callRun, quantifiedRun, iterateRun, Gather, noOperandRun, operandRun, assembleRun, evaluation, formRun, operandsRun, evaluateRule}
 use Rattle.ocl.specs.Soundness.{AcceptedModel, Sound, TypedDefinition, Soundness}
 use Rattle.laws.proofs.Tests.{All?, all-none, all-some, all-imp, all-self}
 use Rattle.laws.proofs.Lists.{each-head, each-left, each-right}
-use Rattle.ocl.proofs.SimpleTypes.{climb→simpleSubtype, boolean-not-class, integer-not-class}
+use Rattle.ocl.proofs.SimpleTypes.{climb→simpleSubtype, boolean-not-class}
 use Rattle.ocl.proofs.Types.{sameKind-refl}
 use Rattle.ocl.proofs.Values.{Every, every-nil, every-test, all-each, add-every, addAll-every, Belongs, belongs-by, belongs-test, isA-up, Above, rowRead-above}
 use Rattle.ocl.proofs.Runs.{Safe, safe-weak, safe-le, safe-undefined, safe-resume, safe-bind, safe-tick, safe-if, safe-fold, safe-seek, Fits, fine-sound, safe-zero}
 use Rattle.ocl.proofs.Means.{Gives, no-type, gives, gives-type, Means, means-pure, means-then, means-imp, means-collection, means-class, means-if, gives-common, gives-class, gives-wrap}
-use Rattle.ocl.proofs.ByType.{Ok, Below, Sem, EnvOk, SemAll, below-by, gives-below, joined, below-same, below-then, extend-ok, ok-up, is-bool, bool-sem, obj-sem, coll-of, coll-sem, bool-ok, give-bool, given-sem, form-sem, bels}
+use Rattle.ocl.proofs.ByType.{number-not-class, Ok, Below, Sem, EnvOk, SemAll, below-by, gives-below, joined, below-same, below-then, extend-ok, ok-up, is-bool, bool-sem, obj-sem, coll-of, coll-sem, bool-ok, give-bool, given-sem, form-sem, bels}
 use Rattle.ocl.proofs.StrictForms.{leaf-sem, unary-sem, binary-sem}
-use Rattle.ocl.proofs.InRange.{ends-in-range}
+use Rattle.ocl.proofs.NumbersKept.{ends-kept}
 use Rattle.ocl.proofs.Formed.{formed-ends}
 use Rattle.ocl.proofs.Marks.{marks-first}
 
@@ -65,14 +67,14 @@ module _ (s : Model) (ok : AcceptedModel s) (mark : ℕ → Mark) where
   has-row : {c : ℕ} (i : ℕ) → Above (schemaOf s) c i → (v : Value) → Ok s (Class c) v → T (hasRow s i v)
   unfolding hasRow Belongs
   has-row {c} i a (bool b) h = absurd (boolean-not-class (s .parent) c (h .bel))
-  has-row {c} i a (int z) h = absurd (integer-not-class (s .parent) c (h .bel))
+  has-row {c} i a (num x) h = absurd (number-not-class (s .parent) x c (h .bel))
   has-row {c} i a (obj o) h = isA-up s (ok .parents-smaller) o (class c) (class (s .row i .owner)) (h .bel) (climb→simpleSubtype (s .parent) (ok .parents-smaller) _ _ (a .climb))
   has-row i a (coll k vs) h = absurd (h .bel)
 
   in-row : (i : ℕ) (v : Value) → All? (Ok s (s .row i .type)) (valueInRow s i v)
   unfolding valueInRow
   in-row i (bool b) = all-none
-  in-row i (int z) = all-none
+  in-row i (num x) = all-none
   in-row i (obj o) = value-ok o i
   in-row i (coll k vs) = all-none
 
@@ -193,7 +195,7 @@ module _ (s : Model) (ok : AcceptedModel s) (mark : ℕ → Mark) where
     sound-form : (f : Form) (p : ℕ) → Typed? (callsIn f) → (Γ : Env Ty) → Means mark (λ t. Sem s Γ (inside f) t (formRun s mark p f)) (formTyping (schemaOf s) p f Γ)
     sound-form (leaf l) p d Γ = means-pure (leaf-sem s ok p l)
     sound-form (unary op a) p d Γ = means-then (sound a d Γ) (λ t ha. means-pure (unary-sem s ok p op ha))
-    sound-form (binary op a b) p d Γ = means-then (sound a (each-left (calls a) (calls b) d) Γ) (λ t ha. means-then (sound b (each-right (calls a) d) Γ) (λ u hb. means-pure (binary-sem s ok p op ha hb)))
+    sound-form (binary op a b) p d Γ = means-then (sound a (each-left (calls a) (calls b) d) Γ) (λ t ha. means-then (sound b (each-right (calls a) d) Γ) (λ u hb. binary-sem s ok mark p op ha hb))
     sound-form (connective c a b) p d Γ = means-then (sound a (each-left (calls a) (calls b) d) Γ) (λ t ha. means-then (sound b (each-right (calls a) d) Γ) (λ u hb.
         means-pure (gives-below ok p t Boolean (λ l. gives-below ok p u Boolean (λ m. gives (connective-sem c l m ha hb))))))
     sound-form (isUndef a) p d Γ = means-then (sound a d Γ) (λ t ha. means-pure (gives (isUndef-sem ha)))
@@ -221,11 +223,11 @@ module _ (s : Model) (ok : AcceptedModel s) (mark : ℕ → Mark) where
   fits-of : {t : Ty} {v : Value} → Ok s t v → Fits s t v
   fits-of {t} {v} h = record { belong = belongs-test s t v (h .bel); small = h .fits }
 
-  sound-rule : (e : Expr) → Each (λ z. T (inRange z)) (literals e) → Typed? (calls e) → (c o : ℕ) (t : Ty) → typeRule (schemaOf s) c e .answer ≡ typed t → Agree mark (typeRule (schemaOf s) c e .marks) → T (isA s o (class c))
+  sound-rule : (e : Expr) → Each (λ x. T (kept x)) (literals e) → Typed? (calls e) → (c o : ℕ) (t : Ty) → typeRule (schemaOf s) c e .answer ≡ typed t → Agree mark (typeRule (schemaOf s) c e .marks) → T (isA s o (class c))
       → Sound s t (reach e) (evaluateRule s mark e o)
   unfolding typeRule evaluateRule
   sound-rule e l d c o t h g a = fine-sound s t _ _ (safe-zero (safe-weak (λ v. fits-of) (omega linear) (sound e d (start (Class c)) .means t h g .run _ (start-ok c o a))))
-      (λ v n q. ends-in-range s ok mark e l o n v q) (λ v n q. formed-ends s (record { stored-formed = ok .values-formed }) mark e .of-rule o n v q)
+      (λ v n q. ends-kept s ok mark e l o n v q) (λ v n q. formed-ends s (record { stored-formed = ok .values-formed }) mark e .of-rule o n v q)
 
 pub soundness : Soundness
 soundness s ok mark e l d c o t h g a = sound-rule s ok mark e l d c o t h g a

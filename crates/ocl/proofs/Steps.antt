@@ -8,13 +8,14 @@ use lib.IntN.{ℤ}
 use lib.Dec.{ltb, ltb→lt, leb}
 use Rattle.laws.specs.Choice.{if_then_else_}
 use Rattle.laws.proofs.Tests.{by-if}
+use Rattle.reals.specs.Reals.{Number, int, real, Operation, Result, result, noResult, overRange, calculated}
 use Rattle.ocl.specs.Types.{class, Kind, sameKind}
-use Rattle.ocl.specs.Values.{Value, bool, int, obj, coll, Values, nil, cons, size, add}
+use Rattle.ocl.specs.Values.{Value, bool, num, obj, coll, Values, nil, cons, size, add}
 use Rattle.ocl.specs.Model.{Model, isA, every}
 use Rattle.ocl.specs.Environment.{Env, extend, start}
-use Rattle.ocl.specs.Forms.{Connective, Quantifier, Access, ofObject, ofMembers, Leaf, truth, undef, number, self, var, all, Unary, negation, sizeOf, convert, castTo, Binary, equal, less, arith, includes, including, union, Expr, node, Form, leaf, unary, binary, connective, isUndef, conditional, letIn, attribute, call, quantified, iterate, assemble, Operands, noOperand, operand}
-use Rattle.ocl.specs.Typing.{Mark, rowMarked, kindMarked}
-use Rattle.ocl.specs.Operations.{Outcome, value, undefined, stuck, stop, Stop, step-stop, size-stop, range-stop, stepsOf, form, given, onBool, onInt, onObj, onColl, Result, result, noResult, overRange, resulting, arithmetic, cast, unaryApply, leftFits, binaryApply, hasRow, valueInRow, valuesInRow, formAll, access}
+use Rattle.ocl.specs.Forms.{Connective, Quantifier, Access, ofObject, ofMembers, Leaf, truth, undef, number, self, var, all, Unary, negation, sizeOf, convert, castTo, Binary, equal, less, arith, includes, including, union, Expr, node, Form, leaf, unary, binary, connective, isUndef, conditional, letIn, attribute, call, quantified, iterate, assemble, Operands, noOperand, operand, divide, over}
+use Rattle.ocl.specs.Marks.{Mark, rowMarked, kindMarked, Scale, integers, reals, scaleMarked}
+use Rattle.ocl.specs.Operations.{Outcome, value, undefined, stuck, stop, Stop, step-stop, size-stop, range-stop, stepsOf, form, given, onBool, onInt, onObj, onColl, resulting, arithmetic, cast, unaryApply, leftFits, binaryApply, hasRow, valueInRow, valuesInRow, formAll, access, onNum, onTwo, division, operationOf}
 use Rattle.ocl.specs.Evaluation.{Run, resume, bind, tick, bound, leafRun, unaryRun, binaryRun, decides, connectiveRun, isUndefRun, conditionalRun, letRun, attributeRun, callRun, endsAt, seek, quantifiedRun, fold, iterateRun, Gather, noOperandRun, operandRun, assembleRun, evaluation, formRun, operandsRun, evaluateRule}
 
 pub data Limited : Outcome → Type 0 where
@@ -68,25 +69,37 @@ limited-bound (some v) l = limited-value l
 
 limited-bool : {k : Bool → Outcome} (v : Value) → ((b : Bool) → Limited (k b)) → Limited (onBool v k)
 limited-bool (bool b) h = h b
-limited-bool (int z) h = limited-stuck
+limited-bool (num x) h = limited-stuck
 limited-bool (obj o) h = limited-stuck
 limited-bool (coll c vs) h = limited-stuck
 
 limited-int : {k : ℤ → Outcome} (v : Value) → ((z : ℤ) → Limited (k z)) → Limited (onInt v k)
 limited-int (bool b) h = limited-stuck
-limited-int (int z) h = h z
+limited-int (num (int z)) h = h z
+limited-int (num (real r)) h = limited-stuck
 limited-int (obj o) h = limited-stuck
 limited-int (coll c vs) h = limited-stuck
 
+limited-num : {k : Number → Outcome} (v : Value) → ((x : Number) → Limited (k x)) → Limited (onNum v k)
+limited-num (bool b) h = limited-stuck
+limited-num (num x) h = h x
+limited-num (obj o) h = limited-stuck
+limited-num (coll c vs) h = limited-stuck
+
+limited-two : {f : ℤ → ℤ → Outcome} {g : Number → Number → Outcome} (x : Scale) (v w : Value)
+    → ((y z : ℤ) → Limited (f y z)) → ((y z : Number) → Limited (g y z)) → Limited (onTwo x v w f g)
+limited-two integers v w h k = limited-int v (λ y. limited-int w (λ z. h y z))
+limited-two reals v w h k = limited-num v (λ y. limited-num w (λ z. k y z))
+
 limited-obj : {k : ℕ → Outcome} (v : Value) → ((o : ℕ) → Limited (k o)) → Limited (onObj v k)
 limited-obj (bool b) h = limited-stuck
-limited-obj (int z) h = limited-stuck
+limited-obj (num x) h = limited-stuck
 limited-obj (obj o) h = h o
 limited-obj (coll c vs) h = limited-stuck
 
 limited-coll : {k : Kind → Values → Outcome} (v : Value) → ((c : Kind) (vs : Values) → Limited (k c vs)) → Limited (onColl v k)
 limited-coll (bool b) h = limited-stuck
-limited-coll (int z) h = limited-stuck
+limited-coll (num x) h = limited-stuck
 limited-coll (obj o) h = limited-stuck
 limited-coll (coll c vs) h = h c vs
 
@@ -130,7 +143,7 @@ module _ (s : Model) where
   cast-limited : (c : ℕ) (v : Value) {n : ℕ} → n ≤ 1000000 → Limited (cast s c v n)
   unfolding cast
   cast-limited c (bool b) l = limited-undefined l
-  cast-limited c (int z) l = limited-undefined l
+  cast-limited c (num x) l = limited-undefined l
   cast-limited c (obj o) l = limited-if (isA s o (class c)) (limited-value l) (limited-undefined l)
   cast-limited c (coll k vs) l = limited-stuck
 
@@ -145,19 +158,21 @@ module _ (s : Model) where
   unfolding unaryRun
   unary-stays op h = record { run = λ ρ n l. limited-bind (h .run ρ n l) (unary-limited op) }
 
-  binary-limited : (op : Binary) (v : Value) → After (binaryApply op v)
+  binary-limited : (z : Mark) (op : Binary) (v : Value) → After (binaryApply z op v)
   unfolding binaryApply
-  binary-limited equal v w n l = limited-value l
-  binary-limited less v w n l = limited-int v (λ x. limited-int w (λ y. limited-value l))
-  binary-limited (arith o) v w n l = limited-int v (λ x. limited-int w (λ y. limited-result (arithmetic o x y) l))
-  binary-limited includes v w n l = limited-coll v (λ k vs. limited-value l)
-  binary-limited including v w n l = limited-coll v (λ k vs. limited-form _ l)
-  binary-limited union v w n l = limited-coll v (λ j vs. limited-coll w (λ k ws. limited-if (sameKind j k) (limited-form _ l) limited-stuck))
+  binary-limited z equal v w n l = limited-value l
+  binary-limited z less v w n l = limited-two (scaleMarked z) v w (λ x y. limited-value l) (λ x y. limited-value l)
+  binary-limited z (arith o) v w n l = limited-two (scaleMarked z) v w (λ x y. limited-result (arithmetic o x y) l) (λ x y. limited-result (calculated (operationOf o) x y) l)
+  binary-limited z (divide o) v w n l = limited-int v (λ x. limited-int w (λ y. limited-result (division o x y) l))
+  binary-limited z over v w n l = limited-num v (λ x. limited-num w (λ y. limited-result (calculated Operation.over x y) l))
+  binary-limited z includes v w n l = limited-coll v (λ k vs. limited-value l)
+  binary-limited z including v w n l = limited-coll v (λ k vs. limited-form _ l)
+  binary-limited z union v w n l = limited-coll v (λ j vs. limited-coll w (λ k ws. limited-if (sameKind j k) (limited-form _ l) limited-stuck))
 
-  binary-stays : (op : Binary) {f g : Run} → Stays f → Stays g → Stays (binaryRun op f g)
+  binary-stays : (z : Mark) (op : Binary) {f g : Run} → Stays f → Stays g → Stays (binaryRun z op f g)
   unfolding binaryRun
-  binary-stays op hf hg = record {
-    run = λ ρ n l. limited-bind (hf .run ρ n l) (λ v m k. limited-if (leftFits op v) (limited-bind (hg .run ρ m k) (binary-limited op v)) limited-stuck);
+  binary-stays z op hf hg = record {
+    run = λ ρ n l. limited-bind (hf .run ρ n l) (λ v m k. limited-if (leftFits z op v) (limited-bind (hg .run ρ m k) (binary-limited z op v)) limited-stuck);
   }
 
   connective-stays : (c : Connective) {f g : Run} → Stays f → Stays g → Stays (connectiveRun c f g)
@@ -234,7 +249,7 @@ module _ (s : Model) where
       form-stays : (p : ℕ) (f : Form) → Stays (formRun s mark p f)
       form-stays p (leaf l) = leaf-stays l
       form-stays p (unary op a) = unary-stays op (all-stay a)
-      form-stays p (binary op a b) = binary-stays op (all-stay a) (all-stay b)
+      form-stays p (binary op a b) = binary-stays (mark p) op (all-stay a) (all-stay b)
       form-stays p (connective c a b) = connective-stays c (all-stay a) (all-stay b)
       form-stays p (isUndef a) = isUndef-stays (all-stay a)
       form-stays p (conditional c a b) = conditional-stays (all-stay c) (all-stay a) (all-stay b)

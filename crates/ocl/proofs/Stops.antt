@@ -3,10 +3,11 @@ use mathlib.Core.Path.{_≡_, refl}
 use mathlib.Core.Bool.{not}
 use Prim.Native.Nat.{ℕ, _≤_}
 use native.Mathlib.Omega.{arith}
+use Rattle.reals.specs.Reals.{inRange}
 use Rattle.ocl.specs.Environment.{Env}
 use Rattle.ocl.specs.Values.{Value, bool}
 use Rattle.ocl.specs.Forms.{Connective, and, or}
-use Rattle.ocl.specs.Operations.{value, stop, Stop, step-stop, size-stop, range-stop, inRange, ranged, unlessZero, quotient, remainder, arithmetic}
+use Rattle.ocl.specs.Operations.{value, stop, Stop, step-stop, size-stop, range-stop, ranged, unlessZero, quotient, remainder, arithmetic, division}
 use Rattle.ocl.specs.Evaluation.{Run, unaryRun, binaryRun, decides, connectiveRun, isUndefRun, conditionalRun, letRun, attributeRun, callRun, seek, quantifiedRun, fold, iterateRun, operandRun}
 use Rattle.ocl.specs.Stops.{Upward, least, greatest, RangeEnds}
 
@@ -14,7 +15,7 @@ pub upward : Upward
 unfolding unaryRun binaryRun decides connectiveRun isUndefRun conditionalRun letRun attributeRun callRun seek quantifiedRun fold iterateRun operandRun
 upward = record {
   of-unary = λ s op f ρ n c m e. rw e;
-  of-left = λ op f g ρ n c m e. rw e;
+  of-left = λ k op f g ρ n c m e. rw e;
   of-first-side = λ o f g ρ n c m e. rw e;
   of-isUndef = λ f ρ n c m e. rw e;
   of-condition = λ f g h ρ n c m e. rw e;
@@ -24,7 +25,7 @@ upward = record {
   of-source = λ q i f g ρ n c m e. rw e;
   of-iterated = λ i j f g h ρ n c m e. rw e;
   of-member = λ k vs f g ρ n c m e. rw e;
-  of-right = λ op f g ρ n p c m v d t e. rw (d, t, e);
+  of-right = λ k op f g ρ n p c m v d t e. rw (d, t, e);
   of-second-side = λ o f g ρ n p c m d e. second o f g ρ n p c m d e;
   after-undefined = λ o f g ρ n p c m d e. rw (d, e);
   of-then = λ f g h ρ n p c m d e. rw (d, e);
@@ -47,7 +48,7 @@ stop-within size-stop = (omega arith, omega arith)
 stop-within range-stop = (omega arith, omega arith)
 
 pub range-ends : RangeEnds
-unfolding inRange ranged unlessZero quotient remainder arithmetic least greatest
+unfolding inRange ranged unlessZero quotient remainder arithmetic division least greatest
 range-ends = record {
   plus-over = refl;
   plus-under = refl;

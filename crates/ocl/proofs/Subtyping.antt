@@ -4,7 +4,7 @@ use mathlib.Core.Option.{Option, none, some}
 use Prim.Native.Nat.{ℕ}
 use native.Mathlib.Omega.{arith}
 use lib.Dec.{T}
-use Rattle.ocl.specs.Types.{Simple, any, boolean, integer, class, Letter, collection, exactly, Ty, void, simple, around, Parents, Subtype, reflexive, transitive, void-below, boolean-any, integer-any, class-any, class-parent, kind-collection, covariant, parentOr, up, letterSubtype, subtype, join}
+use Rattle.ocl.specs.Types.{Simple, any, boolean, integer, real, class, Letter, collection, exactly, Ty, void, simple, around, Parents, Subtype, reflexive, transitive, void-below, integer-real, boolean-any, real-any, class-any, class-parent, kind-collection, covariant, parentOr, up, letterSubtype, subtype, join}
 use Rattle.ocl.specs.Laws.{Small, SubtypingLaw, CommonTypeLaw}
 use Rattle.laws.proofs.Tests.{and-i, and-l, and-r, All?, all-none, all-some, Any?, any-some, at-any}
 use Rattle.ocl.proofs.SimpleTypes.{here, step, Climb, climb-eq, top, simpleSubtype→climb, climb→simpleSubtype}
@@ -21,7 +21,8 @@ up-step : {parent : Parents} (a : Simple) → Subtype parent (simple a) (simple 
 unfolding up
 up-step any = reflexive
 up-step boolean = boolean-any
-up-step integer = integer-any
+up-step integer = integer-real
+up-step real = real-any
 up-step {parent} (class n) = parent-step n (parent n) refl
 
 climb→Subtype : {parent : Parents} {a b : Simple} → Climb parent a b → Subtype parent (simple a) (simple b)
@@ -52,7 +53,8 @@ module _ (parent : Parents) (small : Small parent) where
   Subtype→subtype (transitive {t} {u} {w} g h) = subtype-trans parent small t u w (Subtype→subtype g) (Subtype→subtype h)
   Subtype→subtype void-below = tt
   Subtype→subtype boolean-any = climb→simpleSubtype parent small _ _ (step here)
-  Subtype→subtype integer-any = climb→simpleSubtype parent small _ _ (step here)
+  Subtype→subtype integer-real = climb→simpleSubtype parent small _ _ (step here)
+  Subtype→subtype real-any = climb→simpleSubtype parent small _ _ (step here)
   Subtype→subtype (class-any {c}) = climb→simpleSubtype parent small _ _ (top parent small (class c))
   Subtype→subtype (class-parent e) = climb→simpleSubtype parent small _ _ (step (climb-eq (ap parentOr e)))
   Subtype→subtype (kind-collection {t = t}) = subtype-refl parent small t

@@ -6,9 +6,9 @@ use Prim.Native.Nat.{ℕ, zero, suc, _≤_, _<_, Ordering, Ordering·lt, Orderin
 use native.Mathlib.Omega.{arith}
 use lib.Dec.{T, eqb, eqb→eq}
 use Rattle.laws.specs.Choice.{onSome, mapSome}
-use Rattle.ocl.specs.Types.{Simple, boolean, integer, class, Kind, set, sequence, bag, exactly, Ty, void, simple, around, simpleSubtype, letterSubtype, subtype, up, parentOr}
-use Rattle.ocl.specs.Values.{Value, bool, int, obj, coll, Values, nil, cons, count, size, sizes, order, put, insert, append, add, addAll}
-use Rattle.ocl.specs.Model.{Schema, Model, classIsA, isA, every, belongs, declared, nearest, rowRead}
+use Rattle.ocl.specs.Types.{Simple, boolean, class, Kind, set, sequence, bag, exactly, Ty, void, simple, around, simpleSubtype, letterSubtype, subtype, up, parentOr}
+use Rattle.ocl.specs.Values.{Value, bool, num, obj, coll, Values, nil, cons, count, size, sizes, order, put, insert, append, add, addAll}
+use Rattle.ocl.specs.Model.{Schema, Model, classIsA, isA, every, numberType, belongs, declared, nearest, rowRead}
 use Rattle.ocl.specs.Laws.{Small, BelongsUpLaw}
 use Rattle.laws.proofs.Tests.{and-i, and-l, and-r, by-if, All?, all-none, all-some, all-imp, all-self, all-else, all-on}
 use Rattle.ocl.proofs.SimpleTypes.{step, Climb, climb-trans, climb-eq, simpleSubtype→climb, climb→simpleSubtype}
@@ -77,7 +77,7 @@ addAll-every k (every-cons {v} p h) a = addAll-every k h (add-every k v p a)
 pub size-pos : (v : Value) → 1 ≤ size v
 unfolding size
 size-pos (bool b) = omega arith
-size-pos (int z) = omega arith
+size-pos (num x) = omega arith
 size-pos (obj o) = omega arith
 size-pos (coll k vs) = omega arith
 
@@ -91,11 +91,11 @@ count-sizes (cons v vs) = let p = size-pos v in let q = count-sizes vs in omega 
 unfoldable pub Belongs : Model → Ty → Value → Type 0
 Belongs s void v = ⊥
 Belongs s (simple b) (bool x) = T (simpleSubtype (s .parent) boolean b)
-Belongs s (simple b) (int z) = T (simpleSubtype (s .parent) integer b)
+Belongs s (simple b) (num x) = T (simpleSubtype (s .parent) (numberType x) b)
 Belongs s (simple b) (obj o) = T (isA s o b)
 Belongs s (simple b) (coll k vs) = ⊥
 Belongs s (around l t) (bool x) = ⊥
-Belongs s (around l t) (int z) = ⊥
+Belongs s (around l t) (num x) = ⊥
 Belongs s (around l t) (obj o) = ⊥
 Belongs s (around l t) (coll k vs) = T (letterSubtype (exactly k) l) × Every (Belongs s t) vs
 
@@ -103,11 +103,11 @@ pub belongs-by : (s : Model) (t : Ty) (v : Value) → T (belongs s t v) → Belo
 unfolding belongs Belongs
 belongs-by s void v h = h
 belongs-by s (simple b) (bool x) h = h
-belongs-by s (simple b) (int z) h = h
+belongs-by s (simple b) (num x) h = h
 belongs-by s (simple b) (obj o) h = h
 belongs-by s (simple b) (coll k vs) h = h
 belongs-by s (around l t) (bool x) h = h
-belongs-by s (around l t) (int z) h = h
+belongs-by s (around l t) (num x) h = h
 belongs-by s (around l t) (obj o) h = h
 belongs-by s (around l t) (coll k vs) h = (and-l (letterSubtype (exactly k) l) _ h, every-by (belongs s t) vs (belongs-by s t) (and-r (letterSubtype (exactly k) l) _ h))
 
@@ -115,11 +115,11 @@ pub belongs-test : (s : Model) (t : Ty) (v : Value) → Belongs s t v → T (bel
 unfolding belongs Belongs
 belongs-test s void v h = h
 belongs-test s (simple b) (bool x) h = h
-belongs-test s (simple b) (int z) h = h
+belongs-test s (simple b) (num x) h = h
 belongs-test s (simple b) (obj o) h = h
 belongs-test s (simple b) (coll k vs) h = h
 belongs-test s (around l t) (bool x) h = h
-belongs-test s (around l t) (int z) h = h
+belongs-test s (around l t) (num x) h = h
 belongs-test s (around l t) (obj o) h = h
 belongs-test s (around l t) (coll k vs) h = and-i (letterSubtype (exactly k) l) (every (belongs s t) vs) (h .0) (every-test (belongs s t) (belongs-test s t) (h .1))
 
@@ -147,14 +147,14 @@ module _ (s : Model) (small : Small (s .parent)) where
   belongs-up void u h v b = absurd b
   belongs-up (simple a) void h v b = absurd h
   belongs-up (simple a) (simple c) h (bool x) b = up-simple boolean a c b h
-  belongs-up (simple a) (simple c) h (int x) b = up-simple integer a c b h
+  belongs-up (simple a) (simple c) h (num x) b = up-simple (numberType x) a c b h
   belongs-up (simple a) (simple c) h (obj o) b = isA-up o a c b h
   belongs-up (simple a) (simple c) h (coll k vs) b = b
   belongs-up (simple a) (around l u) h v b = absurd h
   belongs-up (around k t) void h v b = absurd h
   belongs-up (around k t) (simple c) h v b = absurd h
   belongs-up (around k t) (around l u) h (bool x) b = b
-  belongs-up (around k t) (around l u) h (int x) b = b
+  belongs-up (around k t) (around l u) h (num x) b = b
   belongs-up (around k t) (around l u) h (obj o) b = b
   belongs-up (around k t) (around l u) h (coll j vs) b =
       (letter-trans (exactly j) k l (b .0) (and-l (letterSubtype k l) _ h), every-imp (belongs-up t u (and-r (letterSubtype k l) _ h)) (b .1))

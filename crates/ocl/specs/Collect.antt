@@ -5,11 +5,13 @@ use mathlib.Core.Option.{Option, none, some}
 use mathlib.Core.List.{[], _∷_}
 use Prim.Native.Nat.{ℕ, zero, suc}
 use lib.IntN.{pos}
+use Rattle.reals.specs.Reals.{int}
 use Rattle.ocl.specs.Types.{set, sequence, bag, exactly, around, Boolean, Integer}
-use Rattle.ocl.specs.Values.{Value, bool, int, coll, Values, nil, cons}
+use Rattle.ocl.specs.Values.{Value, bool, num, coll, Values, nil, cons}
 use Rattle.ocl.specs.Model.{Row, Model, schemaOf}
 use Rattle.ocl.specs.Forms.{ofMembers, truth, self, all, Expr, node, leaf, conditional, attribute, assemble, noOperand, operand}
-use Rattle.ocl.specs.Typing.{typed, refused, ofRows, Typed, typeRule, markIn}
+use Rattle.ocl.specs.Marks.{ofRows, markIn}
+use Rattle.ocl.specs.Typing.{typed, refused, Typed, typeRule}
 use Rattle.ocl.specs.Operations.{Outcome, value, undefined, stop}
 use Rattle.ocl.specs.Evaluation.{evaluateRule}
 use Rattle.ocl.specs.Worked.{parents, int₀}
@@ -30,12 +32,12 @@ blockClasses (suc (suc (suc o))) = none
 
 unfoldable pub zeros : ℕ → Values
 zeros zero = nil
-zeros (suc n) = cons (int (pos 0)) (zeros n)
+zeros (suc n) = cons (num (int (pos 0))) (zeros n)
 
 -- in row 0 they have 9, 4 and 4; in row 1 object 0 has true; in row 2 objects 0 and 1 have 63 zeros, and object 2 has no value
 unfoldable pub blockValues : ℕ → ℕ → Option Value
-blockValues zero zero = some (int (pos 9))
-blockValues (suc o) zero = some (int (pos 4))
+blockValues zero zero = some (num (int (pos 9)))
+blockValues (suc o) zero = some (num (int (pos 4)))
 blockValues o (suc zero) = some (bool true)
 blockValues zero (suc (suc i)) = some (coll sequence (zeros 63))
 blockValues (suc zero) (suc (suc i)) = some (coll sequence (zeros 63))
@@ -74,12 +76,12 @@ anyKind = node 5 (conditional (node 0 (leaf (truth true))) (node 2 (assemble seq
 pub record Collect : Type 0 where
   -- a Set gives a Bag, repeats and all, in order
   pub bag-type : collectTyping (collect₀ 1 5 everyBlock) ≡ record { answer = typed (around (exactly bag) Integer); marks = (1, ofRows bag 0) ∷ [] }
-  pub bag-value : collectOutcome (collect₀ 1 5 everyBlock) ≡ value (coll bag (cons (int (pos 4)) (cons (int (pos 4)) (cons (int (pos 9)) nil)))) 2
+  pub bag-value : collectOutcome (collect₀ 1 5 everyBlock) ≡ value (coll bag (cons (num (int (pos 4))) (cons (num (int (pos 4))) (cons (num (int (pos 9))) nil)))) 2
   -- a Sequence gives a Sequence, and the row is that of the static class, although object 0's own class declares the name
   pub sequence-type : collectTyping (collect₀ 2 5 oneBlock) ≡ record { answer = typed (around (exactly sequence) Integer); marks = (2, ofRows sequence 0) ∷ [] }
-  pub static-row : collectOutcome (collect₀ 2 5 oneBlock) ≡ value (coll sequence (cons (int (pos 9)) nil)) 3
+  pub static-row : collectOutcome (collect₀ 2 5 oneBlock) ≡ value (coll sequence (cons (num (int (pos 9))) nil)) 3
   -- the type decides and not the value: a Sequence of type C(#0) gives a Bag
-  pub by-type : collectOutcome (collect₀ 6 5 anyKind) ≡ value (coll bag (cons (int (pos 9)) nil)) 5
+  pub by-type : collectOutcome (collect₀ 6 5 anyKind) ≡ value (coll bag (cons (num (int (pos 9))) nil)) 5
   -- nothing is flattened
   pub not-flat : collectOutcome (collect₀ 2 6 oneBlock) ≡ value (coll sequence (cons (coll sequence (zeros 63)) nil)) 3
   -- two times 64 cells are 17; with a member that has no value besides, the whole is undefined

@@ -5,11 +5,13 @@ use mathlib.Core.Option.{Option, none, some}
 use mathlib.Core.List.{[], _∷_, _++_}
 use Prim.Native.Nat.{ℕ, zero, suc}
 use lib.IntN.{pos}
+use Rattle.reals.specs.Reals.{int}
 use Rattle.ocl.specs.Types.{set, Any, Boolean, Integer, Class}
-use Rattle.ocl.specs.Values.{Value, bool, int, obj}
+use Rattle.ocl.specs.Values.{Value, bool, num, obj}
 use Rattle.ocl.specs.Model.{Row, Model, schemaOf}
 use Rattle.ocl.specs.Forms.{plus, forAll, ofObject, truth, var, all, negation, equal, arith, Expr, node, leaf, unary, binary, isUndef, conditional, letIn, attribute, call, quantified, assemble, noOperand, operand, Definition, reach, levels}
-use Rattle.ocl.specs.Typing.{Answer, typed, refused, ofRow, typeRule, typeDefinition, markIn}
+use Rattle.ocl.specs.Marks.{ofRow, markIn}
+use Rattle.ocl.specs.Typing.{Answer, typed, refused, typeRule, typeDefinition}
 use Rattle.ocl.specs.Operations.{Outcome, value, undefined, stuck, stop}
 use Rattle.ocl.specs.Evaluation.{evaluateRule}
 use Rattle.ocl.specs.Worked.{parents, undef₀, int₀}
@@ -29,10 +31,10 @@ threadClasses (suc (suc o)) = none
 
 -- object 0 has 9, true and object 1; object 1 has 4 in row 0, and no other value
 unfoldable pub threadValues : ℕ → ℕ → Option Value
-threadValues zero zero = some (int (pos 9))
+threadValues zero zero = some (num (int (pos 9)))
 threadValues zero (suc zero) = some (bool true)
 threadValues zero (suc (suc i)) = some (obj 1)
-threadValues (suc o) zero = some (int (pos 4))
+threadValues (suc o) zero = some (num (int (pos 4)))
 threadValues (suc o) (suc i) = none
 
 unfoldable pub threads : Model
@@ -89,9 +91,9 @@ pub record Definitions : Type 0 where
   -- the caller's variables are hidden, and there again afterwards: let 1 = 7 in let 2 = (call of: let 1 = true in 3) in var 1
   pub hidden : callOutcome 0 (itself 0) (node 4 (letIn 1 (int₀ 1 (pos 7)) (call₀ 3 (anything (node 0 (leaf (var 1)))) (self₀ 2)))) ≡ stuck
   pub variable-again : callOutcome 0 (itself 0) (node 8 (letIn 1 (int₀ 3 (pos 7)) (node 7 (letIn 2
-      (call₀ 5 (anything (node 2 (letIn 1 (node 0 (leaf (truth true))) (int₀ 1 (pos 3))))) (self₀ 4)) (node 6 (leaf (var 1))))))) ≡ value (int (pos 7)) 9
+      (call₀ 5 (anything (node 2 (letIn 1 (node 0 (leaf (truth true))) (int₀ 1 (pos 3))))) (self₀ 4)) (node 6 (leaf (var 1))))))) ≡ value (num (int (pos 7))) 9
   -- the body reads the row of its own typing, although the caller's class declares the name again
-  pub row-of-body : callOutcome 1 (five 0) (call₀ 3 (five 0) (self₀ 2)) ≡ value (int (pos 9)) 4
+  pub row-of-body : callOutcome 1 (five 0) (call₀ 3 (five 0) (self₀ 2)) ≡ value (num (int (pos 9))) 4
   -- an undefined operand: undefined, and the body is unrun; an undefined body
   pub undefined-operand : callOutcome 0 (anything (undef₀ 0)) (call₀ 4 (itself 0) (next₆ 3 (next₆ 2 (self₀ 1)))) ≡ undefined 4
   pub undefined-body : callOutcome 0 (anything (undef₀ 0)) (node 3 (isUndef (call₀ 2 (anything (undef₀ 0)) (self₀ 1)))) ≡ value (bool true) 4

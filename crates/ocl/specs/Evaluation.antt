@@ -5,10 +5,10 @@ use Prim.Native.Nat.{ℕ, _+_}
 use lib.Dec.{ltb}
 use Rattle.laws.specs.Choice.{if_then_else_}
 use Rattle.ocl.specs.Types.{class, Kind, set}
-use Rattle.ocl.specs.Values.{Value, bool, int, obj, coll, Values, nil, cons, add}
+use Rattle.ocl.specs.Values.{Value, bool, num, obj, coll, Values, nil, cons, add}
 use Rattle.ocl.specs.Model.{Model, isA}
 use Rattle.ocl.specs.Environment.{Env, extend, start}
-use Rattle.ocl.specs.Typing.{Mark}
+use Rattle.ocl.specs.Marks.{Mark}
 use Rattle.ocl.specs.Forms.{Connective, and, or, Quantifier, forAll, exists, Access, Leaf, truth, undef, number, self, var, all, Unary, Binary, Expr, node, Form, leaf, unary, binary, connective, isUndef, conditional, letIn, attribute, call, quantified, iterate, assemble, Operands, noOperand, operand}
 use Rattle.ocl.specs.Operations.{Outcome, value, undefined, stuck, stop, form, onBool, onObj, onColl, instances, unaryApply, leftFits, binaryApply, access}
 
@@ -44,7 +44,7 @@ bound (some v) n = value v n
 unfoldable pub leafRun : Model → Leaf → Run
 leafRun s (truth b) ρ n = value (bool b) n
 leafRun s undef ρ n = undefined n
-leafRun s (number z) ρ n = value (int z) n
+leafRun s (number x) ρ n = value (num x) n
 leafRun s self ρ n = bound (ρ 0) n
 leafRun s (var i) ρ n = bound (ρ i) n
 leafRun s (all c) ρ n = form (coll set (instances s c (s .objectCount))) n
@@ -52,8 +52,8 @@ leafRun s (all c) ρ n = form (coll set (instances s c (s .objectCount))) n
 unfoldable pub unaryRun : Model → Unary → Run → Run
 unaryRun s op f ρ n = bind (f ρ n) (λ v n. unaryApply s op v n)
 
-unfoldable pub binaryRun : Binary → Run → Run → Run
-binaryRun op f g ρ n = bind (f ρ n) (λ v n. if leftFits op v then bind (g ρ n) (λ w n. binaryApply op v w n) else stuck)
+unfoldable pub binaryRun : Mark → Binary → Run → Run → Run
+binaryRun m op f g ρ n = bind (f ρ n) (λ v n. if leftFits m op v then bind (g ρ n) (λ w n. binaryApply m op v w n) else stuck)
 
 -- the side that decides: false for `and`, true for `or`
 unfoldable pub decides : Connective → Bool
@@ -124,7 +124,7 @@ operandRun f g k vs ρ n = bind (f ρ n) (λ v n. g k (add k v vs) ρ n)
 unfoldable pub assembleRun : Kind → Gather → Run
 assembleRun k g ρ n = g k nil ρ n
 
--- evaluation reads the marks of `attr` and `collect` nodes and no types
+-- evaluation reads marks and no types: of `attr` and `collect`, and of `plus`, `minus`, `times` and `less` (document 02, F-8)
 unfoldable mutual
   pub evaluation : Model → (ℕ → Mark) → Expr → Run
   evaluation s mark (node p f) = tick (formRun s mark p f)
@@ -132,7 +132,7 @@ unfoldable mutual
   pub formRun : Model → (ℕ → Mark) → ℕ → Form → Run
   formRun s mark p (leaf l) = leafRun s l
   formRun s mark p (unary op a) = unaryRun s op (evaluation s mark a)
-  formRun s mark p (binary op a b) = binaryRun op (evaluation s mark a) (evaluation s mark b)
+  formRun s mark p (binary op a b) = binaryRun (mark p) op (evaluation s mark a) (evaluation s mark b)
   formRun s mark p (connective c a b) = connectiveRun c (evaluation s mark a) (evaluation s mark b)
   formRun s mark p (isUndef a) = isUndefRun (evaluation s mark a)
   formRun s mark p (conditional c a b) = conditionalRun (evaluation s mark c) (evaluation s mark a) (evaluation s mark b)

@@ -1,12 +1,16 @@
 -- Document 01, The forms and their typing: a rule as a tree of nodes. Evaluation: its reach. Document 02, F-13: named definitions.
 use mathlib.Core.Bool.{Bool}
 use Prim.Native.Nat.{ℕ, suc, _+_, _*_, max}
-use lib.IntN.{ℤ}
+use Rattle.reals.specs.Reals.{Number}
 use Rattle.ocl.specs.Types.{Kind, Ty}
 
--- `plus`, `minus`, `times`, `div`, `mod`
+-- document 02, F-8: "`plus`, `minus`, `times` and `less` take both kinds", Integers and Reals
 pub data Arith : Type 0 where
-  plus minus times div modulo : Arith
+  plus minus times : Arith
+
+-- `div`, `mod`, of Integers alone
+pub data Division : Type 0 where
+  div modulo : Division
 
 -- `and`, `or`
 pub data Connective : Type 0 where
@@ -20,11 +24,11 @@ pub data Quantifier : Type 0 where
 pub data Access : Type 0 where
   ofObject ofMembers : Access
 
--- forms with no operand: `true` and `false`, `undef`, `int n`, `self`, `var i`, `all c`
+-- forms with no operand: `true` and `false`, `undef`, `int n` and `real r`, `self`, `var i`, `all c`
 pub data Leaf : Type 0 where
   truth : Bool → Leaf
   undef : Leaf
-  number : ℤ → Leaf
+  number : Number → Leaf
   self : Leaf
   var : ℕ → Leaf
   all : ℕ → Leaf
@@ -36,11 +40,13 @@ pub data Unary : Type 0 where
   convert : Kind → Unary
   castTo : ℕ → Unary
 
--- forms with two strict operands: `eq`, `less`, arithmetic, `includes`, `including`, `union`
+-- forms with two strict operands: `eq`, `less`, arithmetic, `over` (F-8), `includes`, `including`, `union`
 pub data Binary : Type 0 where
   equal : Binary
   less : Binary
   arith : Arith → Binary
+  divide : Division → Binary
+  over : Binary
   includes : Binary
   including : Binary
   union : Binary

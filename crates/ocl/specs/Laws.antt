@@ -5,20 +5,21 @@ use mathlib.Core.Bool.{Bool, true}
 use mathlib.Core.Option.{none, some}
 use mathlib.Core.List.{List, [], _∷_, _++_}
 use Prim.Native.Nat.{ℕ, _≤_, _<_, Ordering, Ordering·lt, Ordering·eq}
-use lib.IntN.{ℤ}
 use lib.Dec.{T}
 use Rattle.laws.specs.Lists.{member}
 use Rattle.laws.specs.Orders.{TotalOrder}
+use Rattle.reals.specs.Reals.{Number, kept}
 use Rattle.ocl.specs.Types.{Kind, set, sequence, bag, Ty, Parents, Subtype, subtype, join}
-use Rattle.ocl.specs.Values.{Value, bool, int, obj, coll, Values, nil, cons, everyPart, order, same, has, add, addAll}
+use Rattle.ocl.specs.Values.{Value, bool, num, obj, coll, Values, nil, cons, everyPart, everyParts, order, same, has, add, addAll}
 use Rattle.ocl.specs.Model.{Schema, Model, belongs}
 use Rattle.ocl.specs.Environment.{Env}
 use Rattle.ocl.specs.Forms.{Leaf, truth, undef, number, self, var, all, Expr, node, Form, leaf, unary, binary, connective, isUndef, conditional, letIn, attribute, call, quantified, iterate, assemble, Operands, noOperand, operand, Definition}
-use Rattle.ocl.specs.Typing.{refused, Mark, rowMarked, kindMarked, Marks, typing}
-use Rattle.ocl.specs.Operations.{value, inRange, instances}
+use Rattle.ocl.specs.Marks.{Scale, Mark, ofRow, ofRows, ofNumbers, kindMarked, Marks}
+use Rattle.ocl.specs.Typing.{refused, typing}
+use Rattle.ocl.specs.Operations.{value, instances}
 use Rattle.ocl.specs.Evaluation.{evaluation, evaluateRule}
 
--- ---- what the statements speak of: the nodes, literals and definitions of a tree, the Integers of a value
+-- ---- what the statements speak of: the nodes, literals and definitions of a tree, the numbers of a value
 
 -- the numbers of a tree's own nodes, operands first; a called body's nodes are its definition's
 unfoldable mutual
@@ -43,20 +44,20 @@ unfoldable mutual
   numbersOf noOperand = []
   numbersOf (operand e es) = numbers e ++ numbersOf es
 
--- a tree's Integer literals, operands from left to right, with those of called bodies
-unfoldable pub leafLiterals : Leaf → List ℤ
+-- a tree's numbers that are written, operands from left to right, with those of called bodies
+unfoldable pub leafLiterals : Leaf → List Number
 leafLiterals (truth b) = []
 leafLiterals undef = []
-leafLiterals (number z) = z ∷ []
+leafLiterals (number x) = x ∷ []
 leafLiterals self = []
 leafLiterals (var i) = []
 leafLiterals (all c) = []
 
 unfoldable mutual
-  pub literals : Expr → List ℤ
+  pub literals : Expr → List Number
   literals (node n f) = literalsIn f
 
-  pub literalsIn : Form → List ℤ
+  pub literalsIn : Form → List Number
   literalsIn (leaf l) = leafLiterals l
   literalsIn (unary op a) = literals a
   literalsIn (binary op a b) = literals a ++ literals b
@@ -70,7 +71,7 @@ unfoldable mutual
   literalsIn (iterate i j t a e b) = literals a ++ (literals e ++ literals b)
   literalsIn (assemble k es) = literalsOf es
 
-  pub literalsOf : Operands → List ℤ
+  pub literalsOf : Operands → List Number
   literalsOf noOperand = []
   literalsOf (operand e es) = literals e ++ literalsOf es
 
@@ -97,16 +98,19 @@ unfoldable mutual
   callsOf noOperand = []
   callsOf (operand e es) = calls e ++ callsOf es
 
--- of a value that is no collection
-unfoldable pub integerInRange : Value → Bool
-integerInRange (bool b) = true
-integerInRange (int z) = inRange z
-integerInRange (obj o) = true
-integerInRange (coll k vs) = true
+-- of a value that is no collection: an Integer in range, or a binary64 number that is no such Integer
+unfoldable pub numberKept : Value → Bool
+numberKept (bool b) = true
+numberKept (num x) = kept x
+numberKept (obj o) = true
+numberKept (coll k vs) = true
 
--- every Integer in a value, at every depth
-unfoldable pub integersInRange : Value → Bool
-integersInRange v = everyPart integerInRange v
+-- every number in a value, at every depth
+unfoldable pub numbersKept : Value → Bool
+numbersKept v = everyPart numberKept v
+
+unfoldable pub allKept : Values → Bool
+allKept vs = everyParts numberKept vs
 
 -- ---- types, of any parents that are smaller classes, as reading makes sure
 
@@ -149,11 +153,12 @@ pub data Member (v : Value) : Values → Type 0 where
   first : {vs : Values} → Member v (cons v vs)
   later : {w : Value} {vs : Values} → Member v vs → Member v (cons w vs)
 
--- the tests of `eq` and `includes` are exact, and of two different values one comes before the other
+-- the tests of `eq` and `includes` are exact, and of two different values one comes before the other, where numbers are kept, as they
+-- are in every value that is read or that evaluation ends in (Soundness.antt, KeptEnds)
 pub record ValueOrder : Type 0 where
-  pub same-exact : (v w : Value) → T (same v w) ↔ (v ≡ w)
-  pub has-exact : (v : Value) (vs : Values) → T (has v vs) ↔ Member v vs
-  pub total : TotalOrder order
+  pub same-exact : (v w : Value) → T (numbersKept v) → T (numbersKept w) → T (same v w) ↔ (v ≡ w)
+  pub has-exact : (v : Value) (vs : Values) → T (numbersKept v) → T (allKept vs) → T (has v vs) ↔ Member v vs
+  pub total : TotalOrder (λ v. T (numbersKept v)) order
 
 -- ---- formed values: each Set in them strictly ascending, each Bag ascending, each Sequence as it comes
 
@@ -172,7 +177,7 @@ pub data Sorted (k : Kind) : Values → Type 0 where
 mutual
   pub data Formed : Value → Type 0 where
     formed-bool : {b : Bool} → Formed (bool b)
-    formed-int : {z : ℤ} → Formed (int z)
+    formed-num : {x : Number} → Formed (num x)
     formed-obj : {o : ℕ} → Formed (obj o)
     formed-coll : {k : Kind} {vs : Values} → Sorted k vs → FormedAll vs → Formed (coll k vs)
 
@@ -214,10 +219,16 @@ pub record Refusal (nodes : List ℕ) (n p : ℕ) : Type 0 where
   pub high : n ≤ 13
   pub placed : T (member p nodes)
 
+-- a mark names no row, or one of the first n
+pub data RowBelow (n : ℕ) : Mark → Type 0 where
+  row-below : {i : ℕ} → i < n → RowBelow n (ofRow i)
+  rows-below : {k : Kind} {i : ℕ} → i < n → RowBelow n (ofRows k i)
+  no-row : {x : Scale} → RowBelow n (ofNumbers x)
+
 -- a mark is at a node, its row is one of the schema, and its kind is none that drops repeats
 pub record MarkAt (s : Schema) (nodes : List ℕ) (p : ℕ) (m : Mark) : Type 0 where
   pub placed : T (member p nodes)
-  pub is-row : rowMarked m < s .rowCount
+  pub is-row : RowBelow (s .rowCount) m
   pub no-set : kindMarked m ≡ set → ⊥
 
 -- of each mark, its node first

@@ -3,6 +3,7 @@ pub mod Values
 pub mod Model
 pub mod Environment
 pub mod Forms
+pub mod Marks
 pub mod Typing
 pub mod Operations
 pub mod Evaluation
@@ -13,3 +14,4 @@ pub mod Worked
 pub mod Mistakes
 pub mod Collect
 pub mod Definitions
+pub mod RealCases

@@ -6,11 +6,13 @@ use mathlib.Core.Option.{Option, none, some}
 use mathlib.Core.List.{[], _∷_}
 use Prim.Native.Nat.{ℕ, zero, suc}
 use lib.IntN.{pos, negsuc}
+use Rattle.reals.specs.Reals.{int}
 use Rattle.ocl.specs.Types.{Boolean, Integer, sequence}
-use Rattle.ocl.specs.Values.{Value, bool, int, obj}
+use Rattle.ocl.specs.Values.{Value, bool, num, obj}
 use Rattle.ocl.specs.Model.{Row, Model, schemaOf}
 use Rattle.ocl.specs.Forms.{plus, Quantifier, forAll, exists, ofObject, truth, self, var, less, arith, sizeOf, castTo, Expr, node, leaf, unary, binary, conditional, letIn, attribute, quantified, iterate, assemble, noOperand, operand}
-use Rattle.ocl.specs.Typing.{typed, refused, ofRow, Typed, typeRule, markIn}
+use Rattle.ocl.specs.Marks.{ofRow, markIn}
+use Rattle.ocl.specs.Typing.{typed, refused, Typed, typeRule}
 use Rattle.ocl.specs.Environment.{start}
 use Rattle.ocl.specs.Operations.{Outcome, value, undefined, stop}
 use Rattle.ocl.specs.Evaluation.{evaluation, evaluateRule}
@@ -28,7 +30,7 @@ onlyObject (suc o) = none
 
 -- its values: 9 in row 0, true in row 1
 unfoldable pub nineAndTrue : ℕ → ℕ → Option Value
-nineAndTrue o zero = some (int (pos 9))
+nineAndTrue o zero = some (num (int (pos 9)))
 nineAndTrue o (suc i) = some (bool true)
 
 unfoldable pub model : Model
@@ -82,14 +84,14 @@ trueAfter n = evaluation model (λ p. ofRow 0) (node 0 (leaf (truth true))) (sta
 pub record Mistakes : Type 0 where
   -- the attribute is found by the static class, not by the object's own
   pub static-type : ruleTyping attribute₅ ≡ record { answer = typed Integer; marks = (1, ofRow 0) ∷ [] }
-  pub static-row : outcomeIn attribute₅ ≡ value (int (pos 9)) 2
+  pub static-row : outcomeIn attribute₅ ≡ value (num (int (pos 9))) 2
   -- `let` does not pass undefined on
   pub let-strict : outcomeIn (node 2 (letIn 1 (undef₀ 0) (int₀ 1 (pos 3)))) ≡ undefined 2
   -- a hidden binding is there again after the body
   pub hidden-type : ruleTyping hidden .answer ≡ typed Integer
-  pub hidden-value : outcomeIn hidden ≡ value (int (pos 2)) 7
+  pub hidden-value : outcomeIn hidden ≡ value (num (int (pos 2))) 7
   -- a branch that is not run is not counted
-  pub branch-steps : outcomeIn oneBranch ≡ value (int (pos 1)) 3
+  pub branch-steps : outcomeIn oneBranch ≡ value (num (int (pos 1))) 3
   -- Void is no class and no collection
   pub void-no-class : ruleTyping (node 1 (attribute ofObject 5 (undef₀ 0))) .answer ≡ refused 11 1
   pub void-no-cast : ruleTyping (node 1 (unary (castTo 0) (undef₀ 0))) .answer ≡ refused 11 1
@@ -97,7 +99,7 @@ pub record Mistakes : Type 0 where
   -- a loop goes on after its first body
   pub all-bodies : outcomeIn (eachBelow forAll 2) ≡ value (bool false) 10
   pub some-body : outcomeIn (eachBelow exists 1) ≡ value (bool false) 10
-  pub each-body : outcomeIn sumOf ≡ value (int (pos 4)) 11
+  pub each-body : outcomeIn sumOf ≡ value (num (int (pos 4))) 11
   -- an undefined body does not hide one that decides, and shows where none does
   pub blank-then-false : outcomeIn (blankThen forAll false) ≡ value (bool false) 14
   pub blank-then-true : outcomeIn (blankThen exists true) ≡ value (bool true) 14
@@ -105,7 +107,7 @@ pub record Mistakes : Type 0 where
   pub blank-exists : outcomeIn (blankThen exists false) ≡ undefined 14
   -- a binding leaves those of other variables
   pub outer-type : ruleTyping outerSeen .answer ≡ typed Integer
-  pub outer-value : outcomeIn outerSeen ≡ value (int (pos 2)) 5
+  pub outer-value : outcomeIn outerSeen ≡ value (num (int (pos 2))) 5
   -- negative Integers ascend
   pub negative-less : outcomeIn (node 2 (binary less (int₀ 0 (negsuc 1)) (int₀ 1 (negsuc 0)))) ≡ value (bool true) 3
   -- the 1,000,000th step is begun, the next one is not

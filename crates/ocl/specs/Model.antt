@@ -4,8 +4,9 @@ use mathlib.Core.Option.{Option, none, some}
 use Prim.Native.Nat.{ℕ, zero, suc}
 use lib.Dec.{eqb}
 use Rattle.laws.specs.Choice.{if_then_else_, orElse, onSome}
+use Rattle.reals.specs.Reals.{Number, int, real}
 use Rattle.ocl.specs.Types.{Simple, boolean, integer, class, exactly, Ty, void, simple, around, Parents, simpleSubtype, letterSubtype}
-use Rattle.ocl.specs.Values.{Value, bool, int, obj, coll, Values, nil, cons}
+use Rattle.ocl.specs.Values.{Value, bool, num, obj, coll, Values, nil, cons}
 
 -- an attribute row: the class that declares it, its name, its type
 pub record Row : Type 0 where
@@ -46,15 +47,20 @@ unfoldable pub every : (Value → Bool) → Values → Bool
 every f nil = true
 every f (cons v vs) = f v && every f vs
 
+-- document 02, F-8: "An Integer belongs to Real, a Real to Real and Any", so each to this type and to those above
+unfoldable pub numberType : Number → Simple
+numberType (int z) = integer
+numberType (real r) = Simple.real
+
 -- does the value belong to the type? A collection: to its kind, or to C, around each type that all its members belong to
 unfoldable pub belongs : Model → Ty → Value → Bool
 belongs s void v = false
-belongs s (simple b) (bool x) = simpleSubtype (s .parent) boolean b
-belongs s (simple b) (int z) = simpleSubtype (s .parent) integer b
+belongs s (simple b) (bool c) = simpleSubtype (s .parent) boolean b
+belongs s (simple b) (num x) = simpleSubtype (s .parent) (numberType x) b
 belongs s (simple b) (obj o) = isA s o b
 belongs s (simple b) (coll k vs) = false
-belongs s (around l t) (bool x) = false
-belongs s (around l t) (int z) = false
+belongs s (around l t) (bool c) = false
+belongs s (around l t) (num x) = false
 belongs s (around l t) (obj o) = false
 belongs s (around l t) (coll k vs) = letterSubtype (exactly k) l && every (belongs s t) vs
 

@@ -3,13 +3,14 @@ use mathlib.Core.Path.{_≡_}
 use mathlib.Core.Bool.{Bool, true, false, not}
 use Prim.Native.Nat.{ℕ}
 use lib.IntN.{ℤ, pos, negsuc}
+use Rattle.reals.specs.Reals.{int, result, noResult, overRange}
 use Rattle.ocl.specs.Types.{class, Kind}
-use Rattle.ocl.specs.Values.{Value, bool, int, obj, coll, Values, cons}
+use Rattle.ocl.specs.Values.{Value, bool, obj, coll, Values, cons}
 use Rattle.ocl.specs.Model.{Model, isA}
 use Rattle.ocl.specs.Environment.{Env, extend, start}
 use Rattle.ocl.specs.Forms.{plus, minus, times, div, modulo, Connective, Quantifier, Access, Unary, Binary}
-use Rattle.ocl.specs.Typing.{Mark}
-use Rattle.ocl.specs.Operations.{Outcome, value, undefined, stop, result, noResult, overRange, arithmetic, leftFits}
+use Rattle.ocl.specs.Marks.{Mark}
+use Rattle.ocl.specs.Operations.{Outcome, value, undefined, stop, arithmetic, division, leftFits}
 use Rattle.ocl.specs.Evaluation.{Run, unaryRun, binaryRun, decides, connectiveRun, isUndefRun, conditionalRun, letRun, attributeRun, callRun, seek, quantifiedRun, fold, iterateRun, Gather, operandRun}
 
 -- where f stops, so does g, with the same number and the same steps
@@ -19,7 +20,7 @@ Passes f g = (ρ : Env Value) (n c m : ℕ) → f ρ n ≡ stop c m → g ρ n �
 pub record Upward : Type 0 where
   -- the operand that runs first, in each form that has one
   pub of-unary : (s : Model) (op : Unary) (f : Run) → Passes f (unaryRun s op f)
-  pub of-left : (op : Binary) (f g : Run) → Passes f (binaryRun op f g)
+  pub of-left : (k : Mark) (op : Binary) (f g : Run) → Passes f (binaryRun k op f g)
   pub of-first-side : (c : Connective) (f g : Run) → Passes f (connectiveRun c f g)
   pub of-isUndef : (f : Run) → Passes f (isUndefRun f)
   pub of-condition : (f g h : Run) → Passes f (conditionalRun f g h)
@@ -30,8 +31,8 @@ pub record Upward : Type 0 where
   pub of-iterated : (i j : ℕ) (f g h : Run) → Passes f (iterateRun i j f g h)
   pub of-member : (k : Kind) (vs : Values) (f : Run) (g : Gather) → Passes f (operandRun f g k vs)
   -- an operand that runs later: the right side after a left one that does not decide, also an undefined one
-  pub of-right : (op : Binary) (f g : Run) (ρ : Env Value) (n p c m : ℕ) (v : Value) → f ρ n ≡ value v p → leftFits op v ≡ true
-      → g ρ p ≡ stop c m → binaryRun op f g ρ n ≡ stop c m
+  pub of-right : (k : Mark) (op : Binary) (f g : Run) (ρ : Env Value) (n p c m : ℕ) (v : Value) → f ρ n ≡ value v p → leftFits k op v ≡ true
+      → g ρ p ≡ stop c m → binaryRun k op f g ρ n ≡ stop c m
   pub of-second-side : (o : Connective) (f g : Run) (ρ : Env Value) (n p c m : ℕ) → f ρ n ≡ value (bool (not (decides o))) p
       → g ρ p ≡ stop c m → connectiveRun o f g ρ n ≡ stop c m
   pub after-undefined : (o : Connective) (f g : Run) (ρ : Env Value) (n p c m : ℕ) → f ρ n ≡ undefined p
@@ -66,13 +67,13 @@ pub record RangeEnds : Type 0 where
   pub minus-under : arithmetic minus least (pos 1) ≡ overRange
   pub times-over : arithmetic times least (negsuc 0) ≡ overRange
   pub times-under : arithmetic times least (pos 2) ≡ overRange
-  pub div-over : arithmetic div least (negsuc 0) ≡ overRange
+  pub div-over : division div least (negsuc 0) ≡ overRange
   -- the ends themselves are in range, and `mod` never leaves it
   pub plus-greatest : arithmetic plus greatest (pos 0) ≡ result (int greatest)
   pub minus-least : arithmetic minus (negsuc 0) greatest ≡ result (int least)
   pub times-least : arithmetic times least (pos 1) ≡ result (int least)
-  pub div-least : arithmetic div least (pos 1) ≡ result (int least)
-  pub mod-least : arithmetic modulo least (negsuc 0) ≡ result (int (pos 0))
+  pub div-least : division div least (pos 1) ≡ result (int least)
+  pub mod-least : division modulo least (negsuc 0) ≡ result (int (pos 0))
   -- a zero divisor, whatever is divided
-  pub div-zero : arithmetic div least (pos 0) ≡ noResult
-  pub mod-zero : arithmetic modulo least (pos 0) ≡ noResult
+  pub div-zero : division div least (pos 0) ≡ noResult
+  pub mod-zero : division modulo least (pos 0) ≡ noResult

@@ -8,7 +8,7 @@ use Rattle.laws.specs.Choice.{if_then_else_}
 
 -- the types other than Void and those of collections
 pub data Simple : Type 0 where
-  any boolean integer : Simple
+  any boolean integer real : Simple
   class : ℕ → Simple
 
 -- the kinds of a collection value: Set, Sequence, Bag
@@ -38,6 +38,10 @@ Boolean = simple boolean
 abbrev pub Integer : Ty
 Integer = simple integer
 
+-- spelled `Real`
+abbrev pub Real : Ty
+Real = simple real
+
 -- spelled `#c`
 abbrev pub Class : ℕ → Ty
 Class c = simple (class c)
@@ -58,9 +62,11 @@ pub data Subtype (parent : Parents) : Ty → Ty → Type 0 where
   transitive : {t u w : Ty} → Subtype parent t u → Subtype parent u w → Subtype parent t w
   -- Void is below every type
   void-below : {t : Ty} → Subtype parent void t
-  -- Bool, Int and each class are below Any
+  -- document 02, F-8: "Int below Real and Real below Any"
+  integer-real : Subtype parent Integer Real
+  real-any : Subtype parent Real Any
+  -- Bool and each class are below Any
   boolean-any : Subtype parent Boolean Any
-  integer-any : Subtype parent Integer Any
   class-any : {c : ℕ} → Subtype parent (Class c) Any
   -- a class is below its parent
   class-parent : {c p : ℕ} → parent c ≡ some p → Subtype parent (Class c) (Class p)
@@ -80,14 +86,16 @@ parentOr (some p) = class p
 unfoldable pub up : Parents → Simple → Simple
 up parent any = any
 up parent boolean = any
-up parent integer = any
+up parent integer = real
+up parent real = any
 up parent (class c) = parentOr (parent c)
 
 -- at most so many steps lead to Any, since a parent is a smaller class
 unfoldable pub height : Simple → ℕ
 height any = 0
 height boolean = 1
-height integer = 1
+height integer = 2
+height real = 1
 height (class c) = suc c
 
 -- a number for each simple type
@@ -95,7 +103,8 @@ unfoldable pub simpleCode : Simple → ℕ
 simpleCode any = 0
 simpleCode boolean = 1
 simpleCode integer = 2
-simpleCode (class c) = suc (suc (suc c))
+simpleCode real = 3
+simpleCode (class c) = suc (suc (suc (suc c)))
 
 -- one and the same
 unfoldable pub sameSimple : Simple → Simple → Bool

@@ -1,39 +1,20 @@
 -- Document 01, The forms and their typing: a type, or the number and node of a refusal; and the marks made on the way.
-use mathlib.Core.Bool.{_||_}
+use mathlib.Core.Bool.{_&&_, _||_}
 use mathlib.Core.Option.{Option, none, some}
-use mathlib.Core.List.{List, [], _∷_, _++_}
+use mathlib.Core.List.{[], _∷_, _++_}
 use Prim.Native.Nat.{ℕ}
-use lib.Dec.{eqb, leb}
+use lib.Dec.{leb}
 use Rattle.laws.specs.Choice.{if_then_else_}
-use Rattle.ocl.specs.Types.{any, boolean, integer, class, Kind, set, sequence, bag, Letter, collection, exactly, Ty, void, simple, around, Boolean, Integer, Class, depth, sameKind, subtype, join}
-use Rattle.ocl.specs.Model.{Schema, rowRead}
+use Rattle.ocl.specs.Types.{any, boolean, integer, real, class, Kind, set, sequence, bag, Letter, collection, exactly, Ty, void, simple, around, Boolean, Integer, Real, Class, depth, sameKind, subtype, join}
+use Rattle.ocl.specs.Model.{Schema, numberType, rowRead}
 use Rattle.ocl.specs.Environment.{Env, extend, start}
-use Rattle.ocl.specs.Forms.{Access, ofObject, ofMembers, Leaf, truth, undef, number, self, var, all, Unary, negation, sizeOf, convert, castTo, Binary, equal, less, arith, includes, including, union, Expr, node, Form, leaf, unary, binary, connective, isUndef, conditional, letIn, attribute, call, quantified, iterate, assemble, Operands, noOperand, operand, Definition}
+use Rattle.ocl.specs.Forms.{Access, ofObject, ofMembers, Leaf, truth, undef, number, self, var, all, Unary, negation, sizeOf, convert, castTo, Binary, equal, less, arith, divide, over, includes, including, union, Expr, node, Form, leaf, unary, binary, connective, isUndef, conditional, letIn, attribute, call, quantified, iterate, assemble, Operands, noOperand, operand, Definition}
+use Rattle.ocl.specs.Marks.{Scale, integers, reals, Mark, ofRow, ofRows, ofNumbers, Marks}
 
 -- a type, or a refusal's number and its node
 pub data Answer : Type 0 where
   typed : Ty → Answer
   refused : ℕ → ℕ → Answer
-
--- a mark (document 01's word): what evaluation reads of a node's typing
-pub data Mark : Type 0 where
-  -- of `attr`: its row
-  ofRow : ℕ → Mark
-  -- of `collect`: the resulting kind and its row (document 02, F-4)
-  ofRows : Kind → ℕ → Mark
-
--- the row; the kind, which is asked of `collect` alone
-unfoldable pub rowMarked : Mark → ℕ
-rowMarked (ofRow i) = i
-rowMarked (ofRows k i) = i
-
-unfoldable pub kindMarked : Mark → Kind
-kindMarked (ofRow i) = bag
-kindMarked (ofRows k i) = k
-
--- nodes with their marks, in the order made
-abbrev pub Marks : Type 0
-Marks = List (ℕ × Mark)
 
 -- an answer, and the marks made before it, which a refusal has too
 pub record Typed : Type 0 where
@@ -84,6 +65,7 @@ onClass void no11 k = no11
 onClass (simple any) no11 k = no11
 onClass (simple boolean) no11 k = no11
 onClass (simple integer) no11 k = no11
+onClass (simple real) no11 k = no11
 onClass (simple (class c)) no11 k = k c
 onClass (around l t) no11 k = no11
 
@@ -103,7 +85,7 @@ boundType p (some t) = typed t
 unfoldable pub leafType : ℕ → Leaf → Env Ty → Answer
 leafType p (truth b) Γ = typed Boolean
 leafType p undef Γ = typed void
-leafType p (number z) Γ = typed Integer
+leafType p (number x) Γ = typed (simple (numberType x))
 leafType p self Γ = boundType p (Γ 0)
 leafType p (var i) Γ = boundType p (Γ i)
 leafType p (all c) Γ = typed (around (exactly set) (Class c))
@@ -114,6 +96,7 @@ castType s p c void = refused 11 p
 castType s p c (simple any) = typed (Class c)
 castType s p c (simple boolean) = refused 11 p
 castType s p c (simple integer) = refused 11 p
+castType s p c (simple real) = refused 11 p
 castType s p c (simple (class d)) =
     if subtype (s .parent) (Class d) (Class c) || subtype (s .parent) (Class c) (Class d) then typed (Class c) else refused 10 p
 castType s p c (around l t) = refused 11 p
@@ -130,22 +113,48 @@ unaryType s p (castTo c) t = castType s p c t
 unfoldable pub bothBelow : Schema → ℕ → Ty → Ty → Ty → Ty → Answer
 bothBelow s p w r t u = below s p t w (below s p u w (typed r))
 
--- forms with two strict operands, of types t and u
-unfoldable pub binaryType : Schema → ℕ → Binary → Ty → Ty → Answer
--- `eq`: a common type must exist
-binaryType s p equal t u = common p (join (s .parent) t u) (λ w. typed Boolean)
-binaryType s p less t u = bothBelow s p Integer Boolean t u
-binaryType s p (arith o) t u = bothBelow s p Integer Integer t u
+-- document 02, F-8: "Such a node has type Real"
+unfoldable pub scaleType : Scale → Ty
+scaleType integers = Integer
+scaleType reals = Real
+
+unfoldable pub scaled : ℕ → (Scale → Ty) → Scale → Typed
+scaled p type x = record { answer = typed (type x); marks = (p, ofNumbers x) ∷ [] }
+
+-- "a node whose operands are both typed below Int goes as before (typing marks it)", any other by Reals; both are below Real, else 11
+unfoldable pub onNumbers : Schema → ℕ → (Scale → Ty) → Ty → Ty → Typed
+onNumbers s p type t u =
+    if subtype (s .parent) t Integer && subtype (s .parent) u Integer then scaled p type integers
+    else if subtype (s .parent) t Real && subtype (s .parent) u Real then scaled p type reals
+    else pure (refused 11 p)
+
 -- `includes`: the member type and u must have a common type
-binaryType s p includes t u = onCollection t (refused 11 p) (λ l m. common p (join (s .parent) m u) (λ w. typed Boolean))
+unfoldable pub includesType : Schema → ℕ → Ty → Ty → Answer
+includesType s p t u = onCollection t (refused 11 p) (λ l m. common p (join (s .parent) m u) (λ w. typed Boolean))
+
 -- `including`: S, Q or B, around the common type of its members and u
-binaryType s p including t u =
+unfoldable pub includingType : Schema → ℕ → Ty → Ty → Answer
+includingType s p t u =
     onCollection t (refused 11 p) (λ l m. onKind l (refused 11 p) (λ k. common p (join (s .parent) m u) (wrap p (exactly k))))
+
 -- `union`: both S, both Q or both B, around the common type of their members
-binaryType s p union t u =
+unfoldable pub unionType : Schema → ℕ → Ty → Ty → Answer
+unionType s p t u =
     onCollection t (refused 11 p) (λ l m. onKind l (refused 11 p) (λ j.
     onCollection u (refused 11 p) (λ r n. onKind r (refused 11 p) (λ k.
     if sameKind j k then common p (join (s .parent) m n) (wrap p (exactly j)) else refused 11 p))))
+
+-- forms with two strict operands, of types t and u
+unfoldable pub binaryType : Schema → ℕ → Binary → Ty → Ty → Typed
+-- `eq`: a common type must exist
+binaryType s p equal t u = pure (common p (join (s .parent) t u) (λ w. typed Boolean))
+binaryType s p less t u = onNumbers s p (λ x. Boolean) t u
+binaryType s p (arith o) t u = onNumbers s p scaleType t u
+binaryType s p (divide o) t u = pure (bothBelow s p Integer Integer t u)
+binaryType s p over t u = pure (bothBelow s p Real Real t u)
+binaryType s p includes t u = pure (includesType s p t u)
+binaryType s p including t u = pure (includingType s p t u)
+binaryType s p union t u = pure (unionType s p t u)
 
 -- `if`: a condition below Bool (11), then the branches' common type (10)
 unfoldable pub conditionalType : Schema → ℕ → Ty → Ty → Ty → Answer
@@ -184,7 +193,7 @@ unfoldable pub unaryTyping : Schema → ℕ → Unary → Typing → Typing
 unaryTyping s p op f Γ = andThen (f Γ) (λ t. pure (unaryType s p op t))
 
 unfoldable pub binaryTyping : Schema → ℕ → Binary → Typing → Typing → Typing
-binaryTyping s p op f g Γ = andThen (f Γ) (λ t. andThen (g Γ) (λ u. pure (binaryType s p op t u)))
+binaryTyping s p op f g Γ = andThen (f Γ) (λ t. andThen (g Γ) (λ u. binaryType s p op t u))
 
 -- `and`, `or`: both below Bool
 unfoldable pub connectiveTyping : Schema → ℕ → Typing → Typing → Typing
@@ -268,12 +277,3 @@ root (node p f) = p
 unfoldable pub typeDefinition : Schema → Definition → Typed
 typeDefinition s d =
     andThen (typeRule s (d .context) (d .body)) (λ t. pure (below s (root (d .body)) t (d .type) (typed (d .type))))
-
--- what node p is marked with, and d where it is not; no node is marked twice
-unfoldable pub markOr : Mark → Marks → ℕ → Mark
-markOr d [] p = d
-markOr d (x ∷ m) p = markOr (if eqb p (x .0) then x .1 else d) m p
-
--- the marks as evaluation reads them; it reads them at `attr` and `collect` nodes, and typing marks each of those
-unfoldable pub markIn : Marks → ℕ → Mark
-markIn m p = markOr (ofRow 0) m p

@@ -1,15 +1,16 @@
 -- Document 01, Values and types: values, their size and order; Evaluation: how a member is added.
 use mathlib.Core.Bool.{Bool, true, false, _&&_, _||_}
 use Prim.Native.Nat.{ℕ, suc, _+_, compare, Ordering, Ordering·lt, Ordering·eq, Ordering·gt}
-use lib.IntN.{ℤ, pos, negsuc}
+use lib.IntN.{ℤ, pos}
 use lib.Dec.{isEq}
+use Rattle.reals.specs.Reals.{Number, units, orderInt}
 use Rattle.ocl.specs.Types.{Kind, set, sequence, bag}
 
--- what is defined: true or false, an Integer, an object, a collection. Undefined stands apart, since it is never a member
+-- what is defined: true or false, an Integer or a Real, an object, a collection. Undefined stands apart, since it is never a member
 mutual
   pub data Value : Type 0 where
     bool : Bool → Value
-    int : ℤ → Value
+    num : Number → Value
     obj : ℕ → Value
     coll : Kind → Values → Value
 
@@ -26,7 +27,7 @@ count (cons v vs) = suc (count vs)
 unfoldable mutual
   pub size : Value → ℕ
   size (bool b) = 1
-  size (int z) = 1
+  size (num x) = 1
   size (obj o) = 1
   size (coll k vs) = suc (sizes vs)
 
@@ -38,7 +39,7 @@ unfoldable mutual
 unfoldable mutual
   pub everyPart : (Value → Bool) → Value → Bool
   everyPart f (bool b) = f (bool b)
-  everyPart f (int z) = f (int z)
+  everyPart f (num x) = f (num x)
   everyPart f (obj o) = f (obj o)
   everyPart f (coll k vs) = everyParts f vs
 
@@ -54,10 +55,10 @@ thenOrder Ordering·lt q = Ordering·lt
 thenOrder Ordering·eq q = q
 thenOrder Ordering·gt q = Ordering·gt
 
--- truth values, Integers, objects, Sets, Sequences, Bags come in this order
+-- truth values, numbers, objects, Sets, Sequences, Bags come in this order
 unfoldable pub sort : Value → ℕ
 sort (bool b) = 0
-sort (int z) = 1
+sort (num x) = 1
 sort (obj o) = 2
 sort (coll set vs) = 3
 sort (coll sequence vs) = 4
@@ -68,24 +69,18 @@ unfoldable pub ofBool : Bool → ℤ
 ofBool false = pos 0
 ofBool true = pos 1
 
--- within a sort: truth values, Integers and objects by number, a collection by how many members it has
+-- within a sort: truth values and objects by number, a collection by how many members it has; document 02, F-8: "Integers and Reals
+-- are ordered together by number"
 unfoldable pub rank : Value → ℤ
 rank (bool b) = ofBool b
-rank (int z) = z
+rank (num x) = units x
 rank (obj o) = pos o
 rank (coll k vs) = pos (count vs)
-
--- the order of whole numbers
-unfoldable pub orderInt : ℤ → ℤ → Ordering
-orderInt (pos a) (pos b) = compare a b
-orderInt (pos a) (negsuc b) = Ordering·gt
-orderInt (negsuc a) (pos b) = Ordering·lt
-orderInt (negsuc a) (negsuc b) = compare b a
 
 -- a collection's members; of any other value none
 unfoldable pub members : Value → Values
 members (bool b) = nil
-members (int z) = nil
+members (num x) = nil
 members (obj o) = nil
 members (coll k vs) = vs
 
@@ -97,7 +92,7 @@ headOrder v w = thenOrder (compare (sort v) (sort w)) (orderInt (rank v) (rank w
 unfoldable mutual
   pub order : Value → Value → Ordering
   order (bool b) w = headOrder (bool b) w
-  order (int z) w = headOrder (int z) w
+  order (num x) w = headOrder (num x) w
   order (obj o) w = headOrder (obj o) w
   order (coll k vs) w = thenOrder (headOrder (coll k vs) w) (orders vs (members w))
 
@@ -106,7 +101,8 @@ unfoldable mutual
   orders (cons v vs) nil = Ordering·gt
   orders (cons v vs) (cons w ws) = thenOrder (order v w) (orders vs ws)
 
--- are the two one and the same value: neither comes before the other (proofs/Order.antt: this is equality)
+-- are the two one and the same value: neither comes before the other (proofs/Order.antt: this is equality,
+-- where numbers are kept)
 unfoldable pub same : Value → Value → Bool
 same v w = isEq (order v w)
 

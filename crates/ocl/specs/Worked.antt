@@ -4,11 +4,12 @@ use mathlib.Core.Bool.{true, false}
 use mathlib.Core.Option.{none, some}
 use Prim.Native.Nat.{ℕ, zero, suc}
 use lib.IntN.{ℤ, pos, negsuc}
+use Rattle.reals.specs.Reals.{int}
 use Rattle.ocl.specs.Types.{set, sequence, collection, exactly, void, around, Any, Integer, Class, Parents, join}
-use Rattle.ocl.specs.Values.{bool, int, coll, nil, cons}
+use Rattle.ocl.specs.Values.{bool, num, coll, nil, cons}
 use Rattle.ocl.specs.Model.{Model}
-use Rattle.ocl.specs.Forms.{Arith, plus, div, modulo, and, forAll, truth, undef, number, arith, Expr, node, leaf, binary, connective, isUndef, letIn, quantified, assemble, noOperand, operand}
-use Rattle.ocl.specs.Typing.{ofRow}
+use Rattle.ocl.specs.Forms.{plus, div, modulo, and, forAll, truth, undef, number, Binary, arith, divide, Expr, node, leaf, binary, connective, isUndef, letIn, quantified, assemble, noOperand, operand}
+use Rattle.ocl.specs.Marks.{ofRow}
 use Rattle.ocl.specs.Operations.{Outcome, value, undefined, stop}
 use Rattle.ocl.specs.Evaluation.{evaluation}
 
@@ -40,11 +41,11 @@ unfoldable pub undef₀ : ℕ → Expr
 undef₀ n = node n (leaf undef)
 
 unfoldable pub int₀ : ℕ → ℤ → Expr
-int₀ n z = node n (leaf (number z))
+int₀ n z = node n (leaf (number (int z)))
 
 -- x o y
-unfoldable pub arith₂ : Arith → ℤ → ℤ → Expr
-arith₂ o x y = node 2 (binary (arith o) (int₀ 0 x) (int₀ 1 y))
+unfoldable pub integers₂ : Binary → ℤ → ℤ → Expr
+integers₂ o x y = node 2 (binary o (int₀ 0 x) (int₀ 1 y))
 
 pub record Worked : Type 0 where
   -- false and undef: f
@@ -56,16 +57,16 @@ pub record Worked : Type 0 where
   -- let of undef, in 3: u
   pub p4 : outcome (node 2 (letIn 1 (undef₀ 0) (int₀ 1 (pos 3)))) ≡ undefined 2
   -- isUndef of 1 div 0: t
-  pub p5 : outcome (node 3 (isUndef (arith₂ div (pos 1) (pos 0)))) ≡ value (bool true) 4
+  pub p5 : outcome (node 3 (isUndef (integers₂ (divide div) (pos 1) (pos 0)))) ≡ value (bool true) 4
   -- -7 div 2: -3
-  pub p6 : outcome (arith₂ div (negsuc 6) (pos 2)) ≡ value (int (negsuc 2)) 3
+  pub p6 : outcome (integers₂ (divide div) (negsuc 6) (pos 2)) ≡ value (num (int (negsuc 2))) 3
   -- -7 mod 2: -1
-  pub p7 : outcome (arith₂ modulo (negsuc 6) (pos 2)) ≡ value (int (negsuc 0)) 3
+  pub p7 : outcome (integers₂ (divide modulo) (negsuc 6) (pos 2)) ≡ value (num (int (negsuc 0))) 3
   -- 2147483647 plus 1: over the range, 19
-  pub p8 : outcome (arith₂ plus (pos 2147483647) (pos 1)) ≡ stop 19 3
+  pub p8 : outcome (integers₂ (arith plus) (pos 2147483647) (pos 1)) ≡ stop 19 3
   -- the Set of 2, 1, 2: S(1,2)
   pub p9 : outcome (node 3 (assemble set (operand (int₀ 0 (pos 2)) (operand (int₀ 1 (pos 1)) (operand (int₀ 2 (pos 2)) noOperand)))))
-      ≡ value (coll set (cons (int (pos 1)) (cons (int (pos 2)) nil))) 4
+      ≡ value (coll set (cons (num (int (pos 1))) (cons (num (int (pos 2))) nil))) 4
   -- #1 and Int: Any
   pub p10 : join (bareModel .parent) (Class 1) Integer ≡ some Any
   -- S(Int) and Q(Int): C(Int)

@@ -13,7 +13,7 @@ use Rattle.ocl.specs.Types.{Kind, set, sequence, bag, kindCode}
 use Rattle.ocl.specs.Values.{Value, coll, Values, nil, size, sizes, addAll}
 use Rattle.ocl.specs.Model.{Model, every}
 use Rattle.ocl.specs.Forms.{ofMembers}
-use Rattle.ocl.specs.Typing.{rowMarked, kindMarked}
+use Rattle.ocl.specs.Marks.{rowMarked, kindMarked}
 use Rattle.ocl.specs.Operations.{stuck, stop, form, hasRow, valuesInRow, formAll, access}
 use Rattle.values.specs.Cells.{encs, AllFit}
 use Rattle.values.specs.Contracts.{SortOf, Assembles}
@@ -40,19 +40,19 @@ many-stop k ws s n h = let e = addAll-sizes k ws nil n in rw (lt-leb (suc (sizes
 
 no-set : (word : ℕ) → kindIn word ≡ set → ⊥
 unfolding kindIn
-no-set word e = by (ltb word 64) e
+no-set word e = by (ltb (word % 128) 64) e
   where
     by : (b : Bool) → (if b then bag else sequence) ≡ set → ⊥
     by true e = absurd (let z : _≡_ {A = ℕ} 0 1 = cc in omega arith)
     by false e = absurd (let z : _≡_ {A = ℕ} 0 1 = cc in omega arith)
 
-pub kind-low : (word : ℕ) → word < 64 → 2 ≡ kindCode (kindIn word)
+pub kind-low : (word : ℕ) → word % 128 < 64 → 2 ≡ kindCode (kindIn word)
 unfolding kindIn kindCode
-kind-low word h = rw (lt-ltb word 64 h)
+kind-low word h = rw (lt-ltb (word % 128) 64 h)
 
-pub kind-high : (word : ℕ) → 64 ≤ word → 1 ≡ kindCode (kindIn word)
+pub kind-high : (word : ℕ) → 64 ≤ word % 128 → 1 ≡ kindCode (kindIn word)
 unfolding kindIn kindCode
-kind-high word h = rw (le-ltb word 64 h)
+kind-high word h = rw (le-ltb (word % 128) 64 h)
 
 code-small : (k : Kind) → kindCode k < 3
 unfolding kindCode

@@ -8,18 +8,19 @@ use native.Mathlib.Omega.{arith}
 use native.Mathlib.Numerals.{add-one}
 use lib.ListN.{length, getD, take, set, length-set}
 use lib.Seq.{slice, slice-cons, slice-empty, getD-set-same, take-set-le}
-use Rattle.laws.specs.Integers.{unbias}
 use Rattle.laws.proofs.Slices.{whole}
 use Rattle.laws.proofs.Tests.{by-if}
 use Rattle.ocl.specs.Types.{class, kindCode, set as asSet}
-use Rattle.ocl.specs.Values.{Value, bool, int, obj, coll, Values, nil, cons, size, sizes, append}
+use Rattle.ocl.specs.Values.{Value, bool, num, obj, coll, Values, nil, cons, size, sizes, sort, append}
+use Rattle.reals.specs.Words.{cell, numberIn}
+use Rattle.reals.proofs.Laws.{word-laws}
 use Rattle.ocl.specs.Forms.{truth}
 use Rattle.ocl.specs.Model.{Model, isA}
 use Rattle.ocl.specs.Operations.{instances}
 use Rattle.ocl.specs.Evaluation.{bound, leafRun}
 use Rattle.ocl.proofs.Values.{size-pos}
-use Rattle.values.specs.Cells.{head, enc, fits-bool, fits-int, fits-obj}
-use Rattle.values.specs.Contracts.{means-bool, means-int, means-obj, EmptyOf, Forms, Appends, Copies}
+use Rattle.values.specs.Cells.{head, enc, fits-bool, fits-num, fits-obj}
+use Rattle.values.specs.Contracts.{means-bool, means-obj, EmptyOf, Forms, Appends, Copies}
 use Rattle.values.specs.declared.Simple.the-variants as simple
 use Rattle.values.specs.declared.Formed.{Formed}
 use Rattle.values.specs.declared.Formed.the-variants as formed
@@ -30,12 +31,11 @@ use Rattle.tables.specs.declared.Counts.{Counts}
 use Rattle.tables.specs.Stored.{HoldsModel}
 use Rattle.operations.specs.declared.Ended.{Ended}
 use Rattle.operations.specs.declared.Ended.the-variants as ended
-use Rattle.operations.specs.Answers.{Lies, Under, Ran, Gives, formedAs}
+use Rattle.operations.specs.Answers.{Lies, Under, Ran, GivesCell, Gives, formedAs}
 use Rattle.operations.specs.Tables.{IsA, WithObject, Instances}
 use Rattle.operations.specs.Runs.{ModelIn, Held, free, held, Evals, Variable, leafFor}
 use Rattle.operations.proofs.Words.{under-refl, under-then, lies-above, formed-small, formed-ran, formed-value}
 use Rattle.operations.proofs.OperationLaws.{ran-stuck, ran-undefined}
-use Rattle.operations.proofs.Sorts.{bias-unbias, unbias-ranged}
 
 -- ---- variables
 
@@ -174,12 +174,9 @@ module _ {st : Counts} {w0 env : List ℕ} (k x : ℕ) {sp s : ℕ} {B : List �
   unfolding leafFor leafOf leafRun
   leaf-undef e = record { small = tt; ran = λ w ok ρ rel. rw e ran-undefined }
 
-  pub leaf-number : {A : List ℕ} {r : Ended} → k ≡ 3 → Gives (simple.Integer (x % 4294967296)) sp s B A r → Evals (ModelIn st w0) (leafFor k x) env sp s B A r
-  unfolding leafFor leafOf leafRun
-  leaf-number e G = record {
-    small = G .small;
-    ran = λ w ok ρ rel. rw e (G .is (int (unbias (x % 4294967296))) (fits-int (unbias-ranged (x % 4294967296) (omega arith))) (means-int (sym (bias-unbias (x % 4294967296)))));
-  }
+  pub leaf-number : {c : ℕ} {A : List ℕ} {r : Ended} → k ≡ 3 → c ≡ cell (numberIn x) → GivesCell c sp s B A r → Evals (ModelIn st w0) (leafFor k x) env sp s B A r
+  unfolding leafFor leafOf leafRun head sort
+  leaf-number e q G = record { small = G .small; ran = λ w ok ρ rel. rw e (G .is (num (numberIn x)) (fits-num (word-laws .kept-all x)) (omega arith) q) }
 
   pub leaf-self : {A : List ℕ} {r : Ended} → k ≡ 4 → Variable 0 env sp s B A r → Evals (ModelIn st w0) (leafFor k x) env sp s B A r
   unfolding leafFor leafOf leafRun

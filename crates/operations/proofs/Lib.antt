@@ -7,5 +7,6 @@ pub mod BringLaws
 pub mod CollectLaws
 pub mod OperandLaws
 pub mod BinaryLaws
+pub mod NumberLaws
 pub mod LeafLaws
 pub mod Packing

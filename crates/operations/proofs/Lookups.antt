@@ -12,7 +12,7 @@ use borrow.Author.Tests.{lt-ltb, le-ltb, eq-eqb, ne-eqb, eqb-true, eqb-false}
 use Rattle.laws.specs.Choice.{if_then_else_}
 use Rattle.laws.proofs.Orders.{Three, less, same, over, three}
 use Rattle.ocl.specs.Types.{class, simpleSubtype}
-use Rattle.ocl.specs.Values.{Value, bool, int, obj, coll, size}
+use Rattle.ocl.specs.Values.{Value, bool, num, obj, coll, size, sort}
 use Rattle.ocl.specs.Model.{Row, Model, isA, classIsA}
 use Rattle.ocl.specs.Forms.{ofObject}
 use Rattle.ocl.specs.Operations.{given, hasRow, valueInRow, access}
@@ -21,7 +21,7 @@ use Rattle.types.specs.Flat.{parentsIn}
 use Rattle.values.specs.Cells.{payload, head, enc, Fits}
 use Rattle.values.specs.Contracts.{SortOf, PayloadOf, Brings}
 use Rattle.values.specs.declared.Formed.{Formed}
-use Rattle.values.proofs.Heads.{shape, Shape, shape-bool, shape-int, shape-obj, shape-coll}
+use Rattle.values.proofs.Heads.{shape, Shape, shape-bool, shape-num, shape-obj, shape-coll}
 use Rattle.values.proofs.Forming.{part-size}
 use Rattle.tables.specs.declared.Counts.{Counts}
 use Rattle.tables.specs.Layout.{tab}
@@ -156,28 +156,28 @@ module _ (st : Counts) (w0 : List ℕ) (j a e : ℕ) (p : a ≡ cellsStart st w0
 not-object : {t p : ℕ} {v : Value} → Shape t p v → (t ≡ 2 → ⊥) → (m : Model) (c : ℕ) → false ≡ objectOf m c v
 unfolding objectOf
 not-object (shape-bool i j) n m c = refl
-not-object (shape-int i j l) n m c = refl
+not-object (shape-num i j) n m c = refl
 not-object (shape-obj i j l) n m c = absurd (n i)
 not-object (shape-coll i j l) n m c = refl
 
 pub is-object : {t p : ℕ} {v : Value} → Shape t p v → t ≡ 2 → v ≡ obj p
 is-object (shape-bool i j) e = absurd (omega arith)
-is-object (shape-int i j l) e = absurd (omega arith)
+is-object (shape-num i j) e = absurd (omega arith)
 is-object (shape-obj i j l) e = ap obj (sym j)
 is-object (shape-coll i j l) e = absurd (omega arith)
 
 module _ {st : Counts} {w0 : List ℕ} {c cell t : ℕ} (S : SortOf cell t) where
   pub object-other : (t ≡ 2 → ⊥) → IsObject st w0 c cell false
-  object-other n = record { is = λ m H v f e. not-object (shape f (S .is v f e) refl) n m c }
+  object-other n = record { is = λ m H v f e. not-object (shape f (S .is v f e) (λ x. refl)) n m c }
 
   pub object-of : {o : ℕ} {b : Bool} → t ≡ 2 → PayloadOf cell o → IsA st w0 o c b → IsObject st w0 c cell b
   unfolding objectOf
-  object-of d Q I = record { is = λ m H v f e. rw (is-object (shape f (S .is v f e) (Q .is v f e)) d) (I .is m H) }
+  object-of d Q I = record { is = λ m H v f e. rw (is-object (shape f (S .is v f e) (λ n. Q .is v f n e)) d) (I .is m H) }
 
 row-class : (m : Model) (i : ℕ) (v : Value) → objectOf m (m .row i .owner) v ≡ hasRow m i v
 unfolding objectOf hasRow
 row-class m i (bool b) = refl
-row-class m i (int z) = refl
+row-class m i (num x) = refl
 row-class m i (obj o) = refl
 row-class m i (coll k vs) = refl
 
@@ -192,15 +192,15 @@ pub record Object (v : Value) : Type 0 where
 pub has-object : (m : Model) (i : ℕ) (v : Value) → hasRow m i v ≡ true → Object v
 unfolding hasRow
 has-object m i (bool b) e = absurd (let z : _≡_ {A = ℕ} 0 1 = cc in omega arith)
-has-object m i (int z) e = absurd (let z : _≡_ {A = ℕ} 0 1 = cc in omega arith)
+has-object m i (num x) e = absurd (let z : _≡_ {A = ℕ} 0 1 = cc in omega arith)
 has-object m i (obj o) e = record { o = o; is = refl }
 has-object m i (coll k vs) e = absurd (let z : _≡_ {A = ℕ} 0 1 = cc in omega arith)
 
 -- ---- the slot of a row for an object
 
 pub slot-of : (st : Counts) (w0 : List ℕ) {i cell slots o : ℕ} (x : Place) → i < 64 → slots ≡ st .slots → PayloadOf cell o → FindsSlot w0 slots (o * 64 + i) x → RowSlot st w0 i cell x
-unfolding payload
-slot-of st w0 {i} {cell} {slots} {o} (place.At j) h n Q F = (let l = F .0 in omega arith, λ m H p f e. by m H p (Q .is (obj p) f e) (m .valueOf p i) refl (H .stored p i h))
+unfolding payload sort
+slot-of st w0 {i} {cell} {slots} {o} (place.At j) h n Q F = (let l = F .0 in omega arith, λ m H p f e. by m H p (Q .is (obj p) f (λ n. omega arith) e) (m .valueOf p i) refl (H .stored p i h))
   where
     by : (m : Model) → HoldsModel st w0 m → (p : ℕ) → o ≡ p → (x : Option Value) → m .valueOf p i ≡ x → Stored st w0 p i x → (v : Value) × ((m .valueOf p i ≡ some v) × SlotHolds st w0 j v)
     by m H p e none u (no-slot f) = absurd (f j (let l = F .0 in omega arith) (F .1 ∙ ap (λ (k : ℕ). k * 64 + i) e))
@@ -208,7 +208,7 @@ slot-of st w0 {i} {cell} {slots} {o} (place.At j) h n Q F = (let l = F .0 in ome
         let d = same-slot w0 (st .slots) (H .ascending) k j l (let l = F .0 in omega arith) (q ∙ ap (λ (k : ℕ). k * 64 + i) (sym e) ∙ sym (F .1)) in
         let c : SlotHolds st w0 k v = record { there = l; within = y; cells = z; fits = f } in
         (v, (u, rw d at c))
-slot-of st w0 {i} {cell} {slots} {o} place.Nowhere h n Q F = λ m H p f e. by m H p (Q .is (obj p) f e) (m .valueOf p i) refl (H .stored p i h)
+slot-of st w0 {i} {cell} {slots} {o} place.Nowhere h n Q F = λ m H p f e. by m H p (Q .is (obj p) f (λ n. omega arith) e) (m .valueOf p i) refl (H .stored p i h)
   where
     by : (m : Model) → HoldsModel st w0 m → (p : ℕ) → o ≡ p → (x : Option Value) → m .valueOf p i ≡ x → Stored st w0 p i x → m .valueOf p i ≡ none
     by m H p e none u q = u

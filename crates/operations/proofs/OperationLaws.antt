@@ -9,16 +9,17 @@ use lib.IntN.{pos}
 use lib.Dec.{T, eqb}
 use borrow.Author.Tests.{lt-ltb}
 use Rattle.ocl.specs.Types.{Kind, kindCode}
-use Rattle.ocl.specs.Values.{Value, bool, int, coll, nil, count, size, addAll}
+use Rattle.ocl.specs.Values.{Value, bool, num, coll, nil, count, size, addAll}
+use Rattle.reals.specs.Reals.{int, inRange, kept}
 use Rattle.ocl.specs.Model.{Model}
 use Rattle.ocl.specs.Forms.{Unary, negation, sizeOf, convert, castTo}
-use Rattle.ocl.specs.Operations.{Outcome, value, undefined, stuck, stop, inRange, form, cast, unaryApply}
+use Rattle.ocl.specs.Operations.{Outcome, value, undefined, stuck, stop, form, cast, unaryApply}
 use Rattle.ocl.proofs.Values.{count-sizes}
-use Rattle.values.specs.Cells.{bias, fits-bool, fits-int}
+use Rattle.values.specs.Cells.{bias, fits-bool, fits-num}
 use Rattle.values.specs.Contracts.{means-bool, means-int, SortOf, PayloadOf, Converts}
 use Rattle.values.specs.declared.Simple.the-variants as simple
 use Rattle.values.specs.declared.Formed.{Formed}
-use Rattle.values.proofs.Heads.{Shape, shape-bool, shape-int, shape-obj, shape-coll}
+use Rattle.values.proofs.Heads.{Shape, shape-bool, shape-num, shape-obj, shape-coll}
 use Rattle.nodes.specs.Nodes.{unaryOf}
 use Rattle.tables.specs.declared.Counts.{Counts}
 use Rattle.tables.specs.Stored.{HoldsModel}
@@ -71,7 +72,7 @@ module _ {sp s len : ℕ} {B : List ℕ} where
   module _ {t : ℕ} (S : SortOf (getD B sp 0) t) where
     pub total-stuck : t < 3 → OfOne AnyModel (λ m. unaryApply m sizeOf) sp len s B B ended.Stuck
     unfolding unaryApply
-    total-stuck h = record { small = tt; ran = λ m ok v l. rw (no-coll l S h (λ k vs. value (int (pos (count vs))) s)) ran-stuck }
+    total-stuck h = record { small = tt; ran = λ m ok v l. rw (no-coll l S h (λ k vs. value (num (int (pos (count vs)))) s)) ran-stuck }
 
     pub change-stuck : (k : Kind) → t < 3 → OfOne AnyModel (λ m. unaryApply m (convert k)) sp len s B B ended.Stuck
     unfolding unaryApply
@@ -92,13 +93,13 @@ module _ {sp s len : ℕ} {B : List ℕ} where
       total-over g = record { small = tt; ran = λ m ok v l. absurd (let x = total-is S P small l (is-coll l S h) in omega arith) }
 
       pub total-done : {A : List ℕ} {r : Ended} → Gives (simple.Integer (2147483648 + q)) sp s B A r → OfOne AnyModel (λ m. unaryApply m sizeOf) sp len s B A r
-      unfolding unaryApply inRange bias
+      unfolding unaryApply inRange kept bias
       total-done G = record {
         small = G .small;
         ran = λ m ok v l.
             let x = is-coll l S h in
             let y = total-is S P small l x in
-            rw (x .is) (G .is (int (pos (count (x .members)))) (fits-int (truth-T _ (lt-ltb (count (x .members)) 2147483648 (omega arith)))) (means-int (omega arith)));
+            rw (x .is) (G .is (num (int (pos (count (x .members))))) (fits-num (truth-T _ (lt-ltb (count (x .members)) 2147483648 (omega arith)))) (means-int (omega arith)));
       }
 
   module _ {st : Counts} {w0 : List ℕ} (c : ℕ) {t : ℕ} (S : SortOf (getD B sp 0) t) where
@@ -112,7 +113,7 @@ module _ {sp s len : ℕ} {B : List ℕ} where
       where
         by : (m : Model) {p : ℕ} {v : Value} → Shape t p v → Ran (unaryApply m (castTo c) v s) sp B B (ended.Undef s)
         by m (shape-bool i j) = ran-undefined
-        by m (shape-int i j k) = ran-undefined
+        by m (shape-num i j) = ran-undefined
         by m (shape-obj i j k) = absurd (omega arith)
         by m (shape-coll i j k) = absurd (omega arith)
 

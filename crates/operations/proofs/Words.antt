@@ -5,27 +5,28 @@ use mathlib.Core.List.{List, [], _∷_, _++_}
 use Prim.Native.Nat.{ℕ, _+_, _<_, _≤_}
 use native.Mathlib.Omega.{arith}
 use native.Mathlib.Nat.{add-zero}
-use lib.ListN.{length, getD, take, drop}
-use lib.Seq.{take-take, drop-at, length-take-le, getD-take, getD-drop}
+use native.Mathlib.Numerals.{add-one}
+use lib.ListN.{length, getD, take, drop, set}
+use lib.Seq.{take-suc-set, take-take, drop-at, length-take-le, getD-take, getD-drop}
 use lib.Dec.{leb}
 use borrow.Author.Tests.{le-leb, leb-true}
 use types.Run.{OneOf}
 use denote.Enum.Declared.{tagOf}
 use Rattle.laws.specs.Choice.{if_then_else_}
 use Rattle.laws.proofs.Slices.{cut-part, trim, under-top}
-use Rattle.ocl.specs.Values.{Value, size}
+use Rattle.ocl.specs.Values.{Value, bool, num, obj, coll, size, sort}
 use Rattle.ocl.specs.Operations.{value, stop, form}
 use Rattle.ocl.proofs.Values.{size-pos}
 use Rattle.values.specs.Cells.{head, enc, Fits}
-use Rattle.values.specs.Contracts.{Means, means-bool, means-int, means-obj, Pushes, Forms, SortOf, PayloadOf, SmallForm}
+use Rattle.values.specs.Contracts.{Means, means-bool, means-int, means-real, means-obj, CellOf, Pushes, Forms, SortOf, PayloadOf, SmallForm}
 use Rattle.values.specs.declared.Simple.{Simple}
 use Rattle.values.specs.declared.Formed.{Formed}
 use Rattle.values.specs.declared.Formed.the-variants as formed
-use Rattle.values.proofs.Heads.{enc-parts, shape, Shape, shape-bool, shape-int, shape-obj, shape-coll}
+use Rattle.values.proofs.Heads.{enc-parts, sort-kind, shape, Shape, shape-bool, shape-num, shape-obj, shape-coll}
 use Rattle.operations.proofs.Ended.{the-type}
 use Rattle.operations.specs.declared.Ended.{Ended}
 use Rattle.operations.specs.declared.Ended.the-variants as ended
-use Rattle.operations.specs.Answers.{Lies, Ends, ends-value, ends-stop, Under, Ran, SmallAnswer, Gives, formedAs, truthOf, Truth}
+use Rattle.operations.specs.Answers.{Lies, Ends, ends-value, ends-stop, Under, Ran, SmallAnswer, GivesCell, Gives, formedAs, truthOf, Truth}
 
 -- ---- what lies below
 
@@ -78,14 +79,42 @@ simple-size : {x : Simple} {v : Value} → Means x v → size v ≡ 1
 unfolding size
 simple-size means-bool = refl
 simple-size (means-int e) = refl
+simple-size (means-real e) = refl
 simple-size means-obj = refl
+
+simple-sort : {x : Simple} {v : Value} → Means x v → sort v < 3
+unfolding sort
+simple-sort means-bool = omega arith
+simple-sort (means-int e) = omega arith
+simple-sort (means-real e) = omega arith
+simple-sort means-obj = omega arith
+
+-- a value that is no collection is its first cell
+alone : (v : Value) → sort v < 3 → (size v ≡ 1) × (enc v ≡ head v ∷ [])
+unfolding size enc
+alone (bool b) h = (refl, refl)
+alone (num x) h = (refl, refl)
+alone (obj o) h = (refl, refl)
+alone (coll k vs) h = absurd (let e = sort-kind k vs in omega arith)
+
+pub gives-cell : {c sp s : ℕ} {B : List ℕ} → sp < length B → GivesCell c sp s B (set B sp c) (ended.Value 1 s)
+gives-cell {c} {sp} {s} {B} h = record {
+  small = omega arith;
+  is = λ v f t q.
+      let n = alone v t in
+      let e : take (sp + size v) (set B sp c) ≡ take sp B ++ enc v = rw (n .0, add-one sp) (take-suc-set B sp c h ∙ ap (λ (l : List ℕ). take sp B ++ l) (ap (λ (k : ℕ). k ∷ []) q ∙ sym (n .1))) in
+      record { kept = kept-above sp (size v) B (set B sp c) (enc v) (omega arith) e; ends = ends-value (rw (n .0) at (lies-above v sp B (set B sp c) f (omega arith) e)) (omega arith) };
+}
+
+pub gives-simple : {x : Simple} {c sp s : ℕ} {B A : List ℕ} {r : Ended} → CellOf x c → GivesCell c sp s B A r → Gives x sp s B A r
+gives-simple C G = record { small = G .small; is = λ v f m. G .is v f (simple-sort m) (C .is v f m) }
 
 pub gives : {x : Simple} {sp s : ℕ} {B A : List ℕ} → sp < length B → Pushes x sp B A → Gives x sp s B A (ended.Value 1 s)
 gives {x} {sp} {s} {B} {A} h p = record {
   small = omega arith;
   is = λ v f m.
       let n = simple-size m in
-      let e : take (sp + size v) A ≡ take sp B ++ enc v = rw n (p .lies v m) in
+      let e : take (sp + size v) A ≡ take sp B ++ enc v = rw n (p .lies v f m) in
       record { kept = kept-above sp (size v) B A (enc v) (omega arith) e; ends = ends-value (rw n at (lies-above v sp B A f (omega arith) e)) (omega arith) };
 }
 
@@ -93,21 +122,21 @@ gives {x} {sp} {s} {B} {A} h p = record {
 
 pub truth-bool : {cell s p : ℕ} → SortOf cell s → PayloadOf cell p → s ≡ 0 → Truth cell p
 unfolding truthOf
-truth-bool {cell} {s} {p} S P e = record { is = λ v f h. by (shape f (S .is v f h) (P .is v f h)) }
+truth-bool {cell} {s} {p} S P e = record { is = λ v f h. by (shape f (S .is v f h) (λ n. P .is v f n h)) }
   where
     by : {v : Value} → Shape s p v → p ≡ truthOf v
     by (shape-bool i j) = j
-    by (shape-int i j k) = absurd (omega arith)
+    by (shape-num i j) = absurd (omega arith)
     by (shape-obj i j k) = absurd (omega arith)
     by (shape-coll i j k) = absurd (omega arith)
 
 pub truth-other : {cell s : ℕ} → SortOf cell s → (s ≡ 0 → ⊥) → Truth cell 2
 unfolding truthOf
-truth-other {cell} {s} S e = record { is = λ v f h. by (shape f (S .is v f h) refl) }
+truth-other {cell} {s} S e = record { is = λ v f h. by (shape f (S .is v f h) (λ n. refl)) }
   where
     by : {v : Value} {p : ℕ} → Shape s p v → 2 ≡ truthOf v
     by (shape-bool i j) = absurd (e i)
-    by (shape-int i j k) = refl
+    by (shape-num i j) = refl
     by (shape-obj i j k) = refl
     by (shape-coll i j k) = refl
 

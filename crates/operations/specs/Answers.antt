@@ -6,7 +6,7 @@ use lib.ListN.{take}
 use lib.Seq.{slice}
 use lib.Dec.{eqb}
 use Rattle.laws.specs.Choice.{if_then_else_}
-use Rattle.ocl.specs.Values.{Value, bool, int, obj, coll, size}
+use Rattle.ocl.specs.Values.{Value, bool, num, obj, coll, size, sort}
 use Rattle.ocl.specs.Operations.{Outcome, value, undefined, stuck, stop}
 use Rattle.values.specs.Cells.{bit, head, enc, Fits}
 use Rattle.values.specs.Contracts.{Means}
@@ -80,6 +80,11 @@ pub record Packs (e : Ended) (w : ℕ) : Type 0 where
   pub small : SmallAnswer e → SmallAnswer (answerIn w)
   pub same : Slim e → answerIn w ≡ e
 
+-- the cell of a simple value is put down
+pub record GivesCell (c sp s : ℕ) (B A : List ℕ) (r : Ended) : Type 0 where
+  pub small : SmallAnswer r
+  pub is : (v : Value) → Fits v → sort v < 3 → c ≡ head v → Ran (value v s) sp B A r
+
 -- a simple value is put down
 pub record Gives (x : Simple) (sp s : ℕ) (B A : List ℕ) (r : Ended) : Type 0 where
   pub small : SmallAnswer r
@@ -93,7 +98,7 @@ formedAs formed.Over s = ended.Stop 17 s
 -- 0 for false, 1 for true, 2 for any other value
 unfoldable pub truthOf : Value → ℕ
 truthOf (bool b) = bit b
-truthOf (int z) = 2
+truthOf (num x) = 2
 truthOf (obj o) = 2
 truthOf (coll k vs) = 2
 

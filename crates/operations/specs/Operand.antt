@@ -7,7 +7,7 @@ use lib.Dec.{eqb, ltb}
 use Rattle.laws.specs.Choice.{if_then_else_}
 use Rattle.ocl.specs.Values.{Value, bool}
 use Rattle.ocl.specs.Model.{Model}
-use Rattle.ocl.specs.Typing.{Mark}
+use Rattle.ocl.specs.Marks.{Mark}
 use Rattle.ocl.specs.Operations.{Outcome, value, undefined, unaryApply, access}
 use Rattle.nodes.specs.Nodes.{unaryOf, accessOf}
 use Rattle.nodes.specs.Marks.{Marked}

@@ -8,7 +8,7 @@ use lib.ListN.{length, getD}
 use Rattle.ocl.specs.Values.{Value}
 use Rattle.ocl.specs.Environment.{Env}
 use Rattle.ocl.specs.Model.{Model}
-use Rattle.ocl.specs.Typing.{Mark}
+use Rattle.ocl.specs.Marks.{Mark}
 use Rattle.ocl.specs.Evaluation.{Run, bound, leafRun}
 use Rattle.nodes.specs.Nodes.{leafOf}
 use Rattle.tables.specs.declared.Counts.{Counts}

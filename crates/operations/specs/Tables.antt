@@ -9,10 +9,10 @@ use lib.Seq.{slice}
 use lib.Dec.{eqb}
 use Rattle.laws.specs.Choice.{if_then_else_}
 use Rattle.ocl.specs.Types.{class, set}
-use Rattle.ocl.specs.Values.{Value, bool, int, obj, coll, size}
+use Rattle.ocl.specs.Values.{Value, bool, num, obj, coll, size}
 use Rattle.ocl.specs.Model.{Model, isA}
 use Rattle.ocl.specs.Forms.{Access}
-use Rattle.ocl.specs.Typing.{Mark}
+use Rattle.ocl.specs.Marks.{Mark}
 use Rattle.ocl.specs.Operations.{value, hasRow, access, instances}
 use Rattle.values.specs.Cells.{head, enc, Fits}
 use Rattle.values.specs.Contracts.{Forms, SmallForm}
@@ -67,7 +67,7 @@ pub record SlotStands (st : Counts) (w0 : List ℕ) (j sp s : ℕ) (B A : List �
 -- is the value an object of class c or below
 unfoldable pub objectOf : Model → ℕ → Value → Bool
 objectOf m c (bool b) = false
-objectOf m c (int z) = false
+objectOf m c (num x) = false
 objectOf m c (obj o) = isA m o (class c)
 objectOf m c (coll k vs) = false
 

@@ -3,22 +3,30 @@ use crate::Ended;
 use types::classes::wide;
 use values::Formed;
 use values::Simple;
+use values::cells::cell_of;
 use values::cells::payload_of;
-use values::cells::push;
 use values::cells::sort_of;
 ghost use mathlib.Core.Path.{_≡_};
 ghost use Prim.Native.Nat.{_<_};
 ghost use lib.ListN.{length};
 ghost use Rattle.values.specs.Contracts.{Narrow};
-ghost use Rattle.operations.specs.Answers.{formedAs, Gives, wordOf, answerIn, Packs, Truth};
+ghost use Rattle.operations.specs.Answers.{formedAs, GivesCell, Gives, wordOf, answerIn, Packs, Truth};
+
+// Puts the cell of a simple value at sp, which is then the answer.
+pub fn put_cell(stack: &mut [u64], sp: usize, cell: u64, steps: u64) -> Ended
+    requires { ⌜ sp < length (now stack) ⌝ }
+    ensures { λ r. ⌜ GivesCell cell sp steps (now (stack .entry)) (now (stack .exit)) r ⌝ }
+{
+    stack[sp] = cell;
+    Ended::Value { len: 1, steps }
+}
 
 // Puts a simple value at sp, which is then the answer.
 pub fn put(stack: &mut [u64], sp: usize, s: Simple, steps: u64) -> Ended
     requires { ⌜ Narrow s × (sp < length (now stack)) ⌝ }
     ensures { λ r. ⌜ Gives s sp steps (now (stack .entry)) (now (stack .exit)) r ⌝ }
 {
-    push(stack, sp, s);
-    Ended::Value { len: 1, steps }
+    put_cell(stack, sp, cell_of(s), steps)
 }
 
 // The collection that was formed, or stop 17 if it would be too large.

@@ -3,17 +3,18 @@ use crate::Ended;
 use crate::answers::formed;
 use crate::answers::put;
 use crate::answers::truth;
+use crate::integers::arithmetic;
+use crate::integers::division;
+use crate::lookup::REALS;
 use crate::lookup::is_a;
+use crate::widened::operation;
 use tables::Counts;
-use values::Computed;
 use values::Simple;
-use values::arith::END;
 use values::arith::ZERO;
-use values::arith::calculate;
-use values::arith::less;
-use values::cells::INTEGER;
+use values::cells::NUMBER;
 use values::cells::OBJECT;
 use values::cells::SET;
+use values::cells::is_integer;
 use values::cells::payload_of;
 use values::cells::sort_of;
 use values::collections::add;
@@ -23,12 +24,14 @@ use values::order::equal;
 use values::order::includes;
 ghost use Prim.Native.Nat.{_+_, _≤_, _<_};
 ghost use lib.ListN.{length};
-ghost use Rattle.ocl.specs.Forms.{negation, sizeOf, castTo, equal as equalForm, includes as includesForm, including as includingForm, union as unionForm, convert as convertForm};
+ghost use Rattle.ocl.specs.Forms.{negation, sizeOf, castTo, equal as equalForm, less as lessForm, arith, includes as includesForm, including as includingForm, union as unionForm, convert as convertForm};
 ghost use Rattle.ocl.specs.Operations.{unaryApply, binaryApply};
+ghost use Rattle.values.specs.Integers.{arithOf};
 ghost use Rattle.nodes.specs.Nodes.{binaryOf};
+ghost use Rattle.nodes.specs.Marks.{Marked};
 ghost use Rattle.tables.specs.Stored.{HoldsModel};
 ghost use Rattle.operations.specs.Tables.{Bounds};
-ghost use Rattle.operations.specs.Operations.{AnyModel, OfOne, OfTwo, Calculated, FitsLeft, kindFor, unaryFor};
+ghost use Rattle.operations.specs.Operations.{AnyModel, AnyMark, OfOne, OfTwo, GoesByReals, FitsScale, FitsLeft, kindFor, unaryFor};
 
 // The most cells that a value may have.
 const LARGEST: u64 = 128;
@@ -130,14 +133,33 @@ pub fn unary_apply(
     }
 }
 
+// Whether numbers go by Reals at a node with this mark, and not by Integers.
+fn by_reals(mark: u64) -> bool
+    ensures { λ r. ⌜ GoesByReals mark r ⌝ }
+{
+    REALS <= mark
+}
+
+// Whether the value with this first cell is an Integer, or where numbers go by Reals any number.
+fn fits_scale(mark: u64, cell: u64) -> bool
+    ensures { λ r. ⌜ FitsScale mark cell r ⌝ }
+{
+    if by_reals(mark) {
+        return sort_of(cell) == NUMBER;
+    }
+    is_integer(cell)
+}
+
 // Whether the form with this code accepts a value with this first cell as its left operand.
-pub fn left_fits(form: u64, cell: u64) -> bool
-    requires { ⌜ (13 ≤ form) × (form < 23) ⌝ }
-    ensures { λ r. ⌜ FitsLeft form cell r ⌝ }
+pub fn left_fits(form: u64, mark: u64, cell: u64) -> bool
+    requires { ⌜ 13 ≤ form ⌝ }
+    ensures { λ r. ⌜ FitsLeft form mark cell r ⌝ }
 {
     match form {
         13 => true,
-        14..=19 => sort_of(cell) == INTEGER,
+        14..=17 => fits_scale(mark, cell),
+        18..=19 => is_integer(cell),
+        37 => sort_of(cell) == NUMBER,
         _ => SET <= sort_of(cell),
     }
 }
@@ -145,50 +167,51 @@ pub fn left_fits(form: u64, cell: u64) -> bool
 // `eq`
 fn same_value(stack: &mut [u64], sp: usize, la: usize, lb: usize, steps: u64) -> Ended
     requires { ⌜ (1 ≤ la) × (sp + la + lb ≤ length (now stack)) ⌝ }
-    ensures { λ r. ⌜ OfTwo (binaryApply equalForm) sp la lb steps (now (stack .entry)) (now (stack .exit)) r ⌝ }
+    ensures { λ r. ⌜ OfTwo AnyMark (λ k. binaryApply k equalForm) sp la lb steps (now (stack .entry)) (now (stack .exit)) r ⌝ }
 {
     let b = equal(stack, sp, la, sp + la, lb);
     put(stack, sp, Simple::Bool { b }, steps)
 }
 
-// What arithmetic came to, as an answer: a result goes to sp, and over the range is stop 19.
-fn calculated(c: Computed, stack: &mut [u64], sp: usize, steps: u64) -> Ended
-    requires { ⌜ sp < length (now stack) ⌝ }
-    ensures { λ r. ⌜ Calculated c sp steps (now (stack .entry)) (now (stack .exit)) r ⌝ }
-{
-    match c {
-        Computed::Is { n } => put(stack, sp, Simple::Integer { biased: n % END }, steps),
-        Computed::Undef => Ended::Undef { steps },
-        Computed::Over => Ended::Stop { number: 19, steps },
-    }
-}
-
-// `less` (14), `plus` (15), `minus` (16), `times` (17), `div` (18), `mod` (19)
-fn integers(form: u64, stack: &mut [u64], sp: usize, la: usize, lb: usize, steps: u64) -> Ended
-    requires { ⌜ (14 ≤ form) × (form < 20) × (1 ≤ la) × (1 ≤ lb) × (sp + la + lb ≤ length (now stack)) ⌝ }
-    ensures { λ r. ⌜ OfTwo (binaryApply (binaryOf form)) sp la lb steps (now (stack .entry)) (now (stack .exit)) r ⌝ }
+// `less`: the words of numbers are in the order of the numbers.
+fn compared(mark: u64, stack: &mut [u64], sp: usize, la: usize, lb: usize, steps: u64) -> Ended
+    requires { ⌜ (1 ≤ la) × (1 ≤ lb) × (sp + la + lb ≤ length (now stack)) ⌝ }
+    ensures { λ r. ⌜ OfTwo (Marked mark) (λ k. binaryApply k lessForm) sp la lb steps (now (stack .entry)) (now (stack .exit)) r ⌝ }
 {
     let x = stack[sp];
     let y = stack[sp + la];
-    if sort_of(x) != INTEGER {
-        return Ended::Stuck;
+    if fits_scale(mark, x) {
+        if fits_scale(mark, y) {
+            return put(stack, sp, Simple::Bool { b: x < y }, steps);
+        }
     }
-    if sort_of(y) != INTEGER {
-        return Ended::Stuck;
+    Ended::Stuck
+}
+
+// `plus` (0), `minus` (1), `times` (2)
+fn calculation(
+    op: u64,
+    mark: u64,
+    stack: &mut [u64],
+    sp: usize,
+    la: usize,
+    lb: usize,
+    steps: u64,
+) -> Ended
+    requires { ⌜ (op < 3) × (1 ≤ la) × (1 ≤ lb) × (sp + la + lb ≤ length (now stack)) ⌝ }
+    ensures { λ r. ⌜ OfTwo (Marked mark) (λ k. binaryApply k (arith (arithOf op))) sp la lb steps (now (stack .entry)) (now (stack .exit)) r ⌝ }
+{
+    if by_reals(mark) {
+        operation(op, stack, sp, la, lb, steps)
+    } else {
+        arithmetic(op, stack, sp, la, lb, steps)
     }
-    let left = payload_of(x);
-    let right = payload_of(y);
-    if form == 14 {
-        let b = less(left, right);
-        return put(stack, sp, Simple::Bool { b }, steps);
-    }
-    calculated(calculate(form - 15, left, right), stack, sp, steps)
 }
 
 // `includes`
 fn contains(stack: &mut [u64], sp: usize, la: usize, lb: usize, steps: u64) -> Ended
     requires { ⌜ (1 ≤ la) × (sp + la + lb ≤ length (now stack)) ⌝ }
-    ensures { λ r. ⌜ OfTwo (binaryApply includesForm) sp la lb steps (now (stack .entry)) (now (stack .exit)) r ⌝ }
+    ensures { λ r. ⌜ OfTwo AnyMark (λ k. binaryApply k includesForm) sp la lb steps (now (stack .entry)) (now (stack .exit)) r ⌝ }
 {
     if sort_of(stack[sp]) < SET {
         return Ended::Stuck;
@@ -200,7 +223,7 @@ fn contains(stack: &mut [u64], sp: usize, la: usize, lb: usize, steps: u64) -> E
 // `including`
 fn including(stack: &mut [u64], sp: usize, la: usize, lb: usize, steps: u64) -> Ended
     requires { ⌜ (1 ≤ la) × (la ≤ 128) × (lb ≤ 128) × (sp + 256 ≤ length (now stack)) ⌝ }
-    ensures { λ r. ⌜ OfTwo (binaryApply includingForm) sp la lb steps (now (stack .entry)) (now (stack .exit)) r ⌝ }
+    ensures { λ r. ⌜ OfTwo AnyMark (λ k. binaryApply k includingForm) sp la lb steps (now (stack .entry)) (now (stack .exit)) r ⌝ }
 {
     if sort_of(stack[sp]) < SET {
         return Ended::Stuck;
@@ -211,7 +234,7 @@ fn including(stack: &mut [u64], sp: usize, la: usize, lb: usize, steps: u64) -> 
 // `union` of two collections of one kind
 fn united(stack: &mut [u64], sp: usize, la: usize, lb: usize, steps: u64) -> Ended
     requires { ⌜ (1 ≤ la) × (la ≤ 128) × (1 ≤ lb) × (sp + la + lb + 256 ≤ length (now stack)) ⌝ }
-    ensures { λ r. ⌜ OfTwo (binaryApply unionForm) sp la lb steps (now (stack .entry)) (now (stack .exit)) r ⌝ }
+    ensures { λ r. ⌜ OfTwo AnyMark (λ k. binaryApply k unionForm) sp la lb steps (now (stack .entry)) (now (stack .exit)) r ⌝ }
 {
     let sort = sort_of(stack[sp]);
     if sort < SET {
@@ -223,24 +246,28 @@ fn united(stack: &mut [u64], sp: usize, la: usize, lb: usize, steps: u64) -> End
     formed(union(stack, sp, sp + la, sp + la + lb), steps)
 }
 
-// The form with two operands and this code.
+// The form with two operands and this code, at a node with this mark.
 pub fn binary_apply(
     form: u64,
+    mark: u64,
     stack: &mut [u64],
     sp: usize,
     la: usize,
     lb: usize,
     steps: u64,
 ) -> Ended
-    requires { ⌜ (13 ≤ form) × (form < 23) ⌝ }
+    requires { ⌜ 13 ≤ form ⌝ }
     requires { ⌜ (1 ≤ la) × (la ≤ 128) × (1 ≤ lb) × (lb ≤ 128) × (sp + 512 ≤ length (now stack)) ⌝ }
-    ensures { λ r. ⌜ OfTwo (binaryApply (binaryOf form)) sp la lb steps (now (stack .entry)) (now (stack .exit)) r ⌝ }
+    ensures { λ r. ⌜ OfTwo (Marked mark) (λ k. binaryApply k (binaryOf form)) sp la lb steps (now (stack .entry)) (now (stack .exit)) r ⌝ }
 {
     match form {
         13 => same_value(stack, sp, la, lb, steps),
-        14..=19 => integers(form, stack, sp, la, lb, steps),
+        14 => compared(mark, stack, sp, la, lb, steps),
+        15..=17 => calculation(form - 15, mark, stack, sp, la, lb, steps),
+        18..=19 => division(form - 18, stack, sp, la, lb, steps),
         20 => contains(stack, sp, la, lb, steps),
         21 => including(stack, sp, la, lb, steps),
+        37 => operation(3, stack, sp, la, lb, steps),
         _ => united(stack, sp, la, lb, steps),
     }
 }

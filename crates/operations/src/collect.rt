@@ -2,6 +2,7 @@
 use crate::Ended;
 use crate::Place;
 use crate::answers::formed;
+use crate::lookup::REALS;
 use crate::lookup::ROWS;
 use crate::lookup::bring;
 use crate::lookup::has_row;
@@ -100,7 +101,7 @@ fn bring_all(
 fn kind_marked(mark: u64) -> u64
     ensures { λ r. ⌜ r ≡ kindCode (kindIn mark) ⌝ }
 {
-    if mark < ROWS { 2 } else { 1 }
+    if mark % REALS < ROWS { 2 } else { 1 }
 }
 
 // The values of the row that the node is marked with for the members of the len cells at sp, as a collection of the kind that it is

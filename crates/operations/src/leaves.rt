@@ -1,13 +1,14 @@
-// The forms without operands: `true` and `false`, `undef`, Integers, `self`, variables, and all objects of a class.
+// The forms without operands: `true` and `false`, `undef`, numbers, `self`, variables, and all objects of a class.
 use crate::Ended;
 use crate::answers::formed;
 use crate::answers::put;
+use crate::answers::put_cell;
 use crate::lookup::is_a;
+use floats::cells::word_in;
 use tables::Counts;
 use types::classes::wide;
 use values::Formed;
 use values::Simple;
-use values::arith::END;
 use values::cells::empty_of;
 use values::cells::push_copy;
 use values::collections::append_simple;
@@ -90,7 +91,7 @@ pub fn leaf(
         0 => put(stack, sp, Simple::Bool { b: false }, steps),
         1 => put(stack, sp, Simple::Bool { b: true }, steps),
         2 => Ended::Undef { steps },
-        3 => put(stack, sp, Simple::Integer { biased: word % END }, steps),
+        3 => put_cell(stack, sp, word_in(word), steps),
         4 => variable(0, env, stack, sp, steps),
         5 => variable(wide(word % 16), env, stack, sp, steps),
         _ => formed(instances(tables, st, word % 256, stack, sp), steps),

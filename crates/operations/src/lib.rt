@@ -3,6 +3,8 @@
 pub mod answers; // answers with a value that was formed, and an answer as one word
 pub mod leaves; // forms without operands
 pub mod lookup; // objects, rows and values in the tables
+pub mod integers; // arithmetic on Integers
+pub mod widened; // and on numbers of either kind, as Reals
 pub mod apply; // strict forms, given the values of their operands
 pub mod collect; // `collect`, given the value of its operand
 pub mod operand; // a form with one operand, once that has run

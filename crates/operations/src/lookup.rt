@@ -17,6 +17,8 @@ ghost use Rattle.operations.specs.Tables.{Bounds, IsA, Owner, FindsSlot,
 
 // A mark is its row and a multiple of this.
 pub const ROWS: u64 = 64;
+// From this on it says that numbers go by Reals.
+pub const REALS: u64 = 128;
 
 // Whether object o is of class c or below it.
 pub fn is_a(tables: &[u64], st: Counts, o: u64, c: u64) -> bool

@@ -15,7 +15,7 @@ ghost use Rattle.operations.specs.Tables.{Bounds};
 ghost use Rattle.operations.specs.Operand.{markIn, FromValue, FromUndefined};
 
 // Where the marks start.
-const MARKS: usize = 6144;
+pub const MARKS: usize = 6144;
 
 // Node n once its operand has a value, the len cells at sp.
 pub fn of_value(

@@ -29,7 +29,7 @@ use Rattle.report.proofs.ReportLaws.{rule-of, boundTo, bound-rule, boun
 
 -- ---- the width of a type
 
-pub width-on : (t : FlatType) → (t .outer ≡ 0 → ⊥) → 1536 ≡ width (tyOf t)
+pub width-on : (t : FlatType) → (t .outer ≡ 0 → ⊥) → 2304 ≡ width (tyOf t)
 unfolding width
 width-on t h = sym (ap width (goes-on t h))
 
@@ -67,9 +67,9 @@ module _ {st : Counts} {w0 : List ℕ} {c : ℕ} where
 -- ---- a rule's lines
 
 module _ {st : Counts} {w0 : List ℕ} {c n w : ℕ} (t : Ty) (count : CountsObjects st w0 c n) (wide : w ≡ width t) where
-  pub bound-few : n * (15 + w) ≤ 148896
+  pub bound-few : n * (15 + w) ≤ 222624
   bound-few =
-      let h : 15 + w ≤ 1551 = omega (arith, width-within t .1, wide) in
+      let h : 15 + w ≤ 2319 = omega (arith, width-within t .1, wide) in
       omega (arith, mul-le-mul (count .few) h)
 
   pub bounds-lines : BoundsLines st w0 c t (n * (15 + w))
@@ -88,7 +88,7 @@ lines-bound-is {r} {s} {x} m b =
 
 pub record BoundedTo (st : Counts) (w0 w2 : List ℕ) (bound r : ℕ) : Type 0 where
   pub is : (w1 : List ℕ) (s : Sheet) (ts : List Ty) → Accepted st w0 w1 s ts → TypesIn w2 ts → bound ≡ boundTo s ts r
-  pub few : bound ≤ r * 148896
+  pub few : bound ≤ r * 222624
   pub within : r ≤ st .rules
 
 module _ {st : Counts} {w0 w2 : List ℕ} where

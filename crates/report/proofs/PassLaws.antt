@@ -83,7 +83,7 @@ module _ {st : Counts} {w0 w1 : List ℕ} {r : ℕ} {s : Sheet} {x : Rule} {t : 
       unfolding lineBound lineWidth
       line-bounded = rw (class-is, yes) line-length
 
-      line-short : length (reportLine r o (outcomeOf s x o)) ≤ 1551
+      line-short : length (reportLine r o (outcomeOf s x o)) ≤ 2319
       line-short = omega (arith, line-length, width-within t .1)
 
 module _ {st : Counts} {w0 w1 : List ℕ} {r o : ℕ} {keep : Bool} {total : ℕ} {b : Bool} (a : IsA st w0 o (getD w0 (4448 + r) 0) b) where
@@ -108,7 +108,7 @@ module _ {st : Counts} {w0 w1 : List ℕ} {r o : ℕ} {keep : Bool} {total : ℕ
     abbrev line : Bytes
     line = reportLine r o (outcomeOf (k .sheet) (k .rule) o)
 
-    short : length line ≤ 1551
+    short : length line ≤ 2319
     short = line-short (k .typed) a yes (line-ends (k .typed))
 
     kept-room : keep ≡ true → total + length line ≤ room
@@ -153,7 +153,7 @@ module _ {st : Counts} {w0 w1 : List ℕ} {r o : ℕ} {keep : Bool} {total : ℕ
         bounded : {s : Sheet} {x : Rule} {t : Ty} → TypedRule st w0 w1 r s x t → total + n ≤ total + lineBound o s x t
         bounded m = omega (arith, counted m, bounded-line m)
 
-        pub counted-few : total + n ≤ 9529344
+        pub counted-few : total + n ≤ 14247936
         counted-few = omega (arith, bounded (k .typed), k .space .few)
 
         pub line-counted : keep ≡ false → AddsLines (objectLine r o) (lineBound o) st w0 w1 r keep total w2 v2 out now (total + n)

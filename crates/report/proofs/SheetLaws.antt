@@ -27,7 +27,7 @@ use Rattle.report.specs.Reports.{reportOn, written, too-long, Reports, B
 module _ {st : Counts} {w0 w1 : List ℕ} where
   -- ---- the length
 
-  pub counted-room : {bound : ℕ} → Bounded st w0 w1 bound → RoomForAll st w0 w1 false 2048
+  pub counted-room : {bound : ℕ} → Bounded st w0 w1 bound → RoomForAll st w0 w1 false 2560
   counted-room k = record {
     sheet = k .sheet;
     types = k .types;
@@ -71,7 +71,7 @@ module _ {st : Counts} {w0 w1 u2 : List ℕ} where
       few = bounds .few;
     }
 
-    pub report-room : {room : ℕ} {v2 : List ℕ} {r : Bool} → TellsFit st w0 w1 u2 v2 bound room r → r ≡ true → KnownTyped st w0 w1 u2 → 2048 ≤ room
+    pub report-room : {room : ℕ} {v2 : List ℕ} {r : Bool} → TellsFit st w0 w1 u2 v2 bound room r → r ≡ true → KnownTyped st w0 w1 u2 → 2560 ≤ room
         → RoomForAll st w0 w1 true room
     report-room {room} tells q k h = record {
       sheet = s;

@@ -32,7 +32,7 @@ lineWidth t = 15 + width t
 -- n is the bound of the lines of a rule with context c and type t
 pub record BoundsLines (st : Counts) (w0 : List ℕ) (c : ℕ) (t : Ty) (n : ℕ) : Type 0 where
   pub is : (m : Model) → HoldsModel st w0 m → n ≡ objectsOf m c (st .objects) * lineWidth t
-  pub few : n ≤ 148896
+  pub few : n ≤ 222624
 
 -- the lines of a rule of type t for the first n objects
 unfoldable pub linesBound : Sheet → Rule → Ty → ℕ → ℕ
@@ -44,7 +44,7 @@ rulesBound s [] ts = 0
 rulesBound s (x ∷ xs) [] = 0
 rulesBound s (x ∷ xs) (t ∷ ts) = linesBound s x t (length (s .objects)) + rulesBound s xs ts
 
--- n is that bound of an accepted sheet: at most 64 rules for 96 objects with lines of 1,551 bytes
+-- n is that bound of an accepted sheet: at most 64 rules for 96 objects with lines of 2,319 bytes
 pub record BoundsReport (st : Counts) (w0 w2 : List ℕ) (n : ℕ) : Type 0 where
   pub is : (w1 : List ℕ) (s : Sheet) (ts : List Ty) → Accepted st w0 w1 s ts → TypesIn w2 ts → n ≡ rulesBound s (s .rules) ts
-  pub few : n ≤ 9529344
+  pub few : n ≤ 14247936

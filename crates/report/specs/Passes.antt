@@ -32,8 +32,8 @@ pub record AddsBytes (keep : Bool) (total : ℕ) (b before after : Bytes) (r : �
 -- numbers stay small
 pub record HasRoom (keep : Bool) (total n b room : ℕ) : Type 0 where
   pub all : keep ≡ true → (total + b ≤ room) ⊎ (total + n ≤ room)
-  pub line : 2048 ≤ room
-  pub few : total + b ≤ 9529344
+  pub line : 2560 ≤ room
+  pub few : total + b ≤ 14247936
 
 -- ---- one rule
 

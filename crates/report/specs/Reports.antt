@@ -39,7 +39,7 @@ pub record Bounded (st : Counts) (w0 w1 : List ℕ) (bound : ℕ) : Type 0 where
   pub types : List Ty
   pub accepted : Accepted st w0 w1 sheet types
   pub is : bound ≡ rulesBound sheet (sheet .rules) types
-  pub few : bound ≤ 9529344
+  pub few : bound ≤ 14247936
 
 -- n is the report's length
 pub record Measures (st : Counts) (w0 w1 before after : List ℕ) (n : ℕ) : Type 0 where

@@ -18,14 +18,15 @@ fn width(t: FlatType) -> usize
     ensures { λ n. ⌜ n ≡ widthOf (tyOf t) ⌝ }
 {
     if t.outer != 0 {
-        return 1536;
+        return 2304;
     }
     let b = t.base;
     match b {
         Base::Void => 3,
         Base::Bool => 3,
         Base::Int => 11,
-        Base::Any => 1536,
+        Base::Real => 17,
+        Base::Any => 2304,
         Base::Class(_) => 3,
     }
 }

@@ -24,7 +24,7 @@ fn measured(w0: &[u64], st: Counts, w1: &[u64], w2: &mut [u64], bound: usize) ->
     requires { ⌜ Bounded st (now w0) (now w1) bound ⌝ }
     ensures { λ n. ⌜ Measures st (now (w0 .entry)) (now (w1 .entry)) (now (w2 .entry)) (now (w2 .exit)) n ⌝ }
 {
-    let mut line = [0u8; 2048];
+    let mut line = [0u8; 2560];
     rule_lines(w0, st, w1, w2, &mut line, false)
 }
 
@@ -50,7 +50,7 @@ fn report_fits(
 // The report of the accepted sheet in the words. An output that is too short is left as it is.
 pub fn report_sheet(w0: &[u64], st: Counts, w1: &[u64], w2: &mut [u64], out: &mut [u8]) -> Reported
     requires { ⌜ (8192 ≤ length (now w0)) × (8192 ≤ length (now w1)) × (8192 ≤ length (now w2)) ⌝ }
-    requires { ⌜ KnownTyped st (now w0) (now w1) (now w2) × (2048 ≤ length (now out)) ⌝ }
+    requires { ⌜ KnownTyped st (now w0) (now w1) (now w2) × (2560 ≤ length (now out)) ⌝ }
     ensures { λ r. ⌜ Reports st (now (w0 .entry)) (now (w1 .entry)) (now (w2 .entry)) (now (w2 .exit)) (now (out .entry)) (now (out .exit)) r ⌝ }
 {
     let bound = report_bound(w0, st, w2);

@@ -11,7 +11,8 @@ use Rattle.laws.specs.Lists.{Each, each-nil, each-cons}
 use Rattle.laws.proofs.Lists.{each-append}
 use Rattle.ocl.specs.Forms.{Definition}
 use Rattle.ocl.specs.Model.{Schema}
-use Rattle.ocl.specs.Typing.{typed, refused as untyped, Marks, typeDefinition}
+use Rattle.ocl.specs.Typing.{typed, refused as untyped, typeDefinition}
+use Rattle.ocl.specs.Marks.{Marks}
 use Rattle.ocl.proofs.Means.{definition-type}
 use Rattle.sheet.specs.Sheet.{Sheet, schemaIn}
 use Rattle.sheet.specs.Calls.{Verdict, refusalAt, onType, onDefinitions, definitionMarks}

@@ -11,18 +11,19 @@ use lib.Dec.{T, ltb→lt}
 use Rattle.laws.specs.Lists.{Each}
 use Rattle.laws.proofs.Tests.{and-i, and-l, and-r}
 use Rattle.laws.proofs.Elements.{elem-at}
-use Rattle.ocl.specs.Types.{Simple, any, boolean, integer, class, exactly, Ty, void, simple, around, simpleSubtype, letterSubtype, climbs, height, up, sameSimple, simpleCode}
-use Rattle.ocl.specs.Values.{Value, bool, int, obj, coll, Values, size, everyPart, everyParts}
-use Rattle.ocl.specs.Model.{Model, classIsA, isA, every, belongs}
+use Rattle.ocl.specs.Types.{Simple, any, boolean, integer, real, class, exactly, Ty, void, simple, around, simpleSubtype, letterSubtype, climbs, height, up, sameSimple, simpleCode}
+use Rattle.ocl.specs.Values.{Value, bool, num, obj, coll, Values, size, everyPart, everyParts}
+use Rattle.reals.specs.Reals.{Number, int, real as aReal, kept}
+use Rattle.ocl.specs.Model.{Model, classIsA, isA, every, numberType, belongs}
 use Rattle.ocl.specs.Forms.{reach}
 use Rattle.ocl.specs.Typing.{typed}
 use Rattle.ocl.specs.Operations.{Outcome, value, undefined, stuck, stop, stepsOf}
 use Rattle.ocl.specs.Soundness.{Sound}
-use Rattle.ocl.proofs.SimpleTypes.{integer-not-class}
+use Rattle.ocl.proofs.SimpleTypes.{integer-not-class, real-not-class}
 use Rattle.ocl.proofs.Steps.{steps-limited}
 use Rattle.ocl.proofs.Stops.{stop-within}
 use Rattle.sheet.specs.Text.{bytes, spellNumber}
-use Rattle.sheet.specs.Spelling.{spellBool, spellValue}
+use Rattle.sheet.specs.Spelling.{spellBool, spellNum, spellValue}
 use Rattle.sheet.specs.Sheet.{Rule, Sheet, modelOf}
 use Rattle.sheet.specs.Limits.{partWithin}
 use Rattle.sheet.specs.Calls.{typingOf, outcomeOf}
@@ -31,7 +32,7 @@ use Rattle.sheet.specs.Report.{spellOutcome, reportLine}
 use Rattle.sheet.proofs.Acceptance.{accepted-good}
 use Rattle.sheet.proofs.Soundness.{sound-rule}
 use Rattle.sheet.proofs.Lengths.{length-laws}
-use Rattle.values.specs.Cells.{Fits, fits-int, fits-coll, AllFit, fit-nil, fit-cons}
+use Rattle.values.specs.Cells.{Fits, fits-num, fits-coll, AllFit, fit-nil, fit-cons}
 use Rattle.tables.specs.declared.Counts.{Counts}
 use Rattle.operations.specs.declared.Ended.{Ended}
 use Rattle.operations.specs.Answers.{Ends, ends-value, ends-undefined, ends-stuck, ends-stop}
@@ -59,11 +60,11 @@ module _ (m : Model) (few : (o c : ℕ) → m .classOf o ≡ some c → o < 96) 
   unfolding belongs everyPart partWithin
   parts-within void v f h = absurd h
   parts-within (simple b) (bool x) f h = tt
-  parts-within (simple b) (int z) (fits-int l) h = l
+  parts-within (simple b) (num x) (fits-num l) h = l
   parts-within (simple b) (obj o) f h = rw (lt-ltb o 96 (object-few o b h)) tt
   parts-within (simple b) (coll k vs) f h = absurd h
   parts-within (around l t) (bool x) f h = absurd h
-  parts-within (around l t) (int z) f h = absurd h
+  parts-within (around l t) (num x) f h = absurd h
   parts-within (around l t) (obj o) f h = absurd h
   parts-within (around l t) (coll k vs) (fits-coll n fs) h = all-within t (parts-within t) fs (and-r (letterSubtype (exactly k) l) _ h)
 
@@ -78,20 +79,33 @@ object-length : (o : ℕ) → T (partWithin (obj o)) → length (spellValue (obj
 unfolding spellValue partWithin
 object-length o h = let l = ltb→lt o 96 h in let d = length-laws .number-length 2 o (omega arith) (omega arith) in omega arith
 
+-- an Integer has eleven bytes at most, a Real 17
+num-length : (x : Number) → T (partWithin (num x)) → length (spellValue (num x)) ≤ 17
+unfolding spellValue spellNum partWithin kept
+num-length (int z) p = let n = length-laws .integer-length z p in omega arith
+num-length (aReal r) p = let n = length-laws .real-length r in omega arith
+
 value-width : (m : Model) (t : Ty) (v : Value) → T (belongs m t v) → T (everyPart partWithin v) → size v ≤ 128 → length (spellValue v) ≤ width t
-unfolding belongs everyPart partWithin spellValue width simpleSubtype climbs height up sameSimple simpleCode
+unfolding belongs numberType everyPart partWithin kept spellValue spellNum width simpleSubtype climbs height up sameSimple simpleCode
 value-width m void v h p l = absurd h
 value-width m (simple any) v h p l = length-laws .value-length v p l
 value-width m (simple boolean) (bool b) h p l = bool-length b
-value-width m (simple boolean) (int z) h p l = absurd h
+value-width m (simple boolean) (num (int z)) h p l = absurd h
+value-width m (simple boolean) (num (aReal r)) h p l = absurd h
 value-width m (simple boolean) (obj o) h p l = object-length o p
 value-width m (simple boolean) (coll k vs) h p l = absurd h
 value-width m (simple integer) (bool b) h p l = let n = bool-length b in omega arith
-value-width m (simple integer) (int z) h p l = length-laws .integer-length z p
+value-width m (simple integer) (num (int z)) h p l = length-laws .integer-length z p
+value-width m (simple integer) (num (aReal r)) h p l = absurd h
 value-width m (simple integer) (obj o) h p l = let n = object-length o p in omega arith
 value-width m (simple integer) (coll k vs) h p l = absurd h
+value-width m (simple real) (bool b) h p l = let n = bool-length b in omega arith
+value-width m (simple real) (num x) h p l = num-length x p
+value-width m (simple real) (obj o) h p l = let n = object-length o p in omega arith
+value-width m (simple real) (coll k vs) h p l = absurd h
 value-width m (simple (class c)) (bool b) h p l = bool-length b
-value-width m (simple (class c)) (int z) h p l = absurd (integer-not-class (m .parent) c h)
+value-width m (simple (class c)) (num (int z)) h p l = absurd (integer-not-class (m .parent) c h)
+value-width m (simple (class c)) (num (aReal r)) h p l = absurd (real-not-class (m .parent) c h)
 value-width m (simple (class c)) (obj o) h p l = object-length o p
 value-width m (simple (class c)) (coll k vs) h p l = absurd h
 value-width m (around q t) v h p l = length-laws .value-length v p l
@@ -99,12 +113,13 @@ value-width m (around q t) v h p l = length-laws .value-length v p l
 -- ---- an outcome
 
 -- the width of each type is between these
-pub width-within : (t : Ty) → (3 ≤ width t) × (width t ≤ 1536)
+pub width-within : (t : Ty) → (3 ≤ width t) × (width t ≤ 2304)
 unfolding width
 width-within void = (omega arith, omega arith)
 width-within (simple any) = (omega arith, omega arith)
 width-within (simple boolean) = (omega arith, omega arith)
 width-within (simple integer) = (omega arith, omega arith)
+width-within (simple real) = (omega arith, omega arith)
 width-within (simple (class c)) = (omega arith, omega arith)
 width-within (around l t) = (omega arith, omega arith)
 
@@ -152,7 +167,7 @@ module _ {st : Counts} {w0 w1 : List ℕ} {s : Sheet} (a : InWords st w0 w1 s) (
   within v n q = parts-within (modelOf s) few-objects t v (ends-fit ends v n q) (sound .of-type v n q)
 
   -- a value
-  pub value-length : {v : Value} {n : ℕ} → outcomeOf s x o ≡ value v n → length (spellValue v) ≤ 1536
+  pub value-length : {v : Value} {n : ℕ} → outcomeOf s x o ≡ value v n → length (spellValue v) ≤ 2304
   value-length {v} {n} q = length-laws .value-length v (within v n q) (sound .of-size v n q)
 
   -- a value or a stop

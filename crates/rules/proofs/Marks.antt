@@ -14,7 +14,7 @@ use Rattle.laws.specs.Choice.{if_then_else_}
 use Rattle.laws.specs.Lists.{Each, each-nil, each-cons}
 use Rattle.ocl.specs.Types.{kindCode, sameKind}
 use Rattle.ocl.specs.Forms.{levels}
-use Rattle.ocl.specs.Typing.{Mark, ofRow, rowMarked, kindMarked, Marks, markOr, markIn}
+use Rattle.ocl.specs.Marks.{Mark, ofRow, rowMarked, kindMarked, Marks, markOr, markIn}
 use Rattle.sheet.specs.Sheet.{Current, Sheet, schemaIn}
 use Rattle.sheet.specs.Calls.{definitionMarks, ruleMarks, marksOf}
 use Rattle.nodes.specs.Nodes.{treeAt}

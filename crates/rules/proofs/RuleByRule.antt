@@ -10,7 +10,8 @@ use lib.Seq.{take-suc, split-at, getD-at, getD-drop, getD-set-same, getD-set-oth
 use Rattle.laws.proofs.Elements.{elem-some, elem-at}
 use Rattle.ocl.specs.Types.{Ty}
 use Rattle.ocl.specs.Model.{Schema}
-use Rattle.ocl.specs.Typing.{typed, refused as untyped, Marks, typeRule}
+use Rattle.ocl.specs.Typing.{typed, refused as untyped, typeRule}
+use Rattle.ocl.specs.Marks.{Marks}
 use Rattle.sheet.specs.Sheet.{Rule, Sheet}
 use Rattle.sheet.specs.Calls.{Verdict, refusalAt, typingOf, onType, onTypes, ruleMarks}
 use Rattle.sheet.specs.Laws.{AllTyped, none-typed, one-typed}

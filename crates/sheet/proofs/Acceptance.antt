@@ -17,7 +17,7 @@ use Rattle.ocl.specs.Types.{Ty}
 use Rattle.ocl.specs.Values.{Value, size}
 use Rattle.ocl.specs.Model.{Model, belongs}
 use Rattle.ocl.specs.Forms.{Expr, Definition, levels}
-use Rattle.ocl.specs.Laws.{integersInRange, Formed, numbers, literals, calls}
+use Rattle.ocl.specs.Laws.{numbersKept, Formed, numbers, literals, calls}
 use Rattle.ocl.specs.Soundness.{AcceptedModel}
 use Rattle.sheet.specs.Text.{Bytes, fieldsOf, linesOf}
 use Rattle.sheet.specs.Lines.{Line, lineOf, firstIsN}
@@ -26,11 +26,11 @@ use Rattle.sheet.specs.Limits.{withinLimits}
 use Rattle.sheet.specs.Refusals.{inOrder, partsKnown, callsSmaller, callsKnown, suits, treeHolds}
 use Rattle.sheet.specs.Reading.{Step, taken, refuse, must, stepLine, stepSpelled, step, Reading, accepted, rejected, onStep, onEnd, closing, readLast, readLines, readText}
 use Rattle.sheet.proofs.Belonging.{belongs-same}
-use Rattle.sheet.proofs.InRange.{InRange, tree-in-range}
 use Rattle.sheet.proofs.TypeFits.{Fits, NamesFit, tree-names}
 use Rattle.sheet.proofs.Bodies.{bodyNumbers, bodies-more, Among, among-more, tree-called}
 use Rattle.sheet.proofs.Good.{plain, SlotOk, BodyOk, DefinitionOk, CurrentOk, OpenOk, none-open, one-open, blocks-none, sheetNumbers, Good, good-empty}
 use Rattle.sheet.proofs.GoodNodes.{good-added}
+use Rattle.sheet.proofs.NumbersKept.{AllKept, tree-kept}
 
 -- ---- the end of a definition or rule
 
@@ -55,7 +55,7 @@ module _ (ds : List Definition) (n : ℕ) (c : Current) (body : Expr) (h : Curre
     context = h .context;
     on-sheet = subst (λ i. Each (λ p. p < i) (numbers body)) (h .count) (subst (λ x. Each (λ p. p < c .first + length (c .trees)) (numbers x)) (r .is) (h .forest .below (r .index) (r .inside)));
     shallow = l;
-    in-range = subst (λ x. InRange (literals x)) (r .is) (tree-in-range (h .in-range) (r .index));
+    numbers-kept = subst (λ x. AllKept (literals x)) (r .is) (tree-kept (h .numbers-kept) (r .index));
     names = subst NamesFit (r .is) (tree-names (h .names) (r .index));
     called = subst (λ x. Each (Among ds) (calls x)) (r .is) (tree-called (h .called) (r .index));
   }
@@ -68,7 +68,7 @@ module _ (ds : List Definition) (n : ℕ) (c : Current) (body : Expr) (h : Curre
 
 -- a definition more on the sheet
 body-among : {ds : List Definition} {n c : ℕ} (d : Definition) {e : Expr} → BodyOk ds n c e → BodyOk (ds ++ (d ∷ [])) n c e
-body-among d x = record { context = x .context; on-sheet = x .on-sheet; shallow = x .shallow; in-range = x .in-range; names = x .names; called = among-more d (x .called) }
+body-among d x = record { context = x .context; on-sheet = x .on-sheet; shallow = x .shallow; numbers-kept = x .numbers-kept; names = x .names; called = among-more d (x .called) }
 
 definition-among : {ds : List Definition} {n : ℕ} (d : Definition) {e : Definition} → DefinitionOk ds n e → DefinitionOk (ds ++ (d ∷ [])) n e
 definition-among d x = record { type = x .type; body = body-among d (x .body) }
@@ -231,7 +231,7 @@ accepted-good text s e = of (subst GoodReading e (good-text text))
 record ValueOk (m : Model) (i : ℕ) (v : Value) : Type 0 where
   belong : T (belongs m (m .row i .type) v)
   small : size v ≤ 128
-  in-range : T (integersInRange v)
+  numbers-kept : T (numbersKept v)
   formed : Formed v
 
 lookup-ok : (m : Model) (l : List Slot) (o i : ℕ) (v : Value) → Each (SlotOk m) l → lookup l o i ≡ some v → ValueOk m i v
@@ -240,7 +240,7 @@ lookup-ok m [] o i v each-nil e = absurd (let z : _≡_ {A = ℕ} 0 1 = cc in om
 lookup-ok m (x ∷ l) o i v (each-cons h hs) e =
     by-if (λ y. y ≡ some v → ValueOk m i v) (eqb o (x .object) && eqb i (x .row)) _ _
     (λ t q. let z : x .value ≡ v = cc in let r : i ≡ x .row = eqb→eq i (x .row) (and-r (eqb o (x .object)) _ t) in
-    rw (← z, r) (record { belong = h .belong; small = h .small; in-range = h .in-range; formed = h .formed }))
+    rw (← z, r) (record { belong = h .belong; small = h .small; numbers-kept = h .numbers-kept; formed = h .formed }))
     (λ t q. lookup-ok m l o i v hs q) e
 
 pub good-model : (s : Sheet) → Good s → AcceptedModel (modelOf s)
@@ -249,6 +249,6 @@ good-model s g = record {
   parents-smaller = g .parents;
   values-belong = λ o i v e. subst T (belongs-same (plain s) (modelOf s) refl refl (getD (s .rows) i noRow .type) v) (lookup-ok (plain s) (s .slots) o i v (g .slots) e .belong);
   values-small = λ o i v e. lookup-ok (plain s) (s .slots) o i v (g .slots) e .small;
-  values-in-range = λ o i v e. lookup-ok (plain s) (s .slots) o i v (g .slots) e .in-range;
+  values-kept = λ o i v e. lookup-ok (plain s) (s .slots) o i v (g .slots) e .numbers-kept;
   values-formed = λ o i v e. lookup-ok (plain s) (s .slots) o i v (g .slots) e .formed;
 }

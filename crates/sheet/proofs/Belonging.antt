@@ -3,7 +3,7 @@ use mathlib.Core.Path.{_≡_, refl, ap}
 use mathlib.Core.Bool.{Bool, _&&_}
 use Prim.Native.Nat.{ℕ}
 use Rattle.ocl.specs.Types.{Simple, Ty, void, simple, around, letterSubtype, exactly}
-use Rattle.ocl.specs.Values.{Value, bool, int, obj, coll, Values, nil, cons}
+use Rattle.ocl.specs.Values.{Value, bool, num, obj, coll, Values, nil, cons}
 use Rattle.ocl.specs.Model.{Model, every, isA, belongs}
 
 module _ (m n : Model) (p : m .parent ≡ n .parent) (q : m .classOf ≡ n .classOf) where
@@ -20,10 +20,10 @@ module _ (m n : Model) (p : m .parent ≡ n .parent) (q : m .classOf ≡ n .clas
   unfolding belongs
   belongs-same void v = refl
   belongs-same (simple b) (bool x) = rw p
-  belongs-same (simple b) (int z) = rw p
+  belongs-same (simple b) (num x) = rw p
   belongs-same (simple b) (obj o) = isA-same o b
   belongs-same (simple b) (coll k vs) = refl
   belongs-same (around l t) (bool x) = refl
-  belongs-same (around l t) (int z) = refl
+  belongs-same (around l t) (num x) = refl
   belongs-same (around l t) (obj o) = refl
   belongs-same (around l t) (coll k vs) = ap (λ x. letterSubtype (exactly k) l && x) (every-same (belongs m t) (belongs n t) (belongs-same t) vs)

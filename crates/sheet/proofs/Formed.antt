@@ -3,10 +3,10 @@ use Prim.Native.Nat.{Ordering, Ordering·lt, Ordering·eq, Ordering·gt}
 use lib.Dec.{T}
 use mathlib.Core.Bool.{_&&_}
 use Rattle.laws.proofs.Tests.{and-l, and-r}
+use Rattle.reals.specs.Reals.{isLess}
 use Rattle.ocl.specs.Types.{Kind, set, sequence, bag}
-use Rattle.ocl.specs.Values.{Value, bool, int, obj, coll, Values, nil, cons, order}
-use Rattle.ocl.specs.Operations.{isLess}
-use Rattle.ocl.specs.Laws.{InOrder, ascends, repeats, anyhow, Sorted, sorted-nil, sorted-one, sorted-cons, Formed, formed-bool, formed-int, formed-obj, formed-coll, FormedAll, formed-nil, formed-cons}
+use Rattle.ocl.specs.Values.{Value, bool, obj, coll, Values, nil, cons, order, num}
+use Rattle.ocl.specs.Laws.{InOrder, ascends, repeats, anyhow, Sorted, sorted-nil, sorted-one, sorted-cons, Formed, formed-bool, formed-obj, formed-coll, FormedAll, formed-nil, formed-cons, formed-num}
 use Rattle.sheet.specs.Refusals.{mayFollow, followed, ordered, allOrdered}
 
 follows : (k : Kind) (q : Ordering) → T (mayFollow k q) → InOrder k q
@@ -32,7 +32,7 @@ mutual
 
   pub value-formed : (v : Value) → T (ordered v) → Formed v
   value-formed (bool b) h = formed-bool
-  value-formed (int z) h = formed-int
+  value-formed (num x) h = formed-num
   value-formed (obj o) h = formed-obj
   value-formed (coll k vs) h = formed-coll (members-sorted k vs h) (members-formed k vs h)
 

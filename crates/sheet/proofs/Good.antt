@@ -14,11 +14,11 @@ use Rattle.ocl.specs.Types.{Ty}
 use Rattle.ocl.specs.Values.{size}
 use Rattle.ocl.specs.Model.{Row, Model, belongs}
 use Rattle.ocl.specs.Forms.{Expr, Definition, levels}
-use Rattle.ocl.specs.Laws.{integersInRange, Formed, numbers, literals, calls}
+use Rattle.ocl.specs.Laws.{numbersKept, Formed, numbers, literals, calls}
 use Rattle.sheet.specs.Sheet.{Slot, Rule, Current, Sheet, empty, noRow, mostLevels}
 use Rattle.sheet.specs.Limits.{isClass}
 use Rattle.sheet.proofs.Ascending.{Ascending, ascending-nil}
-use Rattle.sheet.proofs.InRange.{InRange}
+use Rattle.sheet.proofs.NumbersKept.{AllKept}
 use Rattle.sheet.proofs.TypeFits.{Fits, NamesFit}
 use Rattle.sheet.proofs.Forest.{Forest}
 use Rattle.sheet.proofs.Bodies.{bodyNumbers, Among}
@@ -37,7 +37,7 @@ plain s = record {
 pub record SlotOk (m : Model) (x : Slot) : Type 0 where
   pub belong : T (belongs m (m .row (x .row) .type) (x .value))
   pub small : size (x .value) ≤ 128
-  pub in-range : T (integersInRange (x .value))
+  pub numbers-kept : T (numbersKept (x .value))
   pub formed : Formed (x .value)
   pub low-row : x .row < 64
 
@@ -46,7 +46,7 @@ pub record BodyOk (ds : List Definition) (n : ℕ) (c : ℕ) (e : Expr) : Type 0
   pub context : T (isClass c)
   pub on-sheet : Each (λ p. p < n) (numbers e)
   pub shallow : levels e ≤ mostLevels
-  pub in-range : InRange (literals e)
+  pub numbers-kept : AllKept (literals e)
   pub names : NamesFit e
   pub called : Each (Among ds) (calls e)
 
@@ -63,7 +63,7 @@ pub record CurrentOk (ds : List Definition) (n : ℕ) (c : Current) : Type 0 whe
   pub result : All? (Fits 3) (c .result)
   pub forest : Forest (c .first) (c .trees) (c .used)
   pub count : c .first + length (c .trees) ≡ n
-  pub in-range : Each (λ e. InRange (literals e)) (c .trees)
+  pub numbers-kept : Each (λ e. AllKept (literals e)) (c .trees)
   pub names : Each NamesFit (c .trees)
   pub called : Each (λ e. Each (Among ds) (calls e)) (c .trees)
 

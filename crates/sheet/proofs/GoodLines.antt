@@ -21,7 +21,7 @@ use Rattle.sheet.specs.Refusals.{blockOf, numbered, inOrder, afterSlots,
 use Rattle.sheet.proofs.Belonging.{belongs-same}
 use Rattle.sheet.proofs.Parents.{parent-more}
 use Rattle.sheet.proofs.Ascending.{ascending-more}
-use Rattle.sheet.proofs.InRange.{value-in-range}
+use Rattle.sheet.proofs.NumbersKept.{value-kept}
 use Rattle.sheet.proofs.TypeFits.{Fits, within-fits}
 use Rattle.sheet.proofs.Formed.{value-formed}
 use Rattle.sheet.proofs.Forest.{forest-empty}
@@ -124,7 +124,7 @@ slot-ok s o a v m =
     record {
       belong = subst T (belongs-same (modelOf s) (plain s) refl refl (getD (s .rows) a noRow .type) v) (and-r (isA (modelOf s) o _) _ (m .suit));
       small = leb→le (size v) 128 (and-r (everyPart partWithin v) _ y);
-      in-range = value-in-range v (and-l (everyPart partWithin v) _ y);
+      numbers-kept = value-kept v (and-l (everyPart partWithin v) _ y);
       formed = value-formed v (and-r (afterSlots (s .slots) o a) (ordered v) (met-numbered s (valueLine o a v) m));
       low-row = ltb→lt a 64 (and-r (ltb o 96) (ltb a 64) (and-l (ltb o 96 && ltb a 64) (valueWithin v) x));
     }
@@ -159,7 +159,7 @@ abbrev beginning : ℕ → Option Ty → ℕ → Current
 beginning c t n = record { context = c; result = t; first = n; trees = []; used = [] }
 
 begin-ok : (ds : List Definition) (n c : ℕ) {t : Option Ty} → T (isClass c) → All? (Fits 3) t → OpenOk ds n (some (beginning c t n))
-begin-ok ds n c h t = one-open (record { context = h; result = t; forest = forest-empty n; count = omega arith; in-range = each-nil; names = each-nil; called = each-nil })
+begin-ok ds n c h t = one-open (record { context = h; result = t; forest = forest-empty n; count = omega arith; numbers-kept = each-nil; names = each-nil; called = each-nil })
 
 begin-earlier : (s : Sheet) → Good s → {c : ℕ} {t : Option Ty} (d : Current) → some (beginning c t (length (s .lines))) ≡ some d → Each (λ p. p < d .first) (sheetNumbers s)
 begin-earlier s g d e = subst (λ i. Each (λ p. p < i) (sheetNumbers s)) (ap (λ (x : Current). x .first) (Option·some-injective _ _ e)) (all-earlier s g)

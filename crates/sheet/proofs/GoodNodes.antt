@@ -18,7 +18,7 @@ use Rattle.sheet.specs.Lines.{Line, classLine, rowLine, objectLine, valu
 use Rattle.sheet.specs.Sheet.{Current, Sheet, operandsOf, grow, treeOf, definitionOf, withNode, added}
 use Rattle.sheet.specs.Limits.{isNode, formWithin, withinLimits}
 use Rattle.sheet.specs.Refusals.{callBelow, callsKnown, operandsFresh, treeHolds}
-use Rattle.sheet.proofs.InRange.{tree-in-range, definition-in-range, grown-in-range}
+use Rattle.sheet.proofs.NumbersKept.{tree-kept, definition-kept, grown-kept}
 use Rattle.sheet.proofs.TypeFits.{tree-names, definition-fits, grown-names}
 use Rattle.sheet.proofs.Forest.{forest-more}
 use Rattle.sheet.proofs.Bodies.{tree-called, grown-called}
@@ -26,7 +26,7 @@ use Rattle.sheet.proofs.Good.{plain, BodyOk, RuleOk, DefinitionOk, Open
 use Rattle.sheet.proofs.GoodLines.{Met, good-class, good-row, good-object, good-value, good-definition, good-rule}
 
 body-more : {ds : List Definition} {n c : ℕ} {e : Expr} → BodyOk ds n c e → BodyOk ds (suc n) c e
-body-more x = record { context = x .context; on-sheet = each-imp (λ p l. omega arith) (x .on-sheet); shallow = x .shallow; in-range = x .in-range; names = x .names; called = x .called }
+body-more x = record { context = x .context; on-sheet = each-imp (λ p l. omega arith) (x .on-sheet); shallow = x .shallow; numbers-kept = x .numbers-kept; names = x .names; called = x .called }
 
 current-more : (ds : List Definition) (n : ℕ) (x : Shape) {o : Option Current} → Each (DefinitionOk ds n) ds → OpenOk ds n o → T (formWithin x) → T (callBelow (length ds) x) → T (operandsFresh o x)
     → OpenOk ds (suc n) (onSome o (λ c. some (withNode ds c x)))
@@ -37,7 +37,7 @@ current-more ds n x k (one-open {c} r) w b h = let f = treeOf (c .trees) in one-
   result = r .result;
   forest = forest-more (c .first) (c .trees) (c .used) (definitionOf ds) x (r .forest) h;
   count = omega (arith, r .count, length-more (c .trees) (node (c .first + length (c .trees)) (grow f (definitionOf ds) x)));
-  in-range = each-append (r .in-range) (each-cons (grown-in-range f (tree-in-range (r .in-range)) (definitionOf ds) (definition-in-range (each-imp (λ d y. y .body .in-range) k)) x w) each-nil);
+  numbers-kept = each-append (r .numbers-kept) (each-cons (grown-kept f (tree-kept (r .numbers-kept)) (definitionOf ds) (definition-kept (each-imp (λ d y. y .body .numbers-kept) k)) x w) each-nil);
   names = each-append (r .names) (each-cons (grown-names f (tree-names (r .names)) (definitionOf ds) (definition-fits (each-imp (λ d y. y .type) k)) x w) each-nil);
   called = each-append (r .called) (each-cons (grown-called f (tree-called (r .called)) (each-imp (λ d y. y .body .called) k) x b) each-nil);
 })

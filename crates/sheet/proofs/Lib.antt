@@ -1,6 +1,6 @@
 pub mod Forest
 pub mod Ascending
-pub mod InRange
+pub mod NumbersKept
 pub mod Formed
 pub mod Belonging
 pub mod Parents
@@ -15,10 +15,15 @@ pub mod Marks
 pub mod TypeLines
 pub mod Accepted
 pub mod Soundness
+pub mod Clean
 pub mod NeverStuck
 pub mod Examples
+pub mod RealExamples
 pub mod Numbers
 pub mod Parsers
+pub mod IntegerSpelling
+pub mod RealSpelling
+pub mod RealFields
 pub mod Spelling
 pub mod Split
 pub mod Lengths

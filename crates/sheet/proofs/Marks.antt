@@ -10,9 +10,11 @@ use Rattle.laws.proofs.Elements.{each-elem}
 use Rattle.ocl.specs.Types.{set}
 use Rattle.ocl.specs.Forms.{Definition}
 use Rattle.ocl.specs.Laws.{EachMark, no-mark, Agree}
-use Rattle.ocl.specs.Typing.{Mark, ofRow, rowMarked, kindMarked, Marks, typeDefinition, markIn}
+use Rattle.ocl.specs.Marks.{Mark, ofRow, rowMarked, kindMarked, Marks, markIn}
+use Rattle.ocl.specs.Typing.{typeDefinition}
 use Rattle.ocl.proofs.Marks.{Part, part-nil, part-append, marked-rule, marked-definition, agree-marks, marks-left, marks-right}
-use Rattle.ocl.proofs.Places.{each-mark-append, mark-below, rule-rows, definition-rows, mark-no-set, rule-no-set, definition-no-set}
+use Rattle.ocl.proofs.Places.{each-mark-append}
+use Rattle.ocl.proofs.MarksRead.{mark-below, rule-rows, definition-rows, mark-no-set, rule-no-set, definition-no-set}
 use Rattle.sheet.specs.Sheet.{Rule, Sheet, schemaIn}
 use Rattle.sheet.specs.Calls.{typingOf, definitionMarks, ruleMarks, marksOf}
 use Rattle.sheet.proofs.Bodies.{bodyNumbers}
@@ -52,20 +54,20 @@ module _ (s : Sheet) where
   pub all-agree : Good s → Each (λ d. Agree (marksOf s) (typeDefinition (schemaIn s) d .marks)) (s .definitions)
   all-agree g = definitions-agree (s .definitions) (marks-left (definitionMarks (schemaIn s) (s .definitions)) _ (marks-agree g))
 
-  rows-marked : {n : ℕ} (xs : List Rule) → length (s .rows) ≤ n → EachMark (λ p m. rowMarked m < n) (ruleMarks (schemaIn s) xs)
+  rows-marked : {n : ℕ} (xs : List Rule) → 0 < n → length (s .rows) ≤ n → EachMark (λ p m. rowMarked m < n) (ruleMarks (schemaIn s) xs)
   unfolding ruleMarks
-  rows-marked [] l = no-mark
-  rows-marked (x ∷ xs) l = each-mark-append (rule-rows (schemaIn s) (x .context) (x .body) l) (rows-marked xs l)
+  rows-marked [] h l = no-mark
+  rows-marked (x ∷ xs) h l = each-mark-append (rule-rows (schemaIn s) (x .context) (x .body) h l) (rows-marked xs h l)
 
-  definition-rows-marked : {n : ℕ} (ds : List Definition) → length (s .rows) ≤ n → EachMark (λ p m. rowMarked m < n) (definitionMarks (schemaIn s) ds)
+  definition-rows-marked : {n : ℕ} (ds : List Definition) → 0 < n → length (s .rows) ≤ n → EachMark (λ p m. rowMarked m < n) (definitionMarks (schemaIn s) ds)
   unfolding definitionMarks
-  definition-rows-marked [] l = no-mark
-  definition-rows-marked (d ∷ ds) l = each-mark-append (definition-rows (schemaIn s) d l) (definition-rows-marked ds l)
+  definition-rows-marked [] h l = no-mark
+  definition-rows-marked (d ∷ ds) h l = each-mark-append (definition-rows (schemaIn s) d h l) (definition-rows-marked ds h l)
 
   -- a node that is not marked counts as row 0
   pub mark-row : {n : ℕ} (p : ℕ) → 0 < n → length (s .rows) ≤ n → rowMarked (marksOf s p) < n
   unfolding marksOf
-  mark-row p h l = mark-below p h (each-mark-append (definition-rows-marked (s .definitions) l) (rows-marked (s .rules) l))
+  mark-row p h l = mark-below p h (each-mark-append (definition-rows-marked (s .definitions) h l) (rows-marked (s .rules) h l))
 
   no-set-marked : (xs : List Rule) → EachMark (λ p m. kindMarked m ≡ set → ⊥) (ruleMarks (schemaIn s) xs)
   unfolding ruleMarks

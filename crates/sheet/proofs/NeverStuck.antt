@@ -1,19 +1,16 @@
 -- What stands for stuck is never seen: each call's number is one of the documents', and `!100` is in no report. Assumes nothing.
 use mathlib.Core.Path.{_≡_, refl, ap, _∙_, subst}
-use mathlib.Core.Logic.{_≢_}
-use mathlib.Core.Bool.{Bool, true, false, not, _||_}
+use mathlib.Core.Bool.{Bool, _||_}
 use mathlib.Core.Option.{Option, none, some, Option·some-injective, Option·none-ne-some}
-use mathlib.Core.List.{List, [], _∷_, _++_}
+use mathlib.Core.List.{List, [], _∷_}
 use Prim.Native.Nat.{ℕ, zero, suc, _≤_}
 use native.Mathlib.Omega.{arith}
-use lib.IntN.{ℤ, pos, negsuc}
 use lib.ListN.{length, getElem?}
-use lib.Dec.{T, T-not, eqb, eqb-refl, ltb}
+use lib.Dec.{T, eqb, ltb}
 use Rattle.laws.specs.Choice.{if_then_else_}
 use Rattle.laws.specs.Lists.{Each, each-nil, each-cons}
 use Rattle.laws.proofs.Tests.{by-if}
-use Rattle.ocl.specs.Types.{class, Kind, set, sequence, bag, Ty, Class}
-use Rattle.ocl.specs.Values.{Value, bool, int, obj, coll, Values, nil, cons}
+use Rattle.ocl.specs.Types.{class, Ty, Class}
 use Rattle.ocl.specs.Model.{Model, isA}
 use Rattle.ocl.specs.Forms.{Definition, reach}
 use Rattle.ocl.specs.Environment.{start}
@@ -23,99 +20,18 @@ use Rattle.ocl.specs.Soundness.{Sound}
 use Rattle.ocl.proofs.Places.{typing-places, definition-places}
 use Rattle.ocl.proofs.Means.{definition-type}
 use Rattle.ocl.proofs.Stops.{stop-within}
-use Rattle.sheet.specs.Text.{Bytes, byte, bytes, isDigit, spellDigits, spellNumber, spellInteger}
-use Rattle.sheet.specs.Spelling.{letterByte, kindByte, spellBool, spellValue, spellMembers, spellMore}
+use Rattle.sheet.specs.Text.{Bytes, byte, bytes, spellDigits, spellNumber}
 use Rattle.sheet.specs.Sheet.{Rule, Sheet, schemaIn, modelOf}
 use Rattle.sheet.specs.Reading.{Reading, accepted, rejected, readText}
 use Rattle.sheet.specs.Calls.{Verdict, answer, refusalAt, refusal, shortWords, shortOutput, onSheet, typingOf, onType, onTypes, onDefinitions, onAccepted, typeLines, readCall, onRule, onObject, outcomeOf, ended, evaluateOn, evaluateCall}
 use Rattle.sheet.specs.Report.{spellOutcome, reportLine, objectLines, ruleLines, fitting, reportOf, reportCall, printed, program}
 use Rattle.sheet.specs.Laws.{ReadRefusal, over-length, at-line, AllTyped, none-typed, one-typed, Defined}
 use Rattle.sheet.specs.Soundness.{NeverStuckLaw}
-use Rattle.sheet.proofs.Numbers.{digit-from, spell-digits}
 use Rattle.sheet.proofs.Listed.{listed-within, read-refusals}
 use Rattle.sheet.proofs.Good.{Good}
 use Rattle.sheet.proofs.Acceptance.{accepted-good}
 use Rattle.sheet.proofs.Soundness.{sound-rule}
-
--- ---- bytes in which `!` stands only before a space, or before 1 and another byte than 0
-
-data Clean : Bytes → Type 0 where
-  clean-end : Clean []
-  clean-other : {b : ℕ} {s : Bytes} → b ≢ 33 → Clean s → Clean (b ∷ s)
-  clean-space : {s : Bytes} → Clean s → Clean (33 ∷ 32 ∷ s)
-  clean-stop : {b : ℕ} {s : Bytes} → b ≢ 48 → Clean (b ∷ s) → Clean (33 ∷ 49 ∷ b ∷ s)
-
--- another byte
-other : (b : ℕ) {s : Bytes} → T (not (eqb b 33)) → Clean s → Clean (b ∷ s)
-other b t h = clean-other (λ q. T-not (eqb b 33) t (subst (λ (k : ℕ). T (eqb b k)) q (eqb-refl b))) h
-
-infixl 40 _next_
-_next_ : {a b : Bytes} → Clean a → Clean b → Clean (a ++ b)
-_next_ clean-end h = h
-_next_ (clean-other n g) h = clean-other n (g next h)
-_next_ (clean-space g) h = clean-space (g next h)
-_next_ (clean-stop n g) h = clean-stop n (g next h)
-
--- `!100` is not in them
-clean-free : (a b : Bytes) {s : Bytes} → Clean s → s ≡ a ++ 33 ∷ 49 ∷ 48 ∷ 48 ∷ b → ⊥
-clean-free [] b clean-end e = absurd (let z : _≡_ {A = ℕ} 0 1 = cc in omega arith)
-clean-free [] b (clean-other n g) e = n cc
-clean-free [] b (clean-space g) e = absurd (let z : _≡_ {A = ℕ} 32 49 = cc in omega arith)
-clean-free [] b (clean-stop n g) e = n cc
-clean-free (x ∷ a) b clean-end e = absurd (let z : _≡_ {A = ℕ} 0 1 = cc in omega arith)
-clean-free (x ∷ a) b (clean-other n g) e = clean-free a b g cc
-clean-free (x ∷ a) b (clean-space {s} g) e = clean-free a b {s = 32 ∷ s} (other 32 tt g) cc
-clean-free (x ∷ a) b (clean-stop {b = c} {s} n g) e = clean-free a b {s = 49 ∷ c ∷ s} (other 49 tt g) cc
-
--- ---- what is spelled has none, but for stops
-
-clean-digits : {d : Bytes} → Each (λ b. T (isDigit b)) d → Clean d
-clean-digits each-nil = clean-end
-clean-digits (each-cons {n} t h) = clean-other (λ (q : n ≡ 33). let k = digit-from n t in omega arith) (clean-digits h)
-
-clean-number : (n : ℕ) → Clean (spellNumber n)
-clean-number n = clean-digits (spell-digits n)
-
-clean-integer : (z : ℤ) → Clean (spellInteger z)
-unfolding spellInteger
-clean-integer (pos n) = clean-number n
-clean-integer (negsuc n) = other 45 tt (clean-number (suc n))
-
-clean-bool : (b : Bool) → Clean (spellBool b)
-unfolding spellBool bytes
-clean-bool true = other 116 tt clean-end
-clean-bool false = other 102 tt clean-end
-
-kind-other : (k : Kind) → kindByte k ≢ 33
-unfolding kindByte letterByte
-kind-other set q = omega arith
-kind-other sequence q = omega arith
-kind-other bag q = omega arith
-
-mutual
-  unfolding spellValue bytes
-
-  clean-value : (v : Value) → Clean (spellValue v)
-  clean-value (bool b) = clean-bool b
-  clean-value (int z) = clean-integer z
-  clean-value (obj o) = other 64 tt (clean-number o)
-  clean-value (coll k vs) = clean-other (kind-other k) (other 40 tt (clean-members vs))
-
-  clean-members : (vs : Values) → Clean (spellMembers vs)
-  clean-members nil = other 41 tt clean-end
-  clean-members (cons v vs) = clean-value v next clean-more vs
-
-  clean-more : (vs : Values) → Clean (spellMore vs)
-  clean-more nil = other 41 tt clean-end
-  clean-more (cons v vs) = other 44 tt (clean-value v next clean-more vs)
-
-space : Clean (bytes " ")
-unfolding bytes
-space = other 32 tt clean-end
-
-feed : Clean (bytes "\n")
-unfolding bytes
-feed = other 10 tt clean-end
+use Rattle.sheet.proofs.Clean.{Clean, clean-end, clean-space, clean-stop, other, _next_, clean-free, clean-number, clean-value, space, feed}
 
 -- a stop is `!16`, `!17` or `!19`; stuck is not met
 module _ (m : Model) (t : Ty) (k : ℕ) where

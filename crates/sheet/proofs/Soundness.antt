@@ -17,7 +17,8 @@ use Rattle.ocl.specs.Types.{class, Ty, Class}
 use Rattle.ocl.specs.Model.{Model, classIsA, isA}
 use Rattle.ocl.specs.Forms.{Definition, reach}
 use Rattle.ocl.specs.Laws.{numbers, calls, Agree}
-use Rattle.ocl.specs.Typing.{typed, refused, Mark, typeRule, typeDefinition}
+use Rattle.ocl.specs.Marks.{Mark}
+use Rattle.ocl.specs.Typing.{typed, refused, typeRule, typeDefinition}
 use Rattle.ocl.specs.Environment.{start}
 use Rattle.ocl.specs.Operations.{Outcome, value, undefined, stuck, stop, stepsOf}
 use Rattle.ocl.specs.Soundness.{Sound, TypedDefinition}
@@ -43,7 +44,7 @@ use Rattle.sheet.proofs.Acceptance.{accepted-good, good-model}
 module _ (m : Model) (t : Ty) (k : ℕ) where
   end-of : (o : Outcome) → Sound m t k o → Ending m t (ended o)
   unfolding ended
-  end-of (value v n) h = value-end v (h .of-type v n refl) (h .of-size v n refl) (h .in-range v n refl) (h .formed v n refl)
+  end-of (value v n) h = value-end v (h .of-type v n refl) (h .of-size v n refl) (h .numbers-kept v n refl) (h .formed v n refl)
   end-of (undefined n) h = undefined-end
   end-of stuck h = absurd (h .not-stuck refl)
   end-of (stop c n) h = stop-end (h .known-stop c n refl)
@@ -77,7 +78,7 @@ pub sound-rule : (s : Sheet) → Good s → Each (Defined s) (s .definitions) �
     → T (isA (modelOf s) o (class (x .context))) → Sound (modelOf s) t (reach (x .body)) (outcomeOf s x o)
 unfolding typingOf outcomeOf modelOf
 sound-rule s g d r o x t e h a =
-    soundness (modelOf s) (good-model s g) (marksOf s) (x .body) (each-elem r (g .rules) e .in-range) (reached-typed s g d r x e) (x .context) o t h (rule-agrees s g r x e) a
+    soundness (modelOf s) (good-model s g) (marksOf s) (x .body) (each-elem r (g .rules) e .numbers-kept) (reached-typed s g d r x e) (x .context) o t h (rule-agrees s g r x e) a
 
 -- ---- the calls, with every slice at its minimum or above
 
@@ -87,7 +88,7 @@ lent-words {w0} {w1} {w2} l = rw (le-ltb (length w0) 8192 (l .words0), le-ltb (l
 
 lent-output : {w0 w1 w2 : List ℕ} {out : Bytes} → Lent w0 w1 w2 out → shortOutput out ≡ false
 unfolding shortOutput
-lent-output {out} l = le-ltb (length out) 2048 (l .output)
+lent-output {out} l = le-ltb (length out) 2560 (l .output)
 
 module _ (text : Bytes) (w0 w1 w2 : List ℕ) (out : Bytes) (l : Lent w0 w1 w2 out) where
   pub read-lent : readCall text w0 w1 w2 out ≡ onAccepted text (λ s ts. answer (typeLines ts))

@@ -7,48 +7,26 @@ use mathlib.Core.List.{[], _∷_, _++_, append-assoc}
 use Prim.Native.Nat.{ℕ, zero, suc, _≤_, _<_}
 use Prim.Native.String.{String}
 use native.Mathlib.Omega.{arith}
-use lib.IntN.{ℤ, pos, negsuc}
+use lib.IntN.{ℤ, pos}
 use lib.ListN.{length, length-append}
 use lib.Dec.{T}
 use Rattle.laws.specs.Choice.{orElse, onSome, mapSome}
-use Rattle.laws.specs.Lists.{Each, each-nil, each-cons}
-use Rattle.ocl.specs.Types.{any, boolean, class, Kind, set, sequence, bag, Letter, collection, exactly, Ty, void, simple, around, Any, Boolean, Integer, Class, integer as integerType}
-use Rattle.ocl.specs.Values.{Value, bool, int, obj, coll, Values, nil, cons}
-use Rattle.sheet.specs.Text.{Bytes, byte, bytes, Parser, after, literal, behind, _or_, _then_, mapped, isDigit, digits, plain, numberParser, negative, integerParser, spellNumber, spellInteger}
-use Rattle.sheet.specs.Spelling.{collectionType, typeParser, readType, letterByte, spellSimple, spellType, valueParser, membersParser, moreParser, readValue, kindByte, spellBool, spellValue, spellMembers, spellMore}
-use Rattle.sheet.specs.SpellingLaws.{no-digit, SpellingLaws}
-use Rattle.sheet.proofs.Numbers.{decimal, digit-from, digit-to, spell-digits, digits-some, number-back, number-only}
-use Rattle.sheet.proofs.Parsers.{Reads, Halts, Begins, begins, begins-imp, other-byte, literal-reads, literal-misses, behind-reads, behind-misses, first-reads, second-reads, then-reads, mapped-reads, whole-reads, Spells, nothing-spells, literal-spells, behind-spells, or-spells, then-spells, mapped-spells, whole-spells}
-
--- ---- numbers and Integers, read back
-
-pub number-reads : (n : ℕ) → Reads numberParser (spellNumber n) n
-number-reads n = record { read = number-back n }
-
--- a digit is first
-number-begins : (n : ℕ) → Begins (λ b. T (isDigit b)) (spellNumber n)
-number-begins n = first (spellNumber n) (spell-digits n) (digits-some n)
-  where
-    first : (d : Bytes) → Each (λ b. T (isDigit b)) d → 1 ≤ length d → Begins (λ b. T (isDigit b)) d
-    first [] each-nil h = absurd (omega arith)
-    first (b ∷ d) (each-cons t ts) h = begins t
-
--- a digit, or the sign
-integer-begins : (z : ℤ) → Begins (λ b. (44 < b) × (b < 58)) (spellInteger z)
-unfolding spellInteger
-integer-begins (pos n) = begins-imp (λ b t. let p = digit-from b t in let q = digit-to b t in (omega arith, omega arith)) (number-begins n)
-integer-begins (negsuc n) = begins {b = 45} (omega arith, omega arith)
-
-negative-reads : (n : ℕ) → Reads (numberParser then negative) (spellNumber (suc n)) (negsuc n)
-unfolding _then_ onSome negative
-negative-reads n = record { read = λ rest st. rw (number-back (suc n) rest st) }
-
-pub integer-reads : (z : ℤ) → Reads integerParser (spellInteger z) z
-unfolding integerParser spellInteger bytes
-integer-reads (pos n) =
-    second-reads (behind-misses "-" _ (spellNumber n) (λ rest. other-byte [] rest (begins-imp (λ b t e. let p = digit-from b t in omega arith) (number-begins n))))
-    (mapped-reads pos (number-reads n))
-integer-reads (negsuc n) = first-reads _ (behind-reads "-" (negative-reads n))
+use Rattle.laws.proofs.Tests.{and-l, and-r}
+use Rattle.reals.specs.Reals.{int, real, kept}
+use Rattle.reals.specs.Reals as numbers
+use Rattle.reals.specs.Bits.{bits}
+use Rattle.reals.specs.Digits.{hexDigits}
+use Rattle.reals.specs.Spelling.{spellReal}
+use Rattle.ocl.specs.Types.{any, boolean, class, Kind, set, sequence, bag, Letter, collection, exactly, Ty, void, simple, around, Any, Boolean, Integer, Real, Class, integer as integerType, real as realType}
+use Rattle.ocl.specs.Values.{Value, bool, num, obj, coll, Values, nil, cons, everyPart, everyParts}
+use Rattle.sheet.specs.Text.{Bytes, byte, bytes, Parser, after, literal, behind, _or_, _then_, mapped, isDigit, digits, plain, numberParser, negative, integerParser, realParser, spellNumber, spellInteger}
+use Rattle.sheet.specs.Spelling.{collectionType, typeParser, readType, letterByte, spellSimple, spellType, valueParser, membersParser, moreParser, readValue, kindByte, spellBool, spellNum, spellValue, spellMembers, spellMore}
+use Rattle.sheet.specs.SpellingLaws.{no-digit, realKept, SpellingLaws}
+use Rattle.sheet.proofs.Numbers.{decimal, number-back, number-only}
+use Rattle.sheet.proofs.RealFields.{field-alike}
+use Rattle.sheet.proofs.RealSpelling.{real-reads, real-spells}
+use Rattle.sheet.proofs.Parsers.{Reads, Misses, Halts, Begins, begins, begins-imp, other-byte, literal-reads, literal-misses, behind-reads, first-reads, second-reads, then-reads, mapped-reads, whole-reads, Spells, nothing-spells, literal-spells, behind-spells, or-spells, then-spells, mapped-spells, whole-spells}
+use Rattle.sheet.proofs.IntegerSpelling.{number-reads, integer-begins, integer-reads}
 
 -- ---- types, read back
 
@@ -82,6 +60,8 @@ type-reads (simple boolean) zero h = absurd (omega arith)
 type-reads (simple boolean) (suc n) h = record { read = λ rest st. refl }
 type-reads (simple integerType) zero h = absurd (omega arith)
 type-reads (simple integerType) (suc n) h = record { read = λ rest st. refl }
+type-reads (simple realType) zero h = absurd (omega arith)
+type-reads (simple realType) (suc n) h = record { read = λ rest st. refl }
 type-reads (simple (class c)) zero h = absurd (omega arith)
 type-reads (simple (class c)) (suc n) h = record { read = λ rest st. rw (number-back c rest st) }
 type-reads (around l t) zero h = absurd (omega arith)
@@ -97,16 +77,29 @@ type-back t = whole-reads (type-reads t (length (spellType t)) (omega arith))
 no-letter : (b : ℕ) → 57 < b → (z : ℤ) → Begins (λ c. b ≢ c) (spellInteger z)
 no-letter b l z = begins-imp (λ c h e. omega arith) (integer-begins z)
 
-integer-value-reads : (z : ℤ) (n : ℕ) → Reads (valueParser (suc n)) (spellInteger z) (int z)
+integer-value-reads : (z : ℤ) (n : ℕ) → Reads (valueParser (suc n)) (spellInteger z) (num (int z))
 unfolding valueParser bytes
 integer-value-reads z n =
     second-reads (literal-misses "t" (bool true) (spellInteger z) (λ rest. other-byte [] rest (no-letter 116 (omega arith) z)))
     (second-reads (literal-misses "f" (bool false) (spellInteger z) (λ rest. other-byte [] rest (no-letter 102 (omega arith) z)))
-    (first-reads _ (mapped-reads int (integer-reads z))))
+    (first-reads _ (mapped-reads (λ z. num (int z)) (integer-reads z))))
+
+-- a Real is no Integer
+no-integer : (s : Bytes) → Misses (mapped (λ z. num (int z)) integerParser) (byte "r" ∷ s)
+unfolding mapped integerParser numberParser digits plain isDigit behind _or_ after bytes orElse onSome mapSome
+no-integer s = record { missed = λ rest. refl }
+
+real-value-reads : (r : numbers.Real) (n : ℕ) → T (kept (real r)) → Reads (valueParser (suc n)) (spellReal r) (num (real r))
+unfolding valueParser bytes spellReal after
+real-value-reads r n h =
+    second-reads (literal-misses "t" (bool true) (spellReal r) (λ rest. refl))
+    (second-reads (literal-misses "f" (bool false) (spellReal r) (λ rest. refl))
+    (second-reads (no-integer (hexDigits 16 (bits r)))
+    (first-reads _ (mapped-reads (λ r. num (real r)) (real-reads r h)))))
 
 -- behind a letter and its bracket nothing but members are read
 kind-first : (k : Kind) (n : ℕ) (s : Bytes) {x : Value × Bytes} → mapped (coll k) (membersParser n) s ≡ some x → valueParser (suc n) (kindByte k ∷ byte "(" ∷ s) ≡ some x
-unfolding valueParser kindByte letterByte bytes after literal behind _or_ mapped orElse onSome mapSome integerParser numberParser digits plain isDigit
+unfolding valueParser kindByte letterByte bytes after literal behind _or_ mapped orElse onSome mapSome integerParser realParser numberParser digits plain isDigit
 kind-first set n s e = rw e
 kind-first sequence n s e = rw e
 kind-first bag n s e = e
@@ -119,10 +112,11 @@ collection-reads k vs n r =
 
 -- a value does not begin with the bracket that ends its collection
 no-bracket : (v : Value) → Begins (λ b. 41 ≢ b) (spellValue v)
-unfolding spellValue spellBool kindByte letterByte bytes
+unfolding spellValue spellNum spellReal spellBool kindByte letterByte bytes
 no-bracket (bool true) = begins {b = 116} (omega arith)
 no-bracket (bool false) = begins {b = 102} (omega arith)
-no-bracket (int z) = begins-imp (λ b h e. omega arith) (integer-begins z)
+no-bracket (num (int z)) = begins-imp (λ b h e. omega arith) (integer-begins z)
+no-bracket (num (real r)) = begins {b = 114} (omega arith)
 no-bracket (obj o) = begins {b = 64} (omega arith)
 no-bracket (coll set vs) = begins {b = 83} (omega arith)
 no-bracket (coll sequence vs) = begins {b = 81} (omega arith)
@@ -165,35 +159,36 @@ next-reads-member n v vs r s = second-reads (literal-misses ")" nil (spellMore (
 
 -- as many parts may be read as there are bytes
 mutual
-  unfolding valueParser spellValue spellBool bytes after literal behind _or_ mapped orElse onSome mapSome integerParser numberParser digits plain isDigit
+  unfolding valueParser spellValue spellNum spellBool everyPart realKept bytes after literal behind _or_ mapped orElse onSome mapSome integerParser realParser numberParser digits plain isDigit
 
-  value-reads : (n : ℕ) (v : Value) → length (spellValue v) ≤ n → Reads (valueParser n) (spellValue v) v
-  value-reads zero v h = absurd (omega (arith, value-long v))
-  value-reads (suc n) (bool true) h = record { read = λ rest st. refl }
-  value-reads (suc n) (bool false) h = record { read = λ rest st. refl }
-  value-reads (suc n) (int z) h = integer-value-reads z n
-  value-reads (suc n) (obj o) h = record { read = λ rest st. rw (number-back o rest st) }
-  value-reads (suc n) (coll k vs) h = collection-reads k vs n (members-read n vs (omega arith))
+  value-reads : (n : ℕ) (v : Value) → T (everyPart realKept v) → length (spellValue v) ≤ n → Reads (valueParser n) (spellValue v) v
+  value-reads zero v q h = absurd (omega (arith, value-long v))
+  value-reads (suc n) (bool true) q h = record { read = λ rest st. refl }
+  value-reads (suc n) (bool false) q h = record { read = λ rest st. refl }
+  value-reads (suc n) (num (int z)) q h = integer-value-reads z n
+  value-reads (suc n) (num (real r)) q h = real-value-reads r n q
+  value-reads (suc n) (obj o) q h = record { read = λ rest st. rw (number-back o rest st) }
+  value-reads (suc n) (coll k vs) q h = collection-reads k vs n (members-read n vs q (omega arith))
 
-  members-read : (n : ℕ) (vs : Values) → length (spellMembers vs) ≤ n → Reads (membersParser n) (spellMembers vs) vs
-  members-read zero vs h = absurd (omega (arith, members-long vs))
-  members-read (suc n) nil h = record { read = λ rest st. refl }
-  members-read (suc n) (cons v vs) h =
+  members-read : (n : ℕ) (vs : Values) → T (everyParts realKept vs) → length (spellMembers vs) ≤ n → Reads (membersParser n) (spellMembers vs) vs
+  members-read zero vs q h = absurd (omega (arith, members-long vs))
+  members-read (suc n) nil q h = record { read = λ rest st. refl }
+  members-read (suc n) (cons v vs) q h =
       let all = length-append (spellValue v) (spellMore vs) in
       let one = value-long v in
       let more = more-long vs in
-      first-reads-member n v vs (value-reads n v (omega arith)) (more-read n vs (omega arith))
+      first-reads-member n v vs (value-reads n v (and-l (everyPart realKept v) _ q) (omega arith)) (more-read n vs (and-r (everyPart realKept v) _ q) (omega arith))
 
-  more-read : (n : ℕ) (vs : Values) → length (spellMore vs) ≤ n → Reads (moreParser n) (spellMore vs) vs
-  more-read zero vs h = absurd (omega (arith, more-long vs))
-  more-read (suc n) nil h = record { read = λ rest st. refl }
-  more-read (suc n) (cons v vs) h =
+  more-read : (n : ℕ) (vs : Values) → T (everyParts realKept vs) → length (spellMore vs) ≤ n → Reads (moreParser n) (spellMore vs) vs
+  more-read zero vs q h = absurd (omega (arith, more-long vs))
+  more-read (suc n) nil q h = record { read = λ rest st. refl }
+  more-read (suc n) (cons v vs) q h =
       let all = length-append (spellValue v) (spellMore vs) in
-      next-reads-member n v vs (value-reads n v (omega arith)) (more-read n vs (omega arith))
+      next-reads-member n v vs (value-reads n v (and-l (everyPart realKept v) _ q) (omega arith)) (more-read n vs (and-r (everyPart realKept v) _ q) (omega arith))
 
-pub value-back : (v : Value) → readValue (spellValue v) ≡ some v
+pub value-back : (v : Value) → T (everyPart realKept v) → readValue (spellValue v) ≡ some v
 unfolding readValue
-value-back v = whole-reads (value-reads (length (spellValue v)) v (omega arith))
+value-back v q = whole-reads (value-reads (length (spellValue v)) v q (omega arith))
 
 -- ---- nothing else is read
 
@@ -220,30 +215,32 @@ type-spells (suc n) =
     or-spells (literal-spells "Void" void refl)
     (or-spells (literal-spells "Bool" Boolean refl)
     (or-spells (literal-spells "Int" Integer refl)
+    (or-spells (literal-spells "Real" Real refl)
     (or-spells (literal-spells "Any" Any refl)
     (or-spells (behind-spells "#" (mapped-spells Class number-spells (λ c. refl)))
     (or-spells (letter-spells "S(" (exactly set) (type-spells n) (λ t. refl))
     (or-spells (letter-spells "Q(" (exactly sequence) (type-spells n) (λ t. refl))
     (or-spells (letter-spells "B(" (exactly bag) (type-spells n) (λ t. refl))
-    (letter-spells "C(" collection (type-spells n) (λ t. refl)))))))))
+    (letter-spells "C(" collection (type-spells n) (λ t. refl))))))))))
 
 pub type-only : (f : Bytes) (t : Ty) → readType f ≡ some t → f ≡ spellType t
 unfolding readType
 type-only f t e = whole-spells (type-spells (length f)) f t e
 
 mutual
-  unfolding valueParser spellValue spellBool kindByte letterByte bytes
+  unfolding valueParser spellValue spellNum spellBool kindByte letterByte bytes
 
   value-spells : (n : ℕ) → Spells [] (valueParser n) spellValue
   value-spells zero = nothing-spells
   value-spells (suc n) =
       or-spells (literal-spells "t" (bool true) refl)
       (or-spells (literal-spells "f" (bool false) refl)
-      (or-spells (mapped-spells int integer-spells (λ z. refl))
+      (or-spells (mapped-spells (λ z. num (int z)) integer-spells (λ z. refl))
+      (or-spells (mapped-spells (λ r. num (real r)) real-spells (λ r. refl))
       (or-spells (behind-spells "@" (mapped-spells obj number-spells (λ o. refl)))
       (or-spells (behind-spells "S(" (mapped-spells (coll set) (members-spell n) (λ vs. refl)))
       (or-spells (behind-spells "Q(" (mapped-spells (coll sequence) (members-spell n) (λ vs. refl)))
-      (behind-spells "B(" (mapped-spells (coll bag) (members-spell n) (λ vs. refl))))))))
+      (behind-spells "B(" (mapped-spells (coll bag) (members-spell n) (λ vs. refl)))))))))
 
   members-spell : (n : ℕ) → Spells [] (membersParser n) spellMembers
   members-spell zero = nothing-spells
@@ -268,6 +265,8 @@ spelling-laws =
       numbers-in-front = record { back = number-back; only = number-only };
       integers = record { back = λ z. whole-reads (integer-reads z); only = whole-spells integer-spells };
       integers-in-front = record { back = λ z. integer-reads z .read; only = integer-spells .spelled };
+      reals = record { back = λ r h. whole-reads (real-reads r h); only = whole-spells real-spells };
+      reals-alike = field-alike;
       types = record { back = type-back; only = type-only };
       values = record { back = value-back; only = value-only };
     }

@@ -9,7 +9,7 @@ use native.Mathlib.Omega.{arith}
 use lib.Dec.{T, ltb→lt, lt→ltb, leb, leb→le}
 use Rattle.laws.specs.Lists.{Each, each-nil, each-cons}
 use Rattle.laws.proofs.Tests.{and-l, and-r, by-if, All?, all-none, all-some}
-use Rattle.ocl.specs.Types.{Simple, any, boolean, integer, class, Letter, Ty, void, simple, around, Class, Parents, depth, up, parentOr, height, simpleSubtype, firstAbove, simpleJoin, letterJoin, aroundSome, join}
+use Rattle.ocl.specs.Types.{Simple, any, boolean, integer, real, class, Letter, Ty, void, simple, around, Class, Parents, depth, up, parentOr, height, simpleSubtype, firstAbove, simpleJoin, letterJoin, aroundSome, join}
 use Rattle.ocl.specs.Model.{Schema}
 use Rattle.ocl.specs.Forms.{Leaf, truth, undef, number, self, var, all, Unary, negation, sizeOf, convert, castTo, Expr, Definition}
 use Rattle.ocl.proofs.Answered.{leafNames, unaryNames, Named, NamedIn, NamedOf, Closed}
@@ -43,6 +43,7 @@ module _ (parent : Parents) (small : (c p : ℕ) → parent c ≡ some p → p <
   up-below any h = tt
   up-below boolean h = tt
   up-below integer h = tt
+  up-below real h = tt
   up-below (class c) h = parent-below c (parent c) refl (ltb→lt c 64 h)
 
   above-below : (f : ℕ) (a b : Simple) → T (simpleClassBelow 64 a) → T (simpleClassBelow 64 (firstAbove parent f a b))
@@ -76,6 +77,7 @@ fits-closed m small rows = record {
   of-void = record { deep = omega arith; below = tt };
   of-boolean = record { deep = omega arith; below = tt };
   of-integer = record { deep = omega arith; below = tt };
+  of-real = record { deep = omega arith; below = tt };
   inside = λ l t h. record { deep = let d = h .deep in omega arith; below = h .below };
   outside = λ l t d h. record { deep = let e = leb→le (depth t) 2 d in omega arith; below = h .below };
   joined = join-fits (m .parent) small 3;
@@ -91,7 +93,7 @@ leaf-names : (l : Leaf) → T (leafWithin l) → All? (Fits 3) (leafNames l)
 unfolding leafNames leafWithin
 leaf-names (truth b) h = all-none
 leaf-names undef h = all-none
-leaf-names (number z) h = all-none
+leaf-names (number x) h = all-none
 leaf-names self h = all-none
 leaf-names (var i) h = all-none
 leaf-names (all c) h = all-some (class-fits 3 c h)

@@ -7,7 +7,7 @@ use lib.Dec.{T, ltb, ltb→lt, leb, leb→le}
 use Rattle.laws.specs.Lists.{allOf, Each, each-nil, each-cons}
 use Rattle.laws.proofs.Lists.{each-imp, each-append}
 use Rattle.laws.proofs.Tests.{and-l, and-r}
-use Rattle.ocl.specs.Types.{Simple, any, boolean, integer, class, set, sequence, bag, Letter, collection, exactly, Ty, void, simple, around}
+use Rattle.ocl.specs.Types.{Simple, any, boolean, integer, class, set, sequence, bag, Letter, collection, exactly, Ty, void, simple, around, real}
 use Rattle.sheet.specs.Text.{Bytes, byte, bytes, isDigit, spellNumber}
 use Rattle.sheet.specs.Spelling.{letterByte, spellSimple, spellType}
 use Rattle.sheet.proofs.Numbers.{decimal}
@@ -41,6 +41,7 @@ unfolding spellSimple bytes allOf
 simple-high any = high (bytes "Any") tt
 simple-high boolean = high (bytes "Bool") tt
 simple-high integer = high (bytes "Int") tt
+simple-high real = high (bytes "Real") tt
 simple-high (class c) = each-cons {n = byte "#"} (omega arith) (number-high c)
 
 type-high : (t : Ty) → High (spellType t)

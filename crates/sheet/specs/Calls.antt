@@ -9,7 +9,8 @@ use Rattle.laws.specs.Choice.{if_then_else_}
 use Rattle.ocl.specs.Types.{class, Ty}
 use Rattle.ocl.specs.Model.{Schema, Model, isA}
 use Rattle.ocl.specs.Forms.{Definition}
-use Rattle.ocl.specs.Typing.{Answer, typed, refused, Mark, Marks, Typed, typeRule, typeDefinition, markIn}
+use Rattle.ocl.specs.Marks.{Mark, Marks, markIn}
+use Rattle.ocl.specs.Typing.{Answer, typed, refused, Typed, typeRule, typeDefinition}
 use Rattle.ocl.specs.Operations.{Outcome, value, undefined, stuck, stop}
 use Rattle.ocl.specs.Evaluation.{evaluateRule}
 use Rattle.sheet.specs.Text.{Bytes, byte, bytes}
@@ -49,12 +50,12 @@ wordsAfter v w = if eqb (v .number) 1 then w else wiped w
 unfoldable pub outputAfter : Verdict → Bytes → Bytes
 outputAfter v out = v .output ++ drop (length (v .output)) out
 
--- 1: a word slice below 8,192 words, or an output below 2,048 bytes
+-- 1: a word slice below 8,192 words, or an output below 2,560 bytes
 unfoldable pub shortWords : List ℕ → List ℕ → List ℕ → Bool
 shortWords w0 w1 w2 = ltb (length w0) 8192 || ltb (length w1) 8192 || ltb (length w2) 8192
 
 unfoldable pub shortOutput : Bytes → Bool
-shortOutput out = ltb (length out) 2048
+shortOutput out = ltb (length out) 2560
 
 -- ---- read: the sheet is read, and all its definitions and then all its rules are typed in order
 

@@ -47,7 +47,7 @@ unfoldable pub readsInto : ℕ → List String → Verdict
 readsInto n ls = readCall (lines ls) words words words (replicate n 0)
 
 unfoldable pub evaluates : ℕ → ℕ → List String → Verdict
-evaluates r o ls = evaluateCall (lines ls) r o words words words (replicate 2048 0)
+evaluates r o ls = evaluateCall (lines ls) r o words words words (replicate 2560 0)
 
 -- two rules of class 0, the second of which asks `not` of an Integer, on a sheet with an object of another class
 unfoldable pub secondUntyped : List String
@@ -96,10 +96,11 @@ pub record Examples : Type 0 where
   -- the source is checked before the body is typed
   pub source-first : prints ("C 0 -" ∷ "R 0 0" ∷ "N 0 var 2" ∷ "N 1 int 1" ∷ "N 2 forAll 1 1 0" ∷ []) ≡ bytes "! 11 5\n"
   -- reading writes one type a line; where a rule does not type it writes none; no rule, no line
-  pub two-types : readsInto 2048 ("C 0 -" ∷ "R 0 0" ∷ "N 0 self" ∷ "R 1 0" ∷ "N 0 int 1" ∷ "N 1 coll S 0" ∷ []) ≡ answer (bytes "#0\nS(Int)\n")
-  pub second-untyped : readsInto 2048 secondUntyped ≡ refusalAt 11 8
-  pub no-rules : readsInto 2048 ("C 0 -" ∷ "O 0 0" ∷ []) ≡ answer []
-  pub short-output : readsInto 2047 [] ≡ refusal 1
+  pub two-types : readsInto 2560 ("C 0 -" ∷ "R 0 0" ∷ "N 0 self" ∷ "R 1 0" ∷ "N 0 int 1" ∷ "N 1 coll S 0" ∷ []) ≡ answer (bytes "#0\nS(Int)\n")
+  pub second-untyped : readsInto 2560 secondUntyped ≡ refusalAt 11 8
+  pub no-rules : readsInto 2560 ("C 0 -" ∷ "O 0 0" ∷ []) ≡ answer []
+  pub short-output : readsInto 2559 [] ≡ refusal 1
+  pub enough-output : readsInto 2560 [] ≡ answer []
   -- evaluate refuses where another rule does not type, before an absent rule or object and an object of another class
   pub other-untyped : evaluates 0 0 secondUntyped ≡ refusalAt 11 8
   pub untyped-first : evaluates 7 7 secondUntyped ≡ refusalAt 11 8
@@ -127,7 +128,7 @@ pub record Examples : Type 0 where
   pub call-undefined : prints ("C 0 -" ∷ "A 0 0 5 #0" ∷ "O 0 0" ∷ "D 0 0 Int" ∷ "N 0 int 1" ∷ "R 0 0" ∷ "N 0 self" ∷ "N 1 attr 0 5" ∷ "N 2 call 1 0" ∷ "N 3 isUndef 2" ∷ []) ≡ bytes "0 0 t 4\n"
   pub call-stops : prints ("C 0 -" ∷ "O 0 0" ∷ "D 0 0 Int" ∷ "N 0 int -2147483648" ∷ "N 1 int 1" ∷ "N 2 minus 0 1" ∷ "R 0 0" ∷ "N 0 self" ∷ "N 1 call 0 0" ∷ "N 2 isUndef 1" ∷ []) ≡ bytes "0 0 !19 6\n"
   -- reading writes the definition's type for a call, and no line for a definition; evaluate numbers the rules
-  pub call-type : readsInto 2048 ("C 0 -" ∷ "D 0 0 Any" ∷ "N 0 int 1" ∷ "R 0 0" ∷ "N 0 self" ∷ "N 1 call 0 0" ∷ "R 1 0" ∷ "N 0 true" ∷ []) ≡ answer (bytes "Any\nBool\n")
+  pub call-type : readsInto 2560 ("C 0 -" ∷ "D 0 0 Any" ∷ "N 0 int 1" ∷ "R 0 0" ∷ "N 0 self" ∷ "N 1 call 0 0" ∷ "R 1 0" ∷ "N 0 true" ∷ []) ≡ answer (bytes "Any\nBool\n")
   pub call-rule : evaluates 1 0 ("C 0 -" ∷ "O 0 0" ∷ "D 0 0 Any" ∷ "N 0 int 1" ∷ "R 0 0" ∷ "N 0 self" ∷ "N 1 call 0 0" ∷ []) ≡ refusal 14
   -- 11: a class that is not the definition's or below, and Void; a body that is not below its type, at the root, whether it is called
   -- or not, before any rule is typed; the first definition comes first

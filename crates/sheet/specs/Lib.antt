@@ -9,5 +9,6 @@ pub mod Reading
 pub mod Calls
 pub mod Report
 pub mod Examples
+pub mod RealExamples
 pub mod Soundness
 pub mod Laws

@@ -6,9 +6,9 @@ use mathlib.Core.List.{List, [], _∷_}
 use lib.ListN.{length}
 use lib.Dec.{leb, ltb}
 use Rattle.laws.specs.Lists.{allOf}
-use Rattle.ocl.specs.Types.{Simple, any, boolean, integer, class, Ty, void, simple, around, depth}
-use Rattle.ocl.specs.Values.{Value, bool, int, obj, coll, Values, nil, cons, size, everyPart}
-use Rattle.ocl.specs.Operations.{inRange}
+use Rattle.reals.specs.Reals.{kept}
+use Rattle.ocl.specs.Types.{Simple, any, boolean, integer, real, class, Ty, void, simple, around, depth}
+use Rattle.ocl.specs.Values.{Value, bool, num, obj, coll, Values, nil, cons, size, everyPart}
 use Rattle.ocl.specs.Forms.{Leaf, truth, undef, number, self, var, all, Unary, negation, sizeOf, convert, castTo}
 use Rattle.sheet.specs.Lines.{Shape, leaf, unary, binary, connective, isUndef, conditional, letIn, attribute, call, quantified, iterate, assemble, Line, classLine, rowLine, objectLine, valueLine, definitionLine, ruleLine, nodeLine}
 use Rattle.sheet.specs.Sheet.{Slot, Sheet, operandsOf}
@@ -20,6 +20,7 @@ unfoldable pub simpleClassBelow : ℕ → Simple → Bool
 simpleClassBelow n any = true
 simpleClassBelow n boolean = true
 simpleClassBelow n integer = true
+simpleClassBelow n real = true
 simpleClassBelow n (class c) = ltb c n
 
 unfoldable pub classBelow : ℕ → Ty → Bool
@@ -27,10 +28,10 @@ classBelow n void = true
 classBelow n (simple a) = simpleClassBelow n a
 classBelow n (around l t) = classBelow n t
 
--- an Integer is in range, an object's number below 96
+-- an Integer is in range, a Real neither an infinity nor a NaN (document 02, F-8), an object's number below 96
 unfoldable pub partWithin : Value → Bool
 partWithin (bool b) = true
-partWithin (int z) = inRange z
+partWithin (num x) = kept x
 partWithin (obj o) = ltb o 96
 partWithin (coll k vs) = true
 
@@ -38,7 +39,7 @@ partWithin (coll k vs) = true
 unfoldable mutual
   pub nesting : Value → ℕ
   nesting (bool b) = 0
-  nesting (int z) = 0
+  nesting (num x) = 0
   nesting (obj o) = 0
   nesting (coll k vs) = suc (nestings vs)
 
@@ -71,7 +72,7 @@ valueWithin v = everyPart partWithin v && leb (size v) 128 && leb (nesting v) 3
 unfoldable pub leafWithin : Leaf → Bool
 leafWithin (truth b) = true
 leafWithin undef = true
-leafWithin (number z) = inRange z
+leafWithin (number x) = kept x
 leafWithin self = true
 leafWithin (var i) = isVariable i
 leafWithin (all c) = isClass c

@@ -8,10 +8,11 @@ use lib.IntN.{ℤ}
 use lib.ListN.{length}
 use lib.Dec.{eqb, leb}
 use Rattle.laws.specs.Choice.{if_then_else_, onSome, mapSome}
+use Rattle.reals.specs.Reals.{Real, int, real}
 use Rattle.ocl.specs.Types.{Kind, set, sequence, bag, Ty}
 use Rattle.ocl.specs.Values.{Value}
-use Rattle.ocl.specs.Forms.{plus, minus, times, div, modulo, Connective, and, or, Quantifier, forAll, exists, Access, ofObject, ofMembers, Leaf, truth, undef, number, self, var, all, Unary, negation, sizeOf, convert, castTo, Binary, equal, less, arith, includes, including, union}
-use Rattle.sheet.specs.Text.{Bytes, bytes, literal, whole, numberParser, integerParser, _or_ as either}
+use Rattle.ocl.specs.Forms.{plus, minus, times, div, modulo, Connective, and, or, Quantifier, forAll, exists, Access, ofObject, ofMembers, Leaf, truth, undef, number, self, var, all, Unary, negation, sizeOf, convert, castTo, Binary, equal, less, arith, divide, over, includes, including, union}
+use Rattle.sheet.specs.Text.{Bytes, bytes, literal, whole, numberParser, integerParser, realParser, _or_ as either}
 use Rattle.sheet.specs.Spelling.{readType, readValue}
 
 -- a node line's form: as ocl's Form, with operands by their node numbers
@@ -71,6 +72,9 @@ aNumber f = whole numberParser f
 unfoldable pub anInteger : Bytes → Option ℤ
 anInteger f = whole integerParser f
 
+unfoldable pub aReal : Bytes → Option Real
+aReal f = whole realParser f
+
 -- `-` or a class
 unfoldable pub aParent : Bytes → Option (Option ℕ)
 aParent f = if is f (bytes "-") then some none else mapSome some (aNumber f)
@@ -109,7 +113,8 @@ shapeOf w fs =
     if is w (bytes "true") then done (leaf (truth true)) fs
     else if is w (bytes "false") then done (leaf (truth false)) fs
     else if is w (bytes "undef") then done (leaf undef) fs
-    else if is w (bytes "int") then next anInteger (λ z. done (leaf (number z))) fs
+    else if is w (bytes "int") then next anInteger (λ z. done (leaf (number (int z)))) fs
+    else if is w (bytes "real") then next aReal (λ r. done (leaf (number (real r)))) fs
     else if is w (bytes "self") then done (leaf self) fs
     else if is w (bytes "var") then next aNumber (λ i. done (leaf (var i))) fs
     else if is w (bytes "coll") then assembleFields fs
@@ -124,8 +129,9 @@ shapeOf w fs =
     else if is w (bytes "plus") then twoOperands (binary (arith plus)) fs
     else if is w (bytes "minus") then twoOperands (binary (arith minus)) fs
     else if is w (bytes "times") then twoOperands (binary (arith times)) fs
-    else if is w (bytes "div") then twoOperands (binary (arith div)) fs
-    else if is w (bytes "mod") then twoOperands (binary (arith modulo)) fs
+    else if is w (bytes "div") then twoOperands (binary (divide div)) fs
+    else if is w (bytes "mod") then twoOperands (binary (divide modulo)) fs
+    else if is w (bytes "over") then twoOperands (binary over) fs
     else if is w (bytes "attr") then twoOperands (λ e name. attribute ofObject name e) fs
     else if is w (bytes "collect") then twoOperands (λ s name. attribute ofMembers name s) fs
     else if is w (bytes "call") then twoOperands call fs

@@ -6,9 +6,9 @@ use mathlib.Core.List.{List, [], _∷_}
 use lib.ListN.{length}
 use lib.Dec.{eqb, leb, ltb}
 use Rattle.laws.specs.Lists.{member}
+use Rattle.reals.specs.Reals.{isLess}
 use Rattle.ocl.specs.Types.{class, Kind, set, sequence, bag, Ty}
-use Rattle.ocl.specs.Values.{Value, bool, int, obj, coll, Values, nil, cons, everyPart, order}
-use Rattle.ocl.specs.Operations.{isLess}
+use Rattle.ocl.specs.Values.{Value, bool, num, obj, coll, Values, nil, cons, everyPart, order}
 use Rattle.ocl.specs.Model.{Row, isA, belongs}
 use Rattle.ocl.specs.Forms.{Leaf, truth, undef, number, self, var, all, Unary, negation, sizeOf, convert, castTo}
 use Rattle.sheet.specs.Lines.{Shape, leaf, unary, binary, connective, isUndef, conditional, letIn, attribute, call, quantified, iterate, assemble, Line, classLine, rowLine, objectLine, valueLine, definitionLine, ruleLine, nodeLine}
@@ -33,7 +33,7 @@ followed k v (cons w ws) = mayFollow k (order v w)
 unfoldable mutual
   pub ordered : Value → Bool
   ordered (bool b) = true
-  ordered (int z) = true
+  ordered (num x) = true
   ordered (obj o) = true
   ordered (coll k vs) = allOrdered k vs
 
@@ -99,7 +99,7 @@ inOrder s l = leb (s .block) (blockOf l) && numbered s l
 -- an object's number is below n
 unfoldable pub objectBelow : ℕ → Value → Bool
 objectBelow n (bool b) = true
-objectBelow n (int z) = true
+objectBelow n (num x) = true
 objectBelow n (obj o) = ltb o n
 objectBelow n (coll k vs) = true
 
@@ -110,7 +110,7 @@ parentSmaller n (some p) = ltb p n
 unfoldable pub leafKnown : ℕ → Leaf → Bool
 leafKnown n (truth b) = true
 leafKnown n undef = true
-leafKnown n (number z) = true
+leafKnown n (number x) = true
 leafKnown n self = true
 leafKnown n (var i) = true
 leafKnown n (all c) = ltb c n

@@ -12,7 +12,7 @@ use Rattle.ocl.specs.Values.{Value, size}
 use Rattle.ocl.specs.Model.{Model, isA, belongs}
 use Rattle.ocl.specs.Forms.{reach}
 use Rattle.ocl.specs.Operations.{stuck, Stop}
-use Rattle.ocl.specs.Laws.{integersInRange, Formed}
+use Rattle.ocl.specs.Laws.{Formed, numbersKept}
 use Rattle.sheet.specs.Text.{Bytes, bytes, linesOf}
 use Rattle.sheet.specs.Spelling.{spellType, spellValue}
 use Rattle.sheet.specs.Sheet.{Rule, Sheet, empty, modelOf}
@@ -25,7 +25,7 @@ pub record Lent (w0 w1 w2 : List ℕ) (out : Bytes) : Type 0 where
   pub words0 : 8192 ≤ length w0
   pub words1 : 8192 ≤ length w1
   pub words2 : 8192 ≤ length w2
-  pub output : 2048 ≤ length out
+  pub output : 2560 ≤ length out
 
 -- the sheet of an accepted text; nothing is asked of another
 unfoldable pub sheetFrom : Reading → Sheet
@@ -51,11 +51,11 @@ contextHas s (some x) o = isA (modelOf s) o (class (x .context))
 unfoldable pub ofContext : Bytes → ℕ → ℕ → Bool
 ofContext text r o = contextHas (sheetIn text) (getElem? (sheetIn text .rules) r) o
 
--- how evaluate may end for a rule of type t: undefined; a value of that type and of an allowed size whose Integers are in range and which
+-- how evaluate may end for a rule of type t: undefined; a value of that type and of an allowed size whose numbers are kept and which
 -- is formed; or a stop
 pub data Ending (m : Model) (t : Ty) : Verdict → Type 0 where
   undefined-end : {n : ℕ} → Ending m t (record { number = 0; steps = n; place = 0; output = bytes "u" })
-  value-end : {n : ℕ} (v : Value) → T (belongs m t v) → size v ≤ 128 → T (integersInRange v) → Formed v
+  value-end : {n : ℕ} (v : Value) → T (belongs m t v) → size v ≤ 128 → T (numbersKept v) → Formed v
       → Ending m t (record { number = 0; steps = n; place = 0; output = spellValue v })
   stop-end : {c n : ℕ} → Stop c → Ending m t (record { number = c; steps = n; place = 0; output = [] })
 

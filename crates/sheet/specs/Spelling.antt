@@ -6,9 +6,11 @@ use mathlib.Core.Bool.{Bool, true, false}
 use mathlib.Core.Option.{Option}
 use mathlib.Core.List.{_∷_, _++_}
 use lib.ListN.{length}
-use Rattle.ocl.specs.Types.{Simple, any, boolean, integer, class, Kind, set, sequence, bag, Letter, collection, exactly, Ty, void, simple, around, Any, Boolean, Integer, Class}
-use Rattle.ocl.specs.Values.{Value, bool, int, obj, coll, Values, nil, cons}
-use Rattle.sheet.specs.Text.{Bytes, byte, bytes, Parser, nothing, literal, behind, _or_, _then_, mapped, whole, numberParser, integerParser, spellNumber, spellInteger}
+use Rattle.reals.specs.Reals.{Number, int, real}
+use Rattle.reals.specs.Spelling.{spellReal}
+use Rattle.ocl.specs.Types.{Simple, any, boolean, integer, class, Kind, set, sequence, bag, Letter, collection, exactly, Ty, void, simple, around, Any, Boolean, Integer, Real, Class}
+use Rattle.ocl.specs.Values.{Value, bool, num, obj, coll, Values, nil, cons}
+use Rattle.sheet.specs.Text.{Bytes, byte, bytes, Parser, nothing, literal, behind, _or_, _then_, mapped, whole, numberParser, integerParser, realParser, spellNumber, spellInteger}
 
 -- ---- types
 
@@ -23,6 +25,7 @@ typeParser (suc n) =
     literal "Void" void
     or literal "Bool" Boolean
     or literal "Int" Integer
+    or literal "Real" Real
     or literal "Any" Any
     or behind "#" (mapped Class numberParser)
     or collectionType "S(" (exactly set) (typeParser n)
@@ -44,6 +47,7 @@ unfoldable pub spellSimple : Simple → Bytes
 spellSimple any = bytes "Any"
 spellSimple boolean = bytes "Bool"
 spellSimple integer = bytes "Int"
+spellSimple Simple.real = bytes "Real"
 spellSimple (class c) = byte "#" ∷ spellNumber c
 
 unfoldable pub spellType : Ty → Bytes
@@ -60,7 +64,8 @@ unfoldable mutual
   valueParser (suc n) =
       literal "t" (bool true)
       or literal "f" (bool false)
-      or mapped int integerParser
+      or mapped (λ z. num (int z)) integerParser
+      or mapped (λ r. num (real r)) realParser
       or behind "@" (mapped obj numberParser)
       or behind "S(" (mapped (coll set) (membersParser n))
       or behind "Q(" (mapped (coll sequence) (membersParser n))
@@ -85,10 +90,14 @@ unfoldable pub spellBool : Bool → Bytes
 spellBool true = bytes "t"
 spellBool false = bytes "f"
 
+unfoldable pub spellNum : Number → Bytes
+spellNum (int z) = spellInteger z
+spellNum (real r) = spellReal r
+
 unfoldable mutual
   pub spellValue : Value → Bytes
   spellValue (bool b) = spellBool b
-  spellValue (int z) = spellInteger z
+  spellValue (num x) = spellNum x
   spellValue (obj o) = byte "@" ∷ spellNumber o
   spellValue (coll k vs) = kindByte k ∷ byte "(" ∷ spellMembers vs
 

@@ -2,18 +2,20 @@
 -- proofs/Spelling.antt, proofs/Lengths.antt and proofs/Split.antt prove it.
 use mathlib.Core.Path.{_≡_}
 use mathlib.Core.Logic.{_≢_}
-use mathlib.Core.Bool.{not}
-use mathlib.Core.Option.{Option, some}
+use mathlib.Core.Bool.{Bool, true, not}
+use mathlib.Core.Option.{Option, none, some}
 use mathlib.Core.List.{List, [], _∷_, _++_}
 use Prim.Native.Nat.{ℕ, _≤_, _<_, _^_}
 use lib.IntN.{ℤ}
 use lib.ListN.{length}
 use lib.Dec.{T}
+use Rattle.laws.specs.Choice.{if_then_else_}
 use Rattle.laws.specs.Lists.{Each}
+use Rattle.reals.specs.Reals.{Real, isBinary64, int, real, inRange, kept}
+use Rattle.reals.specs.Spelling.{spellReal, Reading, reads, refused, readReal}
 use Rattle.ocl.specs.Types.{Ty, depth}
-use Rattle.ocl.specs.Values.{Value, size, everyPart}
-use Rattle.ocl.specs.Operations.{inRange}
-use Rattle.sheet.specs.Text.{Bytes, split, Parser, whole, isDigit, plain, numberParser, integerParser, spellNumber, spellInteger}
+use Rattle.ocl.specs.Values.{Value, size, everyPart, bool, num, obj, coll}
+use Rattle.sheet.specs.Text.{Bytes, split, Parser, whole, isDigit, plain, numberParser, integerParser, spellNumber, spellInteger, realParser}
 use Rattle.sheet.specs.Spelling.{readType, spellType, readValue, spellValue}
 use Rattle.sheet.specs.Limits.{classBelow, partWithin}
 
@@ -34,10 +36,28 @@ pub record OneSpelling {A : Type 0} (read : Bytes → Option A) (spell : A → B
   pub back : (x : A) → read (spell x) ≡ some x
   pub only : (f : Bytes) (x : A) → read f ≡ some x → f ≡ spell x
 
+-- the spelling of an x with P is read as x, and no other field is read as x, whether it has P or not
+pub record OneSpellingOf {A : Type 0} (P : A → Type 0) (read : Bytes → Option A) (spell : A → Bytes) : Type 0 where
+  pub back : (x : A) → P x → read (spell x) ≡ some x
+  pub only : (f : Bytes) (x : A) → read f ≡ some x → f ≡ spell x
+
+-- each Real in a value is one that values hold; Integers may be out of range
+unfoldable pub realKept : Value → Bool
+realKept (bool b) = true
+realKept (num (int z)) = true
+realKept (num (real r)) = kept (real r)
+realKept (obj o) = true
+realKept (coll k vs) = true
+
 -- the same where other bytes follow, of which the first is no digit
 pub record OneSpellingInFront {A : Type 0} (p : Parser A) (spell : A → Bytes) : Type 0 where
   pub back : (x : A) (rest : Bytes) → Stops rest → p (spell x ++ rest) ≡ some (x, rest)
   pub only : (s : Bytes) (x : A) (rest : Bytes) → p s ≡ some (x, rest) → s ≡ spell x ++ rest
+
+-- what is said of a field by what is read of it: 3 where nothing is, and 4 where it is an infinity or a NaN
+unfoldable pub readingOf : Option Real → Reading
+readingOf none = refused 3
+readingOf (some r) = if isBinary64 r then reads r else refused 4
 
 pub record SpellingLaws : Type 0 where
   pub decimal : (n : ℕ) → Decimal (spellNumber n)
@@ -45,9 +65,12 @@ pub record SpellingLaws : Type 0 where
   pub numbers-in-front : OneSpellingInFront numberParser spellNumber
   pub integers : OneSpelling (whole integerParser) spellInteger
   pub integers-in-front : OneSpellingInFront integerParser spellInteger
+  pub reals : OneSpellingOf (λ r. T (kept (real r))) (whole realParser) spellReal
+  -- as reals/specs/Spelling.antt has it
+  pub reals-alike : (f : Bytes) → readReal f ≡ readingOf (whole realParser f)
   -- whatever the nesting
   pub types : OneSpelling readType spellType
-  pub values : OneSpelling readValue spellValue
+  pub values : OneSpellingOf (λ v. T (everyPart realKept v)) readValue spellValue
 
 -- ---- lengths, by which the room that an answer asks for is known
 
@@ -58,10 +81,12 @@ pub record LengthLaws : Type 0 where
   pub steps-length : (n : ℕ) → n ≤ 1000000 → length (spellNumber n) ≤ 7
   -- ten digits and a sign
   pub integer-length : (z : ℤ) → T (inRange z) → length (spellInteger z) ≤ 11
+  -- a letter and sixteen digits
+  pub real-length : (r : Real) → length (spellReal r) ≡ 17
   -- three letters with their brackets, and four bytes
   pub type-length : (t : Ty) → depth t ≤ 3 → T (classBelow 64 t) → length (spellType t) ≤ 13
-  -- twelve bytes for each part: eleven of an Integer, and one that separates it from the next
-  pub value-length : (v : Value) → T (everyPart partWithin v) → size v ≤ 128 → length (spellValue v) ≤ 1536
+  -- eighteen bytes for each part: seventeen of a Real, and one that separates it from the next
+  pub value-length : (v : Value) → T (everyPart partWithin v) → size v ≤ 128 → length (spellValue v) ≤ 2304
 
 -- ---- separators
 

@@ -8,6 +8,9 @@ use mathlib.Core.List.{List, [], _∷_, _++_}
 use lib.IntN.{ℤ, pos, negsuc}
 use lib.Dec.{eqb, leb, ltb}
 use Rattle.laws.specs.Choice.{if_then_else_, orElse, onSome, mapSome}
+use Rattle.reals.specs.Reals.{Real, held, isReal}
+use Rattle.reals.specs.Bits.{fromBits}
+use Rattle.reals.specs.Digits.{hexDigit}
 
 abbrev pub Bytes : Type 0
 Bytes = List ℕ
@@ -120,6 +123,20 @@ negative (suc n) s = some (negsuc n, s)
 -- an Integer of any length
 unfoldable pub integerParser : Parser ℤ
 integerParser = behind "-" (numberParser then negative) or mapped pos numberParser
+
+-- k hexadecimal digits in front, after digits that stood for n
+unfoldable pub hexParser : ℕ → ℕ → Parser ℕ
+hexParser zero n s = some (n, s)
+hexParser (suc k) n [] = none
+hexParser (suc k) n (b ∷ s) = onSome (hexDigit b) (λ d. hexParser k (n * 16 + d) s)
+
+-- document 02, F-8: "a whole number in the Integer range is always held as that Integer ..; a spelling that breaks this is number 3"
+unfoldable pub noInteger : Real → Parser Real
+noInteger r s = if isReal (held r) then some (r, s) else none
+
+-- "spelled `r` and 16 lower-case hexadecimal digits of its bits"; those of an infinity or a NaN too, which are 4 (Limits.antt)
+unfoldable pub realParser : Parser Real
+realParser = behind "r" (hexParser 16 0 then (λ b. noInteger (fromBits b)))
 
 -- ---- writing numbers
 

@@ -15,7 +15,7 @@ use Rattle.sheet.specs.Limits.{partWithin, nesting}
 use Rattle.values.specs.Cells.{head, enc}
 use Rattle.slots.specs.declared.parts.Part.the-variants as part
 use Rattle.slots.specs.declared.reader.Open.{Open}
-use Rattle.slots.specs.Parts.{Alone, alone-bool, alone-int, alone-obj, told-simple, told-wide, PartIs, part-bad, part-alone, part-opens}
+use Rattle.slots.specs.Parts.{Alone, alone-bool, alone-num, alone-obj, told-simple, told-wide, PartIs, part-bad, part-alone, part-opens}
 use Rattle.slots.specs.Machine.{Frame, resumeRead, enter, laid, beyond, Deep, FramesWithin, within-none, within-more, heads-nil, Wanted, ValueEnd, Live, live-wanted, live-opened, AddsCell, OpensCell}
 use Rattle.slots.proofs.MachineLaws.{start-alone, start-none, start-opens, resumed}
 use Rattle.slots.proofs.LimitLaws.{never-part}
@@ -30,25 +30,25 @@ sound-length (within-more p n s) = omega arith
 alone-cells : {v : Value} → Alone v → enc v ≡ head v ∷ []
 unfolding enc
 alone-cells alone-bool = refl
-alone-cells alone-int = refl
+alone-cells alone-num = refl
 alone-cells alone-obj = refl
 
 alone-size : {v : Value} → Alone v → size v ≡ 1
 unfolding size
 alone-size alone-bool = refl
-alone-size alone-int = refl
+alone-size alone-num = refl
 alone-size alone-obj = refl
 
 alone-nesting : {v : Value} → Alone v → nesting v ≡ 0
 unfolding nesting
 alone-nesting alone-bool = refl
-alone-nesting alone-int = refl
+alone-nesting alone-num = refl
 alone-nesting alone-obj = refl
 
 alone-part : {v : Value} → Alone v → everyPart partWithin v ≡ partWithin v
 unfolding everyPart
 alone-part alone-bool = refl
-alone-part alone-int = refl
+alone-part alone-num = refl
 alone-part alone-obj = refl
 
 deep-by : {f : Bytes} {fs : List Frame} (u : Value) (s : Bytes) → readValue f ≡ resumeRead fs u s → 1 ≤ size u → Deep f fs 0

@@ -10,20 +10,22 @@ use lib.Dec.{eqb, eqb·suc-suc}
 use borrow.Author.Tests.{ne-eqb, eqb-true}
 use Rattle.laws.specs.Choice.{if_then_else_}
 use Rattle.laws.proofs.Elements.{elem-some, elem-none}
-use Rattle.ocl.specs.Types.{Simple, any, boolean, integer, class, Parents, parentOr, up, height, simpleCode, sameSimple, climbs, simpleSubtype}
+use Rattle.ocl.specs.Types.{Simple, any, boolean, integer, real, class, Parents, parentOr, up, height, simpleCode, sameSimple, climbs, simpleSubtype}
 use Rattle.ocl.specs.Model.{classIsA, isA}
 use Rattle.tables.specs.Layout.{parentCode}
 use Rattle.slots.specs.Suits.{simpleBy, parentsOf, ClimbsIs, ObjectSuits}
 
 -- ---- one simple type and another
 
-class-not : (x c : ℕ) → c < 3 → eqb (suc (suc (suc x))) c ≡ false
-class-not x c h = ne-eqb (suc (suc (suc x))) c (λ e. omega arith)
+class-not : (x c : ℕ) → c < 4 → eqb (suc (suc (suc (suc x)))) c ≡ false
+class-not x c h = ne-eqb (suc (suc (suc (suc x)))) c (λ e. omega arith)
 
 module _ {tag : ℕ} (d x : ℕ) where
-  pub class-other : (tag ≡ 1 → ⊥) → (tag ≡ 2 → ⊥) → (tag ≡ 3 → ⊥) → eqb x d ≡ sameSimple (class x) (simpleBy tag d)
+  pub class-other : (tag ≡ 1 → ⊥) → (tag ≡ 2 → ⊥) → (tag ≡ 3 → ⊥) → (tag ≡ 4 → ⊥) → eqb x d ≡ sameSimple (class x) (simpleBy tag d)
   unfolding simpleBy sameSimple simpleCode
-  class-other p q r = sym (rw (ne-eqb tag 1 p, ne-eqb tag 2 q, ne-eqb tag 3 r) (eqb·suc-suc (suc (suc x)) (suc (suc d)) ∙ eqb·suc-suc (suc x) (suc d) ∙ eqb·suc-suc x d))
+  class-other p q r s =
+      sym (rw (ne-eqb tag 1 p, ne-eqb tag 2 q, ne-eqb tag 3 r, ne-eqb tag 4 s)
+      (eqb·suc-suc (suc (suc (suc x))) (suc (suc (suc d))) ∙ eqb·suc-suc (suc (suc x)) (suc (suc d)) ∙ eqb·suc-suc (suc x) (suc d) ∙ eqb·suc-suc x d))
 
   pub class-one : tag ≡ 1 → false ≡ sameSimple (class x) (simpleBy tag d)
   unfolding simpleBy sameSimple simpleCode
@@ -37,15 +39,21 @@ module _ {tag : ℕ} (d x : ℕ) where
   unfolding simpleBy sameSimple simpleCode
   class-three e = sym (rw e (class-not x 0 (omega arith)))
 
+  pub class-four : tag ≡ 4 → false ≡ sameSimple (class x) (simpleBy tag d)
+  unfolding simpleBy sameSimple simpleCode
+  class-four e = sym (rw e (class-not x 3 (omega arith)))
+
 any-same : (tag d : ℕ) → sameSimple any (simpleBy tag d) ≡ eqb tag 3
 unfolding simpleBy sameSimple simpleCode
-any-same tag d = go (eqb tag 1) (eqb tag 2) (eqb tag 3) refl refl refl
+any-same tag d = go (eqb tag 1) (eqb tag 2) (eqb tag 3) (eqb tag 4) refl refl refl
   where
-    go : (a b c : Bool) → eqb tag 1 ≡ a → eqb tag 2 ≡ b → eqb tag 3 ≡ c → eqb 0 (simpleCode (if a then boolean else if b then integer else if c then any else class d)) ≡ eqb tag 3
-    go true b c p q r = sym (ap (λ (n : ℕ). eqb n 3) (eqb-true tag 1 p))
-    go false true c p q r = sym (ap (λ (n : ℕ). eqb n 3) (eqb-true tag 2 q))
-    go false false true p q r = sym r
-    go false false false p q r = ne-eqb 0 (suc (suc (suc d))) (λ e. omega arith) ∙ sym r
+    go : (a b c f : Bool) → eqb tag 1 ≡ a → eqb tag 2 ≡ b → eqb tag 3 ≡ c
+        → eqb 0 (simpleCode (if a then boolean else if b then integer else if c then any else if f then real else class d)) ≡ eqb tag 3
+    go true b c f p q r = sym (ap (λ (n : ℕ). eqb n 3) (eqb-true tag 1 p))
+    go false true c f p q r = sym (ap (λ (n : ℕ). eqb n 3) (eqb-true tag 2 q))
+    go false false true f p q r = sym r
+    go false false false true p q r = sym r
+    go false false false false p q r = ne-eqb 0 (suc (suc (suc (suc d)))) (λ e. omega arith) ∙ sym r
 
 -- ---- a climb
 

@@ -6,10 +6,10 @@ use native.Mathlib.Omega.{arith}
 use lib.Dec.{T, leb, leb→le, ltb→lt}
 use borrow.Author.Tests.{le-leb}
 use Rattle.laws.proofs.Tests.{and-l, and-r, test-fails}
-use Rattle.ocl.specs.Values.{Value, bool, int, obj, coll, Values, nil, cons, size, sizes, count, everyPart, everyParts}
+use Rattle.ocl.specs.Values.{Value, bool, num, obj, coll, Values, nil, cons, size, sizes, count, everyPart, everyParts}
 use Rattle.ocl.proofs.Values.{count-sizes}
 use Rattle.sheet.specs.Limits.{partWithin, nesting, valueWithin as withinLimits}
-use Rattle.values.specs.Cells.{Fits, fits-bool, fits-int, fits-obj, fits-coll, AllFit, fit-nil, fit-cons}
+use Rattle.values.specs.Cells.{Fits, fits-bool, fits-num, fits-obj, fits-coll, AllFit, fit-nil, fit-cons}
 use Rattle.slots.specs.Machine.{mayBe}
 
 pub record May (room : ℕ) (v : Value) : Type 0 where
@@ -53,7 +53,7 @@ mutual
 
   pub within-fits : (v : Value) → T (everyPart partWithin v) → size v ≤ 4294967295 → Fits v
   within-fits (bool b) t h = fits-bool
-  within-fits (int z) t h = fits-int t
+  within-fits (num x) t h = fits-num t
   within-fits (obj o) t h = fits-obj {o = o} (let l = ltb→lt o 96 t in omega arith)
   within-fits (coll k vs) t h = fits-coll {vs = vs} (let c = count-sizes vs in omega arith) (all-fit vs t (omega arith))
 

@@ -11,7 +11,7 @@ use Rattle.laws.specs.Choice.{orElse, onSome, mapSome}
 use Rattle.laws.proofs.Options.{onSome-some}
 use Rattle.ocl.specs.Types.{Kind}
 use Rattle.ocl.specs.Values.{Value, coll, Values, nil, cons, size, sizes, append, everyPart, everyParts}
-use Rattle.sheet.specs.Text.{Bytes, bytes, after, literal, behind, _or_, _then_, mapped, nothing, atEnd, numberParser, integerParser, digits, plain}
+use Rattle.sheet.specs.Text.{Bytes, bytes, after, literal, behind, _or_, _then_, mapped, nothing, atEnd, numberParser, integerParser, realParser, digits, plain}
 use Rattle.sheet.specs.Spelling.{valueParser, membersParser, moreParser}
 use Rattle.sheet.specs.Limits.{partWithin, nesting, nestings}
 use Rattle.values.specs.Cells.{enc}
@@ -37,7 +37,7 @@ abbrev frame : Kind → Values → ℕ → Frame
 frame k us m = record { kind = k; inside = us; parts = m }
 
 value-nil : (n : ℕ) → valueParser n [] ≡ none
-unfolding valueParser bytes after literal behind _or_ mapped nothing orElse onSome mapSome integerParser numberParser digits plain
+unfolding valueParser bytes after literal behind _or_ mapped nothing orElse onSome mapSome integerParser realParser numberParser digits plain
 value-nil zero = refl
 value-nil (suc n) = refl
 

@@ -11,8 +11,8 @@ use Rattle.laws.specs.Choice.{if_then_else_}
 use borrow.Author.Tests.{ne-eqb}
 use Rattle.laws.proofs.Slices.{split-left, split-right}
 use Rattle.ocl.specs.Types.{Kind, set, sequence, bag}
-use Rattle.ocl.specs.Values.{Value, bool, int, obj, coll, Values, nil, cons, sort, members, order}
-use Rattle.ocl.specs.Operations.{isLess}
+use Rattle.ocl.specs.Values.{Value, bool, num, obj, coll, Values, nil, cons, sort, members, order}
+use Rattle.reals.specs.Reals.{isLess}
 use Rattle.sheet.specs.Refusals.{mayFollow, followed, ordered, allOrdered}
 use Rattle.values.specs.Cells.{head, enc, encs, Fits, AllFit, fit-nil, fit-cons, lex, code}
 use Rattle.values.specs.Contracts.{SortOf, Skips}
@@ -62,7 +62,7 @@ coll-ordered k us (cons v (cons w ws)) =
 ordered-law : (v : Value) → ordered v ≡ membersInOrder v && eachOrdered (members v)
 unfolding ordered membersInOrder members row eachOrdered
 ordered-law (bool b) = refl
-ordered-law (int z) = refl
+ordered-law (num x) = refl
 ordered-law (obj o) = refl
 ordered-law (coll k vs) = coll-ordered k vs vs
 

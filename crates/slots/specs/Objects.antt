@@ -10,7 +10,7 @@ use Rattle.sheet.specs.Refusals.{objectBelow}
 use Rattle.values.specs.Cells.{enc, Fits}
 
 unfoldable pub cellKnown : ℕ → ℕ → Bool
-cellKnown n c = if ltb c 8589934592 then true else if leb 12884901888 c then true else ltb (c - 8589934592) n
+cellKnown n c = if ltb c 18442240474082181120 then true else if leb 18442240478377148416 c then true else ltb (c - 18442240474082181120) n
 
 pub record KnownIs (cells : List ℕ) (n : ℕ) (r : Bool) : Type 0 where
   pub is : (v : Value) → Fits v → cells ≡ enc v → r ≡ everyPart (objectBelow n) v

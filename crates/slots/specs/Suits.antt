@@ -8,8 +8,8 @@ use lib.ListN.{getD, getElem?}
 use lib.Seq.{slice}
 use lib.Dec.{eqb}
 use Rattle.laws.specs.Choice.{if_then_else_}
-use Rattle.ocl.specs.Types.{Simple, any, boolean, integer, class, Letter, exactly, Parents, simpleSubtype, letterSubtype}
-use Rattle.ocl.specs.Values.{Value, bool, int, obj, coll}
+use Rattle.ocl.specs.Types.{Simple, any, boolean, integer, real, class, Letter, exactly, Parents, simpleSubtype, letterSubtype}
+use Rattle.ocl.specs.Values.{Value, bool, num, obj, coll}
 use Rattle.ocl.specs.Model.{Model, isA, belongs as belongsTo}
 use Rattle.types.specs.declared.Base.{Base}
 use Rattle.types.specs.declared.FlatType.{FlatType}
@@ -17,9 +17,9 @@ use Rattle.types.specs.Flat.{baseType, letterOf, tyOf}
 use Rattle.values.specs.Cells.{head, enc, Fits}
 use Rattle.tables.specs.Layout.{parentCode}
 
--- the simple type with a tag, 1 to 4, and a class
+-- the simple type with a tag, 1 to 5, and a class
 unfoldable pub simpleBy : ℕ → ℕ → Simple
-simpleBy tag d = if eqb tag 1 then boolean else if eqb tag 2 then integer else if eqb tag 3 then any else class d
+simpleBy tag d = if eqb tag 1 then boolean else if eqb tag 2 then integer else if eqb tag 3 then any else if eqb tag 4 then real else class d
 
 -- the parents as a sheet has them
 abbrev pub parentsOf : List (Option ℕ) → Parents
@@ -44,7 +44,7 @@ pub record BaseSuits (parents objects : List ℕ) (base : Base) (cell : ℕ) (r 
 -- a collection whose kind is below the letter
 unfoldable pub kindBelow : Letter → Value → Bool
 kindBelow l (bool b) = false
-kindBelow l (int z) = false
+kindBelow l (num x) = false
 kindBelow l (obj o) = false
 kindBelow l (coll k vs) = letterSubtype (exactly k) l
 

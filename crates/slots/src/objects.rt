@@ -2,10 +2,7 @@
 ghost use mathlib.Core.Path.{_≡_};
 ghost use Rattle.slots.specs.Objects.{cellKnown, KnownIs};
 use values::cells::COLLECTIONS;
-use values::cells::SORT;
-
-// Cells of objects start here, and end where those of collections start.
-const OBJECTS: u64 = 2 * SORT;
+use values::cells::OBJECTS;
 
 // Whether the cell is no object's, or that of one of n objects.
 fn known(n: u64, cell: u64) -> bool

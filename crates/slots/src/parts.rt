@@ -1,17 +1,25 @@
 // What begins at a place of a field: a value that is no collection, or a collection with its bracket.
+ghost use mathlib.Core.Path.{_≡_};
 ghost use Prim.Native.Nat.{_+_, _<_, _≤_};
 ghost use lib.ListN.{length};
-ghost use Rattle.slots.specs.Parts.{PartIs, ObjectIs, IntegerIs, OpensIs};
+ghost use Rattle.reals.specs.Reals.{int, real};
+ghost use Rattle.sheet.specs.Text.{integerParser, realParser};
+ghost use Rattle.slots.specs.Parts.{PartIs, ObjectIs, NumberIs, OpensIs, partOf};
+use text::literals::Literal;
+use text::literals::integer_literal;
+use text::literals::real_literal;
 use text::numbers::Num;
-use text::numbers::Whole;
 use text::numbers::digits_at;
 use text::numbers::integer_at;
 use text::numbers::integer_digits;
 use text::numbers::number_at;
-use values::cells::SORT;
+use values::cells::OBJECTS;
+use values::cells::empty_of;
 
 // There are at most this many objects.
 const MOST_OBJECTS: u64 = 96;
+// A Real is its letter and sixteen digits.
+const REAL: usize = 17;
 
 // A part with its cell and the place after it; Wide is a number outside its limits.
 pub enum Part {
@@ -34,7 +42,7 @@ fn object_at(f: &[u8], at: usize) -> Part
         Num::Is(o) => {
             if o < MOST_OBJECTS {
                 Part::Simple {
-                    cell: 2 * SORT + o,
+                    cell: OBJECTS + o,
                     end,
                 }
             } else {
@@ -44,22 +52,38 @@ fn object_at(f: &[u8], at: usize) -> Part
     }
 }
 
+// The part that a number is.
+fn number_part(n: Literal, end: usize) -> Part
+    ensures { λ r. ⌜ r ≡ partOf n end ⌝ }
+{
+    match n {
+        Literal::Bad => Part::Bad,
+        Literal::Over => Part::Wide { end },
+        Literal::Is(cell) => Part::Simple { cell, end },
+    }
+}
+
 // The Integer that begins at `at`.
 fn whole_at(f: &[u8], at: usize) -> Part
     requires { ⌜ at ≤ length (now f) ⌝ }
-    ensures { λ r. ⌜ IntegerIs (now (f .entry)) at r ⌝ }
+    ensures { λ r. ⌜ NumberIs integerParser int (now (f .entry)) at r ⌝ }
 {
     let d = integer_digits(f, at);
     let z = integer_at(f, at, d);
     let end = d.end;
-    match z {
-        Whole::Bad => Part::Bad,
-        Whole::Out => Part::Wide { end },
-        Whole::Is(biased) => Part::Simple {
-            cell: SORT + biased,
-            end,
-        },
+    number_part(integer_literal(z), end)
+}
+
+// The Real that begins at `at`.
+fn real_at(f: &[u8], at: usize) -> Part
+    requires { ⌜ at ≤ length (now f) ⌝ }
+    ensures { λ r. ⌜ NumberIs realParser real (now (f .entry)) at r ⌝ }
+{
+    if f.len() - at < REAL {
+        return Part::Bad;
     }
+    let end = at + REAL;
+    number_part(real_literal(&f[at..end]), end)
 }
 
 // The collection whose letter stands at `at`, if a bracket follows.
@@ -71,7 +95,7 @@ fn opens_at(f: &[u8], at: usize, kind: u64) -> Part
     if next < f.len() {
         if f[next] == b'(' {
             return Part::Opens {
-                cell: (3 + kind) * SORT,
+                cell: empty_of(kind),
                 end: next + 1,
             };
         }
@@ -94,6 +118,7 @@ pub fn part_at(f: &[u8], at: usize) -> Part
             end: at + 1,
         },
         b'@' => object_at(f, at + 1),
+        b'r' => real_at(f, at),
         b'S' => opens_at(f, at, 0),
         b'Q' => opens_at(f, at, 1),
         b'B' => opens_at(f, at, 2),

@@ -11,6 +11,7 @@ use types::classes::wide;
 use types::order::class_in;
 use types::order::tag;
 use types::order::under_outer;
+use values::cells::is_integer;
 use values::cells::payload_of;
 use values::cells::skip;
 use values::cells::sort_of;
@@ -37,6 +38,9 @@ fn same_class(tag: u64, d: u64, x: u64) -> bool
         return false;
     }
     if tag == 3 {
+        return false;
+    }
+    if tag == 4 {
         return false;
     }
     x == d
@@ -93,7 +97,13 @@ fn base_suits(parents: &[u64], objects: &[u64], base: Base, cell: u64) -> bool
     if y == 3 {
         return true;
     }
-    y == sort + 1
+    if sort == 0 {
+        return y == 1;
+    }
+    if y == 2 {
+        return is_integer(cell);
+    }
+    y == 4
 }
 
 // Whether the value with this first cell is a collection of the letter's kind.

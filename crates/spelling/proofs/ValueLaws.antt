@@ -5,34 +5,24 @@ use mathlib.Core.Path.{_≡_, refl, sym, ap, _∙_}
 use mathlib.Core.List.{List, [], _∷_}
 use native.Mathlib.Omega.{arith}
 use lib.ListN.{length, getD, length-append}
-use Rattle.laws.proofs.Tests.{test-true}
-use Rattle.laws.specs.Integers.{unbias}
 use Rattle.ocl.specs.Types.{Kind, kindCode}
-use Rattle.ocl.specs.Values.{Value, bool, int, obj, coll, Values, nil, cons, count, sort, members}
-use Rattle.ocl.specs.Operations.{inRange}
-use Rattle.sheet.specs.Text.{Bytes, bytes, spellInteger}
+use Rattle.ocl.specs.Values.{Value, bool, num, obj, coll, Values, nil, cons, count, sort, members}
+use Rattle.sheet.specs.Text.{Bytes, bytes}
 use Rattle.sheet.specs.Spelling.{kindByte, spellValue, spellMembers}
 use Rattle.text.specs.Written.{Puts}
-use Rattle.ocl.proofs.Ranges.{unbias-bias}
-use Rattle.values.specs.Cells.{enc, encs, Fits, fits-int, AllFit, kids}
-use Rattle.values.specs.Contracts.{SortOf, SimpleOf, Means, means-bool, means-int, means-obj}
+use Rattle.values.specs.Cells.{enc, encs, Fits, AllFit, kids}
+use Rattle.values.specs.Contracts.{SortOf, SimpleOf, Means}
 use Rattle.values.specs.declared.Simple.{Simple}
 use Rattle.values.proofs.Heads.{members-fit, enc-parts, kids-head, sort-kind}
 use Rattle.spelling.specs.declared.Next.{Next}
-use Rattle.spelling.specs.Contracts.{simpleSpelling, CellsStand, ValueWaits, MembersWait, Wrote}
+use Rattle.spelling.specs.Contracts.{SimpleWaits, CellsStand, ValueWaits, MembersWait, Wrote}
 use Rattle.spelling.proofs.PutLaws.{puts-behind}
 use Rattle.spelling.proofs.CellLaws.{first-cell, members-stand}
-
-means-spelling : {s : Simple} {v : Value} → Means s v → Fits v → simpleSpelling s ≡ spellValue v
-unfolding simpleSpelling spellValue
-means-spelling means-bool f = refl
-means-spelling (means-int {z} e) (fits-int h) = ap spellInteger (ap unbias e ∙ unbias-bias z (test-true (inRange z) h))
-means-spelling means-obj f = refl
 
 one-cell : (v : Value) → sort v < 3 → length (enc v) ≡ 1
 unfolding enc
 one-cell (bool b) h = refl
-one-cell (int z) h = refl
+one-cell (num x) h = refl
 one-cell (obj o) h = refl
 one-cell (coll k vs) h = absurd (omega (arith, sort-kind k vs))
 
@@ -45,7 +35,7 @@ record Opens (v : Value) : Type 0 where
 opens : (v : Value) → 3 ≤ sort v → Opens v
 unfolding sort spellValue members
 opens (bool b) h = absurd (omega arith)
-opens (int z) h = absurd (omega arith)
+opens (num x) h = absurd (omega arith)
 opens (obj o) h = absurd (omega arith)
 opens (coll k vs) h = record { kind = k; sorted = sort-kind k vs; spelled = refl }
 
@@ -58,18 +48,18 @@ members-some (cons v (cons w ws)) = simp length-append (omega arith)
 
 module _ {from s : ℕ} {cells : List ℕ} (so : SortOf (getD cells from 0) s) where
   module _ {x : Simple} (is : SimpleOf (getD cells from 0) x) (low : s < 3) where
-    simple-value : (v : Value) → Fits v → CellsStand (enc v) cells from → simpleSpelling x ≡ spellValue v
+    simple-value : (v : Value) → Fits v → CellsStand (enc v) cells from → Means x v
     simple-value v f st =
         let e = so .is v f (first-cell v st) in
-        means-spelling (is .is v f (omega arith) (first-cell v st)) f
+        is .is v f (omega arith) (first-cell v st)
 
-    pub simple-room : {at room : ℕ} → ValueWaits at from cells room → at + length (simpleSpelling x) ≤ room
-    simple-room {at} {room} w = omega (arith, w .enough, ap length (simple-value (w .v) (w .fits) (w .stands)))
+    pub simple-waits : {at room : ℕ} → ValueWaits at from cells room → SimpleWaits at x room
+    simple-waits w = record { v = w .v; fits = w .fits; means = simple-value (w .v) (w .fits) (w .stands); enough = w .enough }
 
-    pub wrote-simple : {at r : ℕ} {a b : Bytes} → Puts at (simpleSpelling x) a b r → (v : Value) → Fits v → CellsStand (enc v) cells from
+    pub wrote-simple : {at r : ℕ} {a b : Bytes} → ((v : Value) → Fits v → Means x v → Puts at (spellValue v) a b r) → (v : Value) → Fits v → CellsStand (enc v) cells from
         → Wrote (spellValue v) (length (enc v)) at from a b (record { at = r; from = from + 1 })
     wrote-simple p v f st = record {
-      bytes = rw (← simple-value v f st) p;
+      bytes = p v f (simple-value v f st);
       cells = sym (ap (λ (n : ℕ). from + n) (one-cell v (let e = so .is v f (first-cell v st) in omega arith)));
     }
 

@@ -1,17 +1,16 @@
 -- What is written of the cells of values, and where the bytes and the cells go on.
 use mathlib.Core.Path.{_≡_}
-use mathlib.Core.List.{List, _∷_, _++_}
+use mathlib.Core.List.{List, _++_}
 use Prim.Native.Nat.{ℕ, _+_, _≤_}
 use lib.ListN.{length, drop}
 use lib.Seq.{slice}
-use Rattle.laws.specs.Integers.{unbias}
 use Rattle.ocl.specs.Values.{Value, Values, count}
-use Rattle.sheet.specs.Text.{Bytes, byte, spellNumber, spellInteger}
-use Rattle.sheet.specs.Spelling.{spellBool, spellValue, spellMembers}
+use Rattle.sheet.specs.Text.{Bytes}
+use Rattle.sheet.specs.Spelling.{spellValue, spellMembers}
 use Rattle.text.specs.Written.{Puts}
 use Rattle.values.specs.Cells.{enc, encs, Fits, AllFit}
+use Rattle.values.specs.Contracts.{Means}
 use Rattle.values.specs.declared.Simple.{Simple}
-use Rattle.values.specs.declared.Simple.the-variants as simple
 use Rattle.spelling.specs.declared.Next.{Next}
 
 -- there is room at `at` for the value whose cells lie from `from` to `end`
@@ -25,16 +24,17 @@ pub record ValueFits (at : ℕ) (cells : List ℕ) (from end room : ℕ) : Type 
 
 -- ---- within the recursion
 
--- a value that is no collection, as the code holds it
-unfoldable pub simpleSpelling : Simple → Bytes
-simpleSpelling (simple.Bool b) = spellBool b
-simpleSpelling (simple.Integer n) = spellInteger (unbias n)
-simpleSpelling (simple.Object n) = byte "@" ∷ spellNumber n
-
 -- cs are the first of the cells from `from` on
 pub record CellsStand (cs cells : List ℕ) (from : ℕ) : Type 0 where
   pub rest : List ℕ
   pub is : drop from cells ≡ cs ++ rest
+
+-- s stands for a value, and there is room for its bytes
+pub record SimpleWaits (at : ℕ) (s : Simple) (room : ℕ) : Type 0 where
+  pub v : Value
+  pub fits : Fits v
+  pub means : Means s v
+  pub enough : at + length (spellValue v) ≤ room
 
 -- a value stands there, with room for its bytes
 pub record ValueWaits (at from : ℕ) (cells : List ℕ) (room : ℕ) : Type 0 where

@@ -3,6 +3,7 @@
 use text::spelling::put_byte;
 use text::spelling::put_integer;
 use text::spelling::put_number;
+use text::spelling::put_real;
 use values::Simple;
 use values::cells::member_count;
 use values::cells::simple_of;
@@ -17,7 +18,8 @@ ghost use Rattle.ocl.specs.Values.{Value, Values, count};
 ghost use Rattle.sheet.specs.Spelling.{kindByte, spellBool, spellValue, spellMembers};
 ghost use Rattle.text.specs.Written.{Puts};
 ghost use Rattle.values.specs.Cells.{enc, encs, Fits, AllFit};
-ghost use Rattle.spelling.specs.Contracts.{simpleSpelling, CellsStand, ValueWaits, MembersWait, Wrote, ValueFits};
+ghost use Rattle.values.specs.Contracts.{Means};
+ghost use Rattle.spelling.specs.Contracts.{SimpleWaits, CellsStand, ValueWaits, MembersWait, Wrote, ValueFits};
 
 // Where the next byte is written, and where the next value's cells begin.
 pub struct Next {
@@ -33,12 +35,13 @@ fn truth_byte(b: bool) -> u8
 
 // A value that is no collection.
 fn put_simple(out: &mut [u8], at: usize, s: Simple) -> usize
-    requires { ⌜ at + length (simpleSpelling s) ≤ length (now out) ⌝ }
-    ensures { λ r. ⌜ Puts at (simpleSpelling s) (now (out .entry)) (now (out .exit)) r ⌝ }
+    requires { ⌜ SimpleWaits at s (length (now out)) ⌝ }
+    ensures { λ r. ⌜ ((v : Value) → Fits v → Means s v → Puts at (spellValue v) (now (out .entry)) (now (out .exit)) r) ⌝ }
 {
     match s {
         Simple::Bool { b } => put_byte(out, at, truth_byte(b)),
         Simple::Integer { biased } => put_integer(out, at, biased),
+        Simple::Real(x) => put_real(out, at, x),
         Simple::Object { number } => {
             let digits = put_byte(out, at, b'@');
             put_number(out, digits, number)

@@ -42,10 +42,10 @@ by-length w (x ∷ t) = go (eqb (length (x .0)) (length w)) (by-length w t) refl
 
 unfoldable pub forms : Table
 forms =
-    (bytes "true", 1) ∷ (bytes "false", 0) ∷ (bytes "undef", 2) ∷ (bytes "int", 3) ∷ (bytes "self", 4) ∷ (bytes "var", 5)
-    ∷ (bytes "coll", 27) ∷ (bytes "let", 32) ∷ (bytes "if", 31) ∷ (bytes "and", 23) ∷ (bytes "or", 24) ∷ (bytes "not", 7)
+    (bytes "true", 1) ∷ (bytes "false", 0) ∷ (bytes "undef", 2) ∷ (bytes "int", 3) ∷ (bytes "real", 38) ∷ (bytes "self", 4)
+    ∷ (bytes "var", 5) ∷ (bytes "coll", 27) ∷ (bytes "let", 32) ∷ (bytes "if", 31) ∷ (bytes "and", 23) ∷ (bytes "or", 24) ∷ (bytes "not", 7)
     ∷ (bytes "isUndef", 30) ∷ (bytes "eq", 13) ∷ (bytes "less", 14) ∷ (bytes "plus", 15) ∷ (bytes "minus", 16)
-    ∷ (bytes "times", 17) ∷ (bytes "div", 18) ∷ (bytes "mod", 19) ∷ (bytes "attr", 33) ∷ (bytes "collect", 34) ∷ (bytes "call", 36) ∷ (bytes "all", 6) ∷ (bytes "as", 12)
+    ∷ (bytes "times", 17) ∷ (bytes "div", 18) ∷ (bytes "mod", 19) ∷ (bytes "over", 37) ∷ (bytes "attr", 33) ∷ (bytes "collect", 34) ∷ (bytes "call", 36) ∷ (bytes "all", 6) ∷ (bytes "as", 12)
     ∷ (bytes "size", 8) ∷ (bytes "includes", 20) ∷ (bytes "asSet", 9) ∷ (bytes "asBag", 11) ∷ (bytes "asSequence", 10)
     ∷ (bytes "including", 21) ∷ (bytes "union", 22) ∷ (bytes "iter", 35) ∷ (bytes "forAll", 25) ∷ (bytes "exists", 26) ∷ []
 

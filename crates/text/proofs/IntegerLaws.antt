@@ -15,7 +15,7 @@ use Rattle.laws.specs.Choice.{if_then_else_, mapSome, onSome, orElse}
 use Rattle.laws.proofs.Tests.{Any?, any-some}
 use Rattle.laws.proofs.Options.{orElse-none}
 use Rattle.laws.proofs.Parts.{at-next}
-use Rattle.ocl.specs.Operations.{inRange}
+use Rattle.reals.specs.Reals.{inRange}
 use Rattle.sheet.specs.Text.{Bytes, bytes, after, behind, _or_, _then_, mapped, isDigit, digits, afterDigits, plain, valueOfDigits, numberParser, negative, integerParser}
 use Rattle.sheet.specs.Lines.{anInteger}
 use Rattle.laws.specs.Integers.{bias}

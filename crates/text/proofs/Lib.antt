@@ -3,6 +3,7 @@ pub mod WordLaws
 pub mod FormLaws
 pub mod NumberLaws
 pub mod IntegerLaws
+pub mod LiteralLaws
 pub mod WrittenLaws
 pub mod DigitLaws
 pub mod PrintedLaws

@@ -8,10 +8,11 @@ use mathlib.Core.List.{List, [], _∷_}
 use borrow.Author.Tests.{eq-eqb, not-true}
 use lib.Dec.{eqb}
 use Rattle.laws.specs.Choice.{if_then_else_}
+use Rattle.reals.specs.Reals.{int, real}
 use Rattle.ocl.specs.Types.{set, sequence, bag}
-use Rattle.ocl.specs.Forms.{plus, minus, times, div, modulo, and, or, forAll, exists, ofObject, ofMembers, truth, undef, self, var, all, number, negation, sizeOf, convert, castTo, equal, less, arith, includes, including, union}
+use Rattle.ocl.specs.Forms.{plus, minus, times, div, modulo, and, or, forAll, exists, ofObject, ofMembers, truth, undef, self, var, all, number, negation, sizeOf, convert, castTo, equal, less, arith, divide, over, includes, including, union}
 use Rattle.sheet.specs.Text.{Bytes}
-use Rattle.sheet.specs.Lines.{Shape, leaf, unary, binary, connective, isUndef, conditional, letIn, attribute, call, quantified, is, next, done, aNumber, anInteger, oneOperand, twoOperands, threeNumbers, iterateFields, assembleFields, shapeOf}
+use Rattle.sheet.specs.Lines.{Shape, leaf, unary, binary, connective, isUndef, conditional, letIn, attribute, call, quantified, is, next, done, aNumber, anInteger, aReal, oneOperand, twoOperands, threeNumbers, iterateFields, assembleFields, shapeOf}
 use Rattle.text.specs.Words.{formCode}
 use Rattle.text.specs.Forms.{shapeBy}
 use Rattle.text.proofs.FormLaws.{Table, codeIn, forms, forms-code}
@@ -63,11 +64,11 @@ by-code (r ∷ t) (x ∷ xs) w h = go (is w (r .0)) (fresh (r .1) t) refl (by-co
 -- what the forms' words lead to, in the order of the table `forms`
 unfoldable shapes : List Bytes → List (Option Shape)
 shapes fs =
-    done (leaf (truth true)) fs ∷ done (leaf (truth false)) fs ∷ done (leaf undef) fs ∷ next anInteger (λ z. done (leaf (number z))) fs
-    ∷ done (leaf self) fs ∷ next aNumber (λ i. done (leaf (var i))) fs ∷ assembleFields fs ∷ threeNumbers letIn fs ∷ threeNumbers conditional fs
+    done (leaf (truth true)) fs ∷ done (leaf (truth false)) fs ∷ done (leaf undef) fs ∷ next anInteger (λ z. done (leaf (number (int z)))) fs
+    ∷ next aReal (λ r. done (leaf (number (real r)))) fs ∷ done (leaf self) fs ∷ next aNumber (λ i. done (leaf (var i))) fs ∷ assembleFields fs ∷ threeNumbers letIn fs ∷ threeNumbers conditional fs
     ∷ twoOperands (connective and) fs ∷ twoOperands (connective or) fs ∷ oneOperand (unary negation) fs ∷ oneOperand isUndef fs
     ∷ twoOperands (binary equal) fs ∷ twoOperands (binary less) fs ∷ twoOperands (binary (arith plus)) fs ∷ twoOperands (binary (arith minus)) fs
-    ∷ twoOperands (binary (arith times)) fs ∷ twoOperands (binary (arith div)) fs ∷ twoOperands (binary (arith modulo)) fs
+    ∷ twoOperands (binary (arith times)) fs ∷ twoOperands (binary (divide div)) fs ∷ twoOperands (binary (divide modulo)) fs ∷ twoOperands (binary over) fs
     ∷ twoOperands (λ e name. attribute ofObject name e) fs ∷ twoOperands (λ s name. attribute ofMembers name s) fs ∷ twoOperands call fs ∷ next aNumber (λ c. done (leaf (all c))) fs ∷ twoOperands (λ e c. unary (castTo c) e) fs
     ∷ oneOperand (unary sizeOf) fs ∷ twoOperands (binary includes) fs ∷ oneOperand (unary (convert set)) fs ∷ oneOperand (unary (convert bag)) fs
     ∷ oneOperand (unary (convert sequence)) fs ∷ twoOperands (binary including) fs ∷ twoOperands (binary union) fs ∷ iterateFields fs

@@ -5,11 +5,14 @@ use mathlib.Core.List.{[], _∷_, _++_, append-assoc, append-nil}
 use native.Mathlib.Numerals.{add-one}
 use native.Mathlib.Omega.{arith}
 use borrow.Author.Tests.{lt-ltb, le-ltb}
+use lib.Ieee.{Float}
 use lib.ListN.{length, getD, take, drop, set, length-append, length-take, length-drop, length-set, take-append-drop}
 use lib.Seq.{append-snoc, set-split, take-at, drop-append-add, drop-drop, take-length, paste-zero, paste-suc, paste}
 use Rattle.sheet.specs.Text.{Bytes, spellNumber, spellInteger}
 use Rattle.laws.specs.Integers.{unbias}
+use Rattle.floats.specs.Contracts.{Spells}
 use Rattle.text.specs.Written.{Puts}
+use Rattle.text.specs.WrittenReals.{PutsReal}
 
 -- ---- bytes at a position
 
@@ -66,6 +69,10 @@ module _ (at : ℕ) (w before : Bytes) (room : at + length w ≤ length before) 
 
   pub put-all : {now : Bytes} {i : ℕ} → PutTo at w before now i → i ≡ length w → Puts at w before now (at + i)
   put-all {now} {i} so h = record { is = so .is ∙ rw (h, take-length w); end = ap (λ (k : ℕ). at + k) h }
+
+-- the bytes of a Real's spelling
+pub puts-real : {x : Float} {text : Bytes} {at r : ℕ} {a b : Bytes} → Spells x text → Puts at text a b r → PutsReal at x a b r
+puts-real s p = record { is = λ y h e. puts-as p (s .is y h e) }
 
 -- ---- Integers
 

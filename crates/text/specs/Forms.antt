@@ -6,17 +6,19 @@ use mathlib.Core.Option.{Option, none}
 use mathlib.Core.List.{List}
 use lib.Dec.{eqb}
 use Rattle.laws.specs.Choice.{if_then_else_}
+use Rattle.reals.specs.Reals.{int, real}
 use Rattle.ocl.specs.Types.{set, sequence, bag}
-use Rattle.ocl.specs.Forms.{plus, minus, times, div, modulo, and, or, forAll, exists, ofObject, ofMembers, truth, undef, self, var, all, number, negation, sizeOf, convert, castTo, equal, less, arith, includes, including, union}
+use Rattle.ocl.specs.Forms.{plus, minus, times, div, modulo, and, or, forAll, exists, ofObject, ofMembers, truth, undef, self, var, all, number, negation, sizeOf, convert, castTo, equal, less, arith, divide, over, includes, including, union}
 use Rattle.sheet.specs.Text.{Bytes}
-use Rattle.sheet.specs.Lines.{Shape, leaf, unary, binary, connective, isUndef, conditional, letIn, attribute, call, quantified, next, done, aNumber, anInteger, oneOperand, twoOperands, threeNumbers, iterateFields, assembleFields}
+use Rattle.sheet.specs.Lines.{Shape, leaf, unary, binary, connective, isUndef, conditional, letIn, attribute, call, quantified, next, done, aNumber, anInteger, aReal, oneOperand, twoOperands, threeNumbers, iterateFields, assembleFields}
 
 unfoldable pub shapeBy : ℕ → List Bytes → Option Shape
 shapeBy k fs =
     if eqb k 1 then done (leaf (truth true)) fs
     else if eqb k 0 then done (leaf (truth false)) fs
     else if eqb k 2 then done (leaf undef) fs
-    else if eqb k 3 then next anInteger (λ z. done (leaf (number z))) fs
+    else if eqb k 3 then next anInteger (λ z. done (leaf (number (int z)))) fs
+    else if eqb k 38 then next aReal (λ r. done (leaf (number (real r)))) fs
     else if eqb k 4 then done (leaf self) fs
     else if eqb k 5 then next aNumber (λ i. done (leaf (var i))) fs
     else if eqb k 27 then assembleFields fs
@@ -31,8 +33,9 @@ shapeBy k fs =
     else if eqb k 15 then twoOperands (binary (arith plus)) fs
     else if eqb k 16 then twoOperands (binary (arith minus)) fs
     else if eqb k 17 then twoOperands (binary (arith times)) fs
-    else if eqb k 18 then twoOperands (binary (arith div)) fs
-    else if eqb k 19 then twoOperands (binary (arith modulo)) fs
+    else if eqb k 18 then twoOperands (binary (divide div)) fs
+    else if eqb k 19 then twoOperands (binary (divide modulo)) fs
+    else if eqb k 37 then twoOperands (binary over) fs
     else if eqb k 33 then twoOperands (λ e name. attribute ofObject name e) fs
     else if eqb k 34 then twoOperands (λ s name. attribute ofMembers name s) fs
     else if eqb k 36 then twoOperands call fs

@@ -9,7 +9,7 @@ use lib.ListN.{length, drop}
 use lib.Dec.{eqb}
 use Rattle.laws.specs.Choice.{if_then_else_, onSome}
 use Rattle.laws.specs.Integers.{bias}
-use Rattle.ocl.specs.Operations.{inRange}
+use Rattle.reals.specs.Reals.{inRange}
 use Rattle.sheet.specs.Text.{Bytes, byte, digits, plain, valueOfDigits}
 use Rattle.text.specs.declared.numbers.Num.{Num}
 use Rattle.text.specs.declared.numbers.Num.the-variants.{Bad, Is}

@@ -39,6 +39,7 @@ formCode w =
     else if is w (bytes "false") then 0
     else if is w (bytes "undef") then 2
     else if is w (bytes "int") then 3
+    else if is w (bytes "real") then 38
     else if is w (bytes "self") then 4
     else if is w (bytes "var") then 5
     else if is w (bytes "coll") then 27
@@ -55,6 +56,7 @@ formCode w =
     else if is w (bytes "times") then 17
     else if is w (bytes "div") then 18
     else if is w (bytes "mod") then 19
+    else if is w (bytes "over") then 37
     else if is w (bytes "attr") then 33
     else if is w (bytes "collect") then 34
     else if is w (bytes "call") then 36

@@ -1,11 +1,15 @@
 // Writing bytes and numbers at a position. Each function answers the position after what it wrote.
+use floats::spelling::spell_real;
 ghost use mathlib.Core.List.{[], _∷_};
 ghost use mathlib.Core.Path.{_≡_};
 ghost use Prim.Native.Nat.{_+_, _*_, _<_, _≤_};
 ghost use lib.ListN.{length};
+ghost use lib.Dec.{T};
+ghost use lib.Ieee.Scale.{finite};
 ghost use Rattle.sheet.specs.Text.{spellNumber, spellInteger};
 ghost use Rattle.laws.specs.Integers.{unbias};
 ghost use Rattle.text.specs.Written.{Puts, LeadOf};
+ghost use Rattle.text.specs.WrittenReals.{PutsReal};
 
 // The powers of ten that a word holds. Whoever uses them takes them into a local first: each use of the constant is a table anew.
 const POWERS: [u64; 20] = [
@@ -114,4 +118,12 @@ pub fn put_integer(out: &mut [u8], at: usize, biased: u64) -> usize
         return put_number(out, from, 2147483648 - biased);
     }
     put_number(out, at, biased - 2147483648)
+}
+
+pub fn put_real(out: &mut [u8], at: usize, x: f64) -> usize
+    requires { ⌜ T (finite x) × (at + 17 ≤ length (now out)) ⌝ }
+    ensures { λ r. ⌜ PutsReal at x (now (out .entry)) (now (out .exit)) r ⌝ }
+{
+    let text = spell_real(x);
+    put_bytes(out, at, &text)
 }

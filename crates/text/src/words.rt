@@ -75,7 +75,7 @@ fn wide(b: u8) -> u64
     b as u64
 }
 
-// The code of a form by its word, 99 for a word that is no form. Only words of the same length are compared, eight at most.
+// The code of a form by its word, 99 for a word that is no form. Only words of the same length are compared, eleven at most.
 pub fn form_code(f: &[u8]) -> u64
     ensures { λ r. ⌜ r ≡ formCode (now (f .entry)) ⌝ }
 {
@@ -88,8 +88,8 @@ pub fn form_code(f: &[u8]) -> u64
         ),
         4 => among(
             f,
-            b"true self coll less plus attr call size iter",
-            &[1, 4, 27, 14, 15, 33, 36, 8, 35],
+            b"true real self coll less plus over attr call size iter",
+            &[1, 38, 4, 27, 14, 15, 37, 33, 36, 8, 35],
         ),
         5 => among(
             f,

@@ -14,19 +14,19 @@ use Rattle.laws.specs.Choice.{mapSome}
 use Rattle.laws.specs.Lists.{allOf}
 use Rattle.laws.proofs.Cases.{AllBelow, all-below, from-below, zero-least}
 use Rattle.ocl.specs.Types.{set, sequence, bag}
-use Rattle.ocl.specs.Forms.{plus, minus, times, div, modulo, Connective, and, or, Leaf, truth, undef, self, Unary, negation, sizeOf, convert, Binary, equal, less, arith as calculation, includes, including, union}
+use Rattle.ocl.specs.Forms.{plus, minus, times, div, modulo, Connective, and, or, Leaf, truth, undef, self, Unary, negation, sizeOf, convert, Binary, equal, less, arith as calculation, divide, over, includes, including, union}
 use Rattle.sheet.specs.Text.{Bytes}
 use Rattle.sheet.specs.Lines.{Shape, leaf, unary, binary, connective, isUndef, conditional, letIn, attribute, call, quantified, iterate, assemble, done, oneOperand, twoOperands, threeNumbers}
 use Rattle.sheet.specs.Sheet.{operandsOf}
 use Rattle.sheet.specs.Limits.{isNode, isVariable, leafWithin, unaryWithin, formWithin}
 use Rattle.sheet.specs.Refusals.{twoVariables, leafKnown, unaryKnown, formKnown}
 use Rattle.text.specs.Forms.{shapeBy}
-use Rattle.nodes.specs.Nodes.{Called, TypeSaid, leafWords, unaryWords, binaryCode, arithCode, connectiveCode, shapeWords}
+use Rattle.nodes.specs.Nodes.{Called, TypeSaid, leafWords, unaryWords, binaryCode, arithCode, divisionCode, connectiveCode, shapeWords}
 use Rattle.trees.specs.declared.Parsed.{Parsed}
 use Rattle.trees.specs.declared.numbers.Numbers.{Numbers}
 use Rattle.trees.specs.Fields.{cut, four, exact, Read, unread, read, NumbersRead}
 use Rattle.trees.specs.Calls.{calledBy, byNumber}
-use Rattle.trees.specs.Forms.{StandsFor, Spelled, misspelled, spelled, FormRead, PlainCode, constant, itself, one, two, undefTest, conditional as conditionalCode}
+use Rattle.trees.specs.Forms.{StandsFor, Spelled, misspelled, spelled, FormRead, PlainCode, constant, itself, one, two, undefTest, conditional as conditionalCode, quotient}
 use Rattle.trees.proofs.ExactLaws.{chain, chain-exact, exact-length}
 
 -- ---- tests that do not see the cut
@@ -196,7 +196,7 @@ conditional-plain = record { shape = λ es. conditional (getD es 0 0) (getD es 1
     is (a ∷ b ∷ c ∷ d ∷ es) h = absurd (omega arith)
 
 plain-code : {code m : ℕ} → PlainCode code m → PlainForm code m
-unfolding shapeBy leafWithin leafKnown leafWords unaryWithin unaryKnown unaryWords binaryCode arithCode connectiveCode AllBelow
+unfolding shapeBy leafWithin leafKnown leafWords unaryWithin unaryKnown unaryWords binaryCode arithCode divisionCode connectiveCode AllBelow
 plain-code (constant {k} h) =
     all-below (λ k. PlainForm k 0) 3
     (((tt, leaf-plain 0 (truth false) refl (λ n. refl) refl (λ fs. refl)), leaf-plain 1 (truth true) refl (λ n. refl) refl (λ fs. refl)), leaf-plain 2 undef refl (λ n. refl) refl (λ fs. refl))
@@ -223,9 +223,9 @@ plain-code (two {k} l h) =
                     ((((tt, binary-plain 13 equal refl (λ fs. refl)), binary-plain 14 less refl (λ fs. refl)), binary-plain 15 (calculation plus) refl (λ fs. refl)), binary-plain 16 (calculation minus) refl (λ fs. refl)),
                     binary-plain 17 (calculation times) refl (λ fs. refl),
                   ),
-                  binary-plain 18 (calculation div) refl (λ fs. refl),
+                  binary-plain 18 (divide div) refl (λ fs. refl),
                 ),
-                binary-plain 19 (calculation modulo) refl (λ fs. refl),
+                binary-plain 19 (divide modulo) refl (λ fs. refl),
               ),
               binary-plain 20 includes refl (λ fs. refl),
             ),
@@ -240,6 +240,7 @@ plain-code (two {k} l h) =
     k l (omega arith)
 plain-code undefTest = isUndef-plain
 plain-code conditionalCode = conditional-plain
+plain-code quotient = binary-plain 37 over refl (λ fs. refl)
 
 pub plain-few : {code m : ℕ} → PlainCode code m → m ≤ 3
 plain-few (constant h) = omega arith
@@ -248,6 +249,7 @@ plain-few (one l h) = omega arith
 plain-few (two l h) = omega arith
 plain-few undefTest = omega arith
 plain-few conditionalCode = omega arith
+plain-few quotient = omega arith
 
 pub plain-read : {code m line : ℕ} {r : Numbers} (fs : List Bytes) → PlainCode code m → NumbersRead (exact m fs) r
     → FormRead line (shapeBy code fs) (record { spelled = r .good; words = code ∷ getD (r .at) 0 0 ∷ getD (r .at) 1 0 ∷ getD (r .at) 2 0 ∷ 0 ∷ 0 ∷ 0 ∷ line ∷ []; count = m; within = true; apart = true; classes = 0 })

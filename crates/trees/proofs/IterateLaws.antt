@@ -52,6 +52,7 @@ base-known n b.Void = zero-least n
 base-known n b.Bool = zero-least n
 base-known n b.Int = zero-least n
 base-known n b.Any = zero-least n
+base-known n b.Real = zero-least n
 base-known n (b.Class c) = go (decLt c n)
   where
     go : Dec (c < n) → leb (c + 1) n ≡ ltb c n

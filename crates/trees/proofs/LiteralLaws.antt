@@ -1,4 +1,4 @@
--- `int` and `coll`, and codes of no form. Assumes nothing.
+-- `int`, `real` and `coll`, and codes of no form. Assumes nothing.
 use mathlib.Core.Path.{_≡_, refl, sym, _∙_}
 use mathlib.Core.Bool.{Bool, true, false, true≢false}
 use mathlib.Core.Option.{Option, none, some}
@@ -7,7 +7,6 @@ use Prim.Native.Nat.{ℕ, _<_, _≤_}
 use native.Mathlib.Nat.{zero-add}
 use native.Mathlib.Omega.{arith}
 use borrow.Author.Tests.{eq-eqb, ne-eqb, eqb-true, eqb-false, le-leb, lt-leb}
-use lib.IntN.{ℤ}
 use lib.Dec.{eqb}
 use lib.ListN.{length, getD, take}
 use Rattle.laws.specs.Choice.{if_then_else_, orElse, onSome, mapSome}
@@ -15,19 +14,19 @@ use Rattle.laws.proofs.Cases.{AllBelow, from-below, zero-least}
 use Rattle.laws.proofs.Options.{nowhere}
 use Rattle.laws.proofs.Tests.{Any?, any-some}
 use Rattle.ocl.specs.Types.{Kind, set, sequence, bag}
-use Rattle.ocl.specs.Operations.{inRange}
+use Rattle.reals.specs.Reals.{Number, int, real, kept}
+use Rattle.reals.specs.Words.{cell}
 use Rattle.ocl.specs.Forms.{number}
 use Rattle.sheet.specs.Text.{Bytes, bytes, after, literal, _or_, whole, atEnd}
-use Rattle.sheet.specs.Lines.{leaf, assemble, next, done, each, aNumber, anInteger, aKind, atMostFour, assembleFields}
+use Rattle.sheet.specs.Lines.{Shape, leaf, assemble, next, done, each, aNumber, anInteger, aReal, aKind, atMostFour, assembleFields}
 use Rattle.sheet.specs.Sheet.{operandsOf}
 use Rattle.sheet.specs.Limits.{leafWithin, formWithin}
 use Rattle.sheet.specs.Refusals.{twoVariables, leafKnown, formKnown}
 use Rattle.text.specs.Forms.{shapeBy}
-use Rattle.laws.specs.Integers.{bias}
-use Rattle.text.specs.Numbers.{wholeOf}
+use Rattle.text.specs.Literals.{literalOf}
 use Rattle.text.specs.Words.{onlyByte}
-use Rattle.text.specs.declared.numbers.Whole.the-variants as integer
-use Rattle.text.proofs.IntegerLaws.{whole-bad, whole-out, whole-is}
+use Rattle.text.specs.declared.literals.Literal.the-variants.{Bad, Over, Is}
+use Rattle.text.proofs.LiteralLaws.{literal-bad, literal-over, literal-is}
 use Rattle.nodes.specs.Nodes.{Called, leafWords, assembleCode, operandWord, shapeWords}
 use Rattle.trees.specs.declared.Parsed.{Parsed}
 use Rattle.trees.specs.declared.numbers.Numbers.{Numbers}
@@ -37,35 +36,61 @@ use Rattle.trees.specs.Forms.{StandsFor, Spelled, misspelled, spelled, F
 use Rattle.trees.proofs.ExactLaws.{each-length}
 use Rattle.trees.proofs.FormLaws.{nodes-small, isIterate, no-type}
 
--- ---- `int`
+-- ---- `int` and `real`
 
-pub integer-not : (fs : List Bytes) → (length fs ≡ 1 → ⊥) → shapeBy 3 fs ≡ none
-unfolding shapeBy next done
-integer-not [] h = refl
-integer-not (f ∷ []) h = absurd (h refl)
-integer-not (f ∷ g ∷ fs) h = nowhere (anInteger f) _ (λ z. refl)
+-- the form of a number that one field spells
+abbrev aNumberIn : {A : Type 0} → (Bytes → Option A) → (A → Number) → List Bytes → Option Shape
+aNumberIn p c = next p (λ z. done (leaf (number (c z))))
 
-integer-one : (fs : List Bytes) → length fs ≡ 1 → shapeBy 3 fs ≡ onSome (anInteger (getD fs 0 [])) (λ z. some (leaf (number z)))
-unfolding shapeBy next done
-integer-one [] h = absurd (omega arith)
-integer-one (f ∷ []) h = refl
-integer-one (f ∷ g ∷ fs) h = absurd (omega arith)
+other-fields : {A : Type 0} (p : Bytes → Option A) (c : A → Number) (fs : List Bytes) → (length fs ≡ 1 → ⊥) → aNumberIn p c fs ≡ none
+unfolding next done
+other-fields p c [] h = refl
+other-fields p c (f ∷ []) h = absurd (h refl)
+other-fields p c (f ∷ g ∷ fs) h = nowhere (p f) _ (λ z. refl)
 
-module _ (fs : List Bytes) (many : length fs ≡ 1) where
-  pub integer-bad : integer.Bad ≡ wholeOf (anInteger (getD fs 0 [])) → shapeBy 3 fs ≡ none
-  unfolding onSome
-  integer-bad h = integer-one fs many ∙ rw (whole-bad (anInteger (getD fs 0 [])) h)
+one-field : {A : Type 0} (p : Bytes → Option A) (c : A → Number) (fs : List Bytes) → length fs ≡ 1 → aNumberIn p c fs ≡ mapSome (λ x. leaf (number x)) (mapSome c (p (getD fs 0 [])))
+unfolding next done onSome mapSome
+one-field p c [] h = absurd (omega arith)
+one-field {A} p c (f ∷ []) h = go (p f)
+  where
+    go : (o : Option A) → onSome o (λ z. some (leaf (number (c z)))) ≡ mapSome (λ x. leaf (number x)) (mapSome c o)
+    go none = refl
+    go (some z) = refl
+one-field p c (f ∷ g ∷ fs) h = absurd (omega arith)
 
-  pub integer-out : {line : ℕ} → integer.Out ≡ wholeOf (anInteger (getD fs 0 []))
-      → FormRead line (shapeBy 3 fs) (record { spelled = true; words = 3 ∷ 0 ∷ 0 ∷ 0 ∷ 0 ∷ 0 ∷ 0 ∷ line ∷ []; count = 0; within = false; apart = true; classes = 0 })
-  unfolding onSome formWithin leafWithin twoVariables operandsOf isIterate
-  integer-out {line} h = rw (integer-one fs many) (record { is = go (anInteger (getD fs 0 [])) (whole-out (anInteger (getD fs 0 [])) h); few = omega arith; size = refl })
+module _ (fs : List Bytes) where
+  pub integer-not : (length fs ≡ 1 → ⊥) → shapeBy 3 fs ≡ none
+  unfolding shapeBy
+  integer-not h = other-fields anInteger int fs h
+
+  pub real-not : (length fs ≡ 1 → ⊥) → shapeBy 38 fs ≡ none
+  unfolding shapeBy
+  real-not h = other-fields aReal real fs h
+
+  pub integer-one : length fs ≡ 1 → shapeBy 3 fs ≡ mapSome (λ x. leaf (number x)) (mapSome int (anInteger (getD fs 0 [])))
+  unfolding shapeBy
+  integer-one h = one-field anInteger int fs h
+
+  pub real-one : length fs ≡ 1 → shapeBy 38 fs ≡ mapSome (λ x. leaf (number x)) (mapSome real (aReal (getD fs 0 [])))
+  unfolding shapeBy
+  real-one h = one-field aReal real fs h
+
+-- what `number_form` answers
+module _ (o : Option Number) where
+  pub number-bad : Bad ≡ literalOf o → mapSome (λ x. leaf (number x)) o ≡ none
+  unfolding mapSome
+  number-bad h = rw (literal-bad o h)
+
+  pub number-over : {line : ℕ} → Over ≡ literalOf o
+      → FormRead line (mapSome (λ x. leaf (number x)) o) (record { spelled = true; words = 3 ∷ 0 ∷ 0 ∷ 0 ∷ 0 ∷ 0 ∷ 0 ∷ line ∷ []; count = 0; within = false; apart = true; classes = 0 })
+  unfolding mapSome formWithin leafWithin twoVariables operandsOf isIterate
+  number-over {line} h = record { is = go (literal-over o h); few = omega arith; size = refl }
     where
       p : Parsed
       p = record { spelled = true; words = 3 ∷ 0 ∷ 0 ∷ 0 ∷ 0 ∷ 0 ∷ 0 ∷ line ∷ []; count = 0; within = false; apart = true; classes = 0 }
 
-      go : (o : Option ℤ) → Any? (λ z. inRange z ≡ false) o → Spelled line (onSome o (λ z. some (leaf (number z)))) p
-      go (some z) (any-some e) =
+      go : {o : Option Number} → Any? (λ x. kept x ≡ false) o → Spelled line (mapSome (λ x. leaf (number x)) o) p
+      go (any-some {x} e) =
           spelled {p = p} refl
           (record {
             within = sym e;
@@ -74,20 +99,20 @@ module _ (fs : List Bytes) (many : length fs ≡ 1) where
             counted = refl;
             operands = refl;
             type = 0;
-            said = λ h. no-type (leaf (number z)) refl;
+            said = λ h. no-type (leaf (number x)) refl;
             words = λ h k. absurd (true≢false (sym h ∙ e));
           })
 
-  pub integer-is : {line n : ℕ} → integer.Is n ≡ wholeOf (anInteger (getD fs 0 []))
-      → FormRead line (shapeBy 3 fs) (record { spelled = true; words = 3 ∷ n ∷ 0 ∷ 0 ∷ 0 ∷ 0 ∷ 0 ∷ line ∷ []; count = 0; within = true; apart = true; classes = 0 })
-  unfolding onSome formWithin leafWithin twoVariables formKnown leafKnown operandsOf shapeWords leafWords isIterate
-  integer-is {line} {n} h = rw (integer-one fs many) (record { is = go (anInteger (getD fs 0 [])) (whole-is (anInteger (getD fs 0 [])) h); few = omega arith; size = refl })
+  pub number-is : {line w : ℕ} → Is w ≡ literalOf o
+      → FormRead line (mapSome (λ x. leaf (number x)) o) (record { spelled = true; words = 3 ∷ w ∷ 0 ∷ 0 ∷ 0 ∷ 0 ∷ 0 ∷ line ∷ []; count = 0; within = true; apart = true; classes = 0 })
+  unfolding mapSome formWithin leafWithin twoVariables formKnown leafKnown operandsOf shapeWords leafWords isIterate
+  number-is {line} {w} h = record { is = go (literal-is o h); few = omega arith; size = refl }
     where
       p : Parsed
-      p = record { spelled = true; words = 3 ∷ n ∷ 0 ∷ 0 ∷ 0 ∷ 0 ∷ 0 ∷ line ∷ []; count = 0; within = true; apart = true; classes = 0 }
+      p = record { spelled = true; words = 3 ∷ w ∷ 0 ∷ 0 ∷ 0 ∷ 0 ∷ 0 ∷ line ∷ []; count = 0; within = true; apart = true; classes = 0 }
 
-      go : (o : Option ℤ) → Any? (λ z. (inRange z ≡ true) × (n ≡ bias z)) o → Spelled line (onSome o (λ z. some (leaf (number z)))) p
-      go (some z) (any-some e) =
+      go : {o : Option Number} → Any? (λ x. (kept x ≡ true) × (w ≡ cell x)) o → Spelled line (mapSome (λ x. leaf (number x)) o) p
+      go (any-some {x} e) =
           spelled {p = p} refl
           (record {
             within = sym (e .0);
@@ -96,7 +121,7 @@ module _ (fs : List Bytes) (many : length fs ≡ 1) where
             counted = refl;
             operands = refl;
             type = 0;
-            said = λ h. no-type (leaf (number z)) refl;
+            said = λ h. no-type (leaf (number x)) refl;
             words = λ h k. rw (e .1);
           })
 
@@ -243,12 +268,12 @@ assemble-read {line} {m} {code} {r} f gs c z n few is = record { is = go (kind-s
 
 -- ---- codes of no form
 
-pub no-code : (k : ℕ) (fs : List Bytes) → 36 < k → shapeBy k fs ≡ none
+pub no-code : (k : ℕ) (fs : List Bytes) → 38 < k → shapeBy k fs ≡ none
 unfolding shapeBy
 no-code k fs h =
-    rw (off 1 (omega arith), off 0 (omega arith), off 2 (omega arith), off 3 (omega arith), off 4 (omega arith), off 5 (omega arith), off 27 (omega arith), off 32 (omega arith), off 31 (omega arith), off 23 (omega arith), off 24 (omega arith), off 7 (omega arith), off 30 (omega arith), off 13 (omega arith), off 14 (omega arith), off 15 (omega arith), off 16 (omega arith), off 17 (omega arith), off 18 (omega arith), off 19 (omega arith), off 33 (omega arith), off 34 (omega arith), off 36 (omega arith), off 6 (omega arith), off 12 (omega arith), off 8 (omega arith), off 20 (omega arith), off 9 (omega arith), off 11 (omega arith), off 10 (omega arith), off 21 (omega arith), off 22 (omega arith), off 35 (omega arith), off 25 (omega arith), off 26 (omega arith))
+    rw (off 1 (omega arith), off 0 (omega arith), off 2 (omega arith), off 3 (omega arith), off 38 (omega arith), off 4 (omega arith), off 5 (omega arith), off 27 (omega arith), off 32 (omega arith), off 31 (omega arith), off 23 (omega arith), off 24 (omega arith), off 7 (omega arith), off 30 (omega arith), off 13 (omega arith), off 14 (omega arith), off 15 (omega arith), off 16 (omega arith), off 17 (omega arith), off 18 (omega arith), off 19 (omega arith), off 37 (omega arith), off 33 (omega arith), off 34 (omega arith), off 36 (omega arith), off 6 (omega arith), off 12 (omega arith), off 8 (omega arith), off 20 (omega arith), off 9 (omega arith), off 11 (omega arith), off 10 (omega arith), off 21 (omega arith), off 22 (omega arith), off 35 (omega arith), off 25 (omega arith), off 26 (omega arith))
   where
-    off : (j : ℕ) → j < 37 → eqb k j ≡ false
+    off : (j : ℕ) → j < 39 → eqb k j ≡ false
     off j l = ne-eqb k j (λ e. omega arith)
 
 pub gap-code : (k : ℕ) (fs : List Bytes) → 28 ≤ k → k < 30 → shapeBy k fs ≡ none

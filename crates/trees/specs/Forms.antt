@@ -52,6 +52,7 @@ pub data PlainCode : ℕ → ℕ → Type 0 where
   two : {k : ℕ} → 13 ≤ k → k < 25 → PlainCode k 2
   undefTest : PlainCode 30 1
   conditional : PlainCode 31 3
+  quotient : PlainCode 37 2
 
 -- of `forAll` and `exists`
 pub record QuantifierCode (k : ℕ) : Type 0 where

@@ -17,6 +17,7 @@ classesIn b.Void = 0
 classesIn b.Bool = 0
 classesIn b.Int = 0
 classesIn b.Any = 0
+classesIn b.Real = 0
 classesIn (b.Class c) = c + 1
 
 pub record HoldsType (t : Ty) (r : TypeRead) : Type 0 where

@@ -1,23 +1,20 @@
 // The fields after a form's word, by the form's code. Document 01, The forms and their typing.
 ghost use mathlib.Core.Path.{_≡_};
 ghost use mathlib.Core.Option.{none};
-ghost use mathlib.Core.List.{List, []};
 ghost use Prim.Native.Nat.{ℕ, _≤_};
-ghost use lib.ListN.{length, getD, drop};
-ghost use Rattle.sheet.specs.Text.{Bytes, fieldsOf};
-ghost use Rattle.sheet.specs.Lines.{anInteger};
+ghost use lib.ListN.{drop};
+ghost use Rattle.sheet.specs.Text.{fieldsOf};
 ghost use Rattle.sheet.specs.Limits.{isVariable};
 ghost use Rattle.text.specs.Parts.{Cut};
 ghost use Rattle.text.specs.Forms.{shapeBy};
-ghost use Rattle.text.specs.Numbers.{wholeOf};
 ghost use Rattle.text.specs.Words.{onlyByte};
 ghost use Rattle.trees.specs.Forms.{PlainCode, QuantifierCode, AccessCode, FormRead, kindByteCode};
 use super::Parsed;
 use super::iterate::iterate_form;
+use super::literals::integer_form;
+use super::literals::real_form;
 use super::numbers::exactly;
 use super::numbers::number_fields;
-use text::numbers::Whole;
-use text::numbers::integer;
 use text::parts::Fields;
 use text::parts::field;
 use text::words::letter;
@@ -180,42 +177,6 @@ fn quantifier_form(line: &[u8], f: Fields, code: u64, k: u64) -> Parsed
     }
 }
 
-// The form of an Integer with 2147483648 added to it, if it is of the range.
-fn whole_form(z: Whole, k: u64) -> Parsed
-    ensures { λ r. ⌜ ((fs : List Bytes) → z ≡ wholeOf (anInteger (getD fs 0 [])) → length fs ≡ 1 → FormRead k (shapeBy 3 fs) r) ⌝ }
-{
-    match z {
-        Whole::Bad => misspelled(),
-        Whole::Out => Parsed {
-            spelled: true,
-            words: [3, 0, 0, 0, 0, 0, 0, k],
-            count: 0,
-            within: false,
-            apart: true,
-            classes: 0,
-        },
-        Whole::Is(n) => Parsed {
-            spelled: true,
-            words: [3, n, 0, 0, 0, 0, 0, k],
-            count: 0,
-            within: true,
-            apart: true,
-            classes: 0,
-        },
-    }
-}
-
-// `int n`
-fn integer_form(line: &[u8], f: Fields, k: u64) -> Parsed
-    requires { ⌜ Cut (now line) f × (3 ≤ f .count) ⌝ }
-    ensures { λ r. ⌜ FormRead k (shapeBy 3 (drop 3 (fieldsOf (now (line .entry))))) r ⌝ }
-{
-    if f.count != 4 {
-        return misspelled();
-    }
-    whole_form(integer(field(line, f, 3)), k)
-}
-
 // The code of `coll` by its kind; 0 where there is no such kind.
 fn kind_code(f: &[u8]) -> u64
     ensures { λ r. ⌜ r ≡ kindByteCode (onlyByte (now (f .entry))) ⌝ }
@@ -280,6 +241,8 @@ pub(crate) fn read_form(line: &[u8], f: Fields, code: u64, k: u64) -> Parsed
         33..=34 => attribute_form(line, f, code, k),
         35 => iterate_form(line, f, k),
         36 => call_form(line, f, k),
+        37 => plain_form(line, f, 37, 2, k),
+        38 => real_form(line, f, k),
         _ => misspelled(),
     }
 }

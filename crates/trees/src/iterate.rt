@@ -39,6 +39,7 @@ fn classes_in(b: Base) -> u64
         Base::Bool => 0,
         Base::Int => 0,
         Base::Any => 0,
+        Base::Real => 0,
         Base::Class(c) => c as u64 + 1,
     }
 }

@@ -4,6 +4,7 @@
 
 pub mod numbers; // fields that are numbers
 pub mod forms; // the fields after a form's word
+pub mod literals; // those of `int` and `real`
 pub mod iterate; // those of `iter`
 pub mod operands; // operands smaller, used once; depth
 pub mod calls; // the definition that a node calls

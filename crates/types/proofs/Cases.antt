@@ -2,7 +2,7 @@
 use mathlib.Core.Path.{_≡_, refl}
 use Prim.Native.Nat.{ℕ, zero, suc}
 use native.Mathlib.Omega.{arith}
-use Rattle.ocl.specs.Types.{Simple, any, boolean, integer, class, collection, Ty, void, simple}
+use Rattle.ocl.specs.Types.{Simple, any, boolean, integer, real, class, collection, Ty, void, simple}
 use Rattle.types.specs.declared.Base.{Base}
 use Rattle.types.specs.declared.Base.the-variants as b
 use Rattle.types.specs.Flat.{baseType, baseTag, baseClass, letterOf}
@@ -13,6 +13,7 @@ by-base P v s b.Void = v
 by-base P v s b.Bool = s boolean
 by-base P v s b.Int = s integer
 by-base P v s b.Any = s any
+by-base P v s b.Real = s real
 by-base P v s (b.Class c) = s (class c)
 
 -- a base that is not Void is a simple type
@@ -21,6 +22,7 @@ by-simple P s b.Void h = absurd (h refl)
 by-simple P s b.Bool h = s boolean
 by-simple P s b.Int h = s integer
 by-simple P s b.Any h = s any
+by-simple P s b.Real h = s real
 by-simple P s (b.Class c) h = s (class c)
 
 pub is-void : (x : Base) → baseTag x ≡ 0 → baseType x ≡ void
@@ -28,6 +30,7 @@ is-void b.Void e = refl
 is-void b.Bool e = absurd (omega arith)
 is-void b.Int e = absurd (omega arith)
 is-void b.Any e = absurd (omega arith)
+is-void b.Real e = absurd (omega arith)
 is-void (b.Class c) e = absurd (omega arith)
 
 pub is-any : (x : Base) → baseTag x ≡ 3 → baseType x ≡ simple any
@@ -35,13 +38,15 @@ is-any b.Void e = absurd (omega arith)
 is-any b.Bool e = absurd (omega arith)
 is-any b.Int e = absurd (omega arith)
 is-any b.Any e = refl
+is-any b.Real e = absurd (omega arith)
 is-any (b.Class c) e = absurd (omega arith)
 
-pub is-class : (x : Base) → baseTag x ≡ 4 → baseType x ≡ simple (class (baseClass x))
+pub is-class : (x : Base) → baseTag x ≡ 5 → baseType x ≡ simple (class (baseClass x))
 is-class b.Void e = absurd (omega arith)
 is-class b.Bool e = absurd (omega arith)
 is-class b.Int e = absurd (omega arith)
 is-class b.Any e = absurd (omega arith)
+is-class b.Real e = absurd (omega arith)
 is-class (b.Class c) e = refl
 
 -- every code but those of S, Q and B says C

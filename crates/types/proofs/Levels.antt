@@ -132,6 +132,7 @@ void-end parent b.Void l u = refl
 void-end parent b.Bool l u = refl
 void-end parent b.Int l u = refl
 void-end parent b.Any l u = refl
+void-end parent b.Real l u = refl
 void-end parent (b.Class n) l u = refl
 
 collection-end : (parent : Parents) (x : Base) (k : Letter) (t : Ty) → false ≡ subtype parent (around k t) (baseType x)

@@ -5,7 +5,7 @@ use mathlib.Core.Option.{none, some, Option·none-ne-some, Option·some-injectiv
 use Prim.Native.Nat.{ℕ, zero, suc, _≤_, _<_}
 use native.Mathlib.Omega.{arith}
 use lib.Dec.{eqb}
-use Rattle.ocl.specs.Types.{any, boolean, integer, class, set, sequence, bag, Letter, collection, exactly, Ty, void, simple, around, Class, depth}
+use Rattle.ocl.specs.Types.{any, boolean, integer, real, class, set, sequence, bag, Letter, collection, exactly, Ty, void, simple, around, Class, depth}
 use Rattle.ocl.specs.Typing.{onCollection}
 use Rattle.types.specs.declared.Base.{Base}
 use Rattle.types.specs.declared.Base.the-variants as b
@@ -146,6 +146,7 @@ class-is void c h = absurd (Option·none-ne-some _ (sym h))
 class-is (simple any) c h = absurd (Option·none-ne-some _ (sym h))
 class-is (simple boolean) c h = absurd (Option·none-ne-some _ (sym h))
 class-is (simple integer) c h = absurd (Option·none-ne-some _ (sym h))
+class-is (simple real) c h = absurd (Option·none-ne-some _ (sym h))
 class-is (simple (class d)) c h = ap Class (sym (Option·some-injective c d h))
 class-is (around l t) c h = absurd (Option·none-ne-some _ (sym h))
 
@@ -166,6 +167,7 @@ any-base b.Void = refl
 any-base b.Bool = refl
 any-base b.Int = refl
 any-base b.Any = refl
+any-base b.Real = refl
 any-base (b.Class c) = refl
 
 pub any-ends : (t : FlatType) (v : ℕ) → t .outer ≡ 0 → v ≡ baseTag (t .base) → eqb v 3 ≡ isAny (tyOf t)

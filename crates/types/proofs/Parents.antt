@@ -63,12 +63,12 @@ parent-some ps c (suc q) e n = ap parentOf (sym e) ∙ ap some (omega arith)
 
 other-class : (c d : ℕ) → (c ≡ d → ⊥) → sameSimple (class c) (class d) ≡ false
 unfolding sameSimple simpleCode
-other-class c d h = ne-eqb (suc (suc (suc c))) (suc (suc (suc d))) (λ e. omega arith)
+other-class c d h = ne-eqb (suc (suc (suc (suc c)))) (suc (suc (suc (suc d)))) (λ e. omega arith)
 
 climbs-any : (parent : Parents) (f d : ℕ) → climbs parent f any (class d) ≡ false
 unfolding climbs sameSimple simpleCode up
-climbs-any parent zero d = ne-eqb 0 (suc (suc (suc d))) (λ e. omega arith)
-climbs-any parent (suc f) d = rw (ne-eqb 0 (suc (suc (suc d))) (λ e. omega arith)) (climbs-any parent f d)
+climbs-any parent zero d = ne-eqb 0 (suc (suc (suc (suc d)))) (λ e. omega arith)
+climbs-any parent (suc f) d = rw (ne-eqb 0 (suc (suc (suc (suc d)))) (λ e. omega arith)) (climbs-any parent f d)
 
 pub any-not-class : (parent : Parents) (d : ℕ) → simpleSubtype parent any (class d) ≡ false
 unfolding simpleSubtype height

@@ -12,7 +12,7 @@ use lib.ListN.{length}
 use Rattle.laws.proofs.Tests.{if-same}
 use Rattle.laws.proofs.Options.{orElse-none, orElse-assoc}
 use Rattle.laws.specs.Choice.{if_then_else_, orElse, onSome, mapSome}
-use Rattle.ocl.specs.Types.{set, sequence, bag, Letter, collection, exactly, Ty, void, around, Any, Boolean, Integer, Class}
+use Rattle.ocl.specs.Types.{set, sequence, bag, Letter, collection, exactly, Ty, void, around, Any, Boolean, Integer, Real, Class}
 use Rattle.sheet.specs.Text.{Bytes, bytes, Parser, nothing, after, literal, behind, _or_, _then_, mapped, atEnd, whole, isDigit, digits, plain, numberParser}
 use Rattle.sheet.specs.Spelling.{collectionType, typeParser, readType}
 use Rattle.types.specs.Flat.{letterOf}
@@ -32,10 +32,11 @@ type-parts n s =
     let v = literal "Void" void s in
     let b = literal "Bool" Boolean s in
     let i = literal "Int" Integer s in
+    let r = literal "Real" Real s in
     let a = literal "Any" Any s in
     let h = behind "#" (mapped Class numberParser) s in
     let c = collections (typeParser n) s in
-    sym (orElse-assoc v (orElse b (orElse i (orElse a h))) c ∙ ap (orElse v) (orElse-assoc b (orElse i (orElse a h)) c ∙ ap (orElse b) (orElse-assoc i (orElse a h) c ∙ ap (orElse i) (orElse-assoc a h c))))
+    sym (orElse-assoc v (orElse b (orElse i (orElse r (orElse a h)))) c ∙ ap (orElse v) (orElse-assoc b (orElse i (orElse r (orElse a h))) c ∙ ap (orElse b) (orElse-assoc i (orElse r (orElse a h)) c ∙ ap (orElse i) (orElse-assoc r (orElse a h) c ∙ ap (orElse r) (orElse-assoc a h c)))))
 
 -- no letter is read where no bracket is second
 pair-off : (k a b : ℕ) (s : Bytes) → (b ≡ 40 → ⊥) → after (k ∷ 40 ∷ []) (a ∷ b ∷ s) ≡ none
@@ -65,7 +66,7 @@ hash-open a s = go (eqb 35 a)
 
 base-open : (a : ℕ) (s : Bytes) → base (a ∷ 40 ∷ s) ≡ none
 unfolding base literal _or_ orElse bytes
-base-open a s = rw (word-open 86 111 a (105 ∷ 100 ∷ []) s void refl, word-open 66 111 a (111 ∷ 108 ∷ []) s Boolean refl, word-open 73 110 a (116 ∷ []) s Integer refl, word-open 65 110 a (121 ∷ []) s Any refl, hash-open a s)
+base-open a s = rw (word-open 86 111 a (105 ∷ 100 ∷ []) s void refl, word-open 66 111 a (111 ∷ 108 ∷ []) s Boolean refl, word-open 73 110 a (116 ∷ []) s Integer refl, word-open 82 101 a (97 ∷ 108 ∷ []) s Real refl, word-open 65 110 a (121 ∷ []) s Any refl, hash-open a s)
 
 -- one letter, before d brackets: its members stand before one more
 member-closed : (l : Letter) (d : ℕ) (o : Option (Ty × Bytes)) → onSome (onSome o (λ x. literal ")" (around l (x .0)) (x .1))) (closed d) ≡ mapSome (around l) (onSome o (closed (suc d)))
@@ -103,17 +104,18 @@ word-read : {A : Type 0} (x : A) (w : Bytes) (d : ℕ) (s : Bytes) → onSome (o
 word-read {A} x w d s = ap (λ (o : Option (A × Bytes)). onSome o (closed d)) (orElse-none (mapSome {B = A × Bytes} (λ r. (x, r)) (after w s))) ∙ literal-closed x w d s
 
 -- the first byte tells which base can stand there
-pub base-law : (d : ℕ) (s : Bytes) → baseBefore d s ≡ (if spells (bytes "Void") d s then some void else if spells (bytes "Bool") d s then some Boolean else if spells (bytes "Int") d s then some Integer else if spells (bytes "Any") d s then some Any else hashBefore d s)
+pub base-law : (d : ℕ) (s : Bytes) → baseBefore d s ≡ (if spells (bytes "Void") d s then some void else if spells (bytes "Bool") d s then some Boolean else if spells (bytes "Int") d s then some Integer else if spells (bytes "Real") d s then some Real else if spells (bytes "Any") d s then some Any else hashBefore d s)
 unfolding baseBefore base literal behind bytes after onSome mapSome _or_ orElse spells hashBefore
 base-law d [] = refl
-base-law d (b ∷ s) = by (ℕ-discrete b 86) (ℕ-discrete b 66) (ℕ-discrete b 73) (ℕ-discrete b 65)
+base-law d (b ∷ s) = by (ℕ-discrete b 86) (ℕ-discrete b 66) (ℕ-discrete b 73) (ℕ-discrete b 82) (ℕ-discrete b 65)
   where
-    by : Dec (b ≡ 86) → Dec (b ≡ 66) → Dec (b ≡ 73) → Dec (b ≡ 65) → baseBefore d (b ∷ s) ≡ (if spells (bytes "Void") d (b ∷ s) then some void else if spells (bytes "Bool") d (b ∷ s) then some Boolean else if spells (bytes "Int") d (b ∷ s) then some Integer else if spells (bytes "Any") d (b ∷ s) then some Any else hashBefore d (b ∷ s))
-    by (yes e) q i a = rw e (word-read void (111 ∷ 105 ∷ 100 ∷ []) d s)
-    by (no h) (yes e) i a = rw e (word-read Boolean (111 ∷ 111 ∷ 108 ∷ []) d s)
-    by (no h) (no k) (yes e) a = rw e (word-read Integer (110 ∷ 116 ∷ []) d s)
-    by (no h) (no k) (no l) (yes e) = rw e (word-read Any (110 ∷ 121 ∷ []) d s)
-    by (no h) (no k) (no l) (no m) = rw (ne-eqb 86 b (λ e. h (sym e)), ne-eqb 66 b (λ e. k (sym e)), ne-eqb 73 b (λ e. l (sym e)), ne-eqb 65 b (λ e. m (sym e)))
+    by : Dec (b ≡ 86) → Dec (b ≡ 66) → Dec (b ≡ 73) → Dec (b ≡ 82) → Dec (b ≡ 65) → baseBefore d (b ∷ s) ≡ (if spells (bytes "Void") d (b ∷ s) then some void else if spells (bytes "Bool") d (b ∷ s) then some Boolean else if spells (bytes "Int") d (b ∷ s) then some Integer else if spells (bytes "Real") d (b ∷ s) then some Real else if spells (bytes "Any") d (b ∷ s) then some Any else hashBefore d (b ∷ s))
+    by (yes e) q i r a = rw e (word-read void (111 ∷ 105 ∷ 100 ∷ []) d s)
+    by (no h) (yes e) i r a = rw e (word-read Boolean (111 ∷ 111 ∷ 108 ∷ []) d s)
+    by (no h) (no k) (yes e) r a = rw e (word-read Integer (110 ∷ 116 ∷ []) d s)
+    by (no h) (no k) (no l) (yes e) a = rw e (word-read Real (101 ∷ 97 ∷ 108 ∷ []) d s)
+    by (no h) (no k) (no l) (no n) (yes e) = rw e (word-read Any (110 ∷ 121 ∷ []) d s)
+    by (no h) (no k) (no l) (no n) (no m) = rw (ne-eqb 86 b (λ e. h (sym e)), ne-eqb 66 b (λ e. k (sym e)), ne-eqb 73 b (λ e. l (sym e)), ne-eqb 82 b (λ e. n (sym e)), ne-eqb 65 b (λ e. m (sym e)))
 
 given-closed : {A B : Type 0} (f : A → B) (d : ℕ) (o : Option (A × Bytes)) → onSome (mapSome {B = B × Bytes} (λ x. (f (x .0), x .1)) o) (closed d) ≡ mapSome f (onSome o (closed d))
 unfolding onSome mapSome closed

@@ -13,7 +13,7 @@ use lib.ListN.{length, getD, take, drop, length-drop, List·getD-eq-default}
 use lib.Seq.{getD-drop, drop-drop}
 use Rattle.laws.specs.Choice.{if_then_else_, onSome, mapSome}
 use Rattle.laws.proofs.Parts.{part-all}
-use Rattle.ocl.specs.Types.{Letter, Ty, void, around, Any, Boolean, Integer, Class, depth}
+use Rattle.ocl.specs.Types.{Letter, Ty, void, around, Any, Boolean, Integer, Real, Class, depth}
 use Rattle.sheet.specs.Text.{Bytes, bytes}
 use Rattle.sheet.specs.Lines.{aNumber}
 use Rattle.sheet.specs.Limits.{typeWithin, classBelow, simpleClassBelow}
@@ -169,21 +169,25 @@ module _ (d : ℕ) (s : Bytes) where
       int-base e = base-law d s ∙ rw (v, b, e)
 
       module _ (i : spells (bytes "Int") d s ≡ false) where
-        pub any-base : spells (bytes "Any") d s ≡ true → baseBefore d s ≡ some Any
-        any-base e = base-law d s ∙ rw (v, b, i, e)
+        pub real-base : spells (bytes "Real") d s ≡ true → baseBefore d s ≡ some Real
+        real-base e = base-law d s ∙ rw (v, b, i, e)
 
-        module _ (a : spells (bytes "Any") d s ≡ false) where
-          other-base : baseBefore d s ≡ hashBefore d s
-          other-base = base-law d s ∙ rw (v, b, i, a)
+        module _ (r : spells (bytes "Real") d s ≡ false) where
+          pub any-base : spells (bytes "Any") d s ≡ true → baseBefore d s ≡ some Any
+          any-base e = base-law d s ∙ rw (v, b, i, r, e)
 
-          pub empty-base : length s ≡ 0 → baseBefore d s ≡ none
-          empty-base e = other-base ∙ hash-none d s e
+          module _ (a : spells (bytes "Any") d s ≡ false) where
+            other-base : baseBefore d s ≡ hashBefore d s
+            other-base = base-law d s ∙ rw (v, b, i, r, a)
 
-          pub no-base : (length s ≡ 0 → ⊥) → (getD s 0 0 ≡ 35 → ⊥) → baseBefore d s ≡ none
-          no-base l h = other-base ∙ first-off d s l h
+            pub empty-base : length s ≡ 0 → baseBefore d s ≡ none
+            empty-base e = other-base ∙ hash-none d s e
 
-          pub class-base : (length s ≡ 0 → ⊥) → getD s 0 0 ≡ 35 → baseBefore d s ≡ mapSome Class (numberBefore d (take (length s - 1) (drop 1 s)))
-          class-base l h = other-base ∙ first-on d s l h ∙ ap (λ (u : Bytes). mapSome Class (numberBefore d u)) (sym (part-all s 1))
+            pub no-base : (length s ≡ 0 → ⊥) → (getD s 0 0 ≡ 35 → ⊥) → baseBefore d s ≡ none
+            no-base l h = other-base ∙ first-off d s l h
+
+            pub class-base : (length s ≡ 0 → ⊥) → getD s 0 0 ≡ 35 → baseBefore d s ≡ mapSome Class (numberBefore d (take (length s - 1) (drop 1 s)))
+            class-base l h = other-base ∙ first-on d s l h ∙ ap (λ (u : Bytes). mapSome Class (numberBefore d u)) (sym (part-all s 1))
 
 -- ---- classes
 

@@ -78,6 +78,7 @@ base-class b.Void h = omega arith
 base-class b.Bool h = omega arith
 base-class b.Int h = omega arith
 base-class b.Any h = omega arith
+base-class b.Real h = omega arith
 base-class (b.Class c) h = ltb-true c 64 h
 
 pub within-class : (t : FlatType) → typeWithin (tyOf t) ≡ true → baseClass (t .base) < 64

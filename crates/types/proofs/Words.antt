@@ -31,18 +31,20 @@ base-back b.Void n s e = rw e
 base-back b.Bool n s e = rw e
 base-back b.Int n s e = rw e
 base-back b.Any n s e = rw e
+base-back b.Real n s e = rw e
 base-back (b.Class c) n s e =
-    let q : n ≡ suc (suc (suc (suc c))) = omega arith in
+    let q : n ≡ suc (suc (suc (suc (suc c)))) = omega arith in
     let l : c % 256 ≡ c = omega arith in
     rw q (ap b.Class l)
 
-pub base-class : (n : ℕ) → 4 ≤ n → b.Class ((n - 4) % 256) ≡ baseIn n
+pub base-class : (n : ℕ) → 5 ≤ n → b.Class ((n - 5) % 256) ≡ baseIn n
 unfolding baseIn
 base-class zero h = absurd (omega arith)
 base-class (suc zero) h = absurd (omega arith)
 base-class (suc (suc zero)) h = absurd (omega arith)
 base-class (suc (suc (suc zero))) h = absurd (omega arith)
-base-class (suc (suc (suc (suc c)))) h = let e : suc (suc (suc (suc c))) - 4 ≡ c = omega arith in ap (λ (k : ℕ). b.Class (k % 256)) e
+base-class (suc (suc (suc (suc zero)))) h = absurd (omega arith)
+base-class (suc (suc (suc (suc (suc c))))) h = let e : suc (suc (suc (suc (suc c)))) - 5 ≡ c = omega arith in ap (λ (k : ℕ). b.Class (k % 256)) e
 
 pub pack-law : (t : FlatType) (n o m i : ℕ) → baseClass (t .base) < 256 → n ≡ baseTag (t .base) + baseClass (t .base) → ThreeBits (t .outer) o → ThreeBits (t .middle) m → ThreeBits (t .inner) i → typeIn (o + 8 * m + 64 * i + 512 * n) ≡ tyOf t
 unfolding typeIn flatIn
@@ -56,9 +58,10 @@ pack-law t n o m i s e p q r =
     let wn : w / 512 ≡ n = omega (arith, p .small, q .small, r .small) in
     rw (wo, wm, wi, wn, base-back (t .base) n s e, p .same, q .same, r .same)
 
-pub tag-le : (a : Base) → baseTag a ≤ 4
+pub tag-le : (a : Base) → baseTag a ≤ 5
 tag-le b.Void = omega arith
 tag-le b.Bool = omega arith
 tag-le b.Int = omega arith
 tag-le b.Any = omega arith
+tag-le b.Real = omega arith
 tag-le (b.Class c) = omega arith

@@ -7,7 +7,7 @@ use Prim.Native.Nat.{ℕ, zero, suc, _<_}
 use lib.ListN.{getD}
 use lib.Dec.{leb, eqb}
 use Rattle.laws.specs.Choice.{if_then_else_}
-use Rattle.ocl.specs.Types.{any, boolean, integer, class, set, sequence, bag, Letter, collection, exactly, Ty, void, simple, around, Parents, letterSubtype, join}
+use Rattle.ocl.specs.Types.{any, boolean, integer, real, class, set, sequence, bag, Letter, collection, exactly, Ty, void, simple, around, Parents, letterSubtype, join}
 use Rattle.types.specs.declared.Base.{Base}
 use Rattle.types.specs.declared.Base.the-variants as b
 use Rattle.types.specs.declared.FlatType.{FlatType}
@@ -35,6 +35,7 @@ baseType b.Void = void
 baseType b.Bool = simple boolean
 baseType b.Int = simple integer
 baseType b.Any = simple any
+baseType b.Real = simple real
 baseType (b.Class c) = simple (class c)
 
 -- a number for each case of a base, and the class in it
@@ -43,13 +44,15 @@ baseTag b.Void = 0
 baseTag b.Bool = 1
 baseTag b.Int = 2
 baseTag b.Any = 3
-baseTag (b.Class c) = 4
+baseTag b.Real = 4
+baseTag (b.Class c) = 5
 
 abbrev pub baseClass : Base → ℕ
 baseClass b.Void = 0
 baseClass b.Bool = 0
 baseClass b.Int = 0
 baseClass b.Any = 0
+baseClass b.Real = 0
 baseClass (b.Class c) = c
 
 -- 1 is C, 2 is S, 3 is Q, 4 is B; a code of no letter counts as C

@@ -2,7 +2,7 @@
 use mathlib.Core.Bool.{Bool, true, false}
 use mathlib.Core.Option.{Option, none, some}
 use Prim.Native.Nat.{ℕ}
-use Rattle.ocl.specs.Types.{Simple, any, boolean, integer, class, set, sequence, bag, Letter, collection, exactly, Ty, void, simple, around}
+use Rattle.ocl.specs.Types.{Simple, any, boolean, integer, real, class, set, sequence, bag, Letter, collection, exactly, Ty, void, simple, around}
 use Rattle.types.specs.declared.ClassNumber.{ClassNumber}
 use Rattle.types.specs.declared.ClassNumber.the-variants as n
 
@@ -30,6 +30,7 @@ unfoldable pub simpleClass : Simple → Option ℕ
 simpleClass any = none
 simpleClass boolean = none
 simpleClass integer = none
+simpleClass real = none
 simpleClass (class c) = some c
 
 unfoldable pub classOf : Ty → Option ℕ
@@ -42,6 +43,7 @@ isAny void = false
 isAny (simple any) = true
 isAny (simple boolean) = false
 isAny (simple integer) = false
+isAny (simple real) = false
 isAny (simple (class c)) = false
 isAny (around l t) = false
 

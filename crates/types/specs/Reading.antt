@@ -8,7 +8,7 @@ use mathlib.Core.List.{[], _∷_}
 use lib.ListN.{length}
 use lib.Dec.{eqb, ltb}
 use Rattle.laws.specs.Choice.{if_then_else_, onSome, mapSome}
-use Rattle.ocl.specs.Types.{Letter, Ty, void, around, Any, Boolean, Integer, Class, depth}
+use Rattle.ocl.specs.Types.{Letter, Ty, void, around, Any, Boolean, Integer, Real, Class, depth}
 use Rattle.sheet.specs.Text.{Bytes, byte, Parser, literal, behind, _or_, mapped, numberParser}
 use Rattle.sheet.specs.Limits.{typeWithin}
 use Rattle.text.specs.declared.numbers.Num.{Num}
@@ -53,7 +53,7 @@ spells (p ∷ ps) d (b ∷ s) = eqb p b && spells ps d s
 
 -- the base types
 unfoldable pub base : Parser Ty
-base = literal "Void" void or literal "Bool" Boolean or literal "Int" Integer or literal "Any" Any or behind "#" (mapped Class numberParser)
+base = literal "Void" void or literal "Bool" Boolean or literal "Int" Integer or literal "Real" Real or literal "Any" Any or behind "#" (mapped Class numberParser)
 
 unfoldable pub baseBefore : ℕ → Bytes → Option Ty
 baseBefore d s = onSome (base s) (closed d)

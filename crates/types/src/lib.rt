@@ -15,6 +15,7 @@ pub enum Base {
     Bool,
     Int,
     Any,
+    Real,
     Class(u8),
 }
 

@@ -1,7 +1,9 @@
 // Subtype and common type: bases first, then code by code from the inside out.
 ghost use mathlib.Core.Path.{_≡_};
+ghost use mathlib.Core.Bool.{_&&_};
 ghost use mathlib.Core.Option.{some};
 ghost use Prim.Native.Nat.{_<_};
+ghost use lib.Dec.{eqb};
 ghost use Rattle.ocl.specs.Types.{Parents, letterSubtype, letterJoin, subtype as below, join as joinOf};
 ghost use Rattle.types.specs.Flat.{parentsIn, baseType, baseTag, baseClass, letterOf, tyOf, under, bare, joinedType, JoinsOneMore, level as levelOf};
 use super::Base;
@@ -10,7 +12,7 @@ use super::Joined;
 use super::classes::class_below;
 use super::classes::common_class;
 
-// A number for each case of a base: 0 for Void, 4 for a class.
+// A number for each case of a base: 0 for Void, 5 for a class.
 pub fn tag(b: Base) -> u64
     ensures { λ r. ⌜ r ≡ baseTag b ⌝ }
 {
@@ -19,7 +21,8 @@ pub fn tag(b: Base) -> u64
         Base::Bool => 1,
         Base::Int => 2,
         Base::Any => 3,
-        Base::Class(_) => 4,
+        Base::Real => 4,
+        Base::Class(_) => 5,
     }
 }
 
@@ -32,8 +35,19 @@ pub fn class_in(b: Base) -> u8
         Base::Bool => 0,
         Base::Int => 0,
         Base::Any => 0,
+        Base::Real => 0,
         Base::Class(c) => c,
     }
+}
+
+// Whether x is Int's tag and y that of Real, the one base above Int but Any.
+fn widens(x: u64, y: u64) -> bool
+    ensures { λ r. ⌜ r ≡ (eqb x 2 && eqb y 4) ⌝ }
+{
+    if x == 2 {
+        return y == 4;
+    }
+    false
 }
 
 fn base_below(parents: &[u64], a: Base, b: Base) -> bool
@@ -47,11 +61,14 @@ fn base_below(parents: &[u64], a: Base, b: Base) -> bool
     if y == 3 {
         return true;
     }
-    if x == 4 {
-        if y == 4 {
+    if x == 5 {
+        if y == 5 {
             return class_below(parents, class_in(a) as u64, class_in(b) as u64);
         }
         return false;
+    }
+    if widens(x, y) {
+        return true;
     }
     if x == y {
         return true;
@@ -71,11 +88,17 @@ fn base_join(parents: &[u64], a: Base, b: Base) -> Base
     if y == 0 {
         return a;
     }
-    if x == 4 {
-        if y == 4 {
+    if x == 5 {
+        if y == 5 {
             return common_class(parents, class_in(a), class_in(b));
         }
         return Base::Any;
+    }
+    if widens(x, y) {
+        return b;
+    }
+    if widens(y, x) {
+        return a;
     }
     if x == y {
         return a;

@@ -94,6 +94,7 @@ pub fn is_class(t: FlatType) -> ClassNumber
         Base::Bool => ClassNumber::Nothing,
         Base::Int => ClassNumber::Nothing,
         Base::Any => ClassNumber::Nothing,
+        Base::Real => ClassNumber::Nothing,
         Base::Class(c) => ClassNumber::Is(c as u64),
     }
 }

@@ -105,6 +105,9 @@ fn base_before(s: &[u8], d: usize) -> GotType
     if spells(s, b"Int", d) {
         return GotType::Is(plain(Base::Int));
     }
+    if spells(s, b"Real", d) {
+        return GotType::Is(plain(Base::Real));
+    }
     if spells(s, b"Any", d) {
         return GotType::Is(plain(Base::Any));
     }

@@ -25,6 +25,7 @@ fn put_base(out: &mut [u8], at: usize, b: Base) -> usize
         Base::Bool => put_bytes(out, at, b"Bool"),
         Base::Int => put_bytes(out, at, b"Int"),
         Base::Any => put_bytes(out, at, b"Any"),
+        Base::Real => put_bytes(out, at, b"Real"),
         Base::Class(c) => {
             let e = put_byte(out, at, b'#');
             put_number(out, e, c as u64)

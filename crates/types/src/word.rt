@@ -37,7 +37,8 @@ fn base_in(n: u64) -> Base
         1 => Base::Bool,
         2 => Base::Int,
         3 => Base::Any,
-        _ => Base::Class(((n - 4) % 256) as u8),
+        4 => Base::Real,
+        _ => Base::Class(((n - 5) % 256) as u8),
     }
 }
 

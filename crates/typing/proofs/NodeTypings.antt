@@ -38,9 +38,9 @@ module _ (m : Schema) (t : List ℕ) (n k : ℕ) (e : k ≡ word t n 0) where
   unfolding operandAt operandTyping singleAt singleType unaryTyping
   unary-node l h = unary-typing m t n k e l h ∙ fun-ext (λ Γ. ap (andThen (operandAt t n 1 m Γ)) (fun-ext (λ u. rw (ne-eqb k 30 (λ q. omega arith), ne-eqb k 33 (λ q. omega arith), ne-eqb k 34 (λ q. omega arith), ne-eqb k 36 (λ q. omega arith)))))
 
-  pub binary-node : 13 ≤ k → k < 23 → nodeAt t n m ≡ binaryAt t n k m
+  pub binary-node : (k ≡ 37) ⊎ ((13 ≤ k) × (k < 23)) → nodeAt t n m ≡ binaryAt t n k m
   unfolding operandAt operandTyping
-  binary-node l h = binary-typing m t n k e l h
+  binary-node h = binary-typing m t n k e h
 
   pub connective-node : 23 ≤ k → k < 25 → nodeAt t n m ≡ connectiveAt t n m
   unfolding operandAt operandTyping
@@ -96,8 +96,13 @@ module _ (m : Schema) (t : List ℕ) (n k : ℕ) (e : k ≡ word t n 0) where
   single-node (inr (inl (l, h))) = unary-node l h
   single-node (inr (inr (l, h))) = by-access (eqb k 33) refl l h
 
-  pub none-node : 35 ≤ k → (k ≡ 35 → ⊥) → ((k ≡ 30) ⊎ (k ≡ 36) → ⊥) → nodeAt t n m ≡ leafTyping n undef
-  none-node l a b = none-typing m t n k e (let d : k ≡ 36 → ⊥ = (λ q. b (inr q)) in omega arith)
+  pub none-node : 35 ≤ k → (k ≡ 35 → ⊥) → ((k ≡ 30) ⊎ (k ≡ 36) → ⊥) → (k ≡ 37 → ⊥) → nodeAt t n m ≡ leafTyping n undef
+  none-node l a b c = none-typing m t n k e (let d : k ≡ 36 → ⊥ = (λ q. b (inr q)) in omega arith)
+
+-- the codes of forms with two strict operands come after those with one
+pub from-13 : (k : ℕ) → (k ≡ 37) ⊎ ((13 ≤ k) × (k < 23)) → 13 ≤ k
+from-13 k (inl h) = omega arith
+from-13 k (inr h) = h .0
 
 -- the codes of `attr` and `collect` come after that of `let`
 pub from-33 : (k : ℕ) → 30 ≤ k → ((k ≡ 30) ⊎ (k ≡ 36) → ⊥) → (k ≡ 31 → ⊥) → (k ≡ 32 → ⊥) → 33 ≤ k

@@ -8,8 +8,8 @@ use super::walk::operand;
 use super::walk::pair;
 use judgements::Reply;
 use judgements::TypeEnv;
+use judgements::binary::binary_type;
 use judgements::forms::around_common;
-use judgements::forms::binary_type;
 use judgements::forms::both_below;
 use judgements::forms::conditional_type;
 use judgements::forms::join_more;
@@ -57,7 +57,7 @@ pub fn binary(
 {
     let both = pair(nodes, parents, tables, rows, n, env, marks);
     match both {
-        PairReply::Are(t, u) => binary_type(parents, form, n as u64, t, u),
+        PairReply::Are(t, u) => binary_type(parents, form, n, t, u, marks),
         PairReply::Refused(r) => r,
     }
 }

@@ -38,7 +38,7 @@ pub fn node(
     match form {
         0..=6 => leaf_type(nodes, form, n, env),
         7..=12 | 30 | 33..=34 | 36 => single(nodes, parents, tables, rows, n, form, env, marks),
-        13..=22 => binary(nodes, parents, tables, rows, n, form, env, marks),
+        13..=22 | 37 => binary(nodes, parents, tables, rows, n, form, env, marks),
         23..=24 => connective(nodes, parents, tables, rows, n, env, marks),
         25..=26 => quantified(nodes, parents, tables, rows, n, env, marks),
         27..=29 => coll(nodes, parents, tables, rows, n, form, env, marks),

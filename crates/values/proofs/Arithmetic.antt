@@ -1,22 +1,21 @@
 -- Integers held with their bias: what the proofs of the arithmetic cite. Assumes nothing.
 use mathlib.Core.Path.{_≡_, refl, sym, ap, _∙_}
 use mathlib.Core.Bool.{Bool, true, false}
-use Prim.Native.Nat.{ℕ, zero, suc, _+_, _-_, _*_, _/_, _%_, _<_, _≤_, compare}
+use Prim.Native.Nat.{ℕ, zero, suc, _+_, _-_, _*_, _/_, _%_, _<_, _≤_}
 use native.Mathlib.Omega.{arith}
 use native.Mathlib.Nat.{div-le-self, mod-lt, mul-le-mul}
 use lib.IntN.{ℤ, pos, negsuc, negℤ, natAbs, _+ℤ_, _-ℤ_, _*ℤ_}
 use lib.Dec.{T, ltb, leb}
 use borrow.Author.Tests.{lt-ltb, le-ltb, lt-leb, le-leb}
 use Rattle.laws.proofs.Integers.{Diff, add-diff, neg-diff}
-use Rattle.laws.proofs.Orders.{compare-lt, compare-eq, compare-gt, Three, less, same, over, three}
-use Rattle.ocl.specs.Values.{orderInt}
-use Rattle.ocl.specs.Forms.{Arith, plus, minus, times, div, modulo}
-use Rattle.ocl.specs.Operations.{inRange, isLess, Result, noResult, ranged, unlessZero, quotient, remainder, arithmetic}
-use Rattle.values.specs.Cells.{bias, payload}
-use Rattle.values.specs.Integers.{numOf, Calculates, Lesser, distance, alike, side, arithOf}
+use Rattle.reals.specs.Reals.{inRange, Result, noResult}
+use Rattle.ocl.specs.Forms.{Arith, plus, minus, times, Division, div, modulo}
+use Rattle.ocl.specs.Operations.{ranged, unlessZero, quotient, remainder, arithmetic, division}
+use Rattle.values.specs.Cells.{bias}
+use Rattle.values.specs.Integers.{numOf, Calculates, Divides, distance, alike, side, arithOf, divisionOf}
 use Rattle.values.specs.declared.Computed.{Computed}
 use Rattle.values.specs.declared.Computed.the-variants as num
-use Rattle.values.proofs.Heads.{range-neg, bias-order}
+use Rattle.values.proofs.Heads.{range-neg}
 
 -- ---- in range, too low, too high
 
@@ -26,7 +25,7 @@ bias-diff (pos n) h = omega arith
 bias-diff (negsuc n) h = let l = range-neg n h in omega arith
 
 is-ranged : (z : ℤ) (p q r : ℕ) → Diff z p q → q ≤ p + 2147483648 → p < q + 2147483648 → r + q ≡ p + 2147483648 → num.Is r ≡ numOf (ranged z)
-unfolding numOf payload ranged inRange bias
+unfolding numOf ranged inRange bias
 is-ranged (pos n) p q r d h k e = rw (lt-ltb n 2147483648 (omega arith)) (ap (λ (m : ℕ). num.Is m) (omega arith))
 is-ranged (negsuc n) p q r d h k e = rw (lt-ltb n 2147483648 (omega arith)) (ap (λ (m : ℕ). num.Is m) (omega arith))
 
@@ -39,20 +38,6 @@ is-high : (z : ℤ) (p q : ℕ) → Diff z p q → q + 2147483648 ≤ p → num.
 unfolding numOf ranged inRange
 is-high (pos n) p q d h = rw (le-ltb n 2147483648 (omega arith))
 is-high (negsuc n) p q d h = absurd (omega arith)
-
--- ---- less
-
-pub less-is : (a b : ℕ) → Lesser a b (ltb a b)
-unfolding isLess
-less-is a b = record { is = λ x y g h e f. by (three a b) ∙ ap isLess (bias-is x y g h e f) }
-  where
-    bias-is : (x y : ℤ) → T (inRange x) → T (inRange y) → a ≡ bias x → b ≡ bias y → compare a b ≡ orderInt x y
-    bias-is x y g h e f = rw (e, f) (bias-order x y g h)
-
-    by : Three a b → ltb a b ≡ isLess (compare a b)
-    by (less l) = lt-ltb a b l ∙ sym (ap isLess (compare-lt a b l))
-    by (same l) = le-ltb a b (omega arith) ∙ sym (ap isLess (compare-eq a b l))
-    by (over l) = le-ltb a b (omega arith) ∙ sym (ap isLess (compare-gt a b l))
 
 -- ---- plus and minus
 
@@ -196,24 +181,24 @@ some-by r (minus-sign h u) e = refl
 some-by r (plus-sign {n = zero} h u) e = absurd (omega arith)
 some-by r (plus-sign {n = suc n} h u) e = refl
 
-pub div-by-zero : {a b : ℕ} → b ≡ 2147483648 → Calculates div a b num.Undef
-unfolding arithmetic numOf
+pub div-by-zero : {a b : ℕ} → b ≡ 2147483648 → Divides div a b num.Undef
+unfolding division numOf
 div-by-zero z = record { is = λ x y g h e f. sym (ap numOf (none-by _ (sign y h f) z)) }
 
-pub mod-by-zero : {a b : ℕ} → b ≡ 2147483648 → Calculates modulo a b num.Undef
-unfolding arithmetic numOf
+pub mod-by-zero : {a b : ℕ} → b ≡ 2147483648 → Divides modulo a b num.Undef
+unfolding division numOf
 mod-by-zero z = record { is = λ x y g h e f. sym (ap numOf (none-by _ (sign y h f) z)) }
 
 module _ (a b : ℕ) {m n : ℕ} (u : m ≡ distance a) (w : n ≡ distance b) (some : b ≡ 2147483648 → ⊥) where
-  pub div-is : {up : Bool} {r : Computed} → up ≡ alike a b → r ≡ numOf (ranged (side up (m / n))) → Calculates div a b r
-  unfolding arithmetic
+  pub div-is : {up : Bool} {r : Computed} → up ≡ alike a b → r ≡ numOf (ranged (side up (m / n))) → Divides div a b r
+  unfolding division
   div-is v z = record {
     is = λ x y g h e f.
         z ∙ ap (λ (i : ℤ). numOf (ranged i)) (rw (v, u, w) (sym (quotient-side (sign x g e) (sign y h f)))) ∙ sym (ap numOf (some-by _ (sign y h f) some));
   }
 
-  pub mod-is : {r : Computed} → r ≡ numOf (ranged (side (leb 2147483648 a) (m % n))) → Calculates modulo a b r
-  unfolding arithmetic
+  pub mod-is : {r : Computed} → r ≡ numOf (ranged (side (leb 2147483648 a) (m % n))) → Divides modulo a b r
+  unfolding division
   mod-is z = record {
     is = λ x y g h e f.
         z ∙ ap (λ (i : ℤ). numOf (ranged i)) (rw (u, w) (sym (remainder-side (sign x g e) (sign y h f)))) ∙ sym (ap numOf (some-by _ (sign y h f) some));
@@ -229,21 +214,23 @@ pub arith-1 : {op : ℕ} → op ≡ 1 → arithOf op ≡ minus
 unfolding arithOf
 arith-1 e = rw e
 
-pub arith-2 : {op : ℕ} → op ≡ 2 → arithOf op ≡ times
+pub arith-2 : (op : ℕ) → 2 ≤ op → arithOf op ≡ times
 unfolding arithOf
-arith-2 e = rw e
+arith-2 zero h = absurd (omega arith)
+arith-2 (suc zero) h = absurd (omega arith)
+arith-2 (suc (suc n)) h = refl
 
-pub arith-3 : {op : ℕ} → op ≡ 3 → arithOf op ≡ div
-unfolding arithOf
-arith-3 e = rw e
+pub calculated-by : {o p : Arith} {a b : ℕ} {r : Computed} → p ≡ o → Calculates o a b r → Calculates p a b r
+calculated-by e c = rw e c
 
-pub arith-4 : (op : ℕ) → 4 ≤ op → arithOf op ≡ modulo
-unfolding arithOf
-arith-4 zero h = absurd (omega arith)
-arith-4 (suc zero) h = absurd (omega arith)
-arith-4 (suc (suc zero)) h = absurd (omega arith)
-arith-4 (suc (suc (suc zero))) h = absurd (omega arith)
-arith-4 (suc (suc (suc (suc n)))) h = refl
+pub division-0 : {op : ℕ} → op ≡ 0 → divisionOf op ≡ div
+unfolding divisionOf
+division-0 e = rw e
 
-pub by-number : {o p : Arith} {a b : ℕ} {r : Computed} → p ≡ o → Calculates o a b r → Calculates p a b r
-by-number e c = rw e c
+pub division-1 : (op : ℕ) → 1 ≤ op → divisionOf op ≡ modulo
+unfolding divisionOf
+division-1 zero h = absurd (omega arith)
+division-1 (suc n) h = refl
+
+pub divided-by : {o p : Division} {a b : ℕ} {r : Computed} → p ≡ o → Divides o a b r → Divides p a b r
+divided-by e c = rw e c

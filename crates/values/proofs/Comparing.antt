@@ -1,19 +1,16 @@
--- The order of cells where they lie, and that the same cells are the same value. Assumes nothing.
-use mathlib.Core.Path.{_≡_, refl, ap, _∙_}
-use mathlib.Core.Bool.{Bool, true, false}
+-- The order of cells where they lie, and so whether two values are the same. Assumes nothing.
+use mathlib.Core.Path.{_≡_, refl, _∙_}
 use mathlib.Core.List.{List, [], _∷_}
 use Prim.Native.Nat.{ℕ, suc, _+_, _<_, _≤_, compare, Ordering, Ordering·lt, Ordering·eq, Ordering·gt}
 use native.Mathlib.Omega.{arith}
 use lib.ListN.{length, getD}
 use lib.Seq.{slice, slice-cons, slice-empty}
-use Rattle.laws.proofs.Orders.{compare-lt, compare-gt, compare-eq, Three, less, same, over, three}
-use lib.Dec.{T, eqb}
-use borrow.Author.Tests.{eq-eqb, ne-eqb}
-use Rattle.ocl.specs.Values.{Value, thenOrder, same as sameValue}
-use Rattle.ocl.proofs.Order.{same-is}
+use Rattle.laws.proofs.Orders.{compare-lt, compare-gt, compare-eq, same}
+use lib.Dec.{eqb, isEq}
+use Rattle.ocl.specs.Values.{Value, thenOrder, order, same as sameValue}
 use Rattle.values.specs.Cells.{lex, code, enc, Fits}
 use Rattle.values.specs.Contracts.{SameAt}
-use Rattle.values.proofs.Encoding.{same-cells}
+use Rattle.values.proofs.Encoding.{order-law}
 
 -- ---- compare
 
@@ -90,31 +87,15 @@ is-gt Ordering·lt e f = absurd (e refl)
 is-gt Ordering·eq e f = absurd (f refl)
 is-gt Ordering·gt e f = refl
 
-lex-refl : (xs : List ℕ) → lex xs xs ≡ Ordering·eq
-unfolding lex thenOrder
-lex-refl [] = refl
-lex-refl (x ∷ xs) = rw (compare-eq x x refl) (lex-refl xs)
-
-lex-same : (xs ys : List ℕ) → lex xs ys ≡ Ordering·eq → xs ≡ ys
-unfolding lex thenOrder
-lex-same [] [] e = refl
-lex-same [] (y ∷ ys) e = absurd (let z : _≡_ {A = ℕ} 0 1 = cc in omega arith)
-lex-same (x ∷ xs) [] e = absurd (let z : _≡_ {A = ℕ} 0 1 = cc in omega arith)
-lex-same (x ∷ xs) (y ∷ ys) e = by (three x y) e (lex-same xs ys)
-  where
-    by : Three x y → thenOrder (compare x y) (lex xs ys) ≡ Ordering·eq → (lex xs ys ≡ Ordering·eq → xs ≡ ys) → x ∷ xs ≡ y ∷ ys
-    by (less l) e ih = absurd (let k = rw (compare-lt x y l) at e in let z : _≡_ {A = ℕ} 0 1 = cc in omega arith)
-    by (over l) e ih = absurd (let k = rw (compare-gt x y l) at e in let z : _≡_ {A = ℕ} 0 1 = cc in omega arith)
-    by (same l) e ih = let k = ih (rw (compare-eq x y l) at e) in cc
-
--- the order calls exactly the same values alike
-same-test : {v w : Value} → Fits v → Fits w → eqb (code (lex (enc v) (enc w))) 1 ≡ sameValue v w
+same-code : (o : Ordering) → eqb (code o) 1 ≡ isEq o
 unfolding code
-same-test {v} {w} f g = by (sameValue v w) (λ t. same-is v w .0 t) (λ e. same-is v w .1 e)
-  where
-    by : (b : Bool) → (T b → v ≡ w) → (v ≡ w → T b) → eqb (code (lex (enc v) (enc w))) 1 ≡ b
-    by true p q = eq-eqb (code (lex (enc v) (enc w))) 1 (let e = p tt in rw e (ap code (lex-refl (enc w))))
-    by false p q = ne-eqb _ 1 (λ e. q (same-cells f g (lex-same (enc v) (enc w) (is-eq _ e))))
+same-code Ordering·lt = refl
+same-code Ordering·eq = refl
+same-code Ordering·gt = refl
+
+same-test : {v w : Value} → Fits v → Fits w → eqb (code (lex (enc v) (enc w))) 1 ≡ sameValue v w
+unfolding sameValue
+same-test {v} {w} f g = rw (order-law f g) (same-code (order v w))
 
 pub same-at : {S : List ℕ} {p n q m r : ℕ} → Answer S p n q m r → SameAt S p n q m (eqb r 1)
 same-at a = record { is = λ v w f g e d. rw (a, e, d) (same-test f g) }

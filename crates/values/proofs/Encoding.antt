@@ -1,21 +1,19 @@
--- A value's cells: as many as its size, prefix-free, and ordered as the values are. Assumes nothing.
+-- A value's cells: as many as its size, its own, and ordered as the values are. Assumes nothing.
 use mathlib.Core.Path.{_≡_, refl, sym, ap, _∙_}
-use mathlib.Core.Bool.{true, false}
 use mathlib.Core.List.{List, [], _∷_, _++_, append-assoc, append-nil}
-use Prim.Native.Nat.{ℕ, zero, suc, _+_, _/_, _%_, _<_, compare}
+use Prim.Native.Nat.{ℕ, suc, _+_, _<_, compare, Ordering·eq}
 use native.Mathlib.Omega.{arith}
 use native.Mathlib.Nat.{add-zero}
 use lib.ListN.{length, length-append}
-use Rattle.laws.specs.Integers.{unbias}
-use Rattle.laws.proofs.Tests.{test-true}
-use Rattle.laws.proofs.Orders.{compare-same}
-use Rattle.ocl.specs.Types.{set, sequence, bag}
-use Rattle.ocl.specs.Values.{Value, bool, int, obj, coll, Values, nil, cons, count, size, sizes, thenOrder, sort, members, headOrder, order, orders}
-use Rattle.ocl.specs.Operations.{inRange}
-use Rattle.ocl.proofs.Order.{then-eq, order-is, by-members}
-use Rattle.ocl.proofs.Ranges.{unbias-bias}
-use Rattle.values.specs.Cells.{bit, payload, head, enc, encs, Fits, fits-bool, fits-int, fits-obj, fits-coll, AllFit, fit-cons, kids, past, lex}
-use Rattle.values.proofs.Heads.{members-fit, enc-parts, kids-head, then-assoc, then-like, head-order, sort-back, payload-back}
+use lib.Dec.{T}
+use Rattle.laws.proofs.Tests.{and-i}
+use Rattle.laws.proofs.Orders.{compare-same, compare-eq}
+use Rattle.ocl.specs.Values.{Value, bool, num, obj, coll, Values, nil, cons, count, size, sizes, everyPart, thenOrder, members, headOrder, order, orders}
+use Rattle.ocl.specs.Laws.{numberKept, numbersKept, allKept}
+use Rattle.ocl.proofs.Order.{order-is, by-members, order-same}
+use Rattle.ocl.proofs.HeadOrder.{then-eq}
+use Rattle.values.specs.Cells.{head, enc, encs, Fits, fits-bool, fits-num, fits-obj, fits-coll, AllFit, fit-nil, fit-cons, kids, past, lex}
+use Rattle.values.proofs.Heads.{members-fit, enc-parts, kids-head, then-assoc, then-like, head-order}
 
 -- ---- as many cells as the size says
 
@@ -24,7 +22,7 @@ mutual
 
   pub size-law : (v : Value) → length (enc v) ≡ size v
   size-law (bool b) = refl
-  size-law (int z) = refl
+  size-law (num x) = refl
   size-law (obj o) = refl
   size-law (coll k vs) = ap suc (sizes-law vs)
 
@@ -111,60 +109,23 @@ past-law {v} f y = let a = passed v f 0 y in let b = past-zero y in omega arith
 
 -- ---- the same cells are the same value
 
--- a value from its sort, payload and members
-make : ℕ → ℕ → Values → Value
-make zero zero vs = bool false
-make zero (suc n) vs = bool true
-make (suc zero) n vs = int (unbias n)
-make (suc (suc zero)) n vs = obj n
-make (suc (suc (suc zero))) n vs = coll set vs
-make (suc (suc (suc (suc zero)))) n vs = coll sequence vs
-make (suc (suc (suc (suc (suc k))))) n vs = coll bag vs
+mutual
+  unfolding numbersKept numberKept allKept everyPart
 
-make-law : {v : Value} → Fits v → make (sort v) (payload v) (members v) ≡ v
-unfolding make sort payload members bit
-make-law (fits-bool {b = true}) = refl
-make-law (fits-bool {b = false}) = refl
-make-law (fits-int {z} h) = ap int (unbias-bias z (test-true (inRange z) h))
-make-law (fits-obj h) = refl
-make-law (fits-coll {k = set} h f) = refl
-make-law (fits-coll {k = sequence} h f) = refl
-make-law (fits-coll {k = bag} h f) = refl
+  pub fits-kept : {v : Value} → Fits v → T (numbersKept v)
+  fits-kept fits-bool = tt
+  fits-kept (fits-num h) = h
+  fits-kept (fits-obj h) = tt
+  fits-kept (fits-coll h f) = all-kept f
 
--- no value's cells begin another's
-abbrev Told : Value → Type 0
-Told v = Fits v → (w : Value) → Fits w → (y z : List ℕ) → enc v ++ y ≡ enc w ++ z → (v ≡ w) × (y ≡ z)
+  all-kept : {vs : Values} → AllFit vs → T (allKept vs)
+  all-kept fit-nil = tt
+  all-kept (fit-cons {v = v} {vs = vs} f fs) = and-i (numbersKept v) (allKept vs) (fits-kept f) (all-kept fs)
 
-abbrev Tolds : Values → Type 0
-Tolds vs = AllFit vs → (ws : Values) → AllFit ws → count vs ≡ count ws → (y z : List ℕ) → encs vs ++ y ≡ encs ws ++ z → (vs ≡ ws) × (y ≡ z)
-
-told-by : (v : Value) → Tolds (members v) → Told v
-told-by v ih f w g y z e =
-    let d : head v ∷ (encs (members v) ++ y) ≡ head w ∷ (encs (members w) ++ z) = rw (enc-parts v, enc-parts w) at e in
-    let a : head v ≡ head w = cc in
-    let b : encs (members v) ++ y ≡ encs (members w) ++ z = cc in
-    let s : sort v ≡ sort w = sym (sort-back f) ∙ ap (λ (n : ℕ). n / 4294967296) a ∙ sort-back g in
-    let n : payload v ≡ payload w = sym (payload-back f) ∙ ap (λ (n : ℕ). n % 4294967296) a ∙ payload-back g in
-    let r = ih (members-fit f) (members w) (members-fit g) (same-count f g a) y z b in
-    let m = r .0 in let mv = make-law f in let mw = make-law g in
-    (cc, r .1)
-
-told-nil : Tolds nil
-unfolding count encs
-told-nil f nil g e y z d = (refl, d)
-told-nil f (cons w ws) g e y z d = absurd (omega arith)
-
-told-cons : (v : Value) (vs : Values) → Told v → Tolds vs → Tolds (cons v vs)
-unfolding count encs
-told-cons v vs p q f nil g e y z d = absurd (omega arith)
-told-cons v vs p q (fit-cons f fs) (cons w ws) (fit-cons g gs) e y z d =
-    let a = p f w g (encs vs ++ y) (encs ws ++ z) (rw (append-assoc (enc v) (encs vs) y, append-assoc (enc w) (encs ws) z) at d) in
-    let b = q fs ws gs (omega arith) y z (a .1) in
-    let i = a .0 in let j = b .0 in
-    (cc, b .1)
-
-told : (v : Value) → Told v
-told = by-members Told Tolds told-by told-nil told-cons
+lex-refl : (xs : List ℕ) → lex xs xs ≡ Ordering·eq
+unfolding lex thenOrder
+lex-refl [] = refl
+lex-refl (x ∷ xs) = rw (compare-eq x x refl) (lex-refl xs)
 
 pub same-cells : {v w : Value} → Fits v → Fits w → enc v ≡ enc w → v ≡ w
-same-cells {v} {w} f g e = told v f w g [] [] (ap (λ (l : List ℕ). l ++ []) e) .0
+same-cells {v} {w} f g e = order-same v w (fits-kept f) (fits-kept g) (sym (order-law f g) ∙ ap (lex (enc v)) (sym e) ∙ lex-refl (enc v))

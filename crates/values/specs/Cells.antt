@@ -1,37 +1,41 @@
--- Values as cells: one 64-bit word for each value, 2^32 times its sort and a payload, and after a collection's cell those of
--- its members. So there are as many cells as the value's size says, and the order of values is the order of their cells
--- (proofs/Heads.antt and proofs/Encoding.antt have the laws through which everything else knows `enc`).
+-- Values as cells: one 64-bit word for each value, and after a collection's cell those of its members. So there are as many
+-- cells as the value's size says, and the order of values is the order of their cells (proofs/Heads.antt and
+-- proofs/Encoding.antt have the laws through which everything else knows `enc`). A number's word is its place among all numbers
+-- (crate reals, specs/Words.antt); it leaves room at both ends, and there the other values have theirs.
 use mathlib.Core.Bool.{Bool, true, false}
 use mathlib.Core.List.{List, [], _∷_, _++_}
 use Prim.Native.Nat.{ℕ, zero, suc, _+_, _*_, _%_, _<_, compare, Ordering, Ordering·lt, Ordering·eq, Ordering·gt}
-use lib.IntN.{ℤ}
 use lib.Dec.{T, ltb}
 use Rattle.laws.specs.Choice.{if_then_else_}
 unfoldable pub use Rattle.laws.specs.Integers.{bias}
-use Rattle.ocl.specs.Types.{Kind}
-use Rattle.ocl.specs.Values.{Value, bool, int, obj, coll, Values, nil, cons, count, sort, thenOrder}
-use Rattle.ocl.specs.Operations.{inRange}
+use Rattle.reals.specs.Reals.{Number, kept}
+use Rattle.reals.specs.Words.{cell}
+use Rattle.ocl.specs.Types.{Kind, kindCode}
+use Rattle.ocl.specs.Values.{Value, bool, num, obj, coll, Values, nil, cons, count, thenOrder}
 
 -- false before true
 unfoldable pub bit : Bool → ℕ
 bit false = 0
 bit true = 1
 
--- the truth value, the Integer, the object's number, or how many members there are
+-- the truth value, the object's number, or how many members there are; a number is its whole cell and has none
 unfoldable pub payload : Value → ℕ
 payload (bool b) = bit b
-payload (int z) = bias z
+payload (num x) = 0
 payload (obj o) = o
 payload (coll k vs) = count vs
 
--- a value's first cell
+-- a value's first cell: objects from 2^64 - 2^52 on, Sets, Sequences and Bags after them, 2^32 apart
 unfoldable pub head : Value → ℕ
-head v = 4294967296 * sort v + payload v
+head (bool b) = bit b
+head (num x) = cell x
+head (obj o) = 18442240474082181120 + o
+head (coll k vs) = 18442240478377148416 + 4294967296 * kindCode k + count vs
 
 unfoldable mutual
   pub enc : Value → List ℕ
   enc (bool b) = head (bool b) ∷ []
-  enc (int z) = head (int z) ∷ []
+  enc (num x) = head (num x) ∷ []
   enc (obj o) = head (obj o) ∷ []
   enc (coll k vs) = head (coll k vs) ∷ encs vs
 
@@ -39,11 +43,11 @@ unfoldable mutual
   encs nil = []
   encs (cons v vs) = enc v ++ encs vs
 
--- the values that cells can hold: Integers in range, object numbers and counts of members below 2^32
+-- the values that cells can hold: numbers that a value may hold, object numbers and counts of members below 2^32
 mutual
   pub data Fits : Value → Type 0 where
     fits-bool : {b : Bool} → Fits (bool b)
-    fits-int : {z : ℤ} → T (inRange z) → Fits (int z)
+    fits-num : {x : Number} → T (kept x) → Fits (num x)
     fits-obj : {o : ℕ} → o < 4294967296 → Fits (obj o)
     fits-coll : {k : Kind} {vs : Values} → count vs < 4294967296 → AllFit vs → Fits (coll k vs)
 
@@ -68,7 +72,7 @@ code Ordering·gt = 2
 
 -- how many members the value with this first cell has; the cells of collections come last
 unfoldable pub kids : ℕ → ℕ
-kids c = if ltb c 12884901888 then 0 else c % 4294967296
+kids c = if ltb c 18442240478377148416 then 0 else c % 4294967296
 
 -- how many cells the next n values take
 unfoldable pub past : List ℕ → ℕ → ℕ

@@ -6,11 +6,16 @@ use mathlib.Core.List.{List, _∷_, _++_}
 use Prim.Native.Nat.{ℕ, suc, _+_, _-_, _<_, _≤_}
 use lib.ListN.{length, getD, take, drop}
 use lib.Seq.{slice}
-use lib.Dec.{leb}
+use lib.Dec.{T, leb}
 use lib.IntN.{ℤ}
+use lib.Ieee.{Float}
+use lib.Ieee.Scale.{finite}
 use Rattle.laws.specs.Choice.{if_then_else_}
 use Rattle.ocl.specs.Types.{Kind, set, bag, kindCode}
-use Rattle.ocl.specs.Values.{Value, bool, int, obj, coll, Values, nil, count, size, sort, same, has, insert, append, add, addAll}
+use Rattle.ocl.specs.Values.{Value, bool, num, obj, coll, Values, nil, count, size, sort, same, has, insert, append, add, addAll}
+use Rattle.ocl.specs.Operations.{isInt}
+use Rattle.reals.specs.Reals.{Real, int, real}
+use Rattle.reals.specs.Floats.{f64Of}
 use Rattle.values.specs.Cells.{bias, payload, head, enc, encs, Fits, AllFit, past}
 use Rattle.values.specs.declared.Simple.{Simple}
 use Rattle.values.specs.declared.Simple.the-variants as simple
@@ -25,35 +30,42 @@ use Rattle.values.specs.declared.Formed.the-variants as formed
 pub record SortOf (cell r : ℕ) : Type 0 where
   pub is : (v : Value) → Fits v → cell ≡ head v → r ≡ sort v
 
--- its payload
+-- its payload, where it is no number
 pub record PayloadOf (cell r : ℕ) : Type 0 where
   pub small : r < 4294967296
-  pub is : (v : Value) → Fits v → cell ≡ head v → r ≡ payload v
+  pub is : (v : Value) → Fits v → (sort v ≡ 1 → ⊥) → cell ≡ head v → r ≡ payload v
 
--- which values a simple value of the code stands for; an Integer is held with its bias
+-- is it an Integer
+pub record IntegerTest (cell : ℕ) (r : Bool) : Type 0 where
+  pub is : (v : Value) → Fits v → cell ≡ head v → r ≡ isInt v
+
+-- which values a simple value of the code stands for; an Integer is held with its bias, a Real as the f64 with its bits
 pub data Means : Simple → Value → Type 0 where
   means-bool : {b : Bool} → Means (simple.Bool b) (bool b)
-  means-int : {n : ℕ} {z : ℤ} → n ≡ bias z → Means (simple.Integer n) (int z)
+  means-int : {n : ℕ} {z : ℤ} → n ≡ bias z → Means (simple.Integer n) (num (int z))
+  means-real : {x : Float} {r : Real} → x ≡ f64Of r → Means (simple.Real x) (num (real r))
   means-obj : {n : ℕ} → Means (simple.Object n) (obj n)
 
--- its number fits into a cell
+-- it fits into a cell, whatever it stands for
 abbrev pub Narrow : Simple → Type 0
 Narrow (simple.Bool b) = Unit {0}
 Narrow (simple.Integer n) = n < 4294967296
+Narrow (simple.Real x) = T (finite x)
 Narrow (simple.Object n) = n < 4294967296
 
 -- the simple value with this cell
 pub record SimpleOf (cell : ℕ) (r : Simple) : Type 0 where
+  pub narrow : Narrow r
   pub is : (v : Value) → Fits v → sort v < 3 → cell ≡ head v → Means r v
 
 -- and its cell
 pub record CellOf (s : Simple) (r : ℕ) : Type 0 where
-  pub is : (v : Value) → Means s v → r ≡ head v
+  pub is : (v : Value) → Fits v → Means s v → r ≡ head v
 
 -- the simple value at sp
 pub record Pushes (s : Simple) (sp : ℕ) (before after : List ℕ) : Type 0 where
   pub low : take sp after ≡ take sp before
-  pub lies : (v : Value) → Means s v → take (sp + 1) after ≡ take sp before ++ enc v
+  pub lies : (v : Value) → Fits v → Means s v → take (sp + 1) after ≡ take sp before ++ enc v
 
 -- the first cell of an empty collection
 pub record EmptyOf (kind r : ℕ) : Type 0 where
@@ -117,8 +129,8 @@ pub record PutsIn (sp at mid le : ℕ) (before after : List ℕ) (r : Formed) : 
   pub small : SmallForm r
   pub low : take sp after ≡ take sp before
   pub over : 128 < mid - sp + le → r ≡ formed.Over
-  pub done : mid - sp + le ≤ 128 → getD before sp 0 < 25769803776 → r ≡ formed.Done (mid - sp + le)
-  pub lies : mid - sp + le ≤ 128 → getD before sp 0 < 25769803776
+  pub done : mid - sp + le ≤ 128 → getD before sp 0 < 18442240491262050304 → r ≡ formed.Done (mid - sp + le)
+  pub lies : mid - sp + le ≤ 128 → getD before sp 0 < 18442240491262050304
       → take (sp + (mid - sp + le)) after
       ≡ take sp before ++ ((getD before sp 0 + 1) ∷ (slice (sp + 1) at before ++ (slice mid (mid + le) before ++ slice at mid before)))
 

@@ -3,20 +3,14 @@
 use crate::Computed;
 ghost use mathlib.Core.Path.{_≡_};
 ghost use Prim.Native.Nat.{_≤_, _<_};
-ghost use Rattle.ocl.specs.Forms.{Arith};
+ghost use Rattle.ocl.specs.Forms.{Arith, Division};
 ghost use Rattle.ocl.specs.Operations.{ranged};
-ghost use Rattle.values.specs.Integers.{Calculates, Lesser, arithOf, numOf, side, distance as distanceOf, alike as alikeOf};
+ghost use Rattle.values.specs.Integers.{Calculates, Divides, arithOf, divisionOf, numOf, side, distance as distanceOf, alike as alikeOf};
 
 // How 0 is stored.
 pub const ZERO: u64 = 2_147_483_648;
 // Every stored Integer is below this.
 pub const END: u64 = 4_294_967_296;
-
-pub fn less(a: u64, b: u64) -> bool
-    ensures { λ r. ⌜ Lesser a b r ⌝ }
-{
-    a < b
-}
 
 pub fn plus(a: u64, b: u64) -> Computed
     requires { ⌜ (a < 4294967296) × (b < 4294967296) ⌝ }
@@ -92,7 +86,7 @@ pub fn times(a: u64, b: u64) -> Computed
 // Cut toward zero: the distances are divided. Only -2147483648 by -1 leaves the range.
 pub fn div(a: u64, b: u64) -> Computed
     requires { ⌜ (a < 4294967296) × (b < 4294967296) ⌝ }
-    ensures { λ r. ⌜ Calculates Arith.div a b r ⌝ }
+    ensures { λ r. ⌜ Divides Division.div a b r ⌝ }
 {
     if b == ZERO {
         return Computed::Undef;
@@ -103,7 +97,7 @@ pub fn div(a: u64, b: u64) -> Computed
 // What `div` leaves, on the dividend's side of 0.
 pub fn modulo(a: u64, b: u64) -> Computed
     requires { ⌜ (a < 4294967296) × (b < 4294967296) ⌝ }
-    ensures { λ r. ⌜ Calculates Arith.modulo a b r ⌝ }
+    ensures { λ r. ⌜ Divides Division.modulo a b r ⌝ }
 {
     if b == ZERO {
         return Computed::Undef;
@@ -111,7 +105,7 @@ pub fn modulo(a: u64, b: u64) -> Computed
     toward(ZERO <= a, distance(a) % distance(b))
 }
 
-// The operation with the number op: 0 plus, 1 minus, 2 times, 3 div, 4 mod.
+// The operation with the number op: 0 plus, 1 minus, 2 times.
 pub fn calculate(op: u64, a: u64, b: u64) -> Computed
     requires { ⌜ (a < 4294967296) × (b < 4294967296) ⌝ }
     ensures { λ r. ⌜ Calculates (arithOf op) a b r ⌝ }
@@ -119,8 +113,17 @@ pub fn calculate(op: u64, a: u64, b: u64) -> Computed
     match op {
         0 => plus(a, b),
         1 => minus(a, b),
-        2 => times(a, b),
-        3 => div(a, b),
+        _ => times(a, b),
+    }
+}
+
+// The division with the number op: 0 div, 1 mod.
+pub fn divide(op: u64, a: u64, b: u64) -> Computed
+    requires { ⌜ (a < 4294967296) × (b < 4294967296) ⌝ }
+    ensures { λ r. ⌜ Divides (divisionOf op) a b r ⌝ }
+{
+    match op {
+        0 => div(a, b),
         _ => modulo(a, b),
     }
 }

@@ -1,22 +1,31 @@
 // Single cells, and runs of cells.
 use crate::Formed;
 use crate::Simple;
+use floats::Number;
+use floats::Whole;
+use floats::cells::integer_cell;
+use floats::cells::integer_in;
+use floats::cells::number_of;
 ghost use mathlib.Core.Path.{_≡_};
 ghost use mathlib.Core.List.{_++_};
 ghost use mathlib.Core.Logic.{_⊎_};
 ghost use Prim.Native.Nat.{_+_, _*_, _≤_, _<_};
 ghost use lib.ListN.{length, take, drop};
 ghost use Rattle.values.specs.Cells.{kids};
-ghost use Rattle.values.specs.Contracts.{SortOf, PayloadOf, SimpleOf, CellOf, Narrow, Pushes, EmptyOf, Skips, Slides, Copies, Brings};
+ghost use Rattle.values.specs.Contracts.{SortOf, PayloadOf, IntegerTest, SimpleOf, CellOf, Narrow, Pushes, EmptyOf, Skips, Slides, Copies, Brings};
 
-// A cell is its sort times this, plus a payload below it.
+// The cells of truth values are below this, and those of numbers follow.
+pub const NUMBERS: u64 = 2;
+// Cells of objects start here, above those of all numbers, and those of the collections follow and end before TOP.
+pub const OBJECTS: u64 = 18_442_240_474_082_181_120;
+
+pub const COLLECTIONS: u64 = 18_442_240_478_377_148_416;
+
+pub const TOP: u64 = 18_442_240_491_262_050_304;
+// From OBJECTS on a cell is its sort times this, plus a payload below it.
 pub const SORT: u64 = 4_294_967_296;
-// Cells of collections start here, and end before TOP.
-pub const COLLECTIONS: u64 = 12_884_901_888;
-
-pub const TOP: u64 = 25_769_803_776;
 // The sorts. That of truth values is 0.
-pub const INTEGER: u64 = 1;
+pub const NUMBER: u64 = 1;
 
 pub const OBJECT: u64 = 2;
 
@@ -34,18 +43,34 @@ fn wide(x: u64) -> usize
     x as usize
 }
 
-// The sort of the value with this first cell: 0 truth value, 1 Integer, 2 object, 3 Set, 4 Sequence, 5 Bag.
+// The sort of the value with this first cell: 0 truth value, 1 number, 2 object, 3 Set, 4 Sequence, 5 Bag.
 pub fn sort_of(cell: u64) -> u64
     ensures { λ r. ⌜ SortOf cell r ⌝ }
 {
-    cell / SORT
+    if cell < NUMBERS {
+        0
+    } else if cell < OBJECTS {
+        NUMBER
+    } else {
+        OBJECT + (cell - OBJECTS) / SORT
+    }
 }
 
-// The truth value, Integer, object number or member count in a value's first cell.
+// The truth value, object number or member count in a value's first cell. For a number's cell the result means nothing.
 pub fn payload_of(cell: u64) -> u64
     ensures { λ r. ⌜ PayloadOf cell r ⌝ }
 {
     cell % SORT
+}
+
+// Whether the value with this first cell is an Integer.
+pub fn is_integer(cell: u64) -> bool
+    ensures { λ r. ⌜ IntegerTest cell r ⌝ }
+{
+    match integer_in(cell) {
+        Whole::Is { n: _ } => true,
+        Whole::No => false,
+    }
 }
 
 // The simple value with this cell. For a collection's cell the result means nothing.
@@ -55,12 +80,15 @@ pub fn simple_of(cell: u64) -> Simple
     let payload = payload_of(cell);
     let sort = sort_of(cell);
     if sort == 0 {
-        Simple::Bool { b: payload == 1 }
-    } else if sort == 1 {
-        Simple::Integer { biased: payload }
-    } else {
-        Simple::Object { number: payload }
+        return Simple::Bool { b: payload == 1 };
     }
+    if sort == NUMBER {
+        return match number_of(cell) {
+            Number::Integer { biased } => Simple::Integer { biased },
+            Number::Real(x) => Simple::Real(x),
+        };
+    }
+    Simple::Object { number: payload }
 }
 
 // The cell of a simple value.
@@ -70,8 +98,9 @@ pub fn cell_of(s: Simple) -> u64
 {
     match s {
         Simple::Bool { b } => { if b { 1 } else { 0 } }
-        Simple::Integer { biased } => SORT + biased,
-        Simple::Object { number } => 2 * SORT + number,
+        Simple::Integer { biased } => integer_cell(biased),
+        Simple::Real(x) => floats::cells::cell_of(Number::Real(x)),
+        Simple::Object { number } => OBJECTS + number,
     }
 }
 

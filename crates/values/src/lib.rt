@@ -2,17 +2,18 @@
 // functions read values where they lie and form new ones on a stack of words, each above everything that is still needed.
 //
 // Contracts (specs/Contracts.antt) say: whatever values lie at these places, the answer is what document 01 gives for them.
-// It depends on no other code, and on crates/ocl for what a value is.
+// It depends on crates/floats for numbers as words, and on crates/ocl for what a value is.
 pub mod arith;
 pub mod cells;
 pub mod collections;
 pub mod merge;
 pub mod order;
 
-// A value that is no collection. An Integer is counted from -2147483648.
+// A value that is no collection. An Integer is counted from -2147483648; a Real is no whole number in the range of Integers.
 pub enum Simple {
     Bool { b: bool },
     Integer { biased: u64 },
+    Real(f64),
     Object { number: u64 },
 }
 

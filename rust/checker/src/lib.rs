@@ -2,6 +2,9 @@
 //! them, and writes the report. What the functions answer is proved; this crate
 //! only lends them memory and turns their answers into [`Result`]s.
 //!
+//! Numbers that are not whole are binary64. Floating point has to be in the state in
+//! which a program starts: it rounds to nearest and keeps subnormal numbers.
+//!
 //! Nothing is kept between calls: each reads the text anew. So a [`Memory`]
 //! serves any number of calls, one after the other; threads take one each. No
 //! function allocates, and none touches anything but what it is lent.
@@ -33,7 +36,7 @@ pub use refusal::{Refusal, Refused};
 pub const LEAST_WORDS: usize = 8_192;
 /// The fewest bytes of an output. Every value fits, and so do the types of all
 /// rules.
-pub const LEAST_OUTPUT: usize = 2_048;
+pub const LEAST_OUTPUT: usize = 2_560;
 /// The most bytes of a sheet.
 pub const LONGEST_TEXT: usize = 49_152;
 /// The bytes that the program `ocl_report` lends for a report.
@@ -71,7 +74,8 @@ impl Default for Memory {
 /// What a rule comes to for an object.
 #[derive(Clone, Copy, PartialEq, Eq, Debug)]
 pub struct Evaluated<'o> {
-    /// The value as sheets spell it, `u` where it is undefined.
+    /// The value as sheets spell it, `u` where it is undefined. A number that is
+    /// no Integer has `r` and the 16 hexadecimal digits of its bits.
     pub value: &'o str,
     /// The steps it took.
     pub steps: u64,

@@ -44,7 +44,7 @@ pub enum Refusal {
     SizeStop,
     /// The report is longer than the output.
     ReportTooLong,
-    /// An exact result leaves the Integer range.
+    /// A result of Integers leaves their range, or one of Reals is infinite.
     OverRange,
     /// A definition calls itself or a larger one.
     CallUpward = 23,
@@ -140,7 +140,9 @@ impl Refusal {
             Refusal::StepStop => "more steps are due than an evaluation may take",
             Refusal::SizeStop => "a value of a size over 128 would be formed",
             Refusal::ReportTooLong => "the report is longer than the output",
-            Refusal::OverRange => "an exact result leaves the Integer range",
+            Refusal::OverRange => {
+                "a result of Integers leaves their range, or one of Reals is infinite"
+            }
             Refusal::CallUpward => "the definition calls itself or a larger one",
             Refusal::UnknownDefinition => "the sheet has no such definition",
         }

@@ -95,6 +95,38 @@ fn reading_types_every_rule() {
 }
 
 #[test]
+fn numbers_may_be_reals() {
+    let mut memory = Box::new(Memory::new());
+    let mut output = [0; LEAST_OUTPUT];
+    // 3 over 2, that times 2, and the largest number twice.
+    let quotient = "N 0 int 3|N 1 int 2|N 2 over 0 1";
+    let infinite = "N 0 real r7fefffffffffffff|N 1 int 2|N 2 times 0 1";
+    let rules =
+        format!("R 0 0|{quotient}|R 1 0|{quotient}|N 3 int 2|N 4 times 2 3|R 2 0|{infinite}");
+    let text = sheet(&format!("C 0 -|O 0 0|{rules}"));
+    let types = read_types(&text, &mut memory, &mut output).unwrap();
+    assert_eq!(types.collect::<Vec<_>>(), ["Real", "Real", "Real"]);
+    let half = evaluate_rule(&text, 0, 0, &mut memory, &mut output).unwrap();
+    assert_eq!((half.value, half.steps), ("r3ff8000000000000", 3));
+    assert_eq!(f64::from_bits(0x3ff8_0000_0000_0000), 1.5);
+    let whole = evaluate_rule(&text, 1, 0, &mut memory, &mut output).unwrap();
+    assert_eq!((whole.value, whole.steps), ("3", 5));
+    let stop = evaluate_rule(&text, 2, 0, &mut memory, &mut output);
+    assert_eq!(stop, Err(refused(Refusal::OverRange, 3, 0)));
+    // The longest value fits in the least output.
+    let longest = ["r3ff8000000000000"; 127].join(",");
+    let text = sheet(&format!(
+        "C 0 -|A 0 0 5 Q(Real)|O 0 0|V 0 0 Q({longest})|R 0 0|N 0 self|N 1 attr 0 5"
+    ));
+    let value = evaluate_rule(&text, 0, 0, &mut memory, &mut output).unwrap();
+    assert_eq!((value.value.len(), value.steps), (2_288, 2));
+    for short in [2_048, 2_288, LEAST_OUTPUT - 1] {
+        let value = evaluate_rule(&text, 0, 0, &mut memory, &mut output[..short]);
+        assert_eq!(value, Err(refused(Refusal::ShortSlice, 0, 0)), "{short}");
+    }
+}
+
+#[test]
 fn definitions_are_called() {
     let mut memory = Box::new(Memory::new());
     let mut output = [0; LEAST_OUTPUT];
@@ -155,7 +187,7 @@ fn a_stop_has_its_steps() {
     assert_eq!(stop, refused(Refusal::OverRange, 4, 0));
     assert_eq!(
         stop.to_string(),
-        "over the range (19) after 4 steps: an exact result leaves the Integer range"
+        "over the range (19) after 4 steps: a result of Integers leaves their range, or one of Reals is infinite"
     );
 }
 

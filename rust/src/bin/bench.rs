@@ -3,8 +3,9 @@
 
 use second_evaluator::calls::{Answer, LEAST_WORDS, PROGRAM_OUTPUT};
 use second_evaluator::harness::clock;
+use second_evaluator::harness::faults::Fault;
 use second_evaluator::harness::linked::Linked;
-use second_evaluator::harness::standin::{Fault, StandIn};
+use second_evaluator::harness::standin::StandIn;
 use second_evaluator::harness::Calls;
 use second_evaluator::workloads::{workloads, Workload};
 use std::process::ExitCode;

@@ -4,9 +4,10 @@
 //! the second evaluator with itself in place of the linked calls.
 
 use second_evaluator::generate::{asks, sheet, vector_asks, Ask};
+use second_evaluator::harness::faults::Fault;
 use second_evaluator::harness::program::long_texts;
 use second_evaluator::harness::run::{self, Difference, Vector};
-use second_evaluator::harness::standin::{Fault, StandIn};
+use second_evaluator::harness::standin::StandIn;
 use second_evaluator::harness::tally::Tally;
 use second_evaluator::harness::Calls;
 use std::io::IsTerminal;

@@ -3,7 +3,7 @@
 use super::random::Random;
 
 /// Fields that are wrong in most places, or just outside a limit.
-const FIELDS: [&str; 54] = [
+const FIELDS: [&str; 75] = [
     "",
     "-",
     "-0",
@@ -49,6 +49,27 @@ const FIELDS: [&str; 54] = [
     "S(1,1)",
     "B(2,1)",
     "Q(u)",
+    "r3ff8000000000000",
+    "r3ff0000000000000",
+    "r0000000000000000",
+    "r8000000000000000",
+    "r8000000000000001",
+    "r41dfffffffc00000",
+    "r41e0000000000000",
+    "rc1e0000000000000",
+    "rc1e0000000200000",
+    "r7fefffffffffffff",
+    "r7ff0000000000000",
+    "rfff0000000000000",
+    "r7ff8000000000000",
+    "rfff8000000000001",
+    "r3FF8000000000000",
+    "r3ff800000000000",
+    "r3ff80000000000000",
+    "S(1,r3ff8000000000000,2)",
+    "S(r3ff8000000000000,1)",
+    "Q(r7ff0000000000000,r3ff0000000000000)",
+    "Real",
     "Int",
     "Any",
     "S(S(S(S(Int))))",
@@ -65,6 +86,9 @@ pub fn change(random: &mut Random, fields: &mut Vec<Vec<u8>>, other: &[Vec<u8>])
     match fields.as_mut_slice() {
         [letter, .., value] if letter == b"V" && random.one_in(3) => {
             return change_members(random, value);
+        }
+        [.., field] if field.contains(&b'r') && random.one_in(3) => {
+            return change_bits(random, field);
         }
         [_, _, form, _, i, j, ty, ..] if form == b"iter" && random.one_in(2) => {
             match random.below(2) {
@@ -132,10 +156,54 @@ fn change_members(random: &mut Random, value: &mut Vec<u8>) {
             value.splice(start..*last, swapped);
         }
         _ => {
-            let other = *random.pick(&["f", "t", "-1", "0", "9", "@0", "@1", "@95"]);
+            let other = *random.pick(&MEMBERS);
             value.splice(start..end, other.bytes());
         }
     }
+}
+
+/// Simple values that may stand for a member.
+const MEMBERS: [&str; 13] = [
+    "f",
+    "t",
+    "-1",
+    "0",
+    "9",
+    "rbfe0000000000000",
+    "r3ff8000000000000",
+    "r4000000000000000",
+    "r7ff0000000000000",
+    "rfff8000000000001",
+    "@0",
+    "@1",
+    "@95",
+];
+
+/// The letter of a Real, or one of its digits, changed; or the number made whole,
+/// an infinity or a NaN.
+fn change_bits(random: &mut Random, field: &mut [u8]) {
+    const WRONG: [&[u8; 16]; 6] = [
+        b"3ff0000000000000",
+        b"c1e0000000000000",
+        b"8000000000000000",
+        b"7ff0000000000000",
+        b"fff0000000000000",
+        b"7ff0000000000001",
+    ];
+    let letters: Vec<usize> = (0..field.len())
+        .filter(|place| field[*place] == b'r' && field.len() > place + 16)
+        .collect();
+    if letters.is_empty() {
+        return;
+    }
+    let start = *random.pick(&letters);
+    if random.one_in(3) {
+        let wrong = random.pick(&WRONG);
+        field[start + 1..start + 17].copy_from_slice(&wrong[..]);
+        return;
+    }
+    let place = start + random.below(17);
+    field[place] = *random.pick(b"0123456789abcdefAFgr-");
 }
 
 /// One of the numbers in a field changed, be it in a type or in a value.
@@ -175,13 +243,14 @@ const LIKE_FORMS: [&[&str]; 6] = [
         "times",
         "div",
         "mod",
+        "over",
         "includes",
         "including",
         "union",
     ],
     &["forAll", "exists"],
     &["attr", "as", "collect", "call"],
-    &["all", "var", "int"],
+    &["all", "var", "int", "real"],
 ];
 
 /// Another form that is spelt alike, so that the rule may not type.

@@ -8,13 +8,14 @@ impl Growth<'_> {
         match ty {
             Type::Bool => (self.truth(depth), Type::Bool),
             Type::Int => (self.integer(depth), Type::Int),
+            Type::Real => self.number(depth),
             Type::Class(class) => {
                 let cast = self.cast(*class, depth);
                 cast.unwrap_or_else(|| self.leaf(ty))
             }
             Type::Any => {
                 let class = self.random.below(self.model.classes.0.len()) as u8;
-                let simple = [Type::Bool, Type::Int, Type::Class(class)];
+                let simple = [Type::Bool, Type::Int, Type::Real, Type::Class(class)];
                 let ty = self.random.pick(&simple).clone();
                 self.grow(&ty, depth)
             }
@@ -32,7 +33,10 @@ impl Growth<'_> {
         let mark = self.draft.lines.len();
         let own = Type::Class(self.context);
         let (operand, found) = if depth > 2 && self.random.one_in(2) {
-            let simple = self.random.pick(&[Type::Bool, Type::Int]).clone();
+            let simple = self
+                .random
+                .pick(&[Type::Bool, Type::Int, Type::Real])
+                .clone();
             self.choice(&simple, &own, depth - 1)
         } else {
             let top = self.model.classes.upward(class).last()?;
@@ -77,7 +81,10 @@ impl Growth<'_> {
                 let ty = self.any_type();
                 self.two("eq % %", &ty, depth)
             }
-            7 => self.two("less % %", &Type::Int, depth),
+            7 => {
+                let ty = self.random.pick(&[Type::Int, Type::Real]).clone();
+                self.two("less % %", &ty, depth)
+            }
             8 => {
                 let (source, member) = self.source(depth);
                 let (value, _) = self.grow(&member, depth - 1);
@@ -102,6 +109,25 @@ impl Growth<'_> {
         let forms = ["plus % %", "minus % %", "times % %", "div % %", "mod % %"];
         let form = *self.random.pick(&forms);
         self.two(form, &Type::Int, depth)
+    }
+
+    /// Arithmetic on both kinds of number, which is an Integer's where both happen
+    /// to be below Int, or an Integer alone.
+    fn number(&mut self, depth: usize) -> Grown {
+        if self.random.one_in(6) {
+            return (self.integer(depth), Type::Int);
+        }
+        let forms = ["plus % %", "minus % %", "times % %", "over % %", "over % %"];
+        let form = *self.random.pick(&forms);
+        let (left, low) = self.grow(&Type::Real, depth - 1);
+        let (right, high) = self.grow(&Type::Real, depth - 1);
+        let node = self.draft.line(form, &[left, right]);
+        let integers = self.below(&low, &Type::Int) && self.below(&high, &Type::Int);
+        match form {
+            "over % %" => (node, Type::Real),
+            _ if integers => (node, Type::Int),
+            _ => (node, Type::Real),
+        }
     }
 
     fn collection(&mut self, kind: Kind, member: &Type, depth: usize) -> Grown {

@@ -4,13 +4,16 @@ use super::definitions::{deep, defined, many, redeclared, shared_nodes, MOST_DEF
 use super::draft::Draft;
 use super::full::full;
 use super::random::Random;
+use super::reals;
 use crate::tree::DEEPEST_RULE;
 
-pub const KINDS: usize = 22;
+pub const KINDS: usize = 27;
 /// The kinds whose sheets have rules that are about values, steps or depth.
-pub const OF_RULES: [usize; 6] = [5, 8, 10, 11, 14, 15];
+pub const OF_RULES: [usize; 9] = [5, 8, 10, 11, 14, 15, 21, 22, 23];
 /// The kinds that are about definitions.
 pub const OF_DEFINITIONS: [usize; 5] = [16, 17, 18, 19, 20];
+/// The kinds that are about Reals, those that can go in most ways more often.
+pub const OF_REALS: [usize; 10] = [21, 21, 21, 22, 23, 24, 24, 24, 25, 25];
 
 /// A sheet at the limit of the kind, or one over it.
 pub fn limit(random: &mut Random, kind: usize) -> Vec<u8> {
@@ -44,6 +47,7 @@ pub fn limit(random: &mut Random, kind: usize) -> Vec<u8> {
             return defined(random, &text).unwrap_or(text);
         }
         20 => redeclared(random),
+        21..=25 => reals::about(random, kind - 21, over),
         _ => {
             let operands = (0..4 + over).map(|n| format!("\t{n}")).collect::<String>();
             let ints = lines(4 + over, |n| format!("N\t{n}\tint\t{n}"));

@@ -8,7 +8,9 @@ pub mod forms;
 pub mod full;
 pub mod large;
 pub mod limits;
+pub mod operands;
 pub mod random;
+pub mod reals;
 pub mod rules;
 pub mod runs;
 pub mod trees;
@@ -24,13 +26,17 @@ use trees::grown;
 /// A sheet for a seed: most type, some are damaged, some stand at a limit.
 pub fn sheet(seed: u64) -> Vec<u8> {
     let mut random = Random::new(seed);
-    match random.below(20) {
+    match random.below(24) {
         0..=7 => grown(&mut random),
         8 => with_definitions(&mut random),
         9 => large::large(&mut random),
         10..=17 => {
             let text = grown(&mut random);
             damage::damage(&mut random, &text)
+        }
+        20..=23 => {
+            let kind = *random.pick(&limits::OF_REALS);
+            limits::limit(&mut random, kind)
         }
         _ => {
             let kind = random.below(limits::KINDS);
@@ -96,7 +102,8 @@ pub fn asks(seed: u64, text: &[u8]) -> Vec<Ask> {
             out: length(&mut random, LEAST_OUTPUT, PROGRAM_OUTPUT),
         })
         .collect();
-    if random.one_in(4) {
+    // So many lines may be more than the least output.
+    if rules * objects > 32 || random.one_in(4) {
         asks.extend(exact_reports(text));
     }
     asks

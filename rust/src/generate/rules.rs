@@ -4,7 +4,7 @@
 use super::definitions::Callable;
 use super::draft::Draft;
 use super::random::Random;
-use super::world::{any_integer, any_type, spelt_type};
+use super::world::{any_integer, any_real, any_type, spelt_real, spelt_type};
 use crate::model::Model;
 use crate::types::{Kind, Type, DEEPEST};
 
@@ -178,9 +178,15 @@ impl Growth<'_> {
             Type::Void => return None,
             Type::Bool => (self.random.pick(&["true", "false"]).to_string(), Type::Bool),
             Type::Int => (format!("int {}", any_integer(self.random)), Type::Int),
-            Type::Any => match self.random.below(3) {
+            Type::Real if self.random.one_in(3) => return self.solid_leaf(&Type::Int),
+            Type::Real => {
+                let number = spelt_real(any_real(self.random));
+                (format!("real {number}"), Type::Real)
+            }
+            Type::Any => match self.random.below(4) {
                 0 => ("true".to_string(), Type::Bool),
-                1 => (format!("int {}", any_integer(self.random)), Type::Int),
+                1 => return self.solid_leaf(&Type::Int),
+                2 => return self.solid_leaf(&Type::Real),
                 _ => ("self".to_string(), own),
             },
             Type::Class(_) if self.below(&own, ty) => ("self".to_string(), own),

@@ -1,7 +1,10 @@
 //! Random classes, rows, objects and values, and how a sheet spells them.
 
+use super::operands::EDGES;
 use super::random::Random;
+
 use crate::model::{Classes, Model, Row};
+use crate::numbers::Number;
 use crate::types::{Kind, Type, DEEPEST};
 use crate::values::{Collection, Value};
 
@@ -98,11 +101,12 @@ pub fn any_type(random: &mut Random, classes: &Classes, deep: usize) -> Type {
             other => Type::of(Kind::ALL[other % 3], member),
         };
     }
-    match random.below(20) {
+    match random.below(23) {
         0..=5 => Type::Int,
-        6..=9 => Type::Bool,
-        10..=12 => Type::Any,
-        13 => Type::Void,
+        6..=8 => Type::Real,
+        9..=12 => Type::Bool,
+        13..=15 => Type::Any,
+        16 => Type::Void,
         _ => Type::Class(random.below(classes.0.len()) as u8),
     }
 }
@@ -125,15 +129,32 @@ pub fn any_integer(random: &mut Random) -> i32 {
     }
 }
 
+/// A number that is no Integer, mostly a small one that others are likely to meet.
+pub fn any_real(random: &mut Random) -> Number {
+    let sign = if random.one_in(3) { -1.0 } else { 1.0 };
+    let small = random.below(24) as f64;
+    let number = match random.below(10) {
+        0 | 1 => f64::from_bits(*random.pick(&EDGES)),
+        2 => f64::from_bits(random.word()),
+        3 | 4 => small / 10.0,
+        5 => small / 3.0,
+        _ => small / 4.0,
+    };
+    let number = Number::of(sign * number).filter(|number| number.integer().is_none());
+    number.unwrap_or_else(|| Number::of(sign * (small + 0.5)).expect("a finite number"))
+}
+
 /// A value of the type and of at most the size, if one is found.
 pub fn any_value(random: &mut Random, model: &Model, ty: &Type, room: usize) -> Option<Value> {
     match ty {
         _ if room == 0 => None,
         Type::Void => None,
         Type::Bool => Some(Value::Bool(random.one_in(2))),
-        Type::Int => Some(Value::Int(any_integer(random))),
+        Type::Int => Some(Value::Number(any_integer(random).into())),
+        Type::Real if random.one_in(3) => any_value(random, model, &Type::Int, room),
+        Type::Real => Some(Value::Number(any_real(random))),
         Type::Any if model.objects.is_empty() || random.one_in(2) => {
-            let ty = random.pick(&[Type::Bool, Type::Int]).clone();
+            let ty = random.pick(&[Type::Bool, Type::Int, Type::Real]).clone();
             any_value(random, model, &ty, room)
         }
         Type::Any => Some(Value::Object(random.below(model.objects.len()) as u8)),
@@ -159,6 +180,12 @@ pub fn any_value(random: &mut Random, model: &Model, ty: &Type, room: usize) -> 
             any_value(random, model, &Type::Of(kind, member.clone()), room)
         }
     }
+}
+
+pub fn spelt_real(number: Number) -> String {
+    let mut spelt = Vec::new();
+    number.spell(&mut spelt);
+    String::from_utf8(spelt).expect("spelt in ASCII")
 }
 
 pub fn spelt_type(ty: &Type) -> String {

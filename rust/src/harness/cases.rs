@@ -1,7 +1,8 @@
 //! The cases that a comparison must have met, beside each number of each call: what
-//! one rule does to the answers for others, and what definitions and calls do.
+//! one rule does to the answers for others, what definitions and calls do, and Reals.
 
 use super::definitions::Definitions;
+use super::reals::Reals;
 use crate::calls::Answer;
 use crate::generate::Call;
 use crate::model::Sheet;
@@ -40,10 +41,42 @@ pub enum Case {
     StepStopCalled,
     SizeStopCalled,
     RangeStopCalled,
+    SpeltInteger,
+    SpeltMinusZero,
+    SpeltCapital,
+    SpeltInfinite,
+    SpeltNan,
+    SpeltBoth,
+    RealForInteger,
+    MembersOfBoth,
+    RealTwice,
+    DivisionOfReal,
+    CastOfReal,
+    TypeReal,
+    LongestValue,
+    Widened,
+    WholeResult,
+    HalfResult,
+    RangeEnd,
+    PastRange,
+    MinusZeroResult,
+    SmallOperand,
+    SmallResult,
+    Underflow,
+    Tie,
+    NearTieSum,
+    NearTieProduct,
+    NearTieQuotient,
+    LargestResult,
+    InfiniteResult,
+    ZeroDivisor,
+    LessOfBoth,
+    SetOfBoth,
+    CastOfAny,
 }
 
 impl Case {
-    pub const ALL: [Case; 27] = [
+    pub const ALL: [Case; 59] = [
         Case::NoRules,
         Case::MostRules,
         Case::EarlierRule,
@@ -71,6 +104,38 @@ impl Case {
         Case::StepStopCalled,
         Case::SizeStopCalled,
         Case::RangeStopCalled,
+        Case::SpeltInteger,
+        Case::SpeltMinusZero,
+        Case::SpeltCapital,
+        Case::SpeltInfinite,
+        Case::SpeltNan,
+        Case::SpeltBoth,
+        Case::RealForInteger,
+        Case::MembersOfBoth,
+        Case::RealTwice,
+        Case::DivisionOfReal,
+        Case::CastOfReal,
+        Case::TypeReal,
+        Case::LongestValue,
+        Case::Widened,
+        Case::WholeResult,
+        Case::HalfResult,
+        Case::RangeEnd,
+        Case::PastRange,
+        Case::MinusZeroResult,
+        Case::SmallOperand,
+        Case::SmallResult,
+        Case::Underflow,
+        Case::Tie,
+        Case::NearTieSum,
+        Case::NearTieProduct,
+        Case::NearTieQuotient,
+        Case::LargestResult,
+        Case::InfiniteResult,
+        Case::ZeroDivisor,
+        Case::LessOfBoth,
+        Case::SetOfBoth,
+        Case::CastOfAny,
     ];
 
     pub fn name(self) -> &'static str {
@@ -102,6 +167,38 @@ impl Case {
             Case::StepStopCalled => "evaluate a rule with calls up to the step stop",
             Case::SizeStopCalled => "evaluate a rule with calls up to the size stop",
             Case::RangeStopCalled => "evaluate a rule with calls up to the range's end",
+            Case::SpeltInteger => "a Real spelled that is an Integer",
+            Case::SpeltMinusZero => "a Real spelled that is minus zero",
+            Case::SpeltCapital => "a Real spelled with a capital digit",
+            Case::SpeltInfinite => "an infinity spelled",
+            Case::SpeltNan => "a NaN spelled",
+            Case::SpeltBoth => "an infinity or a NaN beside an Integer spelled as a Real",
+            Case::RealForInteger => "a Real for a row of Integers",
+            Case::MembersOfBoth => "an Integer and a Real out of order",
+            Case::RealTwice => "a Real twice in a Set",
+            Case::DivisionOfReal => "div or mod of a Real",
+            Case::CastOfReal => "as of a Real",
+            Case::TypeReal => "read the type Real",
+            Case::LongestValue => "evaluate to the longest value",
+            Case::Widened => "two Integers that widened leave their range",
+            Case::WholeResult => "a whole result from a Real",
+            Case::HalfResult => "a result halfway between two Integers",
+            Case::RangeEnd => "a result that is the least or the largest Integer",
+            Case::PastRange => "a result just past an end of the Integer range",
+            Case::MinusZeroResult => "a result that would be minus zero, and so 0",
+            Case::SmallOperand => "an operand too small to be normal",
+            Case::SmallResult => "a result rounded that is too small to be normal",
+            Case::Underflow => "a result too small, and so 0",
+            Case::Tie => "a result halfway between two numbers",
+            Case::NearTieSum => "a sum or a difference next to a tie",
+            Case::NearTieProduct => "a product next to a tie",
+            Case::NearTieQuotient => "a quotient next to a tie",
+            Case::LargestResult => "a result rounded to the largest number",
+            Case::InfiniteResult => "an infinite result",
+            Case::ZeroDivisor => "over by zero",
+            Case::LessOfBoth => "less of an Integer and a Real",
+            Case::SetOfBoth => "evaluate to a Set of Integers and Reals",
+            Case::CastOfAny => "as of a Real that is typed Any",
         }
     }
 }
@@ -109,6 +206,7 @@ impl Case {
 /// A text, and which rules type if it can be read.
 pub struct Cases<'t> {
     definitions: Definitions<'t>,
+    reals: Reals<'t>,
     rules: Option<Rules>,
 }
 
@@ -117,6 +215,7 @@ impl Cases<'_> {
         let rules = Rules::of(text);
         Cases {
             definitions: Definitions::of(text),
+            reals: Reals::of(text),
             rules,
         }
     }
@@ -125,6 +224,8 @@ impl Cases<'_> {
     pub fn met(&self, call: Call, answer: Answer) -> Vec<Case> {
         let rules = self.rules.as_ref();
         let mut met = self.definitions.refused(answer);
+        met.extend(self.reals.refused(answer));
+        met.extend(self.reals.answered(call, answer));
         met.extend(rules.and_then(|rules| rules.case(call, answer)));
         if let Some(Rules { sheet, typed }) = rules {
             met.extend(self.definitions.read(sheet, typed, call, answer));

@@ -101,7 +101,13 @@ fn spelt(lent: &mut Lent, answer: Answer) -> String {
     String::from_utf8_lossy(&out[..length]).into_owned()
 }
 
-fn on_stack(calls: &dyn Calls, call: Call, text: &[u8], words: Words, out: &mut [u8]) -> Answer {
+pub(super) fn on_stack(
+    calls: &dyn Calls,
+    call: Call,
+    text: &[u8],
+    words: Words,
+    out: &mut [u8],
+) -> Answer {
     thread::scope(|scope| {
         thread::Builder::new()
             .stack_size(calls.stack())

@@ -4,17 +4,21 @@ pub mod cases;
 pub mod clock;
 pub mod compare;
 pub mod definitions;
+pub mod faults;
 #[cfg(feature = "linked")]
 pub mod linked;
+pub mod numbers;
+pub mod operations;
 pub mod program;
+pub mod reals;
 pub mod run;
 pub mod runs;
 pub mod shrink;
 pub mod standin;
 pub mod tally;
 
-use crate::calls::{self, Answer, Words};
-use crate::generate::Call;
+use crate::calls::{self, Answer, Words, LEAST_WORDS};
+use crate::generate::{Ask, Call};
 
 /// An implementation of the three calls.
 pub trait Calls: Sync {
@@ -32,4 +36,12 @@ pub fn second(call: Call, text: &[u8], words: Words, out: &mut [u8]) -> Answer {
         Call::Evaluate { rule, object } => calls::evaluate_rule(text, rule, object, words, out),
         Call::Report => calls::report(text, words, out),
     }
+}
+
+/// The same, what it writes left aside.
+pub fn answer(text: &[u8], ask: Ask) -> Answer {
+    let mut slices: [Vec<u64>; 3] = ask.words.map(|length| vec![0; length.min(LEAST_WORDS)]);
+    let words = slices.each_mut().map(Vec::as_mut_slice);
+    let mut out = vec![0; ask.out];
+    second(ask.call, text, words, &mut out)
 }

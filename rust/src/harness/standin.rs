@@ -2,112 +2,10 @@
 //! without, to show that the comparison finds what it must.
 
 use super::cases::{Case, Cases};
+use super::faults::Fault;
 use super::{second, Calls};
 use crate::calls::{Answer, Words, LEAST_OUTPUT, LEAST_WORDS};
 use crate::generate::Call;
-
-#[derive(Clone, Copy, PartialEq, Eq, Debug)]
-pub enum Fault {
-    None,
-    /// A place one too high where there is one.
-    Place,
-    /// A place given where there is none.
-    PlaceOfStop,
-    /// A step too many in answers.
-    Steps,
-    /// Steps forgotten with a stop.
-    StepsOfStop,
-    /// A length one too high in answers.
-    Length,
-    /// A refusal for its neighbour.
-    Number,
-    /// The last word to be wiped is not.
-    WordLeft,
-    /// The first word not to be wiped is.
-    WordBeyond,
-    /// Words wiped though a slice is too short.
-    WipedWhenShort,
-    /// A byte of output touched by a refusal.
-    OutputOfRefusal,
-    /// A byte of output touched after an answer's end.
-    OutputBeyond,
-    /// The last byte of an answer wrong.
-    OutputWrong,
-    /// A slice one word short taken for long enough.
-    ShortWords,
-    /// An output one byte short taken for long enough.
-    ShortOutput,
-    /// Only the lower 32 bits of a rule number read.
-    RuleCut,
-    /// Only the lower 8 bits of an object number read.
-    ObjectCut,
-    /// A report that just fits refused, or one that just does not, cut.
-    ReportRoom,
-    /// The last of the types without its line feed.
-    LastLineFeed,
-    /// Types written as rules are typed, also where a later one does not type.
-    TypesOfRefusal,
-    /// An answer though an earlier rule than the one asked for does not type.
-    EarlierRule,
-    /// An answer though a later rule than the one asked for does not type.
-    LaterRule,
-    /// The rule asked for refused before an earlier one that does not type.
-    AskedFirst,
-    /// 14 for a rule before 9 to 13.
-    AbsentRuleFirst,
-    /// 14 for an object before 9 to 13.
-    AbsentObjectFirst,
-    /// 15 before 9 to 13.
-    OtherClassFirst,
-    /// A call upward taken for one of an unknown definition.
-    UpwardUnknown,
-    /// An unknown definition taken for another part that is not there.
-    UnknownPart,
-    /// The depth of called bodies forgotten.
-    BareDepth,
-    /// A body taken whatever its type.
-    BodyType,
-    /// Only definitions typed that a rule reaches.
-    UnusedDefinition,
-    /// Rules typed before definitions.
-    RulesFirst,
-}
-
-impl Fault {
-    pub const ALL: [Fault; 31] = [
-        Fault::Place,
-        Fault::PlaceOfStop,
-        Fault::Steps,
-        Fault::StepsOfStop,
-        Fault::Length,
-        Fault::Number,
-        Fault::WordLeft,
-        Fault::WordBeyond,
-        Fault::WipedWhenShort,
-        Fault::OutputOfRefusal,
-        Fault::OutputBeyond,
-        Fault::OutputWrong,
-        Fault::ShortWords,
-        Fault::ShortOutput,
-        Fault::RuleCut,
-        Fault::ObjectCut,
-        Fault::ReportRoom,
-        Fault::LastLineFeed,
-        Fault::TypesOfRefusal,
-        Fault::EarlierRule,
-        Fault::LaterRule,
-        Fault::AskedFirst,
-        Fault::AbsentRuleFirst,
-        Fault::AbsentObjectFirst,
-        Fault::OtherClassFirst,
-        Fault::UpwardUnknown,
-        Fault::UnknownPart,
-        Fault::BareDepth,
-        Fault::BodyType,
-        Fault::UnusedDefinition,
-        Fault::RulesFirst,
-    ];
-}
 
 pub struct StandIn {
     pub fault: Fault,
@@ -147,7 +45,7 @@ impl Calls for StandIn {
             Fault::TypesOfRefusal if call == Call::Read && matches!(number, 9..=13) => {
                 out[..5].copy_from_slice(b"Bool\n");
             }
-            _ => self.reorder(call, text, &mut answer),
+            _ => self.alter(call, text, &mut answer, out),
         }
         answer
     }
@@ -169,26 +67,53 @@ impl StandIn {
         }
     }
 
-    /// The answer as if something were left out, or done in another order.
-    fn reorder(&self, call: Call, text: &[u8], answer: &mut Answer) {
-        let refusal = |number| Answer {
-            number,
-            ..Answer::default()
-        };
+    /// The answer as if something were left out, or done in another way or order.
+    fn alter(&self, call: Call, text: &[u8], answer: &mut Answer, out: &mut [u8]) {
         for case in Cases::of(text).met(call, *answer) {
             match (self.fault, case) {
                 (Fault::EarlierRule, Case::EarlierRule)
                 | (Fault::LaterRule, Case::LaterRule)
                 | (Fault::BareDepth, Case::DeepRule | Case::DeepDefinition)
                 | (Fault::BodyType, Case::BodyType)
-                | (Fault::UnusedDefinition, Case::UnusedDefinition) => *answer = refusal(0),
+                | (Fault::UnusedDefinition, Case::UnusedDefinition)
+                | (Fault::WholeTaken, Case::SpeltInteger)
+                | (Fault::MinusZeroTaken, Case::SpeltMinusZero)
+                | (Fault::CapitalTaken, Case::SpeltCapital)
+                | (Fault::NanTaken, Case::SpeltNan)
+                | (Fault::RealForInteger, Case::RealForInteger)
+                | (Fault::KindsApart, Case::MembersOfBoth)
+                | (Fault::DivisionOfReal, Case::DivisionOfReal) => *answer = bare(0),
+                (Fault::InfinityMisspelt, Case::SpeltInfinite) => answer.number = 3,
+                (Fault::LimitFirst, Case::SpeltBoth) => answer.number = 4,
                 (Fault::AskedFirst, Case::TwoRules)
                 | (Fault::RulesFirst, Case::DefinitionAndRule) => answer.place += 1,
                 (Fault::AbsentRuleFirst, Case::AbsentRule)
-                | (Fault::AbsentObjectFirst, Case::AbsentObject) => *answer = refusal(14),
-                (Fault::OtherClassFirst, Case::OtherClass) => *answer = refusal(15),
-                _ => {}
+                | (Fault::AbsentObjectFirst, Case::AbsentObject) => *answer = bare(14),
+                (Fault::OtherClassFirst, Case::OtherClass) => *answer = bare(15),
+                _ => self.miscalculate(case, answer, out),
             }
+        }
+    }
+
+    /// The answer as if a number were rounded or held in another way.
+    fn miscalculate(&self, case: Case, answer: &mut Answer, out: &mut [u8]) {
+        match (self.fault, case) {
+            (Fault::InfiniteValue, Case::InfiniteResult) => *answer = bare(0),
+            (Fault::ByValues, Case::Widened)
+            | (Fault::PastRangeStop, Case::PastRange)
+            | (Fault::LargestInfinite, Case::LargestResult)
+            | (Fault::ZeroDivisorStop, Case::ZeroDivisor) => *answer = bare(19),
+            (Fault::WholeLeft, Case::WholeResult)
+            | (Fault::MinusZeroLeft, Case::MinusZeroResult) => answer.length += 16,
+            (Fault::TieAway, Case::Tie)
+            | (Fault::TieNear, Case::NearTieSum | Case::NearTieProduct | Case::NearTieQuotient)
+            | (Fault::SmallAsZero, Case::SmallResult)
+            | (Fault::HalfCut, Case::HalfResult)
+                if answer.length > 0 =>
+            {
+                out[0] ^= 1
+            }
+            _ => {}
         }
     }
 
@@ -203,11 +128,12 @@ impl StandIn {
                 second(call, text, [first, middle, &mut longer], out)
             }
             Fault::ShortOutput if out.len() == LEAST_OUTPUT - 1 => {
-                let mut longer = vec![0; LEAST_OUTPUT];
-                let answer = second(call, text, words, &mut longer);
-                let length = answer.length as usize;
-                out[..length].copy_from_slice(&longer[..length]);
-                answer
+                lengthened(call, text, words, out)
+            }
+            Fault::OldMinimum
+                if call == Call::Read && (2_048..LEAST_OUTPUT).contains(&out.len()) =>
+            {
+                lengthened(call, text, words, out)
             }
             Fault::ReportRoom if call == Call::Report && out.len() > LEAST_OUTPUT => {
                 let room = out.len() - 1;
@@ -215,5 +141,22 @@ impl StandIn {
             }
             _ => second(call, text, words, out),
         }
+    }
+}
+
+/// The answer with an output that is long enough, brought back into the one lent.
+fn lengthened(call: Call, text: &[u8], words: Words, out: &mut [u8]) -> Answer {
+    let mut longer = vec![0; LEAST_OUTPUT];
+    let answer = second(call, text, words, &mut longer);
+    let length = answer.length as usize;
+    out[..length].copy_from_slice(&longer[..length]);
+    answer
+}
+
+/// An answer of nothing but its number.
+fn bare(number: u64) -> Answer {
+    Answer {
+        number,
+        ..Answer::default()
     }
 }

@@ -10,10 +10,18 @@ const NAMES: [&str; 3] = ["read", "evaluate", "report"];
 pub const NUMBERS: usize = 25;
 
 /// Answers by call and number, and cases in the order of `Case::ALL`.
-#[derive(Default)]
 pub struct Tally {
     answers: [[u64; NUMBERS]; 3],
     cases: [u64; Case::ALL.len()],
+}
+
+impl Default for Tally {
+    fn default() -> Tally {
+        Tally {
+            answers: [[0; NUMBERS]; 3],
+            cases: [0; Case::ALL.len()],
+        }
+    }
 }
 
 /// The calls in the order of `NAMES`, whatever their numbers.

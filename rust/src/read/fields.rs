@@ -3,6 +3,7 @@
 //! a well-spelt one outside its limits (4).
 
 use super::spelling::{self, Spelt};
+use crate::numbers::Number;
 use crate::refusal::Refusal;
 use crate::types::{Kind, Type};
 use crate::values::Value;
@@ -105,6 +106,11 @@ impl<'a> Fields<'a> {
     pub fn integer(&mut self) -> i32 {
         let spelt = spelling::integer(self.next());
         self.keep(spelt, 0)
+    }
+
+    pub fn real(&mut self) -> Number {
+        let spelt = spelling::real(self.next());
+        self.keep(spelt, Number::from(0))
     }
 
     pub fn kind(&mut self) -> Kind {

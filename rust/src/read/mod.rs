@@ -2,7 +2,7 @@
 
 mod fields;
 mod nodes;
-mod spelling;
+pub mod spelling;
 
 use crate::model::{Definition, Row, Rule, Sheet};
 use crate::refusal::{Refusal, Refused};

@@ -35,6 +35,7 @@ impl Parts<'_, '_> {
             b"false" => Form::False,
             b"undef" => Form::Undef,
             b"int" => Form::Int(self.fields.integer()),
+            b"real" => Form::Real(self.fields.real()),
             b"self" => Form::SelfObject,
             b"var" => Form::Var(self.fields.variable()),
             b"coll" => self.collection(),
@@ -48,12 +49,13 @@ impl Parts<'_, '_> {
             b"not" => self.only(Form::Not, 1),
             b"isUndef" => self.only(Form::IsUndef, 1),
             b"eq" => self.only(Form::Eq, 2),
-            b"less" => self.only(Form::Less, 2),
-            b"plus" => self.only(Form::Plus, 2),
-            b"minus" => self.only(Form::Minus, 2),
-            b"times" => self.only(Form::Times, 2),
+            b"less" => self.only(Form::Less(None), 2),
+            b"plus" => self.only(Form::Plus(None), 2),
+            b"minus" => self.only(Form::Minus(None), 2),
+            b"times" => self.only(Form::Times(None), 2),
             b"div" => self.only(Form::Div, 2),
             b"mod" => self.only(Form::Mod, 2),
+            b"over" => self.only(Form::Over, 2),
             b"attr" => {
                 self.operands(1);
                 let name = self.fields.name();

@@ -1,5 +1,6 @@
 //! How numbers, types and values are spelt on a sheet.
 
+use crate::numbers::Number;
 use crate::refusal::Refusal;
 use crate::types::{Kind, Type, DEEPEST};
 use crate::values::{Collection, Value};
@@ -45,6 +46,28 @@ pub fn integer(field: &[u8]) -> Spelt<i32> {
     i32::try_from(number).map_err(|_| Refusal::OutOfLimits)
 }
 
+/// The letter r and the 16 digits of a number's bits. An Integer, both zeros among
+/// them, is never spelt so.
+pub fn real(field: &[u8]) -> Spelt<Number> {
+    let digits = field.strip_prefix(b"r").ok_or(Refusal::BadLine)?;
+    let lower = |digit: &u8| matches!(digit, b'0'..=b'9' | b'a'..=b'f');
+    if digits.len() != 16 || !digits.iter().all(lower) {
+        return Err(Refusal::BadLine);
+    }
+    let bits = digits.iter().fold(0, |bits: u64, digit| {
+        let value = match digit {
+            b'a'..=b'f' => digit - b'a' + 10,
+            _ => digit - b'0',
+        };
+        bits << 4 | u64::from(value)
+    });
+    let number = Number::of(f64::from_bits(bits)).ok_or(Refusal::OutOfLimits)?;
+    match number.integer() {
+        Some(_) => Err(Refusal::BadLine),
+        None => Ok(number),
+    }
+}
+
 pub fn ty(field: &[u8]) -> Spelt<Type> {
     let mut letters = Vec::new();
     let mut base = field;
@@ -56,6 +79,7 @@ pub fn ty(field: &[u8]) -> Spelt<Type> {
         b"Void" => Type::Void,
         b"Bool" => Type::Bool,
         b"Int" => Type::Int,
+        b"Real" => Type::Real,
         b"Any" => Type::Any,
         [b'#', class @ ..] => Type::Class(number(class, 0, LAST_CLASS)? as u8),
         _ => return Err(Refusal::BadLine),
@@ -78,7 +102,8 @@ fn simple(field: &[u8]) -> Spelt<Value> {
         b"t" => Ok(Value::Bool(true)),
         b"f" => Ok(Value::Bool(false)),
         [b'@', object @ ..] => Ok(Value::Object(number(object, 0, LAST_OBJECT)? as u8)),
-        _ => integer(field).map(Value::Int),
+        [b'r', ..] => real(field).map(Value::Number),
+        _ => integer(field).map(|number| Value::Number(number.into())),
     }
 }
 

@@ -1,6 +1,6 @@
 //! A day's work with named definitions: sheets of everyday size.
 
-use super::sheet;
+use super::{numbered, sheet};
 use crate::generate::random::Random;
 
 /// Where a block is, its stitches, and its neighbour: attributes 0 to 5.
@@ -57,11 +57,4 @@ pub fn areas(seed: u64) -> Vec<u8> {
         text += &format!("R {number} {class}|{}", numbered(nodes));
     }
     sheet(text)
-}
-
-/// N lines of nodes that a bar parts.
-fn numbered(nodes: &str) -> String {
-    let lines = nodes.split('|').enumerate();
-    let lines = lines.map(|(node, words)| format!("N {node} {words}|"));
-    lines.collect()
 }

@@ -2,6 +2,7 @@
 
 mod areas;
 mod cap;
+mod densities;
 mod sheets;
 
 use crate::calls::Answer;
@@ -9,7 +10,10 @@ use crate::generate::full::full;
 use crate::generate::Call;
 use areas::areas;
 use cap::cap;
-use sheets::{bags, collected, iterations, nodes, nodes_of, quantifiers, sets, types, values};
+use densities::densities;
+use sheets::{
+    bags, collected, iterations, nodes, nodes_of, quantifiers, real_iterations, sets, types, values,
+};
 
 /// What a workload's time is divided by.
 #[derive(Clone, Copy, PartialEq, Eq, Debug)]
@@ -102,6 +106,12 @@ pub fn workloads() -> Vec<Workload> {
             [40, 400].map(|sheets| (0..sheets).map(areas).collect()),
         ),
         workload(
+            "a day of 400 density sheets",
+            Unit::Line,
+            Call::Report,
+            [40, 400].map(|sheets| (0..sheets).map(densities).collect()),
+        ),
+        workload(
             "steps, forAll in forAll",
             Unit::Step,
             EVALUATE,
@@ -112,6 +122,12 @@ pub fn workloads() -> Vec<Workload> {
             Unit::Step,
             EVALUATE,
             one(iterations(31), iterations(68)),
+        ),
+        workload(
+            "steps, Reals in iter in iter",
+            Unit::Step,
+            EVALUATE,
+            one(real_iterations(31), real_iterations(68)),
         ),
         workload(
             "values, Sets",
@@ -132,6 +148,13 @@ pub fn workloads() -> Vec<Workload> {
             one(collected(12), collected(120)),
         ),
     ]
+}
+
+/// N lines of nodes that a bar parts.
+fn numbered(nodes: &str) -> String {
+    let lines = nodes.split('|').enumerate();
+    let lines = lines.map(|(node, words)| format!("N {node} {words}|"));
+    lines.collect()
 }
 
 /// A sheet from lines with a space for each tab and a bar for each line feed.

@@ -76,10 +76,21 @@ pub fn quantifiers(count: usize) -> Vec<u8> {
 
 /// Three iterations inside each other over this many objects, counting them.
 pub fn iterations(count: usize) -> Vec<u8> {
-    let nodes = "N 0 all 0|N 1 int 0|N 2 all 0|N 3 int 0|N 4 all 0|N 5 int 0|\
-        N 6 var 6|N 7 int 1|N 8 plus 6 7|N 9 iter 4 5 6 Int 5 8|\
-        N 10 var 4|N 11 plus 10 9|N 12 iter 2 3 4 Int 3 11|\
-        N 13 var 2|N 14 plus 13 12|N 15 iter 0 1 2 Int 1 14|";
+    sums(count, "Int", "int 1")
+}
+
+/// The same with a tenth for each, so that every sum is of Reals.
+pub fn real_iterations(count: usize) -> Vec<u8> {
+    sums(count, "Real", "real r3fb999999999999a")
+}
+
+fn sums(count: usize, ty: &str, one: &str) -> Vec<u8> {
+    let nodes = format!(
+        "N 0 all 0|N 1 int 0|N 2 all 0|N 3 int 0|N 4 all 0|N 5 int 0|\
+        N 6 var 6|N 7 {one}|N 8 plus 6 7|N 9 iter 4 5 6 {ty} 5 8|\
+        N 10 var 4|N 11 plus 10 9|N 12 iter 2 3 4 {ty} 3 11|\
+        N 13 var 2|N 14 plus 13 12|N 15 iter 0 1 2 {ty} 1 14|"
+    );
     sheet(format!("C 0 -|{}R 0 0|{nodes}", objects(count)))
 }
 

@@ -9,7 +9,7 @@ pub fn text(sheet: &str) -> Vec<u8> {
 
 /// The answer and what was written, with all that was lent checked.
 pub fn lent(call: impl Fn(Words, &mut [u8]) -> Answer) -> (Answer, String) {
-    lent_with([8_192, 8_193, 9_000], 2_048, call)
+    lent_with([8_192, 8_193, 9_000], 2_560, call)
 }
 
 pub fn lent_with(

@@ -15,6 +15,15 @@ module _ (t : ℕ) where
   abbrev calls : lts.Claims
   calls = (below-below t, below.Post, left-fits-reads.Asked, left-fits-reads.Learnt, binary-apply-reads.Asked, binary-apply-reads.Learnt)
 
+  add-mark : lts.Need-add-mark calls (binary-at t) binary.Post
+  add-mark c = search needs
+
+  mul-mark : lts.Need-mul-mark calls (binary-at t) binary.Post
+  mul-mark c = search needs
+
+  shared-slice-read-mark : lts.Need-shared-slice-read-mark calls (binary-at t) binary.Post
+  shared-slice-read-mark c = search needs
+
   below-requires : lts.Need-below-requires calls (binary-at t) binary.Post
   below-requires c κs = search needs
 
@@ -37,10 +46,10 @@ module _ (t : ℕ) where
   left-fits-requires c κs = search needs
 
   add-below : lts.Need-add-below calls (binary-at t) binary.Post
-  add-below c = omega (arith, bounds (c .before .before .before .before .before .before .before .before .before .below .ensures .small) (c .before .before .before .before .before .first .given .1), c .before .before .before .before .before .before .before .before .before .before .before .before .before .before .pre)
+  add-below c = omega (arith, bounds (c .before .before .before .before .before .before .before .before .before .below .ensures .small) (c .before .before .before .before .before .first .given .1), c .before .before .before .before .before .before .before .before .before .before .before .before .before .before .before .pre)
 
   below-requires-2 : lts.Need-below-requires-2 calls (binary-at t) binary.Post
-  below-requires-2 c κs = omega (arith, bounds (c .before .before .before .before .before .before .before .before .before .below .ensures .small) (c .before .before .before .before .before .first .given .1), c .before .before .before .before .before .before .before .before .before .before .before .before .before .before .pre, c .before .before .before .before .before .before .before .before .before .below .kept)
+  below-requires-2 c κs = omega (arith, bounds (c .before .before .before .before .before .before .before .before .before .below .ensures .small) (c .before .before .before .before .before .first .given .1), c .before .before .before .before .before .before .before .before .before .before .before .before .before .before .before .pre, c .before .before .before .before .before .before .before .before .before .below .kept)
 
   enum-known-second : lts.Need-enum-known-second calls (binary-at t) binary.Post
   enum-known-second c = search needs
@@ -49,22 +58,22 @@ module _ (t : ℕ) where
   same-length-2 c = search needs
 
   returns-2 : lts.Need-returns-2 calls (binary-at t) binary.Post
-  returns-2 c = binary-second _ _ _ (c .before .before .before .before .before .before .before .before .before .before .before .before .before .below .ensures) (c .before .before .before .before .before .before .before .before .before .first .given .1) (c .before .before .before .before .before .before .left-fits .ensures) (c .before .before .before .before .before .if1 .taken) (c .before .before .before .below2 .ensures) (c .match2 .keys2)
+  returns-2 c = binary-second _ _ _ (c .before .before .before .before .before .before .before .before .before .before .before .before .before .below .ensures) (c .before .before .before .before .before .before .before .before .before .before .before .before .before .before .before .before .before .before .before .pre .1 .0 .node) (c .before .before .before .before .before .before .before .before .before .first .given .1) (c .before .before .before .before .before .before .left-fits .ensures) (c .before .before .before .before .before .if1 .taken) (c .before .before .before .below2 .ensures) (c .match2 .keys2)
 
   binary-apply-requires : lts.Need-binary-apply-requires calls (binary-at t) binary.Post
-  binary-apply-requires c κs = omega (arith, bounds (c .before .before .before .before .before .before .before .before .before .before .before .before .before .before .before .before .below .ensures .small) (c .before .before .before .before .before .before .before .before .before .before .before .before .first .given .1), bounds (c .before .before .before .before .before .before .below2 .ensures .small) (c .before .before .second .given .1), c .before .before .before .before .before .before .before .before .before .before .before .before .before .before .before .before .before .before .before .before .before .pre, c .before .before .before .before .before .before .before .before .before .before .before .before .before .before .before .before .below .kept, c .before .before .before .before .before .before .below2 .kept)
+  binary-apply-requires c κs = omega (arith, bounds (c .before .before .before .before .before .before .before .before .before .before .before .before .before .before .before .before .below .ensures .small) (c .before .before .before .before .before .before .before .before .before .before .before .before .first .given .1), bounds (c .before .before .before .before .before .before .below2 .ensures .small) (c .before .before .second .given .1), c .before .before .before .before .before .before .before .before .before .before .before .before .before .before .before .before .before .before .before .before .before .before .pre, c .before .before .before .before .before .before .before .before .before .before .before .before .before .before .before .before .below .kept, c .before .before .before .before .before .before .below2 .kept)
 
   same-length-3 : lts.Need-same-length-3 calls (binary-at t) binary.Post
   same-length-3 c = search needs
 
   returns-3 : lts.Need-returns-3 calls (binary-at t) binary.Post
-  returns-3 c = binary-done _ _ _ (c .before .before .before .before .before .before .before .before .before .before .before .before .before .before .before .before .before .before .before .below .ensures) (c .before .before .before .before .before .before .before .before .before .before .before .before .before .before .before .first .given .1) (c .before .before .before .before .before .before .before .before .before .before .before .before .left-fits .ensures) (c .before .before .before .before .before .before .before .before .before .before .before .if1 .taken) (c .before .before .before .before .before .before .before .before .before .below2 .ensures) (c .before .before .before .before .before .second .given .1) (c .before .before .binary-apply .ensures)
+  returns-3 c = binary-done _ _ _ (c .before .before .before .before .before .before .before .before .before .before .before .before .before .before .before .before .before .before .before .below .ensures) (c .before .before .before .before .before .before .before .before .before .before .before .before .before .before .before .before .before .before .before .before .before .before .before .before .before .pre .1 .0 .node) (c .before .before .before .before .before .before .before .before .before .before .before .before .before .before .before .first .given .1) (c .before .before .before .before .before .before .before .before .before .before .before .before .left-fits .ensures) (c .before .before .before .before .before .before .before .before .before .before .before .if1 .taken) (c .before .before .before .before .before .before .before .before .before .below2 .ensures) (c .before .before .before .before .before .second .given .1) (c .before .before .binary-apply .ensures)
 
   same-length-4 : lts.Need-same-length-4 calls (binary-at t) binary.Post
   same-length-4 c = search needs
 
   returns-4 : lts.Need-returns-4 calls (binary-at t) binary.Post
-  returns-4 c = binary-stuck _ _ _ (c .before .before .before .before .before .before .before .before .below .ensures) (c .before .before .before .before .first .given .1) (c .before .left-fits .ensures) (c .if1 .left)
+  returns-4 c = binary-stuck _ _ _ (c .before .before .before .before .before .before .before .before .below .ensures) (c .before .before .before .before .before .before .before .before .before .before .before .before .before .before .pre .1 .0 .node) (c .before .before .before .before .first .given .1) (c .before .left-fits .ensures) (c .if1 .left)
 
   pub closed : {M : Type 1} → lts.Closed calls (binary-at t) binary.Post M
-  closed = lts.spec calls (binary-at t) binary.Post below-requires enum-known-first same-length returns mul-left-fits slice-read-left-fits left-fits-requires add-below below-requires-2 enum-known-second same-length-2 returns-2 binary-apply-requires same-length-3 returns-3 same-length-4 returns-4
+  closed = lts.spec calls (binary-at t) binary.Post add-mark mul-mark shared-slice-read-mark below-requires enum-known-first same-length returns mul-left-fits slice-read-left-fits left-fits-requires add-below below-requires-2 enum-known-second same-length-2 returns-2 binary-apply-requires same-length-3 returns-3 same-length-4 returns-4

@@ -1,7 +1,7 @@
 -- The needs of `node`.
-use mathlib.Core.Logic.{⊎-elim}
+use mathlib.Core.Logic.{⊎-elim, inl, inr}
 use Prim.Native.Nat.{_-_, ℕ}
-use Rattle.evaluation.proofs.NodeLaws.{low-code, lone-code, high-code, from-33, single-codes, single-levels, over-36, node-leaf, node-unary, node-binary, node-connective, node-quantified, node-assemble, node-conditional, node-let, node-iterate, node-call, node-none, shallow}
+use Rattle.evaluation.proofs.NodeLaws.{low-code, lone-code, high-code, from-33, single-codes, single-levels, two-codes, over-37, node-leaf, node-unary, node-binary, node-connective, node-quantified, node-assemble, node-conditional, node-let, node-iterate, node-call, node-none, shallow}
 use Rattle.nodes.specs.Nodes.{treeAt}
 use Rattle.nodes.proofs.Levels.{some-level, binary-levels, connective-levels, quantified-levels, conditional-levels, let-levels, iterate-levels, call-levels}
 use borrow.Author.Needs.{needs}
@@ -24,7 +24,7 @@ use Rattle.evaluation.proofs.+bind-call+bind-fold+bind-iter+bind-let_in
 
 module _ (t : ℕ) where
   abbrev calls : lts.Claims
-  calls = (node-word-reads.Asked, node-word-reads.Learnt, conditional-below t, conditional.Post, let-in-below t, let-in.Post, iter-below t, iter.Post, call-below t, call.Post, leaf-reads.Asked, leaf-reads.Learnt, binary-below t, binary.Post, connective-below t, connective.Post, wide-reads.Asked, wide-reads.Learnt, quantified-below t, quantified.Post, coll-below t, coll.Post, unary-below t, unary.Post)
+  calls = (node-word-reads.Asked, node-word-reads.Learnt, conditional-below t, conditional.Post, let-in-below t, let-in.Post, iter-below t, iter.Post, call-below t, call.Post, leaf-reads.Asked, leaf-reads.Learnt, connective-below t, connective.Post, wide-reads.Asked, wide-reads.Learnt, quantified-below t, quantified.Post, coll-below t, coll.Post, binary-below t, binary.Post, unary-below t, unary.Post)
 
   add-s : lts.Need-add-s calls (node-at t) node.Post
   add-s c = search needs
@@ -36,25 +36,22 @@ module _ (t : ℕ) where
   node-word-requires c κs = search needs
 
   conditional-requires : lts.Need-conditional-requires calls (node-at t) node.Post
-  conditional-requires c κs = omega (arith, c .before .before .before .before .before .before .pre, some-level (treeAt (c .before .before .before .before .before .before .args .nodes .now) (c .before .before .before .before .before .before .args .n)), conditional-levels (c .before .before .before .before .before .before .args .nodes .now) (c .before .before .before .before .before .before .args .n) (c .before .before .node-word .result) (c .before .before .node-word .ensures) (c .before .match .keys2))
+  conditional-requires c κs = omega (arith, c .before .before .before .before .before .before .pre, some-level (treeAt (c .before .before .before .before .before .before .args .nodes .now) (c .before .before .before .before .before .before .args .n)), conditional-levels (c .before .before .before .before .before .before .args .nodes .now) (c .before .before .before .before .before .before .args .n) (c .before .before .node-word .result) (c .before .before .node-word .ensures) (c .before .match .keys3))
 
   let-in-requires : lts.Need-let-in-requires calls (node-at t) node.Post
-  let-in-requires c κs = omega (arith, c .before .before .before .before .before .before .pre, some-level (treeAt (c .before .before .before .before .before .before .args .nodes .now) (c .before .before .before .before .before .before .args .n)), let-levels (c .before .before .before .before .before .before .args .nodes .now) (c .before .before .before .before .before .before .args .n) (c .before .before .node-word .result) (c .before .before .node-word .ensures) (c .before .match .keys3))
+  let-in-requires c κs = omega (arith, c .before .before .before .before .before .before .pre, some-level (treeAt (c .before .before .before .before .before .before .args .nodes .now) (c .before .before .before .before .before .before .args .n)), let-levels (c .before .before .before .before .before .before .args .nodes .now) (c .before .before .before .before .before .before .args .n) (c .before .before .node-word .result) (c .before .before .node-word .ensures) (c .before .match .keys4))
 
   iter-requires : lts.Need-iter-requires calls (node-at t) node.Post
-  iter-requires c κs = omega (arith, c .before .before .before .before .before .before .pre, some-level (treeAt (c .before .before .before .before .before .before .args .nodes .now) (c .before .before .before .before .before .before .args .n)), iterate-levels (c .before .before .before .before .before .before .args .nodes .now) (c .before .before .before .before .before .before .args .n) (c .before .before .node-word .result) (c .before .before .node-word .ensures) (c .before .match .keys4))
+  iter-requires c κs = omega (arith, c .before .before .before .before .before .before .pre, some-level (treeAt (c .before .before .before .before .before .before .args .nodes .now) (c .before .before .before .before .before .before .args .n)), iterate-levels (c .before .before .before .before .before .before .args .nodes .now) (c .before .before .before .before .before .before .args .n) (c .before .before .node-word .result) (c .before .before .node-word .ensures) (c .before .match .keys5))
 
   call-requires : lts.Need-call-requires calls (node-at t) node.Post
-  call-requires c κs = omega (arith, c .before .before .before .before .before .before .pre, some-level (treeAt (c .before .before .before .before .before .before .args .nodes .now) (c .before .before .before .before .before .before .args .n)), call-levels (c .before .before .before .before .before .before .args .nodes .now) (c .before .before .before .before .before .before .args .n) (c .before .before .node-word .result) (c .before .before .node-word .ensures) (c .before .match .keys5))
+  call-requires c κs = omega (arith, c .before .before .before .before .before .before .pre, some-level (treeAt (c .before .before .before .before .before .before .args .nodes .now) (c .before .before .before .before .before .before .args .n)), call-levels (c .before .before .before .before .before .before .args .nodes .now) (c .before .before .before .before .before .before .args .n) (c .before .before .node-word .result) (c .before .before .node-word .ensures) (c .before .match .keys6))
 
   node-word-requires-2 : lts.Need-node-word-requires-2 calls (node-at t) node.Post
   node-word-requires-2 c κs = search needs
 
   leaf-requires : lts.Need-leaf-requires calls (node-at t) node.Post
   leaf-requires c κs = search needs
-
-  binary-requires : lts.Need-binary-requires calls (node-at t) node.Post
-  binary-requires c κs = omega (arith, c .before .before .before .before .before .before .before .before .before .pre, some-level (treeAt (c .before .before .before .before .before .before .before .before .before .args .nodes .now) (c .before .before .before .before .before .before .before .before .before .args .n)), c .before .before .if2 .left, c .before .if3 .taken, binary-levels (c .before .before .before .before .before .before .before .before .before .args .nodes .now) (c .before .before .before .before .before .before .before .before .before .args .n) (c .before .before .before .before .before .node-word .result) (c .before .before .before .before .before .node-word .ensures) (c .before .before .if2 .left) (omega (arith, c .before .if3 .taken)))
 
   connective-requires : lts.Need-connective-requires calls (node-at t) node.Post
   connective-requires c κs = omega (arith, c .before .before .before .before .before .before .before .before .before .before .pre, some-level (treeAt (c .before .before .before .before .before .before .before .before .before .before .args .nodes .now) (c .before .before .before .before .before .before .before .before .before .before .args .n)), c .before .before .if3 .left, c .before .if4 .taken, connective-levels (c .before .before .before .before .before .before .before .before .before .before .args .nodes .now) (c .before .before .before .before .before .before .before .before .before .before .args .n) (c .before .before .before .before .before .before .node-word .result) (c .before .before .before .before .before .before .node-word .ensures) (c .before .before .if3 .left) (omega (arith, c .before .if4 .taken)))
@@ -71,8 +68,11 @@ module _ (t : ℕ) where
   coll-requires : lts.Need-coll-requires calls (node-at t) node.Post
   coll-requires c κs = (omega (arith, c .before .before .before .before .before .before .before .before .before .before .before .before .pre), (omega (arith, c .before .before .before .before .before .before .before .before .before .before .before .before .pre, some-level (treeAt (c .before .before .before .before .before .before .before .before .before .before .before .before .args .nodes .now) (c .before .before .before .before .before .before .before .before .before .before .before .before .args .n))), (c .before .before .if5 .left, omega (arith, c .before .if6 .taken), shallow (c .before .before .before .before .before .before .before .before .before .before .before .before .args .nodes .now) (c .before .before .before .before .before .before .before .before .before .before .before .before .args .n) (c .before .before .before .before .before .before .before .before .node-word .result) (c .before .before .before .before .before .before .before .before .before .before .before .before .args .left - 1) (c .before .before .before .before .before .before .before .before .node-word .ensures) (c .before .before .if5 .left) (omega (arith, c .before .if6 .taken)) (omega (arith, c .before .before .before .before .before .before .before .before .before .before .before .before .pre, some-level (treeAt (c .before .before .before .before .before .before .before .before .before .before .before .before .args .nodes .now) (c .before .before .before .before .before .before .before .before .before .before .before .before .args .n)))))))
 
+  binary-requires : lts.Need-binary-requires calls (node-at t) node.Post
+  binary-requires c κs = omega (arith, c .before .before .before .before .before .before .pre, some-level (treeAt (c .before .before .before .before .before .before .args .nodes .now) (c .before .before .before .before .before .before .args .n)), two-codes (⊎-elim (λ m. inl (m .keys2)) (λ m. inr (m .2 .left, m .3 .taken)) (c .before .match .came)), binary-levels (c .before .before .before .before .before .before .args .nodes .now) (c .before .before .before .before .before .before .args .n) (c .before .before .node-word .result) (c .before .before .node-word .ensures) (⊎-elim (λ m. inl (m .keys2)) (λ m. inr (m .2 .left, m .3 .taken)) (c .before .match .came)))
+
   unary-requires : lts.Need-unary-requires calls (node-at t) node.Post
-  unary-requires c κs = omega (arith, c .before .before .before .before .before .before .pre, some-level (treeAt (c .before .before .before .before .before .before .args .nodes .now) (c .before .before .before .before .before .before .args .n)), single-codes (⊎-elim (λ m. lone-code (m .keys1)) (⊎-elim (λ m. low-code (m .1 .left) (m .2 .taken)) (λ m. high-code (from-33 _ (m .6 .left) (m .0 .rest .0 .0 .0 .0 .1) (m .0 .rest .0 .0 .0 .1) (m .0 .rest .0 .0 .1)) (m .7 .taken))) (c .before .match .came)), single-levels (c .before .before .before .before .before .before .args .nodes .now) (c .before .before .before .before .before .before .args .n) (c .before .before .node-word .result) (c .before .before .node-word .ensures) (⊎-elim (λ m. lone-code (m .keys1)) (⊎-elim (λ m. low-code (m .1 .left) (m .2 .taken)) (λ m. high-code (from-33 _ (m .6 .left) (m .0 .rest .0 .0 .0 .0 .1) (m .0 .rest .0 .0 .0 .1) (m .0 .rest .0 .0 .1)) (m .7 .taken))) (c .before .match .came)))
+  unary-requires c κs = omega (arith, c .before .before .before .before .before .before .pre, some-level (treeAt (c .before .before .before .before .before .before .args .nodes .now) (c .before .before .before .before .before .before .args .n)), single-codes (⊎-elim (λ m. lone-code (m .keys1)) (⊎-elim (λ m. low-code (m .1 .left) (m .2 .taken)) (λ m. high-code (from-33 _ (m .6 .left) (m .0 .rest .0 .0 .0 .0 .0 .1) (m .0 .rest .0 .0 .0 .1) (m .0 .rest .0 .0 .1)) (m .7 .taken))) (c .before .match .came)), single-levels (c .before .before .before .before .before .before .args .nodes .now) (c .before .before .before .before .before .before .args .n) (c .before .before .node-word .result) (c .before .before .node-word .ensures) (⊎-elim (λ m. lone-code (m .keys1)) (⊎-elim (λ m. low-code (m .1 .left) (m .2 .taken)) (λ m. high-code (from-33 _ (m .6 .left) (m .0 .rest .0 .0 .0 .0 .0 .1) (m .0 .rest .0 .0 .0 .1) (m .0 .rest .0 .0 .1)) (m .7 .taken))) (c .before .match .came)))
 
   same-length : lts.Need-same-length calls (node-at t) node.Post
   same-length c = search needs
@@ -108,34 +108,34 @@ module _ (t : ℕ) where
   same-length-6 c = search needs
 
   returns-6 : lts.Need-returns-6 calls (node-at t) node.Post
-  returns-6 c = search node-binary
+  returns-6 c = search node-connective
 
   same-length-7 : lts.Need-same-length-7 calls (node-at t) node.Post
   same-length-7 c = search needs
 
   returns-7 : lts.Need-returns-7 calls (node-at t) node.Post
-  returns-7 c = search node-connective
+  returns-7 c = search node-quantified
 
   same-length-8 : lts.Need-same-length-8 calls (node-at t) node.Post
   same-length-8 c = search needs
 
   returns-8 : lts.Need-returns-8 calls (node-at t) node.Post
-  returns-8 c = search node-quantified
+  returns-8 c = search node-assemble
+
+  returns-9 : lts.Need-returns-9 calls (node-at t) node.Post
+  returns-9 c = node-none _ _ _ (c .before .before .before .before .before .before .before .before .node-word .ensures) (c .before .before .before .before .before .before .before .before .before .before .before .before .pre .1 .1 .1) (over-37 _ (c .if7 .left) (c .before .before .before .before .before .before .before .match .rest .0 .0 .0 .0 .1) (c .before .before .before .before .before .before .before .match .rest .0 .1) (c .before .before .before .before .before .before .before .match .rest .1))
 
   same-length-9 : lts.Need-same-length-9 calls (node-at t) node.Post
   same-length-9 c = search needs
 
-  returns-9 : lts.Need-returns-9 calls (node-at t) node.Post
-  returns-9 c = search node-assemble
-
   returns-10 : lts.Need-returns-10 calls (node-at t) node.Post
-  returns-10 c = node-none _ _ _ (c .before .before .before .before .before .before .before .before .node-word .ensures) (c .before .before .before .before .before .before .before .before .before .before .before .before .pre .1 .1 .1) (over-36 _ (c .if7 .left) (c .before .before .before .before .before .before .before .match .rest .0 .1) (c .before .before .before .before .before .before .before .match .rest .1))
+  returns-10 c = node-binary _ _ _ (c .before .before .before .before .before .node-word .ensures) (c .before .before .before .before .before .before .before .before .before .pre .1 .1 .1) (⊎-elim (λ m. inl (m .keys2)) (λ m. inr (m .2 .left, m .3 .taken)) (c .before .before .before .before .match .came)) (c .before .before .binary .ensures)
 
   same-length-10 : lts.Need-same-length-10 calls (node-at t) node.Post
   same-length-10 c = search needs
 
   returns-11 : lts.Need-returns-11 calls (node-at t) node.Post
-  returns-11 c = node-unary _ _ _ (c .before .before .before .before .before .node-word .ensures) (c .before .before .before .before .before .before .before .before .before .pre .1 .1 .1) (⊎-elim (λ m. lone-code (m .keys1)) (⊎-elim (λ m. low-code (m .1 .left) (m .2 .taken)) (λ m. high-code (from-33 _ (m .6 .left) (m .0 .rest .0 .0 .0 .0 .1) (m .0 .rest .0 .0 .0 .1) (m .0 .rest .0 .0 .1)) (m .7 .taken))) (c .before .before .before .before .match .came)) (c .before .before .unary .ensures)
+  returns-11 c = node-unary _ _ _ (c .before .before .before .before .before .node-word .ensures) (c .before .before .before .before .before .before .before .before .before .pre .1 .1 .1) (⊎-elim (λ m. lone-code (m .keys1)) (⊎-elim (λ m. low-code (m .1 .left) (m .2 .taken)) (λ m. high-code (from-33 _ (m .6 .left) (m .0 .rest .0 .0 .0 .0 .0 .1) (m .0 .rest .0 .0 .0 .1) (m .0 .rest .0 .0 .1)) (m .7 .taken))) (c .before .before .before .before .match .came)) (c .before .before .unary .ensures)
 
   pub closed : {M : Type 1} → lts.Closed calls (node-at t) node.Post M
-  closed = lts.spec calls (node-at t) node.Post add-s sub-deeper node-word-requires conditional-requires let-in-requires iter-requires call-requires node-word-requires-2 leaf-requires binary-requires connective-requires node-word-requires-3 wide-requires quantified-requires coll-requires unary-requires same-length returns same-length-2 returns-2 same-length-3 returns-3 same-length-4 returns-4 same-length-5 returns-5 same-length-6 returns-6 same-length-7 returns-7 same-length-8 returns-8 same-length-9 returns-9 returns-10 same-length-10 returns-11
+  closed = lts.spec calls (node-at t) node.Post add-s sub-deeper node-word-requires conditional-requires let-in-requires iter-requires call-requires node-word-requires-2 leaf-requires connective-requires node-word-requires-3 wide-requires quantified-requires coll-requires binary-requires unary-requires same-length returns same-length-2 returns-2 same-length-3 returns-3 same-length-4 returns-4 same-length-5 returns-5 same-length-6 returns-6 same-length-7 returns-7 same-length-8 returns-8 returns-9 same-length-9 returns-10 same-length-10 returns-11

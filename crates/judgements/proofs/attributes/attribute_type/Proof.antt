@@ -1,5 +1,5 @@
 -- `attribute_type` meets its contract. Assumes nothing.
-use Rattle.ocl.specs.Typing.{ofRow}
+use Rattle.ocl.specs.Marks.{ofRow}
 use Rattle.judgements.proofs.AttributeRows.{attribute-not, attribute-row, row-word}
 use borrow.Author.Needs.{needs}
 use Rattle.judgements.proofs.attributes.attribute_type.Statement.{statement}

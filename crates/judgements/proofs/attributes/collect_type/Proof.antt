@@ -1,6 +1,7 @@
 -- `collect_type` meets its contract. Assumes nothing.
 use native.Mathlib.Omega.{arith}
-use Rattle.ocl.specs.Typing.{ofRows, collectKind}
+use Rattle.ocl.specs.Typing.{collectKind}
+use Rattle.ocl.specs.Marks.{ofRows}
 use Rattle.types.specs.Flat.{letterOf}
 use Rattle.judgements.proofs.AttributeRows.{collect-not, collect-no-class, collect-early, collect-done, code-low, code-room, code-some, more-word}
 use borrow.Author.Needs.{needs}

@@ -14,14 +14,17 @@ use Rattle.judgements.proofs.forms.leaf_type.Tie as tie
 plain-requires : tie.Need-plain-requires
 plain-requires c κs = search needs
 
-plain-requires-2 : tie.Need-plain-requires-2
-plain-requires-2 c κs = search needs
+node-word-requires : tie.Need-node-word-requires
+node-word-requires c κs = search needs
+
+number-type-requires : tie.Need-number-type-requires
+number-type-requires c κs = search needs
 
 bound-requires : tie.Need-bound-requires
 bound-requires c κs = search needs
 
-node-word-requires : tie.Need-node-word-requires
-node-word-requires c κs = search needs
+node-word-requires-2 : tie.Need-node-word-requires-2
+node-word-requires-2 c κs = search needs
 
 wide-requires : tie.Need-wide-requires
 wide-requires c κs = search needs
@@ -29,11 +32,11 @@ wide-requires c κs = search needs
 bound-requires-2 : tie.Need-bound-requires-2
 bound-requires-2 c κs = search needs
 
-plain-requires-3 : tie.Need-plain-requires-3
-plain-requires-3 c κs = search needs
+plain-requires-2 : tie.Need-plain-requires-2
+plain-requires-2 c κs = search needs
 
-node-word-requires-2 : tie.Need-node-word-requires-2
-node-word-requires-2 c κs = search needs
+node-word-requires-3 : tie.Need-node-word-requires-3
+node-word-requires-3 c κs = search needs
 
 cast-set-of-class : tie.Need-cast-set-of-class
 cast-set-of-class c = search needs
@@ -51,26 +54,27 @@ returns-3 : tie.Need-returns-3
 returns-3 c = search leaf-self
 
 returns-4 : tie.Need-returns-4
-returns-4 c = leaf-var _ _ _ _ (c .before .before .before .match .keys4) (c .bound2 .ensures ∙ ap (λ (i : ℕ). boundType (c .before .before .before .before .before .args .n) (envOf (c .before .before .before .before .before .args .env) (i % 16))) (c .before .wide .ensures ∙ c .before .before .node-word .ensures))
+returns-4 c = leaf-var _ _ _ _ (c .before .before .before .match .keys4) (c .bound2 .ensures ∙ ap (λ (i : ℕ). boundType (c .before .before .before .before .before .args .n) (envOf (c .before .before .before .before .before .args .env) (i % 16))) (c .before .wide .ensures ∙ c .before .before .node-word2 .ensures))
 
 returns-5 : tie.Need-returns-5
-returns-5 c = leaf-truth _ _ _ _ (omega arith) (c .plain3 .ensures)
+returns-5 c = leaf-truth _ _ _ _ (omega arith) (c .plain2 .ensures)
 
 returns-6 : tie.Need-returns-6
-returns-6 c = leaf-all _ _ _ _ (omega arith) (c .before .before .before .match .rest .0 .0 .0 .1) (c .before .before .before .match .rest .0 .0 .1) (c .before .before .before .match .rest .0 .1) (c .before .before .before .match .rest .1) (c .set-of-class .ensures ∙ ap (λ (i : ℕ). around (exactly set) (Class (classIn i))) (c .before .node-word2 .ensures))
+returns-6 c = leaf-all _ _ _ _ (omega arith) (c .before .before .before .match .rest .0 .0 .0 .1) (c .before .before .before .match .rest .0 .0 .1) (c .before .before .before .match .rest .0 .1) (c .before .before .before .match .rest .1) (c .set-of-class .ensures ∙ ap (λ (i : ℕ). around (exactly set) (Class (classIn i))) (c .before .node-word3 .ensures))
 
 pub leaf-type-spec : {M : Type 1} → statement M
 leaf-type-spec =
     tie.close
     (tie.spec
     plain-requires
-    plain-requires-2
-    bound-requires
     node-word-requires
+    number-type-requires
+    bound-requires
+    node-word-requires-2
     wide-requires
     bound-requires-2
-    plain-requires-3
-    node-word-requires-2
+    plain-requires-2
+    node-word-requires-3
     cast-set-of-class
     set-of-class-requires
     returns

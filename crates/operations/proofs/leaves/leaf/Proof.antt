@@ -1,4 +1,4 @@
--- `operations::leaves::leaf` meets its contract. Assumes nothing.
+-- `leaf` meets its contract. Assumes nothing.
 use native.Mathlib.Omega.{arith}
 use mathlib.Core.Bool.{true, false}
 use mathlib.Core.Path.{_≡_}
@@ -13,8 +13,11 @@ put-requires c κs = search needs
 put-requires-2 : tie.Need-put-requires-2
 put-requires-2 c κs = search needs
 
-put-requires-3 : tie.Need-put-requires-3
-put-requires-3 c κs = search needs
+word-in-requires : tie.Need-word-in-requires
+word-in-requires c κs = search needs
+
+put-cell-requires : tie.Need-put-cell-requires
+put-cell-requires c κs = search needs
 
 variable-requires : tie.Need-variable-requires
 variable-requires c κs = search needs
@@ -50,7 +53,7 @@ same-length-3 : tie.Need-same-length-3
 same-length-3 c = search needs
 
 returns-4 : tie.Need-returns-4
-returns-4 c = leaf-number _ _ (c .before .before .before .before .match .keys4) (c .before .before .put3 .ensures)
+returns-4 c = leaf-number _ _ (c .before .before .before .before .before .match .keys4) (c .before .before .before .word-in .ensures) (c .before .before .put-cell .ensures)
 
 same-length-4 : tie.Need-same-length-4
 same-length-4 c = search needs
@@ -76,7 +79,8 @@ leaf-spec =
     (tie.spec
     put-requires
     put-requires-2
-    put-requires-3
+    word-in-requires
+    put-cell-requires
     variable-requires
     wide-requires
     variable-requires-2

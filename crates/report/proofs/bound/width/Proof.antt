@@ -23,6 +23,9 @@ enum-told-4 c = search needs
 enum-told-5 : tie.Need-enum-told-5
 enum-told-5 c = search needs
 
+enum-told-6 : tie.Need-enum-told-6
+enum-told-6 c = search needs
+
 returns-2 : tie.Need-returns-2
 unfolding width
 returns-2 c = width-ends (c .before .before .before .before .args .t) _ (c .before .before .if1 .left) (c .enum-told .given .1)
@@ -43,6 +46,10 @@ returns-6 : tie.Need-returns-6
 unfolding width
 returns-6 c = width-ends (c .before .before .before .before .args .t) _ (c .before .before .if1 .left) (c .enum-told5 .given .1)
 
+returns-7 : tie.Need-returns-7
+unfolding width
+returns-7 c = width-ends (c .before .before .before .before .args .t) _ (c .before .before .if1 .left) (c .enum-told6 .given .1)
+
 pub width-spec : {M : Type 1} → statement M
 width-spec =
     tie.close
@@ -53,8 +60,10 @@ width-spec =
     enum-told-3
     enum-told-4
     enum-told-5
+    enum-told-6
     returns-2
     returns-3
     returns-4
     returns-5
-    returns-6)
+    returns-6
+    returns-7)

@@ -1,7 +1,6 @@
 -- `slots::parts::object_at` meets its contract. Assumes nothing.
-use native.Mathlib.Omega.{arith}
-use borrow.Author.Needs.{needs}
 use Rattle.slots.proofs.PartLaws.{object-none, object-small, object-wide}
+use borrow.Author.Needs.{needs}
 use Rattle.slots.proofs.parts.object_at.Statement.{statement}
 use Rattle.slots.proofs.parts.object_at.Tie as tie
 
@@ -17,20 +16,17 @@ enum-told c = search needs
 enum-known-n : tie.Need-enum-known-n
 enum-known-n c = search needs
 
-mul-t10 : tie.Need-mul-t10
-mul-t10 c = search needs
-
-add-t11 : tie.Need-add-t11
-add-t11 c = search needs
+add-t10 : tie.Need-add-t10
+add-t10 c = search needs
 
 returns : tie.Need-returns
-returns c = object-none (c .before .before .before .digits-at .ensures .ends) (c .before .before .number-at .ensures) (c .enum-told .given .1)
+returns c = search object-none
 
 returns-2 : tie.Need-returns-2
-returns-2 c = object-small (c .before .before .before .before .before .digits-at .ensures .ends) (c .before .before .before .before .number-at .ensures) (c .before .before .n .given .1) (omega arith)
+returns-2 c = search object-small
 
 returns-3 : tie.Need-returns-3
-returns-3 c = object-wide (c .before .before .before .before .before .digits-at .ensures .ends) (c .before .before .before .before .number-at .ensures) (c .before .before .n .given .1) (omega arith)
+returns-3 c = search object-wide
 
 pub object-at-spec : {M : Type 1} → statement M
 object-at-spec =
@@ -40,8 +36,7 @@ object-at-spec =
     number-at-requires
     enum-told
     enum-known-n
-    mul-t10
-    add-t11
+    add-t10
     returns
     returns-2
     returns-3)

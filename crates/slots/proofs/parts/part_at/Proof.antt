@@ -1,10 +1,10 @@
 -- `slots::parts::part_at` meets its contract. Assumes nothing.
-use native.Mathlib.Omega.{arith}
-use Rattle.sheet.specs.Spelling.{letterByte, kindByte}
 use mathlib.Core.Path.{refl, sym}
-use borrow.Author.Needs.{needs}
 use Rattle.ocl.specs.Types.{set, sequence, bag, kindCode}
-use Rattle.slots.proofs.PartLaws.{part-true, part-false, part-object, part-letter, part-whole}
+use Rattle.sheet.specs.Spelling.{letterByte, kindByte}
+use Rattle.slots.proofs.PartLaws.{part-true, part-false, part-object, part-real, part-letter, part-whole}
+use native.Mathlib.Omega.{arith}
+use borrow.Author.Needs.{needs}
 use Rattle.slots.proofs.parts.part_at.Statement.{statement}
 use Rattle.slots.proofs.parts.part_at.Tie as tie
 
@@ -22,6 +22,9 @@ add-object-at c = search needs
 
 object-at-requires : tie.Need-object-at-requires
 object-at-requires c κs = search needs
+
+real-at-requires : tie.Need-real-at-requires
+real-at-requires c κs = search needs
 
 opens-at-requires : tie.Need-opens-at-requires
 opens-at-requires c κs = search needs
@@ -45,19 +48,22 @@ returns-3 : tie.Need-returns-3
 returns-3 c = part-object _ _ (omega arith) (omega arith) (c .object-at .ensures)
 
 returns-4 : tie.Need-returns-4
-unfolding kindByte letterByte kindCode
-returns-4 c = part-letter _ _ (omega arith) set (omega arith) (omega arith) (c .opens-at .ensures)
+returns-4 c = part-real _ _ (omega arith) (omega arith) (c .real-at .ensures)
 
 returns-5 : tie.Need-returns-5
 unfolding kindByte letterByte kindCode
-returns-5 c = part-letter _ _ (omega arith) sequence (omega arith) (omega arith) (c .opens-at2 .ensures)
+returns-5 c = part-letter _ _ (omega arith) set (omega arith) (omega arith) (c .opens-at .ensures)
 
 returns-6 : tie.Need-returns-6
 unfolding kindByte letterByte kindCode
-returns-6 c = part-letter _ _ (omega arith) bag (omega arith) (omega arith) (c .opens-at3 .ensures)
+returns-6 c = part-letter _ _ (omega arith) sequence (omega arith) (omega arith) (c .opens-at2 .ensures)
 
 returns-7 : tie.Need-returns-7
-returns-7 c = part-whole _ _ (omega arith) _ refl (λ e. c .before .match .rest .0 .0 .0 .0 .0 .1 (sym e)) (λ e. c .before .match .rest .0 .0 .0 .0 .1 (sym e)) (λ e. c .before .match .rest .0 .0 .0 .1 (sym e)) (λ e. c .before .match .rest .0 .0 .1 (sym e)) (λ e. c .before .match .rest .0 .1 (sym e)) (λ e. c .before .match .rest .1 (sym e)) (c .whole-at .ensures)
+unfolding kindByte letterByte kindCode
+returns-7 c = part-letter _ _ (omega arith) bag (omega arith) (omega arith) (c .opens-at3 .ensures)
+
+returns-8 : tie.Need-returns-8
+returns-8 c = part-whole _ _ (omega arith) _ refl (λ e. c .before .match .rest .0 .0 .0 .0 .0 .0 .1 (sym e)) (λ e. c .before .match .rest .0 .0 .0 .0 .0 .1 (sym e)) (λ e. c .before .match .rest .0 .0 .0 .0 .1 (sym e)) (λ e. c .before .match .rest .0 .0 .0 .1 (sym e)) (λ e. c .before .match .rest .0 .0 .1 (sym e)) (λ e. c .before .match .rest .0 .1 (sym e)) (λ e. c .before .match .rest .1 (sym e)) (c .whole-at .ensures)
 
 pub part-at-spec : {M : Type 1} → statement M
 part-at-spec =
@@ -68,6 +74,7 @@ part-at-spec =
     add-t8
     add-object-at
     object-at-requires
+    real-at-requires
     opens-at-requires
     opens-at-requires-2
     opens-at-requires-3
@@ -78,4 +85,5 @@ part-at-spec =
     returns-4
     returns-5
     returns-6
-    returns-7)
+    returns-7
+    returns-8)

@@ -1,6 +1,5 @@
 -- `slots::suits::base_suits` meets its contract. Assumes nothing.
-use Rattle.slots.proofs.SuitLaws.{base-void, base-object, base-high, base-any, base-low, low-sort}
-use native.Mathlib.Omega.{arith}
+use Rattle.slots.proofs.SuitLaws.{base-void, base-object, base-high, base-any, base-truth, base-integer, base-number, low-sort}
 use borrow.Author.Needs.{needs}
 use Rattle.slots.proofs.suits.base_suits.Statement.{statement}
 use Rattle.slots.proofs.suits.base_suits.Tie as tie
@@ -9,7 +8,7 @@ tag-requires : tie.Need-tag-requires
 tag-requires c κs = search needs
 
 returns : tie.Need-returns
-returns c = base-void _ (c .before .tag .ensures) (c .if1 .taken)
+returns c = search base-void
 
 sort-of-requires : tie.Need-sort-of-requires
 sort-of-requires c κs = search needs
@@ -27,19 +26,25 @@ object-suits-requires : tie.Need-object-suits-requires
 object-suits-requires c κs = search needs
 
 returns-2 : tie.Need-returns-2
-returns-2 c = base-object _ (c .before .before .before .before .before .before .tag .ensures) (c .before .before .before .before .before .if1 .left) (c .before .before .before .before .sort-of .ensures) (c .before .before .before .if2 .taken) (c .before .before .payload-of .ensures) (c .before .class-in .ensures) (c .object-suits .ensures)
+returns-2 c = search base-object
 
 returns-3 : tie.Need-returns-3
-returns-3 c = base-high _ (c .before .before .before .before .tag .ensures) (c .before .before .before .if1 .left) (c .before .before .sort-of .ensures) (omega arith)
+returns-3 c = search base-high
 
 returns-4 : tie.Need-returns-4
-returns-4 c = base-any _ (c .before .before .before .before .before .tag .ensures) (c .before .before .before .before .if1 .left) (c .before .before .before .sort-of .ensures) (low-sort (c .before .before .if2 .left) (c .before .if3 .left)) (c .if4 .taken)
-
-add-result : tie.Need-add-result
-add-result c = search needs
+returns-4 c = search (base-any, low-sort)
 
 returns-5 : tie.Need-returns-5
-returns-5 c = base-low _ (c .before .before .before .before .before .tag .ensures) (c .before .before .before .before .if1 .left) (c .before .before .before .sort-of .ensures) (low-sort (c .before .before .if2 .left) (c .before .if3 .left)) (c .if4 .left)
+returns-5 c = search base-truth
+
+is-integer-requires : tie.Need-is-integer-requires
+is-integer-requires c κs = search needs
+
+returns-6 : tie.Need-returns-6
+returns-6 c = search (base-integer, low-sort)
+
+returns-7 : tie.Need-returns-7
+returns-7 c = search (base-number, low-sort)
 
 pub base-suits-spec : {M : Type 1} → statement M
 base-suits-spec =
@@ -55,5 +60,7 @@ base-suits-spec =
     returns-2
     returns-3
     returns-4
-    add-result
-    returns-5)
+    returns-5
+    is-integer-requires
+    returns-6
+    returns-7)

@@ -4,7 +4,7 @@ use mathlib.Core.Path.{_∙_}
 use borrow.Author.Needs.{needs}
 use native.Mathlib.Omega.{arith}
 use Rattle.spelling.proofs.CellLaws.{value-within}
-use Rattle.spelling.proofs.ValueLaws.{simple-room, wrote-simple, opening-room, members-wait, wrote-opened}
+use Rattle.spelling.proofs.ValueLaws.{simple-waits, wrote-simple, opening-room, members-wait, wrote-opened}
 use Rattle.spelling.proofs.put_members.Reads as put-members
 use Rattle.spelling.proofs.put_next.Reads as put-next
 use Rattle.spelling.proofs.put_opening.Reads as put-opening-reads
@@ -45,7 +45,7 @@ module _ (t : ℕ) where
   simple-of-requires c κs = search needs
 
   put-simple-requires : lts.Need-put-simple-requires calls (put-next-at t) put-next.Post
-  put-simple-requires c κs = simple-room (c .before .before .before .sort-of .ensures) (c .simple-of .ensures) (c .before .before .if1 .taken) (c .before .before .before .before .before .before .before .pre .1)
+  put-simple-requires c κs = simple-waits (c .before .before .before .sort-of .ensures) (c .simple-of .ensures) (c .before .before .if1 .taken) (c .before .before .before .before .before .before .before .pre .1)
 
   add-t16 : lts.Need-add-t16 calls (put-next-at t) put-next.Post
   add-t16 c = omega (arith, value-within (c .before .before .before .before .before .before .before .before .before .before .pre .1 .v) (c .before .before .before .before .before .before .before .before .before .before .pre .1 .stands))

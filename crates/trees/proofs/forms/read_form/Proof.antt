@@ -1,7 +1,7 @@
 -- `read_form` meets its contract.
 use Rattle.text.proofs.FormLaws.{above}
 use Rattle.trees.proofs.LiteralLaws.{gap-code, no-code}
-use Rattle.trees.specs.Forms.{constant, itself, one, two, undefTest, conditional}
+use Rattle.trees.specs.Forms.{constant, itself, one, two, undefTest, conditional, quotient}
 use borrow.Author.Needs.{needs}
 use Rattle.trees.proofs.forms.read_form.Statement.{statement}
 use Rattle.trees.proofs.forms.read_form.Tie as tie
@@ -40,13 +40,19 @@ call-form-requires : tie.Need-call-form-requires
 call-form-requires c κs = search needs
 
 plain-form-requires-4 : tie.Need-plain-form-requires-4
-plain-form-requires-4 c κs = (c .before .before .before .pre .0, c .before .before .before .pre .1, constant {k = c .before .before .before .args .code} (c .if1 .taken))
+plain-form-requires-4 c κs = (c .before .before .pre .0, c .before .before .pre .1, quotient)
+
+real-form-requires : tie.Need-real-form-requires
+real-form-requires c κs = search needs
 
 plain-form-requires-5 : tie.Need-plain-form-requires-5
-plain-form-requires-5 c κs = (c .before .before .before .before .pre .0, c .before .before .before .before .pre .1, one {k = c .before .before .before .before .args .code} (above (above (above (above (c .before .if1 .left) (c .before .before .match .rest .0 .0 .0 .0 .0 .0 .0 .0 .0 .0 .1)) (c .before .before .match .rest .0 .0 .0 .0 .0 .0 .0 .0 .0 .1)) (c .before .before .match .rest .0 .0 .0 .0 .0 .0 .0 .0 .1)) (c .before .before .match .rest .0 .0 .0 .0 .0 .0 .0 .1)) (c .if2 .taken))
+plain-form-requires-5 c κs = (c .before .before .before .pre .0, c .before .before .before .pre .1, constant {k = c .before .before .before .args .code} (c .if1 .taken))
 
 plain-form-requires-6 : tie.Need-plain-form-requires-6
-plain-form-requires-6 c κs = (c .before .before .before .before .before .pre .0, c .before .before .before .before .before .pre .1, two {k = c .before .before .before .before .before .args .code} (above (c .before .if2 .left) (c .before .before .before .match .rest .0 .0 .0 .0 .0 .0 .1)) (c .if3 .taken))
+plain-form-requires-6 c κs = (c .before .before .before .before .pre .0, c .before .before .before .before .pre .1, one {k = c .before .before .before .before .args .code} (above (above (above (above (c .before .if1 .left) (c .before .before .match .rest .0 .0 .0 .0 .0 .0 .0 .0 .0 .0 .0 .0 .1)) (c .before .before .match .rest .0 .0 .0 .0 .0 .0 .0 .0 .0 .0 .0 .1)) (c .before .before .match .rest .0 .0 .0 .0 .0 .0 .0 .0 .0 .0 .1)) (c .before .before .match .rest .0 .0 .0 .0 .0 .0 .0 .0 .0 .1)) (c .if2 .taken))
+
+plain-form-requires-7 : tie.Need-plain-form-requires-7
+plain-form-requires-7 c κs = (c .before .before .before .before .before .pre .0, c .before .before .before .before .before .pre .1, two {k = c .before .before .before .before .before .args .code} (above (c .before .if2 .left) (c .before .before .before .match .rest .0 .0 .0 .0 .0 .0 .0 .0 .1)) (c .if3 .taken))
 
 quantifier-form-requires : tie.Need-quantifier-form-requires
 quantifier-form-requires c κs = search needs
@@ -55,7 +61,7 @@ misspelled-requires : tie.Need-misspelled-requires
 misspelled-requires c κs = search needs
 
 attribute-form-requires : tie.Need-attribute-form-requires
-attribute-form-requires c κs = (c .before .before .before .before .before .before .before .before .pre .0, c .before .before .before .before .before .before .before .before .pre .1, record { low = above (above (above (c .before .if5 .left) (c .before .before .before .before .before .before .match .rest .0 .0 .0 .0 .1)) (c .before .before .before .before .before .before .match .rest .0 .0 .0 .1)) (c .before .before .before .before .before .before .match .rest .0 .0 .1); high = c .if6 .taken })
+attribute-form-requires c κs = (c .before .before .before .before .before .before .before .before .pre .0, c .before .before .before .before .before .before .before .before .pre .1, record { low = above (above (above (c .before .if5 .left) (c .before .before .before .before .before .before .match .rest .0 .0 .0 .0 .0 .0 .1)) (c .before .before .before .before .before .before .match .rest .0 .0 .0 .0 .0 .1)) (c .before .before .before .before .before .before .match .rest .0 .0 .0 .0 .1); high = c .if6 .taken })
 
 misspelled-requires-2 : tie.Need-misspelled-requires-2
 misspelled-requires-2 c κs = search needs
@@ -94,10 +100,10 @@ returns-11 : tie.Need-returns-11
 returns-11 c = rw (c .before .match .keys11) (c .call-form .ensures)
 
 returns-12 : tie.Need-returns-12
-returns-12 c = search needs
+returns-12 c = rw (c .before .match .keys12) (c .plain-form4 .ensures)
 
 returns-13 : tie.Need-returns-13
-returns-13 c = search needs
+returns-13 c = rw (c .before .match .keys13) (c .real-form .ensures)
 
 returns-14 : tie.Need-returns-14
 returns-14 c = search needs
@@ -106,13 +112,19 @@ returns-15 : tie.Need-returns-15
 returns-15 c = search needs
 
 returns-16 : tie.Need-returns-16
-returns-16 c = rw (gap-code _ _ (above (c .before .before .if4 .left) (c .before .before .before .before .before .before .match .rest .0 .0 .0 .0 .0 .1)) (c .before .if5 .taken)) (c .misspelled .ensures _)
+returns-16 c = search needs
 
 returns-17 : tie.Need-returns-17
 returns-17 c = search needs
 
 returns-18 : tie.Need-returns-18
-returns-18 c = rw (no-code _ _ (above (above (c .before .if6 .left) (c .before .before .before .before .before .before .before .match .rest .0 .1)) (c .before .before .before .before .before .before .before .match .rest .1))) (c .misspelled2 .ensures _)
+returns-18 c = rw (gap-code _ _ (above (c .before .before .if4 .left) (c .before .before .before .before .before .before .match .rest .0 .0 .0 .0 .0 .0 .0 .1)) (c .before .if5 .taken)) (c .misspelled .ensures _)
+
+returns-19 : tie.Need-returns-19
+returns-19 c = search needs
+
+returns-20 : tie.Need-returns-20
+returns-20 c = rw (no-code _ _ (above (above (above (above (c .before .if6 .left) (c .before .before .before .before .before .before .before .match .rest .0 .0 .0 .1)) (c .before .before .before .before .before .before .before .match .rest .0 .0 .1)) (c .before .before .before .before .before .before .before .match .rest .0 .1)) (c .before .before .before .before .before .before .before .match .rest .1))) (c .misspelled2 .ensures _)
 
 pub read-form-spec : {M : Type 1} → statement M
 read-form-spec =
@@ -130,8 +142,10 @@ read-form-spec =
     iterate-form-requires
     call-form-requires
     plain-form-requires-4
+    real-form-requires
     plain-form-requires-5
     plain-form-requires-6
+    plain-form-requires-7
     quantifier-form-requires
     misspelled-requires
     attribute-form-requires
@@ -153,4 +167,6 @@ read-form-spec =
     returns-15
     returns-16
     returns-17
-    returns-18)
+    returns-18
+    returns-19
+    returns-20)

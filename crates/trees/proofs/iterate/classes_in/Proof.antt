@@ -19,6 +19,9 @@ enum-told-3 c = search needs
 enum-told-4 : tie.Need-enum-told-4
 enum-told-4 c = search needs
 
+enum-told-5 : tie.Need-enum-told-5
+enum-told-5 c = search needs
+
 enum-known-b : tie.Need-enum-known-b
 enum-known-b c = search needs
 
@@ -46,7 +49,11 @@ returns-4 c = sym (ap classesIn (c .enum-told4 .given .1))
 
 returns-5 : tie.Need-returns-5
 unfolding classesIn
-returns-5 c = sym (ap classesIn (c .before .b .given .1))
+returns-5 c = sym (ap classesIn (c .enum-told5 .given .1))
+
+returns-6 : tie.Need-returns-6
+unfolding classesIn
+returns-6 c = sym (ap classesIn (c .before .b .given .1))
 
 pub classes-in-spec : {M : Type 1} → statement M
 classes-in-spec =
@@ -56,6 +63,7 @@ classes-in-spec =
     enum-told-2
     enum-told-3
     enum-told-4
+    enum-told-5
     enum-known-b
     cast-result
     add-result
@@ -63,4 +71,5 @@ classes-in-spec =
     returns-2
     returns-3
     returns-4
-    returns-5)
+    returns-5
+    returns-6)

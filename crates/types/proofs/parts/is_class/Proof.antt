@@ -21,6 +21,9 @@ enum-told-3 c = search needs
 enum-told-4 : tie.Need-enum-told-4
 enum-told-4 c = search needs
 
+enum-told-5 : tie.Need-enum-told-5
+enum-told-5 c = search needs
+
 enum-known-b : tie.Need-enum-known-b
 enum-known-b c = search needs
 
@@ -45,7 +48,11 @@ returns-5 c = class-ends (c .before .before .before .before .args .t) _ (c .befo
 
 returns-6 : tie.Need-returns-6
 unfolding classNumber classOf simpleClass
-returns-6 c = class-ends (c .before .before .before .before .before .args .t) _ (c .before .before .before .if1 .left) (c .before .b .given .1)
+returns-6 c = class-ends (c .before .before .before .before .args .t) _ (c .before .before .if1 .left) (c .enum-told5 .given .1)
+
+returns-7 : tie.Need-returns-7
+unfolding classNumber classOf simpleClass
+returns-7 c = class-ends (c .before .before .before .before .before .args .t) _ (c .before .before .before .if1 .left) (c .before .b .given .1)
 
 pub is-class-spec : {M : Type 1} → statement M
 is-class-spec =
@@ -56,10 +63,12 @@ is-class-spec =
     enum-told-2
     enum-told-3
     enum-told-4
+    enum-told-5
     enum-known-b
     cast-t6
     returns-2
     returns-3
     returns-4
     returns-5
-    returns-6)
+    returns-6
+    returns-7)

@@ -2,9 +2,9 @@
 use mathlib.Core.Path.{refl, sym, ap, _∙_}
 use Rattle.sheet.specs.Text.{bytes}
 use Rattle.sheet.specs.Limits.{typeWithin, classBelow, simpleClassBelow}
-use Rattle.ocl.specs.Types.{void, Boolean, Integer, Any, depth}
+use Rattle.ocl.specs.Types.{void, Boolean, Integer, Real, Any, depth}
 use Rattle.types.specs.Reading.{held}
-use Rattle.types.proofs.TypeFields.{is-field, bad-field, void-base, bool-base, int-base, any-base, empty-base, no-base, class-base}
+use Rattle.types.proofs.TypeFields.{is-field, bad-field, void-base, bool-base, int-base, real-base, any-base, empty-base, no-base, class-base}
 use borrow.Author.Needs.{needs}
 use Rattle.types.proofs.reading.base_before.Statement.{statement}
 use Rattle.types.proofs.reading.base_before.Tie as tie
@@ -59,18 +59,31 @@ plain-requires-4 c κs = search needs
 
 returns-4 : tie.Need-returns-4
 unfolding typeWithin depth classBelow simpleClassBelow bytes
-returns-4 c = is-field Any _ (any-base _ _ (sym (c .before .before .before .before .before .before .before .before .before .before .before .spells .ensures) ∙ c .before .before .before .before .before .before .before .before .before .before .if1 .left) (sym (c .before .before .before .before .before .before .before .before .spells2 .ensures) ∙ c .before .before .before .before .before .before .before .if2 .left) (sym (c .before .before .before .before .before .spells3 .ensures) ∙ c .before .before .before .before .if3 .left) (sym (c .before .before .spells4 .ensures) ∙ c .before .if4 .taken)) (c .plain4 .ensures) refl
+returns-4 c = is-field Real _ (real-base _ _ (sym (c .before .before .before .before .before .before .before .before .before .before .before .spells .ensures) ∙ c .before .before .before .before .before .before .before .before .before .before .if1 .left) (sym (c .before .before .before .before .before .before .before .before .spells2 .ensures) ∙ c .before .before .before .before .before .before .before .if2 .left) (sym (c .before .before .before .before .before .spells3 .ensures) ∙ c .before .before .before .before .if3 .left) (sym (c .before .before .spells4 .ensures) ∙ c .before .if4 .taken)) (c .plain4 .ensures) refl
+
+slice-aggregate-spells-5 : tie.Need-slice-aggregate-spells-5
+slice-aggregate-spells-5 c = search needs
+
+spells-requires-5 : tie.Need-spells-requires-5
+spells-requires-5 c κs = search needs
+
+plain-requires-5 : tie.Need-plain-requires-5
+plain-requires-5 c κs = search needs
 
 returns-5 : tie.Need-returns-5
-unfolding bytes
-returns-5 c = bad-field (empty-base _ _ (sym (c .before .before .before .before .before .before .before .before .before .before .before .spells .ensures) ∙ c .before .before .before .before .before .before .before .before .before .before .if1 .left) (sym (c .before .before .before .before .before .before .before .before .spells2 .ensures) ∙ c .before .before .before .before .before .before .before .if2 .left) (sym (c .before .before .before .before .before .spells3 .ensures) ∙ c .before .before .before .before .if3 .left) (sym (c .before .before .spells4 .ensures) ∙ c .before .if4 .left) (c .if5 .taken))
-
-shared-slice-read-if6 : tie.Need-shared-slice-read-if6
-shared-slice-read-if6 c = search needs
+unfolding typeWithin depth classBelow simpleClassBelow bytes
+returns-5 c = is-field Any _ (any-base _ _ (sym (c .before .before .before .before .before .before .before .before .before .before .before .before .before .before .spells .ensures) ∙ c .before .before .before .before .before .before .before .before .before .before .before .before .before .if1 .left) (sym (c .before .before .before .before .before .before .before .before .before .before .before .spells2 .ensures) ∙ c .before .before .before .before .before .before .before .before .before .before .if2 .left) (sym (c .before .before .before .before .before .before .before .before .spells3 .ensures) ∙ c .before .before .before .before .before .before .before .if3 .left) (sym (c .before .before .before .before .before .spells4 .ensures) ∙ c .before .before .before .before .if4 .left) (sym (c .before .before .spells5 .ensures) ∙ c .before .if5 .taken)) (c .plain5 .ensures) refl
 
 returns-6 : tie.Need-returns-6
 unfolding bytes
-returns-6 c = bad-field (no-base _ _ (sym (c .before .before .before .before .before .before .before .before .before .before .before .before .before .spells .ensures) ∙ c .before .before .before .before .before .before .before .before .before .before .before .before .if1 .left) (sym (c .before .before .before .before .before .before .before .before .before .before .spells2 .ensures) ∙ c .before .before .before .before .before .before .before .before .before .if2 .left) (sym (c .before .before .before .before .before .before .before .spells3 .ensures) ∙ c .before .before .before .before .before .before .if3 .left) (sym (c .before .before .before .before .spells4 .ensures) ∙ c .before .before .before .if4 .left) (c .before .before .if5 .left) (c .if6 .taken))
+returns-6 c = bad-field (empty-base _ _ (sym (c .before .before .before .before .before .before .before .before .before .before .before .before .before .before .spells .ensures) ∙ c .before .before .before .before .before .before .before .before .before .before .before .before .before .if1 .left) (sym (c .before .before .before .before .before .before .before .before .before .before .before .spells2 .ensures) ∙ c .before .before .before .before .before .before .before .before .before .before .if2 .left) (sym (c .before .before .before .before .before .before .before .before .spells3 .ensures) ∙ c .before .before .before .before .before .before .before .if3 .left) (sym (c .before .before .before .before .before .spells4 .ensures) ∙ c .before .before .before .before .if4 .left) (sym (c .before .before .spells5 .ensures) ∙ c .before .if5 .left) (c .if6 .taken))
+
+shared-slice-read-if7 : tie.Need-shared-slice-read-if7
+shared-slice-read-if7 c = search needs
+
+returns-7 : tie.Need-returns-7
+unfolding bytes
+returns-7 c = bad-field (no-base _ _ (sym (c .before .before .before .before .before .before .before .before .before .before .before .before .before .before .before .before .spells .ensures) ∙ c .before .before .before .before .before .before .before .before .before .before .before .before .before .before .before .if1 .left) (sym (c .before .before .before .before .before .before .before .before .before .before .before .before .before .spells2 .ensures) ∙ c .before .before .before .before .before .before .before .before .before .before .before .before .if2 .left) (sym (c .before .before .before .before .before .before .before .before .before .before .spells3 .ensures) ∙ c .before .before .before .before .before .before .before .before .before .if3 .left) (sym (c .before .before .before .before .before .before .before .spells4 .ensures) ∙ c .before .before .before .before .before .before .if4 .left) (sym (c .before .before .before .before .spells5 .ensures) ∙ c .before .before .before .if5 .left) (c .before .before .if6 .left) (c .if7 .taken))
 
 sub-class-before : tie.Need-sub-class-before
 sub-class-before c = search needs
@@ -84,9 +97,9 @@ part-class-before-end c = search needs
 class-before-requires : tie.Need-class-before-requires
 class-before-requires c κs = search needs
 
-returns-7 : tie.Need-returns-7
+returns-8 : tie.Need-returns-8
 unfolding bytes
-returns-7 c = c .class-before .ensures ∙ ap held (sym (class-base _ _ (sym (c .before .before .before .before .before .before .before .before .before .before .before .before .before .before .before .spells .ensures) ∙ c .before .before .before .before .before .before .before .before .before .before .before .before .before .before .if1 .left) (sym (c .before .before .before .before .before .before .before .before .before .before .before .before .spells2 .ensures) ∙ c .before .before .before .before .before .before .before .before .before .before .before .if2 .left) (sym (c .before .before .before .before .before .before .before .before .before .spells3 .ensures) ∙ c .before .before .before .before .before .before .before .before .if3 .left) (sym (c .before .before .before .before .before .before .spells4 .ensures) ∙ c .before .before .before .before .before .if4 .left) (c .before .before .before .before .if5 .left) (c .before .before .if6 .left)))
+returns-8 c = c .class-before .ensures ∙ ap held (sym (class-base _ _ (sym (c .before .before .before .before .before .before .before .before .before .before .before .before .before .before .before .before .before .before .spells .ensures) ∙ c .before .before .before .before .before .before .before .before .before .before .before .before .before .before .before .before .before .if1 .left) (sym (c .before .before .before .before .before .before .before .before .before .before .before .before .before .before .before .spells2 .ensures) ∙ c .before .before .before .before .before .before .before .before .before .before .before .before .before .before .if2 .left) (sym (c .before .before .before .before .before .before .before .before .before .before .before .before .spells3 .ensures) ∙ c .before .before .before .before .before .before .before .before .before .before .before .if3 .left) (sym (c .before .before .before .before .before .before .before .before .before .spells4 .ensures) ∙ c .before .before .before .before .before .before .before .before .if4 .left) (sym (c .before .before .before .before .before .before .spells5 .ensures) ∙ c .before .before .before .before .before .if5 .left) (c .before .before .before .before .if6 .left) (c .before .before .if7 .left)))
 
 pub base-before-spec : {M : Type 1} → statement M
 base-before-spec =
@@ -108,11 +121,15 @@ base-before-spec =
     spells-requires-4
     plain-requires-4
     returns-4
+    slice-aggregate-spells-5
+    spells-requires-5
+    plain-requires-5
     returns-5
-    shared-slice-read-if6
     returns-6
+    shared-slice-read-if7
+    returns-7
     sub-class-before
     part-class-before-start
     part-class-before-end
     class-before-requires
-    returns-7)
+    returns-8)

@@ -43,6 +43,15 @@ slice-aggregate-put-bytes-4 c = search needs
 put-bytes-requires-4 : tie.Need-put-bytes-requires-4
 put-bytes-requires-4 c κs = search needs
 
+enum-told-5 : tie.Need-enum-told-5
+enum-told-5 c = search needs
+
+slice-aggregate-put-bytes-5 : tie.Need-slice-aggregate-put-bytes-5
+slice-aggregate-put-bytes-5 c = search needs
+
+put-bytes-requires-5 : tie.Need-put-bytes-requires-5
+put-bytes-requires-5 c κs = search needs
+
 enum-known-b : tie.Need-enum-known-b
 enum-known-b c = search needs
 
@@ -87,7 +96,14 @@ same-length-5 : tie.Need-same-length-5
 same-length-5 c = search needs
 
 returns-5 : tie.Need-returns-5
-returns-5 c = puts-class (c .before .before .before .before .before .before .before .before .known-told .given .0 .1) _ (c .before .before .before .before .before .before .before .before .before .before .before .before .args .out .now) (c .before .before .before .before .before .before .before .before .before .before .before .before .pre) (c .before .before .before .before .before .before .put-byte .ensures) (c .before .before .before .before .before .before .before .before .before .b .given .1) (c .before .before .put-number .ensures)
+unfolding spellType spellSimple bytes
+returns-5 c = puts-word (c .before .before .before .before .before .enum-told5 .given .1) (c .before .before .put-bytes5 .ensures) (omega arith)
+
+same-length-6 : tie.Need-same-length-6
+same-length-6 c = search needs
+
+returns-6 : tie.Need-returns-6
+returns-6 c = puts-class (c .before .before .before .before .before .before .before .before .known-told .given .0 .1) _ (c .before .before .before .before .before .before .before .before .before .before .before .before .args .out .now) (c .before .before .before .before .before .before .before .before .before .before .before .before .pre) (c .before .before .before .before .before .before .put-byte .ensures) (c .before .before .before .before .before .before .before .before .before .b .given .1) (c .before .before .put-number .ensures)
 
 pub put-base-spec : {M : Type 1} → statement M
 put-base-spec =
@@ -105,6 +121,9 @@ put-base-spec =
     enum-told-4
     slice-aggregate-put-bytes-4
     put-bytes-requires-4
+    enum-told-5
+    slice-aggregate-put-bytes-5
+    put-bytes-requires-5
     enum-known-b
     put-byte-requires
     cast-put-number
@@ -118,4 +137,6 @@ put-base-spec =
     same-length-4
     returns-4
     same-length-5
-    returns-5)
+    returns-5
+    same-length-6
+    returns-6)

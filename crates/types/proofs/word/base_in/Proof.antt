@@ -30,7 +30,11 @@ unfolding baseIn
 returns-4 c = ap baseIn (sym (c .match .keys4))
 
 returns-5 : tie.Need-returns-5
-returns-5 c = base-class _ (omega arith)
+unfolding baseIn
+returns-5 c = ap baseIn (sym (c .match .keys5))
+
+returns-6 : tie.Need-returns-6
+returns-6 c = base-class _ (omega arith)
 
 pub base-in-spec : {M : Type 1} → statement M
-base-in-spec = tie.close (tie.spec sub-t3 cast-t5 returns returns-2 returns-3 returns-4 returns-5)
+base-in-spec = tie.close (tie.spec sub-t3 cast-t5 returns returns-2 returns-3 returns-4 returns-5 returns-6)

@@ -1,9 +1,8 @@
 -- The needs of `binary`.
 use Prim.Native.Nat.{ℕ}
 use borrow.Author.Needs.{needs}
-use Rattle.judgements.proofs.Composition.{done}
 use Rattle.ocl.specs.Typing.{binaryTyping}
-use Rattle.judgements.proofs.forms.binary_type.Reads as binary-type-reads
+use Rattle.judgements.proofs.binary.binary_type.Reads as binary-type-reads
 use Rattle.typing.proofs.apply.binary.Reads as binary
 use Rattle.typing.proofs.walk.pair.Reads as pair
 use Rattle.typing.proofs.+apply-binary+apply-coll+apply-conditional+apply-connective+apply-single+scope-body+scope-iterate+scope-let_in+scope-quantified+walk-node+walk-operand+walk-pair.Lts-apply-binary as lts
@@ -30,7 +29,7 @@ module _ (t : ℕ) where
 
   returns : lts.Need-returns calls (binary-at t) binary.Post
   unfolding binaryTyping
-  returns c = λ m h. c .before .before .before .before .before .before .pair .ensures m h .goes (c .before .before .both .given .1) _ (done (c .binary-type .ensures m (h .classes .parent)))
+  returns c = λ m h. c .before .before .before .before .before .before .before .before .before .pair .ensures m h .goes (c .before .before .before .before .before .both .given .1) _ (c .before .before .binary-type .ensures m (h .classes .parent))
 
   same-length-2 : lts.Need-same-length-2 calls (binary-at t) binary.Post
   same-length-2 c = search needs

@@ -3,7 +3,7 @@ use mathlib.Core.Logic.{inl, inr, ⊎-elim}
 use Prim.Native.Nat.{ℕ}
 use borrow.Author.Needs.{needs}
 use Rattle.judgements.proofs.Composition.{done, as-form}
-use Rattle.typing.proofs.NodeTypings.{undef-done, leaf-node, single-node, binary-node, connective-node, quantified-node, assemble-node, conditional-node, let-node, iterate-node, none-node, from-33}
+use Rattle.typing.proofs.NodeTypings.{undef-done, leaf-node, single-node, binary-node, connective-node, quantified-node, assemble-node, conditional-node, let-node, iterate-node, none-node, from-13, from-33}
 use Rattle.ocl.specs.Typing.{leafTyping}
 use Rattle.judgements.proofs.forms.leaf_type.Reads as leaf-type-reads
 use Rattle.nodes.proofs.node_word.Reads as node-word-reads
@@ -22,7 +22,7 @@ use Rattle.typing.proofs.+apply-binary+apply-coll+apply-conditional+app
 
 module _ (t : ℕ) where
   abbrev calls : lts.Claims
-  calls = (node-word-reads.Asked, node-word-reads.Learnt, conditional-below t, conditional.Post, let-in-below t, let-in.Post, iterate-below t, iterate.Post, leaf-type-reads.Asked, leaf-type-reads.Learnt, binary-below t, binary.Post, connective-below t, connective.Post, quantified-below t, quantified.Post, coll-below t, coll.Post, plain-reads.Asked, plain-reads.Learnt, single-below t, single.Post)
+  calls = (node-word-reads.Asked, node-word-reads.Learnt, conditional-below t, conditional.Post, let-in-below t, let-in.Post, iterate-below t, iterate.Post, leaf-type-reads.Asked, leaf-type-reads.Learnt, connective-below t, connective.Post, quantified-below t, quantified.Post, coll-below t, coll.Post, plain-reads.Asked, plain-reads.Learnt, binary-below t, binary.Post, single-below t, single.Post)
 
   node-word-requires : lts.Need-node-word-requires calls (node-at t) node.Post
   node-word-requires c κs = search needs
@@ -39,9 +39,6 @@ module _ (t : ℕ) where
   leaf-type-requires : lts.Need-leaf-type-requires calls (node-at t) node.Post
   leaf-type-requires c κs = search needs
 
-  binary-requires : lts.Need-binary-requires calls (node-at t) node.Post
-  binary-requires c κs = search needs
-
   connective-requires : lts.Need-connective-requires calls (node-at t) node.Post
   connective-requires c κs = search needs
 
@@ -54,6 +51,9 @@ module _ (t : ℕ) where
   plain-requires : lts.Need-plain-requires calls (node-at t) node.Post
   plain-requires c κs = search needs
 
+  binary-requires : lts.Need-binary-requires calls (node-at t) node.Post
+  binary-requires c κs = let l = from-13 _ (⊎-elim (λ x. inl (x .keys2)) (λ x. inr (x .2 .left, x .3 .taken)) (c .before .match .came)) in search needs
+
   single-requires : lts.Need-single-requires calls (node-at t) node.Post
   single-requires c κs = search needs
 
@@ -61,19 +61,19 @@ module _ (t : ℕ) where
   same-length c = search needs
 
   returns : lts.Need-returns calls (node-at t) node.Post
-  returns c = λ m h. as-form (conditional-node m _ _ _ (c .before .before .before .before .before .node-word .ensures) (c .before .before .before .before .match .keys2)) (c .before .before .conditional .ensures m h)
+  returns c = λ m h. as-form (conditional-node m _ _ _ (c .before .before .before .before .before .node-word .ensures) (c .before .before .before .before .match .keys3)) (c .before .before .conditional .ensures m h)
 
   same-length-2 : lts.Need-same-length-2 calls (node-at t) node.Post
   same-length-2 c = search needs
 
   returns-2 : lts.Need-returns-2 calls (node-at t) node.Post
-  returns-2 c = λ m h. as-form (let-node m _ _ _ (c .before .before .before .before .before .node-word .ensures) (c .before .before .before .before .match .keys3)) (c .before .before .let-in .ensures m h)
+  returns-2 c = λ m h. as-form (let-node m _ _ _ (c .before .before .before .before .before .node-word .ensures) (c .before .before .before .before .match .keys4)) (c .before .before .let-in .ensures m h)
 
   same-length-3 : lts.Need-same-length-3 calls (node-at t) node.Post
   same-length-3 c = search needs
 
   returns-3 : lts.Need-returns-3 calls (node-at t) node.Post
-  returns-3 c = λ m h. as-form (iterate-node m _ _ _ (c .before .before .before .before .before .node-word .ensures) (c .before .before .before .before .match .keys4)) (c .before .before .iterate .ensures m h)
+  returns-3 c = λ m h. as-form (iterate-node m _ _ _ (c .before .before .before .before .before .node-word .ensures) (c .before .before .before .before .match .keys5)) (c .before .before .iterate .ensures m h)
 
   returns-4 : lts.Need-returns-4 calls (node-at t) node.Post
   unfolding leafTyping
@@ -83,34 +83,34 @@ module _ (t : ℕ) where
   same-length-4 c = search needs
 
   returns-5 : lts.Need-returns-5 calls (node-at t) node.Post
-  returns-5 c = λ m h. as-form (binary-node m _ _ _ (c .before .before .before .before .before .before .before .before .node-word .ensures) (c .before .before .before .before .before .if2 .left) (c .before .before .before .before .if3 .taken)) (c .before .before .binary .ensures m h)
+  returns-5 c = λ m h. as-form (connective-node m _ _ _ (c .before .before .before .before .before .before .before .before .before .node-word .ensures) (c .before .before .before .before .before .if3 .left) (c .before .before .before .before .if4 .taken)) (c .before .before .connective .ensures m h)
 
   same-length-5 : lts.Need-same-length-5 calls (node-at t) node.Post
   same-length-5 c = search needs
 
   returns-6 : lts.Need-returns-6 calls (node-at t) node.Post
-  returns-6 c = λ m h. as-form (connective-node m _ _ _ (c .before .before .before .before .before .before .before .before .before .node-word .ensures) (c .before .before .before .before .before .if3 .left) (c .before .before .before .before .if4 .taken)) (c .before .before .connective .ensures m h)
+  returns-6 c = λ m h. as-form (quantified-node m _ _ _ (c .before .before .before .before .before .before .before .before .before .before .node-word .ensures) (c .before .before .before .before .before .if4 .left) (c .before .before .before .before .if5 .taken)) (c .before .before .quantified .ensures m h)
 
   same-length-6 : lts.Need-same-length-6 calls (node-at t) node.Post
   same-length-6 c = search needs
 
   returns-7 : lts.Need-returns-7 calls (node-at t) node.Post
-  returns-7 c = λ m h. as-form (quantified-node m _ _ _ (c .before .before .before .before .before .before .before .before .before .before .node-word .ensures) (c .before .before .before .before .before .if4 .left) (c .before .before .before .before .if5 .taken)) (c .before .before .quantified .ensures m h)
+  returns-7 c = λ m h. as-form (assemble-node m _ _ _ (c .before .before .before .before .before .before .before .before .before .before .before .node-word .ensures) (c .before .before .before .before .before .if5 .left) (c .before .before .before .before .if6 .taken)) (c .before .before .coll .ensures m h)
+
+  returns-8 : lts.Need-returns-8 calls (node-at t) node.Post
+  returns-8 c = λ m h. as-form (none-node m _ _ _ (c .before .before .before .before .before .before .before .before .before .node-word .ensures) (c .before .if7 .left) (c .before .before .before .before .before .before .before .before .match .rest .1) (c .before .before .before .before .before .before .before .before .match .rest .0 .0 .0 .0 .1) (c .before .before .before .before .before .before .before .before .match .rest .0 .0 .0 .1)) (undef-done _ _ (c .plain .ensures))
 
   same-length-7 : lts.Need-same-length-7 calls (node-at t) node.Post
   same-length-7 c = search needs
 
-  returns-8 : lts.Need-returns-8 calls (node-at t) node.Post
-  returns-8 c = λ m h. as-form (assemble-node m _ _ _ (c .before .before .before .before .before .before .before .before .before .before .before .node-word .ensures) (c .before .before .before .before .before .if5 .left) (c .before .before .before .before .if6 .taken)) (c .before .before .coll .ensures m h)
-
   returns-9 : lts.Need-returns-9 calls (node-at t) node.Post
-  returns-9 c = λ m h. as-form (none-node m _ _ _ (c .before .before .before .before .before .before .before .before .before .node-word .ensures) (c .before .if7 .left) (c .before .before .before .before .before .before .before .before .match .rest .1) (c .before .before .before .before .before .before .before .before .match .rest .0 .0 .0 .1)) (undef-done _ _ (c .plain .ensures))
+  returns-9 c = λ m h. as-form (binary-node m _ _ _ (c .before .before .before .before .before .node-word .ensures) (⊎-elim (λ x. inl (x .keys2)) (λ x. inr (x .2 .left, x .3 .taken)) (c .before .before .before .before .match .came))) (c .before .before .binary .ensures m h)
 
   same-length-8 : lts.Need-same-length-8 calls (node-at t) node.Post
   same-length-8 c = search needs
 
   returns-10 : lts.Need-returns-10 calls (node-at t) node.Post
-  returns-10 c = λ m h. as-form (single-node m _ _ _ (c .before .before .before .before .before .node-word .ensures) (⊎-elim (λ x. inl (x .keys1)) (⊎-elim (λ x. inr (inl (x .1 .left, x .2 .taken))) (λ x. inr (inr (from-33 _ (x .6 .left) (x .0 .rest .0 .0 .0 .1) (x .0 .rest .0 .0 .1) (x .0 .rest .0 .1), x .7 .taken)))) (c .before .before .before .before .match .came))) (c .before .before .single .ensures m h)
+  returns-10 c = λ m h. as-form (single-node m _ _ _ (c .before .before .before .before .before .node-word .ensures) (⊎-elim (λ x. inl (x .keys1)) (⊎-elim (λ x. inr (inl (x .1 .left, x .2 .taken))) (λ x. inr (inr (from-33 _ (x .6 .left) (x .0 .rest .0 .0 .0 .0 .1) (x .0 .rest .0 .0 .1) (x .0 .rest .0 .1), x .7 .taken)))) (c .before .before .before .before .match .came))) (c .before .before .single .ensures m h)
 
   pub closed : {M : Type 1} → lts.Closed calls (node-at t) node.Post M
-  closed = lts.spec calls (node-at t) node.Post node-word-requires conditional-requires let-in-requires iterate-requires leaf-type-requires binary-requires connective-requires quantified-requires coll-requires plain-requires single-requires same-length returns same-length-2 returns-2 same-length-3 returns-3 returns-4 same-length-4 returns-5 same-length-5 returns-6 same-length-6 returns-7 same-length-7 returns-8 returns-9 same-length-8 returns-10
+  closed = lts.spec calls (node-at t) node.Post node-word-requires conditional-requires let-in-requires iterate-requires leaf-type-requires connective-requires quantified-requires coll-requires plain-requires binary-requires single-requires same-length returns same-length-2 returns-2 same-length-3 returns-3 returns-4 same-length-4 returns-5 same-length-5 returns-6 same-length-6 returns-7 returns-8 same-length-7 returns-9 same-length-8 returns-10

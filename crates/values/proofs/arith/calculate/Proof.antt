@@ -1,7 +1,7 @@
 -- `values::arith::calculate` meets its contract. Assumes nothing.
 use native.Mathlib.Omega.{arith}
 use borrow.Author.Needs.{needs}
-use Rattle.values.proofs.Arithmetic.{arith-0, arith-1, arith-2, arith-3, arith-4, by-number}
+use Rattle.values.proofs.Arithmetic.{arith-0, arith-1, arith-2, calculated-by}
 use Rattle.values.proofs.arith.calculate.Statement.{statement}
 use Rattle.values.proofs.arith.calculate.Tie as tie
 
@@ -14,38 +14,16 @@ minus-requires c κs = search needs
 times-requires : tie.Need-times-requires
 times-requires c κs = search needs
 
-div-requires : tie.Need-div-requires
-div-requires c κs = search needs
-
-modulo-requires : tie.Need-modulo-requires
-modulo-requires c κs = search needs
-
 returns : tie.Need-returns
-returns c = by-number (arith-0 (omega arith)) (c .plus .ensures)
+returns c = calculated-by (arith-0 (omega arith)) (c .plus .ensures)
 
 returns-2 : tie.Need-returns-2
-returns-2 c = by-number (arith-1 (omega arith)) (c .minus .ensures)
+returns-2 c = calculated-by (arith-1 (omega arith)) (c .minus .ensures)
 
 returns-3 : tie.Need-returns-3
-returns-3 c = by-number (arith-2 (omega arith)) (c .times .ensures)
-
-returns-4 : tie.Need-returns-4
-returns-4 c = by-number (arith-3 (omega arith)) (c .div .ensures)
-
-returns-5 : tie.Need-returns-5
-returns-5 c = by-number (arith-4 _ (omega arith)) (c .modulo .ensures)
+returns-3 c = calculated-by (arith-2 _ (omega arith)) (c .times .ensures)
 
 pub calculate-spec : {M : Type 1} → statement M
 calculate-spec =
     tie.close
-    (tie.spec
-    plus-requires
-    minus-requires
-    times-requires
-    div-requires
-    modulo-requires
-    returns
-    returns-2
-    returns-3
-    returns-4
-    returns-5)
+    (tie.spec plus-requires minus-requires times-requires returns returns-2 returns-3)

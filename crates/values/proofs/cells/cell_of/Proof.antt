@@ -1,7 +1,7 @@
 -- `values::cells::cell_of` meets its contract. Assumes nothing.
 use native.Mathlib.Omega.{arith}
 use borrow.Author.Needs.{needs}
-use Rattle.values.proofs.Scanning.{cell-bool, cell-int, cell-obj, bit-true, bit-false, narrow-int, narrow-obj}
+use Rattle.values.proofs.Scanning.{cell-bool, cell-int, cell-real, cell-obj, bit-true, bit-false, narrow-int, narrow-real, narrow-obj}
 use Rattle.values.proofs.cells.cell_of.Statement.{statement}
 use Rattle.values.proofs.cells.cell_of.Tie as tie
 
@@ -11,29 +11,35 @@ enum-known-s c = search needs
 enum-known-s-2 : tie.Need-enum-known-s-2
 enum-known-s-2 c = search needs
 
-add-result : tie.Need-add-result
-add-result c = omega (arith, narrow-int (c .before .before .before .pre) (c .before .s2 .given .1))
+integer-cell-requires : tie.Need-integer-cell-requires
+integer-cell-requires c κs = search narrow-int
 
 enum-known-s-3 : tie.Need-enum-known-s-3
 enum-known-s-3 c = search needs
 
-mul-result : tie.Need-mul-result
-mul-result c = search needs
+cell-of-requires : tie.Need-cell-of-requires
+cell-of-requires c κs = search narrow-real
 
-add-result-2 : tie.Need-add-result-2
-add-result-2 c = omega (arith, narrow-obj (c .before .before .before .pre) (c .before .s3 .given .1))
+enum-known-s-4 : tie.Need-enum-known-s-4
+enum-known-s-4 c = search needs
+
+add-result : tie.Need-add-result
+add-result c = omega (arith, narrow-obj (c .before .before .before .pre) (c .before .s4 .given .1))
 
 returns : tie.Need-returns
-returns c = cell-bool (c .before .before .s .given .1) (bit-true (c .if1 .taken))
+returns c = search (cell-bool, bit-true)
 
 returns-2 : tie.Need-returns-2
-returns-2 c = cell-bool (c .before .before .s .given .1) (bit-false (c .if1 .left))
+returns-2 c = search (cell-bool, bit-false)
 
 returns-3 : tie.Need-returns-3
-returns-3 c = cell-int (c .before .s2 .given .1)
+returns-3 c = search cell-int
 
 returns-4 : tie.Need-returns-4
-returns-4 c = cell-obj (c .before .s3 .given .1)
+returns-4 c = search cell-real
+
+returns-5 : tie.Need-returns-5
+returns-5 c = search cell-obj
 
 pub cell-of-spec : {M : Type 1} → statement M
 cell-of-spec =
@@ -41,11 +47,13 @@ cell-of-spec =
     (tie.spec
     enum-known-s
     enum-known-s-2
-    add-result
+    integer-cell-requires
     enum-known-s-3
-    mul-result
-    add-result-2
+    cell-of-requires
+    enum-known-s-4
+    add-result
     returns
     returns-2
     returns-3
-    returns-4)
+    returns-4
+    returns-5)

@@ -1,0 +1,10 @@
+pub mod Coding
+pub mod Casting
+pub mod Wholes
+pub mod Holding
+pub mod Operators
+pub mod Settling
+pub mod Storing
+pub mod IntegerWords
+pub mod Reading
+pub mod Writing

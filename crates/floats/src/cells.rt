@@ -1,0 +1,97 @@
+// A number as one word (reals/specs/Words.antt): words are in the order of their numbers.
+use crate::Number;
+use crate::Whole;
+use crate::numbers::RANGE;
+use crate::numbers::SIGN;
+use crate::numbers::ZERO;
+use crate::numbers::float_of;
+use crate::numbers::hold;
+use crate::numbers::whole;
+ghost use mathlib.Core.Path.{_≡_};
+ghost use Prim.Native.Nat.{_<_};
+ghost use Rattle.reals.specs.Words.{cell, numberIn};
+ghost use Rattle.floats.specs.Contracts.{Sound, NumberOf, CellOf, IntegerIn, IntegerCell};
+
+// The words of numbers lie between these two.
+pub const BELOW: u64 = 4_503_599_627_370_496;
+
+pub const ABOVE: u64 = 18_442_240_474_082_181_120;
+
+// The number with this word; 0 for a word that is no number's.
+pub fn number_of(word: u64) -> Number
+    ensures { λ r. ⌜ NumberOf word r ⌝ }
+{
+    if word <= BELOW {
+        return Number::Integer { biased: ZERO };
+    }
+    if ABOVE <= word {
+        return Number::Integer { biased: ZERO };
+    }
+    if word < SIGN {
+        hold(f64::from_bits(SIGN + (SIGN - word)))
+    } else {
+        hold(f64::from_bits(word - SIGN))
+    }
+}
+
+// Any word as a number's: the word itself, or that of 0 where it is no number's.
+pub fn word_in(word: u64) -> u64
+    ensures { λ r. ⌜ r ≡ cell (numberIn word) ⌝ }
+{
+    if word <= BELOW {
+        return SIGN;
+    }
+    if ABOVE <= word {
+        return SIGN;
+    }
+    word
+}
+
+// The word of a number.
+pub fn cell_of(n: Number) -> u64
+    requires { ⌜ Sound n ⌝ }
+    ensures { λ r. ⌜ CellOf n r ⌝ }
+{
+    let bits = f64::to_bits(float_of(n));
+    if bits < SIGN {
+        SIGN + bits
+    } else {
+        SIGN - (bits - SIGN)
+    }
+}
+
+// The Integer with this word, where its number is one; no f64 is made.
+pub fn integer_in(word: u64) -> Whole
+    ensures { λ r. ⌜ IntegerIn word r ⌝ }
+{
+    if word < SIGN {
+        let size = SIGN - word;
+        if size <= RANGE {
+            let w = whole(size);
+            if let Whole::Is { n } = w {
+                return Whole::Is { n: ZERO - n };
+            }
+        }
+    } else {
+        let size = word - SIGN;
+        if size < RANGE {
+            let w = whole(size);
+            if let Whole::Is { n } = w {
+                return Whole::Is { n: ZERO + n };
+            }
+        }
+    }
+    Whole::No
+}
+
+// The word of an Integer.
+pub fn integer_cell(biased: u64) -> u64
+    requires { ⌜ biased < 4294967296 ⌝ }
+    ensures { λ r. ⌜ IntegerCell biased r ⌝ }
+{
+    if biased < ZERO {
+        SIGN - f64::to_bits((ZERO - biased) as f64)
+    } else {
+        SIGN + f64::to_bits((biased - ZERO) as f64)
+    }
+}

@@ -1,0 +1,16 @@
+pub mod Full
+pub mod Floats
+pub mod Rounding
+pub mod Nearest
+pub mod Overflow
+pub mod Operators
+pub mod Widening
+pub mod Words
+pub mod Onto
+pub mod Order
+pub mod Keeping
+pub mod Bits
+pub mod Digits
+pub mod Spelling
+pub mod Laws
+pub mod Cases
