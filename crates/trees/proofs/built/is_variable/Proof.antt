@@ -1,8 +1,8 @@
 -- `is_variable` meets its contract.
 use Rattle.sheet.specs.Limits.{isVariable}
 use borrow.Author.Tests.{le-leb, lt-leb}
-use Rattle.trees.proofs.forms.is_variable.Statement.{statement}
-use Rattle.trees.proofs.forms.is_variable.Tie as tie
+use Rattle.trees.proofs.built.is_variable.Statement.{statement}
+use Rattle.trees.proofs.built.is_variable.Tie as tie
 
 returns : tie.Need-returns
 unfolding isVariable
