@@ -4,7 +4,7 @@
  * What a call does depends on the text, the numbers and the lengths that it is given, and on nothing else. It keeps nothing
  * between calls, calls nothing but the C library's memset, memcpy and memmove, and can fail only by the number that it
  * returns. So calls may run in several threads at a time, each with memory of its own; several may share a text. A call
- * takes up to 96 KiB of stack (docs/USING.md, section 5).
+ * takes up to 384 KiB of stack (docs/USING.md, section 5).
  *
  * What is lent to each call:
  *
@@ -52,7 +52,7 @@ typedef struct ocl_answer {
     uint64_t length; /* bytes written to the output; 0 unless the number is 0 */
 } ocl_answer;
 
-/* The numbers; 20 to 22 are not given. In brackets: who gives it, R read, E evaluate, P report; and whether with a place. */
+/* The numbers; 21 and 22 are not given. In brackets: who gives it, R read, E evaluate, P report; and whether with a place. */
 enum ocl_number {
     OCL_ANSWERED = 0,            /* an answer (REP) */
     OCL_SHORT_SLICE = 1,         /* a word slice or the output is too short; nothing was touched (REP) */
@@ -74,6 +74,7 @@ enum ocl_number {
     OCL_SIZE_STOP = 17,          /* stopped: a value of a size over 128 would be formed (E, with the steps) */
     OCL_REPORT_TOO_LONG = 18,    /* the output is too short for the report (P) */
     OCL_OVER_RANGE = 19,         /* stopped: a result of Integers leaves their range, or one of Reals is infinite (E, with the steps) */
+    OCL_NOT_A_SENTENCE = 20,     /* the text of a rule is no sentence (REP, place) */
     OCL_CALL_UPWARD = 23,        /* a definition calls itself or a larger one (REP, place) */
     OCL_UNKNOWN_DEFINITION = 24  /* a rule calls a definition that the sheet does not have (REP, place) */
 };

@@ -95,6 +95,9 @@ int main(void)
     static const char real[] = "C\t0\t-\nO\t0\t0\nR\t0\t0\nN\t0\tint\t3\nN\t1\tint\t2\nN\t2\tover\t0\t1\n";
     static const char whole[] = "C\t0\t-\nR\t0\t0\nN\t0\treal\tr3ff0000000000000\n";
     static const char infinity[] = "C\t0\t-\nR\t0\t0\nN\t0\treal\tr7ff0000000000000\n";
+    static const char text[] = "C\t0\t-\nO\t0\t0\nR\t0\t0\nX\tnot (1 = 2)\n";
+    static const char no_sentence[] = "C\t0\t-\nO\t0\t0\nR\t0\t0\nX\t1 = 2 = 3\n";
+    static const char behind[] = "C\t0\t-\nO\t0\t0\nR\t0\t0\nX\ttrue\nN\t0\ttrue\n";
     static const uint8_t longer[OCL_LONGEST_TEXT + 1];
     static const size_t little[] = {0, 1, OCL_LEAST_WORDS - 1};
     const size_t most = OCL_LEAST_WORDS, sheet_length = sizeof sheet - 1;
@@ -124,6 +127,7 @@ int main(void)
     for (enum call which = READ; which <= REPORT; which++) {
         static const char *const written[] = {"Bool\n", "t", "0 0 t 1\n"};
         static const char *const of_call[] = {"Bool\n", "t", "0 0 t 3\n"};
+        static const char *const of_text[] = {"Bool\n", "t", "0 0 t 4\n"};
         static const char *const of_real[] = {"Real\n", "r3ff8000000000000", "0 0 r3ff8000000000000 3\n"};
         lend(most, most, most, OCL_LEAST_OUTPUT);
         expect(which, sheet, sheet_length, OCL_ANSWERED, written[which]);
@@ -138,6 +142,9 @@ int main(void)
         expect(which, real, sizeof real - 1, OCL_ANSWERED, of_real[which]);
         expect(which, whole, sizeof whole - 1, OCL_BAD_LINE, "");
         expect(which, infinity, sizeof infinity - 1, OCL_OUT_OF_LIMITS, "");
+        expect(which, text, sizeof text - 1, OCL_ANSWERED, of_text[which]);
+        expect(which, no_sentence, sizeof no_sentence - 1, OCL_NOT_A_SENTENCE, "");
+        expect(which, behind, sizeof behind - 1, OCL_OUT_OF_ORDER, "");
         expect(which, longer, sizeof longer, OCL_SHEET_TOO_LONG, "");
         /* the text of no bytes is a sheet without rules */
         expect(which, NULL, 0, which == EVALUATE ? OCL_NOT_FOUND : OCL_ANSWERED, "");

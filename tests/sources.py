@@ -5,6 +5,7 @@ import re
 ROOT = pathlib.Path(__file__).resolve().parent.parent
 CRATES = ROOT / "crates"
 IMPORT = r"^((?:(?:unfoldable|pub|ghost) )*)use ([^\s{]+)\.\{([^}]*)\};?$"
+WHOLE = r"^(?:(?:unfoldable|pub|ghost) )*use ([^\s{;]+) as ([^\s;]+);?$"
 
 
 def listed():
@@ -24,6 +25,11 @@ def imports(text):
     """Each module that a file imports names from, with these names, and whether it hands them on."""
     for marks, module, braces in re.findall(IMPORT, text, re.M):
         yield module, list(names_in(braces)), "pub" in marks
+
+
+def whole_imports(text):
+    """Each module that a file imports whole, with the name that its names stand behind."""
+    return re.findall(WHOLE, text, re.M)
 
 
 def file_of(module):

@@ -46,6 +46,7 @@ static const char *const meanings[][2] = {
     [OCL_SIZE_STOP] = {"size stop", "a value of a size over 128 would be formed"},
     [OCL_REPORT_TOO_LONG] = {"slip too long", "the report is longer than the output"},
     [OCL_OVER_RANGE] = {"over the range", "a result of Integers leaves their range, or one of Reals is infinite"},
+    [OCL_NOT_A_SENTENCE] = {"not a sentence", "the text of the rule is no sentence"},
     [OCL_CALL_UPWARD] = {"call upward", "the definition calls itself or a larger one"},
     [OCL_UNKNOWN_DEFINITION] = {"unknown definition", "the sheet has no such definition"},
 };

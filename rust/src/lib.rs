@@ -17,4 +17,5 @@ pub mod tree;
 pub mod types;
 pub mod typing;
 pub mod values;
+pub mod wording;
 pub mod workloads;

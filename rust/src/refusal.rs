@@ -21,6 +21,7 @@ pub enum Refusal {
     SizeStop,
     ReportTooLong,
     OverRange,
+    NoSentence,
     CallUpward = 23,
     UnknownDefinition,
 }

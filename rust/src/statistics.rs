@@ -64,6 +64,8 @@ pub struct Statistics {
     /// Answers by number.
     pub numbers: [u64; NUMBERS],
     pub forms: BTreeMap<&'static str, u64>,
+    /// Those of rules in text.
+    pub texts: BTreeMap<&'static str, u64>,
     pub outcomes: BTreeMap<&'static str, u64>,
     pub kinds: BTreeMap<&'static str, u64>,
 }
@@ -74,6 +76,7 @@ impl Statistics {
         let mut statistics = Statistics {
             numbers: [0; NUMBERS],
             forms: zeros(&FORMS),
+            texts: zeros(&FORMS),
             outcomes: zeros(&OUTCOMES),
             kinds: zeros(&KINDS),
         };
@@ -95,10 +98,14 @@ impl Statistics {
             return;
         }
         for definition in &sheet.definitions {
-            self.forms(&definition.root);
+            count(&mut self.forms, &definition.root);
         }
+        let lines: Vec<&[u8]> = text.split(|byte| *byte == b'\n').collect();
         for rule in &sheet.rules {
-            self.forms(&rule.root);
+            count(&mut self.forms, &rule.root);
+            if lines[rule.root.line - 1].starts_with(b"X") {
+                count(&mut self.texts, &rule.root);
+            }
             for object in sheet.model.objects_of(rule.context).take(OBJECTS) {
                 let outcome = match evaluate(&sheet, rule, object).0 {
                     Ok(Some(value)) => {
@@ -116,13 +123,6 @@ impl Statistics {
         }
     }
 
-    fn forms(&mut self, node: &Node) {
-        *self.forms.entry(node.form.word()).or_default() += 1;
-        for operand in &node.operands {
-            self.forms(operand);
-        }
-    }
-
     /// What was never reached.
     pub fn missing(&self) -> Vec<String> {
         let counts = [&self.forms, &self.outcomes, &self.kinds];
@@ -130,12 +130,22 @@ impl Statistics {
         let mut missing: Vec<String> = (named.filter(|(_, count)| **count == 0))
             .map(|(name, _)| name.to_string())
             .collect();
+        let texts = self.texts.iter().filter(|(_, count)| **count == 0);
+        missing.extend(texts.map(|(name, _)| format!("{name} in text")));
         for (number, count) in self.numbers.iter().enumerate() {
-            if *count == 0 && !matches!(number, 20..=22) {
+            if *count == 0 && !matches!(number, 21 | 22) {
                 missing.push(format!("number {number}"));
             }
         }
         missing
+    }
+}
+
+/// Counts the forms of a tree.
+fn count(forms: &mut BTreeMap<&'static str, u64>, node: &Node) {
+    *forms.entry(node.form.word()).or_default() += 1;
+    for operand in &node.operands {
+        count(forms, operand);
     }
 }
 
@@ -162,6 +172,7 @@ impl fmt::Display for Statistics {
         }
         let named = [
             ("Forms in accepted sheets:", &self.forms),
+            ("Forms in text:", &self.texts),
             ("Outcomes:", &self.outcomes),
             ("Kinds of values:", &self.kinds),
         ];

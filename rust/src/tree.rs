@@ -114,6 +114,20 @@ impl Form {
         }
     }
 
+    /// The class that the form names, if it names one.
+    pub fn class(&self) -> Option<u8> {
+        match self {
+            Form::All(class) | Form::As(class) => Some(*class),
+            Form::Iter { ty, .. } => ty.class(),
+            _ => None,
+        }
+    }
+
+    /// Whether the form binds one variable twice.
+    pub fn binds_twice(&self) -> bool {
+        matches!(self, Form::Iter { member, accumulator, .. } if member == accumulator)
+    }
+
     /// What it does with Reals, if it computes with them.
     pub fn operation(&self) -> Option<Operation> {
         match self {

@@ -33,7 +33,7 @@ fn reading_writes_nothing_where_it_refuses() {
     let swapped = SHEET.to_string() + "|R 3 0|N 0 self|N 1 attr 0 6|R 4 0|N 0 var 1";
     assert_eq!(read(&swapped), answer(12, 0, 23, ""));
     // What a later line is refused for comes before all typing.
-    assert_eq!(read(&(untyped + "|X 0")), answer(3, 0, 26, ""));
+    assert_eq!(read(&(untyped + "|Y 0")), answer(3, 0, 26, ""));
 }
 
 #[test]

@@ -25,7 +25,8 @@ fn every_job_is_answered() {
     for workload in workloads() {
         for size in 0..2 {
             for (answer, _) in answers(&workload, size) {
-                assert_eq!(answer.number, 0, "{} {answer:?}", workload.name);
+                let name = workload.name;
+                assert_eq!(answer.number, workload.number, "{name} {answer:?}");
             }
         }
     }

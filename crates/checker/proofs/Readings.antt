@@ -38,13 +38,13 @@ use Rattle.checker.proofs.Answers.{gives-refusal}
 
 -- ---- the text's length
 
-pub long-text : (text : Bytes) (w0 w1 : List ℕ) → 49152 < length text → ReadsText text (sheet.Refused 2 0) w0 w1 w0 w1
+pub long-text : (text : Bytes) (w0 w1 w2 : List ℕ) → 49152 < length text → ReadsText text (sheet.Refused 2 0) w0 w1 w2 w0 w1 w2
 unfolding readText
-long-text text w0 w1 h = record { is = rw (lt-ltb 49152 (length text) h) a-refusal; kept0 = kept-refl w0; kept1 = kept-refl w1 }
+long-text text w0 w1 w2 h = record { is = rw (lt-ltb 49152 (length text) h) a-refusal; kept0 = kept-refl w0; kept1 = kept-refl w1; kept2 = kept-refl w2 }
 
-pub within-text : {r : SheetRead} {w0 w1 v0 v1 : List ℕ} (text : Bytes) → length text ≤ 49152 → ReadsTo text r w0 w1 v0 v1 → ReadsText text r w0 w1 v0 v1
+pub within-text : {r : SheetRead} {w0 w1 w2 v0 v1 v2 : List ℕ} (text : Bytes) → length text ≤ 49152 → ReadsTo text r w0 w1 w2 v0 v1 v2 → ReadsText text r w0 w1 w2 v0 v1 v2
 unfolding readText
-within-text text h t = record { is = rw (le-ltb 49152 (length text) h) (t .is); kept0 = t .kept0; kept1 = t .kept1 }
+within-text text h t = record { is = rw (le-ltb 49152 (length text) h) (t .is); kept0 = t .kept0; kept1 = t .kept1; kept2 = t .kept2 }
 
 -- ---- a sheet that is read, and its definitions and rules typed
 
@@ -62,25 +62,25 @@ module _ {st : Counts} {w0 u1 u2 v1 v2 : List ℕ} {a : RulesTyped} (t : Accepts
       by : (text : Bytes) (s : Sheet) → readText text ≡ accepted s → AcceptsAs st w0 v1 v2 s (rules.No n k) → OpensAs text w0 v1 v2 (sheet.Refused n k)
       by text s q (not-all h) = refused {n = n} {k = k} (λ f. rw q (h (f s)))
 
-module _ {text : Bytes} {w0 w1 v0 v1 : List ℕ} {r : SheetRead} (t : ReadsText text r w0 w1 v0 v1) where
+module _ {text : Bytes} {w0 w1 w2 v0 v1 v2 : List ℕ} {r : SheetRead} (t : ReadsText text r w0 w1 w2 v0 v1 v2) where
   pub known-read : {st : Counts} → r ≡ sheet.Sheet st → Known st v0 v1
   known-read {st} e = by (readText text) refl (rw e at (t .is))
     where
       by : (x : Reading) → readText text ≡ x → EndsAs v0 v1 (sheet.Sheet st) x → Known st v0 v1
       by x q (a-sheet {s = s} f g) = record { sheet = s; lies = record { text = text; was = q; fine = f; holds = g } }
 
-  pub opens-sheet : {st : Counts} {w2 x1 x2 : List ℕ} {z : SheetRead} → r ≡ sheet.Sheet st → AcceptsSheet st v0 v1 w2 x1 x2 z → OpensText text z w0 w1 w2 v0 x1 x2
-  opens-sheet {st} {w2} {x1} {x2} {z} e d =
-      record { is = by (readText text) refl (rw e at (t .is)); kept0 = t .kept0; kept1 = kept-then (t .kept1) (d .kept1); kept2 = d .kept2 }
+  pub opens-sheet : {st : Counts} {x1 x2 : List ℕ} {z : SheetRead} → r ≡ sheet.Sheet st → AcceptsSheet st v0 v1 v2 x1 x2 z → OpensText text z w0 w1 w2 v0 x1 x2
+  opens-sheet {st} {x1} {x2} {z} e d =
+      record { is = by (readText text) refl (rw e at (t .is)); kept0 = t .kept0; kept1 = kept-then (t .kept1) (d .kept1); kept2 = kept-then (t .kept2) (d .kept2) }
     where
       by : (x : Reading) → readText text ≡ x → EndsAs v0 v1 (sheet.Sheet st) x → OpensAs text v0 x1 x2 z
       by x q (a-sheet {s = s} f g) = d .is text s q (record { text = text; was = q; fine = f; holds = g })
 
-  pub opens-none : {n k : ℕ} (w2 : List ℕ) → r ≡ sheet.Refused n k → OpensText text (sheet.Refused n k) w0 w1 w2 v0 v1 w2
+  pub opens-none : {n k : ℕ} → r ≡ sheet.Refused n k → OpensText text (sheet.Refused n k) w0 w1 w2 v0 v1 v2
   unfolding onAccepted onSheet
-  opens-none {n} {k} w2 e = record { is = by (readText text) refl (rw e at (t .is)); kept0 = t .kept0; kept1 = t .kept1; kept2 = kept-refl w2 }
+  opens-none {n} {k} e = record { is = by (readText text) refl (rw e at (t .is)); kept0 = t .kept0; kept1 = t .kept1; kept2 = t .kept2 }
     where
-      by : (x : Reading) → readText text ≡ x → EndsAs v0 v1 (sheet.Refused n k) x → OpensAs text v0 v1 w2 (sheet.Refused n k)
+      by : (x : Reading) → readText text ≡ x → EndsAs v0 v1 (sheet.Refused n k) x → OpensAs text v0 v1 v2 (sheet.Refused n k)
       by x q a-refusal = refused {n = n} {k = k} (λ f. rw q)
 
 -- ---- after a text is opened

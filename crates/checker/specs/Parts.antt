@@ -18,10 +18,11 @@ use Rattle.checker.specs.declared.Answer.{Answer}
 use Rattle.checker.specs.Answers.{answerOf}
 
 -- a text of any length: its sheet lies in the words, or it is refused
-pub record ReadsText (text : Bytes) (r : SheetRead) (w0 w1 v0 v1 : List ℕ) : Type 0 where
+pub record ReadsText (text : Bytes) (r : SheetRead) (w0 w1 w2 v0 v1 v2 : List ℕ) : Type 0 where
   pub is : EndsAs v0 v1 r (readText text)
   pub kept0 : Kept w0 v0
   pub kept1 : Kept w1 v1
+  pub kept2 : Kept w2 v2
 
 -- a text that is read and whose definitions and rules are typed: its sheet is accepted, and the rules' types wait in w2; or, whatever
 -- follows, it is refused

@@ -75,14 +75,14 @@ fn short_lent(w0: &[u64], w1: &[u64], w2: &[u64], out: &[u8]) -> bool
 }
 
 // A text of any length: its sheet in the words, or a refusal.
-fn read_text(text: &[u8], w0: &mut [u64], w1: &mut [u64]) -> SheetRead
-    requires { ⌜ (8192 ≤ length (now w0)) × (8192 ≤ length (now w1)) ⌝ }
-    ensures { λ r. ⌜ ReadsText (now (text .entry)) r (now (w0 .entry)) (now (w1 .entry)) (now (w0 .exit)) (now (w1 .exit)) ⌝ }
+fn read_text(text: &[u8], w0: &mut [u64], w1: &mut [u64], w2: &mut [u64]) -> SheetRead
+    requires { ⌜ (8192 ≤ length (now w0)) × (8192 ≤ length (now w1)) × (8192 ≤ length (now w2)) ⌝ }
+    ensures { λ r. ⌜ ReadsText (now (text .entry)) r (now (w0 .entry)) (now (w1 .entry)) (now (w2 .entry)) (now (w0 .exit)) (now (w1 .exit)) (now (w2 .exit)) ⌝ }
 {
     if 49152 < text.len() {
         return SheetRead::Refused(2, 0);
     }
-    read(text, w0, w1)
+    read(text, w0, w1, w2)
 }
 
 // The sheet that lies in the words, once all its definitions and rules are typed, or the first refusal.
@@ -102,7 +102,7 @@ fn open_text(text: &[u8], w0: &mut [u64], w1: &mut [u64], w2: &mut [u64]) -> She
     requires { ⌜ (8192 ≤ length (now w0)) × (8192 ≤ length (now w1)) × (8192 ≤ length (now w2)) ⌝ }
     ensures { λ r. ⌜ OpensText (now (text .entry)) r (now (w0 .entry)) (now (w1 .entry)) (now (w2 .entry)) (now (w0 .exit)) (now (w1 .exit)) (now (w2 .exit)) ⌝ }
 {
-    match read_text(text, w0, w1) {
+    match read_text(text, w0, w1, w2) {
         SheetRead::Sheet(st) => accept_sheet(w0, st, w1, w2),
         SheetRead::Refused(n, k) => SheetRead::Refused(n, k),
     }

@@ -1,6 +1,6 @@
 -- The definition of a line that is spelled well: each answer of `open_definition` is one of these. Assumes nothing.
 use mathlib.Core.Path.{_≡_, refl, sym, _∙_}
-use mathlib.Core.Bool.{Bool, true, false, not, and-false}
+use mathlib.Core.Bool.{Bool, true, false, not, and-false, true≢false}
 use mathlib.Core.Option.{some, Option·some-injective}
 use mathlib.Core.List.{List, []}
 use Prim.Native.Nat.{ℕ, _≤_, _<_, min}
@@ -44,10 +44,11 @@ definitionCounts st c p = record {
 
 -- one that has no node yet
 definition-open : (st : Counts) (c p : ℕ) (t : Ty) (w1 : List ℕ) (m : ℕ) → typeIn p ≡ t → st .nodes ≡ m
-    → HoldsCurrent (definitionCounts st c p) w1 m (record { context = c; result = some t; first = m; trees = []; used = [] })
+    → HoldsCurrent (definitionCounts st c p) w1 m (record { context = c; result = some t; text = false; first = m; trees = []; used = [] })
 unfolding openCode
 definition-open st c p t w1 m packed e = record {
   is-open = refl;
+  of-rule = λ e. absurd (true≢false (sym e));
   context = refl;
   result = λ u q. packed ∙ Option·some-injective t u q;
   first = e;

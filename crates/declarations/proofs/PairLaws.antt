@@ -11,6 +11,7 @@ use lib.ListN.{length, getD, drop, length-drop}
 use Rattle.laws.specs.Choice.{if_then_else_, onSome, mapSome}
 use Rattle.sheet.specs.Text.{Bytes, bytes, fieldsOf}
 use Rattle.sheet.specs.Lines.{Line, objectLine, ruleLine, is, next, done, aNumber, lineOf}
+use Rattle.sheet.specs.Texts.{onText}
 use Rattle.sheet.specs.Sheet.{Sheet}
 use Rattle.sheet.specs.Limits.{isClass, withinLimits}
 use Rattle.text.specs.Numbers.{cutNum}
@@ -139,6 +140,7 @@ pair-within {n} {c} limit (some p) h = go (ltb (p .0) limit) refl (ltb (p .1) 64
 -- the refusal of a line that is made of two numbers and has these limits
 module _ (st : Counts) (k : ℕ) (w0 w1 : List ℕ) (line : Bytes) (o : Option (ℕ × ℕ)) (to : ℕ → ℕ → Line) (limit : ℕ)
     (reads : lineOf (fieldsOf line) ≡ mapSome (λ p. to (p .0) (p .1)) o)
+    (plain : (n c : ℕ) (test : Bytes → Bool) → onText (to n c) test ≡ true)
     (limits : (s : Sheet) (n c : ℕ) → withinLimits s (to n c) ≡ (ltb n limit && isClass c)) where
   pub pair-stopped : {n : ℕ} → Stop n ≡ pairOf limit o → Took st k line (code.Stop n) w0 w1 w0 w1
   unfolding pairOf mapSome
@@ -149,7 +151,7 @@ module _ (st : Counts) (k : ℕ) (w0 w1 : List ℕ) (line : Bytes) (o : Option (
       by-limits p true e r h = absurd (let z : _≡_ {A = ℕ} 0 1 = cc in omega arith)
       by-limits p false e r h =
           let four : n ≡ 4 = cc in
-          rw four (spelled line r (stopped st k w0 w1 _ 4 (λ s q. over-limits s k _ (limits s (p .0) (p .1) ∙ sym e))))
+          rw four (spelled line (plain (p .0) (p .1)) r (stopped st k w0 w1 _ 4 (λ s q. over-limits s k _ (limits s (p .0) (p .1) ∙ sym e))))
 
       go : (o : Option (ℕ × ℕ)) → lineOf (fieldsOf line) ≡ mapSome (λ p. to (p .0) (p .1)) o → Stop n ≡ pairOf limit o → Took st k line (code.Stop n) w0 w1 w0 w1
       go none r h = let three : n ≡ 3 = cc in rw three (unspelled st k w0 w1 line r)
@@ -157,4 +159,4 @@ module _ (st : Counts) (k : ℕ) (w0 w1 : List ℕ) (line : Bytes) (o : Option (
 
   pub pair-taken : {n c : ℕ} {r : Step} {v0 v1 : List ℕ} → o ≡ some (n, c) → TookSpelled st k (to n c) r w0 w1 v0 v1 → Took st k line r w0 w1 v0 v1
   unfolding mapSome
-  pair-taken e t = spelled line (reads ∙ ap (mapSome (λ p. to (p .0) (p .1))) e) t
+  pair-taken {n} {c} e t = spelled line (plain n c) (reads ∙ ap (mapSome (λ p. to (p .0) (p .1))) e) t

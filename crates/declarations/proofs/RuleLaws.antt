@@ -1,6 +1,6 @@
 -- The rule of a line that is spelled well and within its limits: each answer of `open_rule` is one of these. Assumes nothing.
 use mathlib.Core.Path.{_≡_, refl, sym, _∙_}
-use mathlib.Core.Bool.{true, _&&_}
+use mathlib.Core.Bool.{true, false, _&&_, true≢false}
 use mathlib.Core.Option.{none, Option·none-ne-some}
 use mathlib.Core.List.{List, []}
 use Prim.Native.Nat.{ℕ, _≤_, _<_}
@@ -46,10 +46,11 @@ unfolding withinLimits
 rule-limits s n c = refl
 
 -- a rule that has no node yet
-rule-open : (st : Counts) (c : ℕ) (w1 : List ℕ) (m : ℕ) → st .nodes ≡ m → HoldsCurrent (ruleCounts st c) w1 m (record { context = c; result = none; first = m; trees = []; used = [] })
+rule-open : (st : Counts) (c : ℕ) (w1 : List ℕ) (m : ℕ) → st .nodes ≡ m → HoldsCurrent (ruleCounts st c) w1 m (record { context = c; result = none; text = false; first = m; trees = []; used = [] })
 unfolding openCode
 rule-open st c w1 m e = record {
   is-open = refl;
+  of-rule = λ e. absurd (true≢false (sym e));
   context = refl;
   result = λ t q. absurd (Option·none-ne-some t q);
   first = e;

@@ -1,13 +1,15 @@
 -- A line that is refused changes no word; a line that is spelled well is taken as its spelling says. Assumes nothing.
-use mathlib.Core.Path.{_≡_, _∙_}
-use mathlib.Core.Bool.{true, false}
-use mathlib.Core.Option.{none, some}
+use mathlib.Core.Path.{_≡_, refl, _∙_}
+use mathlib.Core.Bool.{Bool, true, false}
+use mathlib.Core.Option.{Option, none, some}
 use mathlib.Core.List.{List}
 use Prim.Native.Nat.{ℕ, _≤_, _<_}
 use native.Mathlib.Omega.{arith}
 use borrow.Author.Tests.{le-leb, lt-leb}
 use Rattle.sheet.specs.Text.{Bytes, fieldsOf}
-use Rattle.sheet.specs.Lines.{Line, lineOf}
+use Rattle.ocl.specs.Types.{Ty}
+use Rattle.sheet.specs.Lines.{Line, classLine, rowLine, objectLine, definitionLine, ruleLine, lineOf}
+use Rattle.sheet.specs.Texts.{onText}
 use Rattle.sheet.specs.Sheet.{Sheet, added}
 use Rattle.sheet.specs.Limits.{withinLimits}
 use Rattle.sheet.specs.Refusals.{blockOf, numbered, inOrder, partsKnown}
@@ -32,9 +34,31 @@ module _ (st : Counts) (k : ℕ) (w0 w1 : List ℕ) where
   pub unspelled : (line : Bytes) → lineOf (fieldsOf line) ≡ none → Took st k line (Stop 3) w0 w1 w0 w1
   unspelled line h = record { is = λ s _. rw (step-bad s k (fieldsOf line) h) moved-stop; kept0 = kept-refl w0; kept1 = kept-refl w1 }
 
+-- ---- lines that have no text
+
+pub class-plain : (n : ℕ) (p : Option ℕ) (test : Bytes → Bool) → onText (classLine n p) test ≡ true
+unfolding onText
+class-plain n p test = refl
+
+pub row-plain : (n c name : ℕ) (t : Ty) (test : Bytes → Bool) → onText (rowLine n c name t) test ≡ true
+unfolding onText
+row-plain n c name t test = refl
+
+pub object-plain : (n c : ℕ) (test : Bytes → Bool) → onText (objectLine n c) test ≡ true
+unfolding onText
+object-plain n c test = refl
+
+pub definition-plain : (n c : ℕ) (t : Ty) (test : Bytes → Bool) → onText (definitionLine n c t) test ≡ true
+unfolding onText
+definition-plain n c t test = refl
+
+pub rule-plain : (n c : ℕ) (test : Bytes → Bool) → onText (ruleLine n c) test ≡ true
+unfolding onText
+rule-plain n c test = refl
+
 pub spelled : {st : Counts} {k : ℕ} (line : Bytes) {l : Line} {r : Step} {w0 w1 v0 v1 : List ℕ}
-    → lineOf (fieldsOf line) ≡ some l → TookSpelled st k l r w0 w1 v0 v1 → Took st k line r w0 w1 v0 v1
-spelled {k = k} line h t = record { is = λ s q. rw (step-line s k (fieldsOf line) h) (t .is s q); kept0 = t .kept0; kept1 = t .kept1 }
+    → ((test : Bytes → Bool) → onText l test ≡ true) → lineOf (fieldsOf line) ≡ some l → TookSpelled st k l r w0 w1 v0 v1 → Took st k line r w0 w1 v0 v1
+spelled {k = k} line plain h t = record { is = λ s q. rw (step-line s k (fieldsOf line) plain h) (t .is s q); kept0 = t .kept0; kept1 = t .kept1 }
 
 -- a line within its limits: 5 by its block or its number, 6
 module _ (st : Counts) (k : ℕ) (w0 w1 : List ℕ) (l : Line) (within : (s : Sheet) → withinLimits s l ≡ true) where

@@ -45,22 +45,24 @@ held-empty w0 w1 = record {
 
 -- ---- on the way: the sheet so far, read on over what is left
 
-pub record Going (text : Bytes) (u0 u1 w0 w1 : List ℕ) (rest : Bytes) (st : Counts) (k e : ℕ) : Type 0 where
+pub record Going (text : Bytes) (u0 u1 u2 w0 w1 w2 : List ℕ) (rest : Bytes) (st : Counts) (k e : ℕ) : Type 0 where
   pub held : HeldSheet st w0 w1
   pub same : readLines (held .sheet) k (linesOf rest) ≡ readLines empty 0 (linesOf text)
   pub ends : PartEnd 10 rest e
   pub kept0 : Kept u0 w0
   pub kept1 : Kept u1 w1
+  pub kept2 : Kept u2 w2
   pub short : k + length rest ≤ length text
 
-pub going-start : (text : Bytes) (w0 w1 : List ℕ) (st : Counts) {e : ℕ} → st ≡ noCounts → PartEnd 10 text e → Going text w0 w1 w0 w1 text st 0 e
+pub going-start : (text : Bytes) (w0 w1 w2 : List ℕ) (st : Counts) {e : ℕ} → st ≡ noCounts → PartEnd 10 text e → Going text w0 w1 w2 w0 w1 w2 text st 0 e
 unfolding empty held-empty
-going-start text w0 w1 st {e} z n = subst (λ s. Going text w0 w1 w0 w1 text s 0 e) (sym z) (record {
+going-start text w0 w1 w2 st {e} z n = subst (λ s. Going text w0 w1 w2 w0 w1 w2 text s 0 e) (sym z) (record {
   held = held-empty w0 w1;
   same = refl;
   ends = n;
   kept0 = kept-refl w0;
   kept1 = kept-refl w1;
+  kept2 = kept-refl w2;
   short = omega arith;
 })
 
@@ -85,7 +87,7 @@ record Onward (v0 v1 : List ℕ) (f : Sheet → Reading) (st : Counts) (x : Read
 next-is : {v0 v1 : List ℕ} {f : Sheet → Reading} {st : Counts} {x : Reading} → GoesOn v0 v1 f (line.Next st) x → Onward v0 v1 f st x
 next-is (goes-on {s = s} g h m) = record { held = record { sheet = s; holds = h; fine = g; good = m }; is = refl }
 
-module _ {text : Bytes} {u0 u1 w0 w1 : List ℕ} {rest : Bytes} {st : Counts} {k e : ℕ} (going : Going text u0 u1 w0 w1 rest st k e) where
+module _ {text : Bytes} {u0 u1 u2 w0 w1 w2 : List ℕ} {rest : Bytes} {st : Counts} {k e : ℕ} (going : Going text u0 u1 u2 w0 w1 w2 rest st k e) where
   lines-split : e < length rest → linesOf rest ≡ take e rest ∷ linesOf (drop (e + 1) rest)
   unfolding linesOf
   lines-split h = first-part (going .ends) h
@@ -93,36 +95,39 @@ module _ {text : Bytes} {u0 u1 w0 w1 : List ℕ} {rest : Bytes} {st : Counts} {k
   whole-is : e < length rest → closing (going .held .sheet) k (fieldsOf (take e rest)) (λ t. onStep (step t (suc k) (fieldsOf (take e rest))) (suc k) (λ u. readLines u (suc k) (linesOf (drop (e + 1) rest)))) ≡ readLines empty 0 (linesOf text)
   whole-is h = sym (read-line (going .held .sheet) k (take e rest) (linesOf (drop (e + 1) rest)) (some-lines (drop (e + 1) rest))) ∙ ap (readLines (going .held .sheet) k) (sym (lines-split h)) ∙ going .same
 
-  pub going-refused : {v0 v1 : List ℕ} {n p : ℕ} → e < length rest → TookWhole st k (take e rest) (line.Refused n p) w0 w1 v0 v1 → ReadsTo text (sheet.Refused n p) u0 u1 v0 v1
+  pub going-refused : {v0 v1 v2 : List ℕ} {n p : ℕ} → e < length rest → TookWhole st k (take e rest) (line.Refused n p) w0 w1 w2 v0 v1 v2 → ReadsTo text (sheet.Refused n p) u0 u1 u2 v0 v1 v2
   going-refused h t = record {
     is = subst (EndsAs _ _ _) (sym (refused-is (t .is (going .held .sheet) (going .held .holds) (going .held .good) _)) ∙ whole-is h) a-refusal;
     kept0 = kept-then (going .kept0) (t .kept0);
     kept1 = kept-then (going .kept1) (t .kept1);
+    kept2 = kept-then (going .kept2) (t .kept2);
   }
 
-  going-on : {v0 v1 : List ℕ} {su : Counts} {d : ℕ} → e < length rest → TookWhole st k (take e rest) (line.Next su) w0 w1 v0 v1 → PartEnd 10 (drop (e + 1) rest) d
-      → Going text u0 u1 v0 v1 (drop (e + 1) rest) su (k + 1) d
+  going-on : {v0 v1 v2 : List ℕ} {su : Counts} {d : ℕ} → e < length rest → TookWhole st k (take e rest) (line.Next su) w0 w1 w2 v0 v1 v2 → PartEnd 10 (drop (e + 1) rest) d
+      → Going text u0 u1 u2 v0 v1 v2 (drop (e + 1) rest) su (k + 1) d
   going-on h t n = let x = next-is (t .is (going .held .sheet) (going .held .holds) (going .held .good) (λ u. readLines u (suc k) (linesOf (drop (e + 1) rest)))) in record {
     held = x .held;
     same = rw (add-one k) (sym (x .is) ∙ whole-is h);
     ends = n;
     kept0 = kept-then (going .kept0) (t .kept0);
     kept1 = kept-then (going .kept1) (t .kept1);
+    kept2 = kept-then (going .kept2) (t .kept2);
     short = omega (arith, going .short, length-drop (e + 1) rest);
   }
 
   -- the rest as the code has it, a part with an end
-  pub going-next : {v0 v1 : List ℕ} {su : Counts} {d : ℕ} → e < length rest → TookWhole st k (take e rest) (line.Next su) w0 w1 v0 v1
-      → PartEnd 10 (take (length rest - (e + 1)) (drop (e + 1) rest)) d → Going text u0 u1 v0 v1 (take (length rest - (e + 1)) (drop (e + 1) rest)) su (k + 1) d
+  pub going-next : {v0 v1 v2 : List ℕ} {su : Counts} {d : ℕ} → e < length rest → TookWhole st k (take e rest) (line.Next su) w0 w1 w2 v0 v1 v2
+      → PartEnd 10 (take (length rest - (e + 1)) (drop (e + 1) rest)) d → Going text u0 u1 u2 v0 v1 v2 (take (length rest - (e + 1)) (drop (e + 1) rest)) su (k + 1) d
   going-next h t n = rw (part-all rest (e + 1)) (going-on h t (rw (part-all rest (e + 1)) at n))
 
   lines-last : length rest ≤ e → linesOf rest ≡ rest ∷ []
   unfolding linesOf
   lines-last h = only-part (going .ends) h
 
-  pub going-last : {v0 v1 : List ℕ} {r : SheetRead} → length rest ≤ e → TookLast st k rest r w0 w1 v0 v1 → ReadsTo text r u0 u1 v0 v1
+  pub going-last : {v0 v1 : List ℕ} {r : SheetRead} → length rest ≤ e → TookLast st k rest r w0 w1 v0 v1 → ReadsTo text r u0 u1 u2 v0 v1 w2
   going-last h t = record {
     is = subst (EndsAs _ _ _) (ap (readLines (going .held .sheet) k) (sym (lines-last h)) ∙ going .same) (t .is (going .held .sheet) (going .held .holds));
     kept0 = kept-then (going .kept0) (t .kept0);
     kept1 = kept-then (going .kept1) (t .kept1);
+    kept2 = going .kept2;
   }

@@ -1,7 +1,9 @@
 -- What the reader's code promises: where it goes on, the words hold what the definition has read; where it refuses, so does the
 -- definition, with the same number and line.
+use mathlib.Core.Bool.{Bool, _||_}
 use mathlib.Core.List.{List, [], _∷_}
 use Prim.Native.Nat.{ℕ, suc}
+use lib.Dec.{eqb}
 use Rattle.sheet.specs.Text.{Bytes, linesOf, fieldsOf}
 use Rattle.sheet.specs.Sheet.{Sheet, empty}
 use Rattle.sheet.proofs.Good.{Good}
@@ -22,6 +24,10 @@ pub record HeldSheet (st : Counts) (w0 w1 : List ℕ) : Type 0 where
   pub fine : Fine st
   pub good : Good sheet
 
+-- the kinds of `N` and `X`
+unfoldable pub bodyKind : ℕ → Bool
+bodyKind k = eqb k 6 || eqb k 9
+
 -- a step with its line, where it refuses
 abbrev pub placedAt : CodeStep → ℕ → LineRead
 placedAt (step-code.Next st) k = line-code.Next st
@@ -39,11 +45,12 @@ pub record TookLine (st : Counts) (k : ℕ) (line : Bytes) (r : CodeStep) (w0 w1
   pub kept1 : Kept w1 v1
 
 -- the line after k others, and the end of an open definition or rule before it
-pub record TookWhole (st : Counts) (k : ℕ) (line : Bytes) (r : LineRead) (w0 w1 v0 v1 : List ℕ) : Type 0 where
+pub record TookWhole (st : Counts) (k : ℕ) (line : Bytes) (r : LineRead) (w0 w1 w2 v0 v1 v2 : List ℕ) : Type 0 where
   pub is : (s : Sheet) → Holds st w0 w1 s → Good s → (f : Sheet → Reading)
       → GoesOn v0 v1 f r (closing s k (fieldsOf line) (λ t. onStep (step t (suc k) (fieldsOf line)) (suc k) f))
   pub kept0 : Kept w0 v0
   pub kept1 : Kept w1 v1
+  pub kept2 : Kept w2 v2
 
 -- a whole text: a sheet, or a refusal
 pub data EndsAs (v0 v1 : List ℕ) : SheetRead → Reading → Type 0 where
@@ -57,7 +64,8 @@ pub record TookLast (st : Counts) (k : ℕ) (part : Bytes) (r : SheetRead) (w0 w
   pub kept1 : Kept w1 v1
 
 -- the text from its first line on
-pub record ReadsTo (text : Bytes) (r : SheetRead) (w0 w1 v0 v1 : List ℕ) : Type 0 where
+pub record ReadsTo (text : Bytes) (r : SheetRead) (w0 w1 w2 v0 v1 v2 : List ℕ) : Type 0 where
   pub is : EndsAs v0 v1 r (readLines empty 0 (linesOf text))
   pub kept0 : Kept w0 v0
   pub kept1 : Kept w1 v1
+  pub kept2 : Kept w2 v2

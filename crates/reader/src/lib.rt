@@ -1,7 +1,7 @@
 // Reads a sheet line by line into the tables of the lent words. Document 01, The sheet. It depends on `text`, which splits the
-// text, on `declarations`, `slots` and `trees`, which take the lines, and on `tables`.
+// text, on `declarations`, `slots`, `trees` and `texts`, which take the lines, and on `tables`.
 ghost use mathlib.Core.Path.{_≡_};
-ghost use mathlib.Core.Logic.{_≢_};
+ghost use mathlib.Core.Bool.{true, false};
 ghost use mathlib.Core.List.{List, []};
 ghost use Prim.Native.Nat.{ℕ, _+_, _≤_, _<_};
 ghost use lib.ListN.{length, getD};
@@ -9,7 +9,8 @@ ghost use Rattle.sheet.specs.Text.{fieldsOf};
 ghost use Rattle.text.specs.Parts.{Cut};
 ghost use Rattle.text.specs.Words.{byteKind, onlyByte};
 ghost use Rattle.tables.specs.Layout.{Fine};
-ghost use Rattle.reader.specs.Contracts.{HeldSheet, placedAt, TookLine, TookWhole, TookLast, ReadsTo};
+ghost use Rattle.texts.specs.Judging.{TookText};
+ghost use Rattle.reader.specs.Contracts.{HeldSheet, bodyKind, placedAt, TookLine, TookWhole, TookLast, ReadsTo};
 use declarations::classes::class_line;
 use declarations::definitions::definition_line;
 use declarations::objects::object_line;
@@ -24,6 +25,7 @@ use text::parts::field;
 use text::parts::find;
 use text::words::byte_kind;
 use text::words::letter;
+use texts::line::text_line;
 use trees::ending::end_rule;
 use trees::node::node_line;
 
@@ -39,9 +41,39 @@ pub enum SheetRead {
     Refused(u64, u64),
 }
 
-// A line that is no node line, by the kind of its letter.
+// Whether a line of this kind belongs to the open definition or rule: a node line or an X line.
+fn in_body(kind: u64) -> bool
+    ensures { λ r. ⌜ r ≡ bodyKind kind ⌝ }
+{
+    if kind == 6 {
+        return true;
+    }
+    kind == 9
+}
+
+// The line k, which belongs to the open definition or rule.
+fn body_line(
+    kind: u64,
+    line: &[u8],
+    f: Fields,
+    w0: &[u64],
+    w1: &mut [u64],
+    w2: &mut [u64],
+    st: Counts,
+    k: u64,
+) -> Step
+    requires { ⌜ Cut (now line) f × (kind ≡ byteKind (onlyByte (getD (fieldsOf (now line)) 0 []))) × (bodyKind kind ≡ true) × (8192 ≤ length (now w0)) × (8192 ≤ length (now w1)) × (8192 ≤ length (now w2)) × Fine st ⌝ }
+    ensures { λ r. ⌜ TookText st k (now (line .entry)) r (now (w0 .entry)) (now (w1 .entry)) (now (w2 .entry)) (now (w1 .exit)) (now (w2 .exit)) ⌝ }
+{
+    if kind == 6 {
+        return node_line(line, f, w0, w1, st, k);
+    }
+    text_line(line, f, w0, w1, w2, st, k)
+}
+
+// Any other line, by the kind of its letter.
 fn other_line(kind: u64, line: &[u8], f: Fields, w0: &mut [u64], st: Counts) -> Step
-    requires { ⌜ Cut (now line) f × (kind ≡ byteKind (onlyByte (getD (fieldsOf (now line)) 0 []))) × (kind ≢ 6) × (8192 ≤ length (now w0)) × Fine st ⌝ }
+    requires { ⌜ Cut (now line) f × (kind ≡ byteKind (onlyByte (getD (fieldsOf (now line)) 0 []))) × (bodyKind kind ≡ false) × (8192 ≤ length (now w0)) × Fine st ⌝ }
     ensures { λ r. ⌜ ((w1 : List ℕ) (k : ℕ) → TookLine st k (now (line .entry)) r (now (w0 .entry)) w1 (now (w0 .exit)) w1) ⌝ }
 {
     match kind {
@@ -65,15 +97,23 @@ fn placed(s: Step, k: u64) -> LineRead
     }
 }
 
-// One line, after k others. An open definition or rule ends before a line that is no node line.
-fn line_read(line: &[u8], w0: &mut [u64], w1: &mut [u64], st: Counts, k: u64) -> LineRead
-    requires { ⌜ (8192 ≤ length (now w0)) × (8192 ≤ length (now w1)) × HeldSheet st (now w0) (now w1) × (k < 100000) ⌝ }
-    ensures { λ r. ⌜ TookWhole st k (now (line .entry)) r (now (w0 .entry)) (now (w1 .entry)) (now (w0 .exit)) (now (w1 .exit)) ⌝ }
+// One line, after k others. An open definition or rule ends before a line that does not belong to it.
+fn line_read(
+    line: &[u8],
+    w0: &mut [u64],
+    w1: &mut [u64],
+    w2: &mut [u64],
+    st: Counts,
+    k: u64,
+) -> LineRead
+    requires { ⌜ (8192 ≤ length (now w0)) × (8192 ≤ length (now w1)) × (8192 ≤ length (now w2)) × HeldSheet st (now w0) (now w1) × (k < 100000) ⌝ }
+    ensures { λ r. ⌜ TookWhole st k (now (line .entry)) r (now (w0 .entry)) (now (w1 .entry)) (now (w2 .entry)) (now (w0 .exit)) (now (w1 .exit)) (now (w2 .exit)) ⌝ }
 {
     let f = cut(line);
     let kind = byte_kind(letter(field(line, f, 0)));
-    if kind == 6 {
-        return placed(node_line(line, f, w0, w1, st, k + 1), k + 1);
+    if in_body(kind) {
+        let step = body_line(kind, line, f, w0, w1, w2, st, k + 1);
+        return placed(step, k + 1);
     }
     match end_rule(w0, w1, st) {
         Step::Stop(n) => LineRead::Refused(n, k),
@@ -88,7 +128,7 @@ fn last_read(part: &[u8], w0: &mut [u64], w1: &[u64], st: Counts, k: u64) -> She
 {
     let f = cut(part);
     let kind = byte_kind(letter(field(part, f, 0)));
-    if kind == 6 {
+    if in_body(kind) {
         return SheetRead::Refused(3, k + 1);
     }
     match end_rule(w0, w1, st) {
@@ -103,17 +143,17 @@ fn last_read(part: &[u8], w0: &mut [u64], w1: &[u64], st: Counts, k: u64) -> She
     }
 }
 
-// A text of at most 49,152 bytes.
-pub fn read(text: &[u8], w0: &mut [u64], w1: &mut [u64]) -> SheetRead
-    requires { ⌜ (8192 ≤ length (now w0)) × (8192 ≤ length (now w1)) × (length (now text) ≤ 49152) ⌝ }
-    ensures { λ r. ⌜ ReadsTo (now (text .entry)) r (now (w0 .entry)) (now (w1 .entry)) (now (w0 .exit)) (now (w1 .exit)) ⌝ }
+// A text of at most 49,152 bytes. The nodes of an X line wait in w2 while they are judged; nothing of it is read afterwards.
+pub fn read(text: &[u8], w0: &mut [u64], w1: &mut [u64], w2: &mut [u64]) -> SheetRead
+    requires { ⌜ (8192 ≤ length (now w0)) × (8192 ≤ length (now w1)) × (8192 ≤ length (now w2)) × (length (now text) ≤ 49152) ⌝ }
+    ensures { λ r. ⌜ ReadsTo (now (text .entry)) r (now (w0 .entry)) (now (w1 .entry)) (now (w2 .entry)) (now (w0 .exit)) (now (w1 .exit)) (now (w2 .exit)) ⌝ }
 {
     let mut rest = text;
     let mut st = tables::nothing();
     let mut k: u64 = 0;
     let mut e = find(rest, 10);
     while e < rest.len() {
-        match line_read(&rest[..e], w0, w1, st, k) {
+        match line_read(&rest[..e], w0, w1, w2, st, k) {
             LineRead::Refused(n, p) => {
                 return SheetRead::Refused(n, p);
             }

@@ -86,6 +86,7 @@ module _ {w2 w1 v1 : List ℕ} (k : KeepsMarks w2 w1 v1) where
     current-same : {c : Current} → HoldsCurrent st w1 n c → HoldsCurrent st v1 n c
     current-same {c} h = record {
       is-open = h .is-open;
+      of-rule = h .of-rule;
       context = h .context;
       result = h .result;
       first = h .first;

@@ -20,7 +20,8 @@ use Rattle.ocl.specs.Forms.{Expr, Definition, levels}
 use Rattle.ocl.specs.Laws.{numbersKept, Formed, numbers, literals, calls}
 use Rattle.ocl.specs.Soundness.{AcceptedModel}
 use Rattle.sheet.specs.Text.{Bytes, fieldsOf, linesOf}
-use Rattle.sheet.specs.Lines.{Line, lineOf, firstIsN}
+use Rattle.sheet.specs.Lines.{Line, lineOf, inBody}
+use Rattle.sheet.specs.Texts.{bracketsWithin, isSentence, onText}
 use Rattle.sheet.specs.Sheet.{Slot, Rule, Current, Sheet, empty, lookup, noRow, modelOf, treeOf, lastTree, allUsed, withBody, mostLevels, endOf, endFor, endRule}
 use Rattle.sheet.specs.Limits.{withinLimits}
 use Rattle.sheet.specs.Refusals.{inOrder, partsKnown, callsSmaller, callsKnown, suits, treeHolds}
@@ -29,7 +30,7 @@ use Rattle.sheet.proofs.Belonging.{belongs-same}
 use Rattle.sheet.proofs.TypeFits.{Fits, NamesFit, tree-names}
 use Rattle.sheet.proofs.Bodies.{bodyNumbers, bodies-more, Among, among-more, tree-called}
 use Rattle.sheet.proofs.Good.{plain, SlotOk, BodyOk, DefinitionOk, CurrentOk, OpenOk, none-open, one-open, blocks-none, sheetNumbers, Good, good-empty}
-use Rattle.sheet.proofs.GoodNodes.{good-added}
+use Rattle.sheet.proofs.GoodTexts.{good-added}
 use Rattle.sheet.proofs.NumbersKept.{AllKept, tree-kept}
 
 -- ---- the end of a definition or rule
@@ -166,18 +167,18 @@ unfolding must
 must-good true n x h = h tt
 must-good false n x h = no-step
 
-good-line : (s : Sheet) (k : ℕ) (l : Line) → Good s → GoodStep (stepLine s k l)
+good-line : (s : Sheet) (k : ℕ) (l : Line) → T (onText l bracketsWithin) → T (onText l isSentence) → Good s → GoodStep (stepLine s k l)
 unfolding stepLine
-good-line s k l g =
+good-line s k l p q g =
     must-good (withinLimits s l) 4 _ (λ a. must-good (inOrder s l) 5 _ (λ b. must-good (partsKnown s l) 6 _ (λ c.
     must-good (callsSmaller s l) 23 _ (λ x. must-good (callsKnown s l) 24 _ (λ y.
     must-good (suits s l) 7 _ (λ d. must-good (treeHolds s l) 8 _ (λ e.
-    good-step (good-added s k l g (record { limits = a; order = b; parts = c; smaller = x; known = y; suit = d; tree = e })))))))))
+    good-step (good-added s k l g (record { brackets = p; sentence = q; limits = a; order = b; parts = c; smaller = x; known = y; suit = d; tree = e })))))))))
 
 good-spelled : (s : Sheet) (k : ℕ) (o : Option Line) → Good s → GoodStep (stepSpelled s k o)
 unfolding stepSpelled
 good-spelled s k none g = no-step
-good-spelled s k (some l) g = good-line s k l g
+good-spelled s k (some l) g = must-good (onText l bracketsWithin) 4 _ (λ p. must-good (onText l isSentence) 20 _ (λ q. good-line s k l p q g))
 
 pub good-fields : (s : Sheet) (k : ℕ) (fs : List Bytes) → Good s → GoodStep (step s k fs)
 unfolding step
@@ -200,7 +201,7 @@ on-end k (all-some {x = s} g) h = h s g
 
 on-closing : (s : Sheet) (k : ℕ) (fs : List Bytes) {f : Sheet → Reading} → Good s → ((s : Sheet) → Good s → GoodReading (f s)) → GoodReading (closing s k fs f)
 unfolding closing
-on-closing s k fs g h = by-if GoodReading (firstIsN fs) _ _ (λ t. h s g) (λ t. on-end k (good-endRule s g) h)
+on-closing s k fs g h = by-if GoodReading (inBody fs) _ _ (λ t. h s g) (λ t. on-end k (good-endRule s g) h)
 
 on-last : (k : ℕ) (l : Bytes) (s : Sheet) → Good s → GoodReading (readLast k l s)
 unfolding readLast

@@ -63,6 +63,7 @@ pub record CurrentOk (ds : List Definition) (n : ℕ) (c : Current) : Type 0 whe
   pub result : All? (Fits 3) (c .result)
   pub forest : Forest (c .first) (c .trees) (c .used)
   pub count : c .first + length (c .trees) ≡ n
+  pub operands : Each (λ a. a < length (c .trees)) (c .used)
   pub numbers-kept : Each (λ e. AllKept (literals e)) (c .trees)
   pub names : Each NamesFit (c .trees)
   pub called : Each (λ e. Each (Among ds) (calls e)) (c .trees)

@@ -1,6 +1,6 @@
 -- Each C, A, O, V, D and R line that is taken keeps a sheet good. Assumes nothing.
 use mathlib.Core.Path.{_≡_, refl, sym, ap, _∙_, subst}
-use mathlib.Core.Bool.{_&&_}
+use mathlib.Core.Bool.{false, _&&_}
 use mathlib.Core.Option.{Option, none, some, Option·some-injective}
 use mathlib.Core.List.{List, []}
 use Prim.Native.Nat.{ℕ, _<_, _≤_}
@@ -15,6 +15,7 @@ use Rattle.ocl.specs.Values.{Value, size, everyPart}
 use Rattle.ocl.specs.Model.{isA}
 use Rattle.ocl.specs.Forms.{Definition}
 use Rattle.sheet.specs.Lines.{Line, classLine, rowLine, objectLine, valueLine, definitionLine, ruleLine}
+use Rattle.sheet.specs.Texts.{bracketsWithin, isSentence, onText}
 use Rattle.sheet.specs.Sheet.{Rule, Current, Sheet, noRow, modelOf, added}
 use Rattle.sheet.specs.Limits.{isClass, isDefinition, partWithin, valueWithin, withinLimits}
 use Rattle.sheet.specs.Refusals.{blockOf, numbered, inOrder, afterSlots, ordered, parentSmaller, partsKnown, callsSmaller, callsKnown, suits, treeHolds}
@@ -30,6 +31,8 @@ use Rattle.sheet.proofs.Good.{plain, SlotOk, OpenOk, one-open, Blocks, 
 
 -- what a line has met when it is added
 pub record Met (s : Sheet) (l : Line) : Type 0 where
+  pub brackets : T (onText l bracketsWithin)
+  pub sentence : T (onText l isSentence)
   pub limits : T (withinLimits s l)
   pub order : T (inOrder s l)
   pub parts : T (partsKnown s l)
@@ -42,7 +45,7 @@ block-le : (s : Sheet) (l : Line) → Met s l → s .block ≤ blockOf l
 unfolding inOrder
 block-le s l m = leb→le (s .block) (blockOf l) (and-l (leb (s .block) (blockOf l)) _ (m .order))
 
-met-numbered : (s : Sheet) (l : Line) → Met s l → T (numbered s l)
+pub met-numbered : (s : Sheet) (l : Line) → Met s l → T (numbered s l)
 unfolding inOrder
 met-numbered s l m = and-r (leb (s .block) (blockOf l)) _ (m .order)
 
@@ -156,10 +159,10 @@ all-earlier s g =
     each-append (bodies-below (λ (d : Definition). d .body) (each-imp (λ d h. h .body .on-sheet) (g .definitions))) (bodies-below (λ (r : Rule). r .body) (each-imp (λ r h. h .on-sheet) (g .rules)))
 
 abbrev beginning : ℕ → Option Ty → ℕ → Current
-beginning c t n = record { context = c; result = t; first = n; trees = []; used = [] }
+beginning c t n = record { context = c; result = t; text = false; first = n; trees = []; used = [] }
 
 begin-ok : (ds : List Definition) (n c : ℕ) {t : Option Ty} → T (isClass c) → All? (Fits 3) t → OpenOk ds n (some (beginning c t n))
-begin-ok ds n c h t = one-open (record { context = h; result = t; forest = forest-empty n; count = omega arith; numbers-kept = each-nil; names = each-nil; called = each-nil })
+begin-ok ds n c h t = one-open (record { context = h; result = t; forest = forest-empty n; count = omega arith; operands = each-nil; numbers-kept = each-nil; names = each-nil; called = each-nil })
 
 begin-earlier : (s : Sheet) → Good s → {c : ℕ} {t : Option Ty} (d : Current) → some (beginning c t (length (s .lines))) ≡ some d → Each (λ p. p < d .first) (sheetNumbers s)
 begin-earlier s g d e = subst (λ i. Each (λ p. p < i) (sheetNumbers s)) (ap (λ (x : Current). x .first) (Option·some-injective _ _ e)) (all-earlier s g)

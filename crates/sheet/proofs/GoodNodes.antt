@@ -1,11 +1,11 @@
--- Each N line that is taken keeps a sheet good, and so every line. Assumes nothing.
+-- Each N line that is taken keeps a sheet good. Assumes nothing.
 use mathlib.Core.Path.{_≡_, refl, sym, ap, _∙_, subst}
 use mathlib.Core.Bool.{_&&_}
 use mathlib.Core.Option.{Option, none, some, Option·some-injective}
-use mathlib.Core.List.{List}
-use Prim.Native.Nat.{ℕ, suc, _+_, _<_}
+use mathlib.Core.List.{List, [], _∷_, _++_}
+use Prim.Native.Nat.{ℕ, suc, _+_, _<_, _≤_}
 use native.Mathlib.Omega.{arith}
-use lib.ListN.{length}
+use lib.ListN.{length, length-append}
 use lib.Dec.{T}
 use Rattle.laws.specs.Choice.{onSome}
 use Rattle.laws.specs.Lists.{allOf, Each, each-nil, each-cons}
@@ -14,88 +14,104 @@ use Rattle.laws.proofs.Lists.{length-more, each-imp, each-append}
 use Rattle.ocl.specs.Forms.{Expr, node, Definition}
 use Rattle.ocl.specs.Laws.{literals, calls}
 use Rattle.ocl.proofs.Answered.{Named}
-use Rattle.sheet.specs.Lines.{Line, classLine, rowLine, objectLine, valueLine, definitionLine, ruleLine, nodeLine, Shape}
+use Rattle.sheet.specs.Lines.{nodeLine, Shape}
 use Rattle.sheet.specs.Sheet.{Current, Sheet, operandsOf, grow, treeOf, definitionOf, withNode, added}
 use Rattle.sheet.specs.Limits.{isNode, formWithin, withinLimits}
-use Rattle.sheet.specs.Refusals.{callBelow, callsKnown, operandsFresh, treeHolds}
+use Rattle.sheet.specs.Refusals.{callBelow, callsKnown, fresh, operandsFresh, treeHolds}
 use Rattle.sheet.proofs.NumbersKept.{tree-kept, definition-kept, grown-kept}
 use Rattle.sheet.proofs.TypeFits.{tree-names, definition-fits, grown-names}
-use Rattle.sheet.proofs.Forest.{forest-more}
+use Rattle.sheet.proofs.Forest.{forest-more, fresh-each}
 use Rattle.sheet.proofs.Bodies.{tree-called, grown-called}
-use Rattle.sheet.proofs.Good.{plain, BodyOk, RuleOk, DefinitionOk, OpenOk, none-open, one-open, Blocks, Room, sheetNumbers, Good}
-use Rattle.sheet.proofs.GoodLines.{Met, good-class, good-row, good-object, good-value, good-definition, good-rule}
+use Rattle.sheet.proofs.Good.{plain, BodyOk, DefinitionOk, CurrentOk, OpenOk, none-open, one-open, Blocks, Room, sheetNumbers, Good}
+use Rattle.sheet.proofs.GoodLines.{Met}
 
-body-more : {ds : List Definition} {n c : ℕ} {e : Expr} → BodyOk ds n c e → BodyOk ds (suc n) c e
-body-more x = record { context = x .context; on-sheet = each-imp (λ p l. omega arith) (x .on-sheet); shallow = x .shallow; numbers-kept = x .numbers-kept; names = x .names; called = x .called }
+-- ---- on a sheet with more nodes
 
-current-more : (ds : List Definition) (n : ℕ) (x : Shape) {o : Option Current} → Each (DefinitionOk ds n) ds → OpenOk ds n o → T (formWithin x) → T (callBelow (length ds) x) → T (operandsFresh o x)
-    → OpenOk ds (suc n) (onSome o (λ c. some (withNode ds c x)))
-unfolding onSome withNode operandsFresh literals calls Named
-current-more ds n x k none-open w b h = none-open
-current-more ds n x k (one-open {c} r) w b h = let f = treeOf (c .trees) in one-open (record {
-  context = r .context;
-  result = r .result;
-  forest = forest-more (c .first) (c .trees) (c .used) (definitionOf ds) x (r .forest) h;
-  count = omega (arith, r .count, length-more (c .trees) (node (c .first + length (c .trees)) (grow f (definitionOf ds) x)));
-  numbers-kept = each-append (r .numbers-kept) (each-cons (grown-kept f (tree-kept (r .numbers-kept)) (definitionOf ds) (definition-kept (each-imp (λ d y. y .body .numbers-kept) k)) x w) each-nil);
-  names = each-append (r .names) (each-cons (grown-names f (tree-names (r .names)) (definitionOf ds) (definition-fits (each-imp (λ d y. y .type) k)) x w) each-nil);
-  called = each-append (r .called) (each-cons (grown-called f (tree-called (r .called)) (each-imp (λ d y. y .body .called) k) x b) each-nil);
-})
+body-more : {ds : List Definition} {n m c : ℕ} {e : Expr} → n ≤ m → BodyOk ds n c e → BodyOk ds m c e
+body-more l x = record { context = x .context; on-sheet = each-imp (λ p k. omega arith) (x .on-sheet); shallow = x .shallow; numbers-kept = x .numbers-kept; names = x .names; called = x .called }
 
--- one was open already, with the same beginning
-record WasOpen (ds : List Definition) (x : Shape) (o : Option Current) (c : Current) : Type 0 where
+pub definitions-more : {ds es : List Definition} {n m : ℕ} → n ≤ m → Each (DefinitionOk ds n) es → Each (DefinitionOk ds m) es
+definitions-more l h = each-imp (λ d y. record { type = y .type; body = body-more l (y .body) }) h
+
+-- one was open already
+record WasOpen (f : Current → Current) (o : Option Current) (c : Current) : Type 0 where
   before : Current
   is : o ≡ some before
-  more : withNode ds before x ≡ c
+  more : f before ≡ c
 
-was-open : (ds : List Definition) (x : Shape) (o : Option Current) (c : Current) → onSome o (λ d. some (withNode ds d x)) ≡ some c → WasOpen ds x o c
+was-open : (f : Current → Current) (o : Option Current) (c : Current) → onSome o (λ d. some (f d)) ≡ some c → WasOpen f o c
 unfolding onSome
-was-open ds x none c e = absurd (let z : _≡_ {A = ℕ} 0 1 = cc in omega arith)
-was-open ds x (some d) c e = record { before = d; is = refl; more = Option·some-injective _ _ e }
+was-open f none c e = absurd (let z : _≡_ {A = ℕ} 0 1 = cc in omega arith)
+was-open f (some d) c e = record { before = d; is = refl; more = Option·some-injective _ _ e }
 
-blocks-node : (s : Sheet) (x : Shape) → Good s → Blocks (s .block) (s .rules) (onSome (s .current) (λ c. some (withNode (s .definitions) c x)))
-unfolding withNode
-blocks-node s x g = record {
-  late = g .blocks .late;
-  in-rule = λ c e q. let d = was-open (s .definitions) x (s .current) c e in g .blocks .in-rule (d .before) (d .is) (ap (λ (y : Current). y .result) (d .more) ∙ q);
-  in-definition = λ c t e q. let d = was-open (s .definitions) x (s .current) c e in g .blocks .in-definition (d .before) t (d .is) (ap (λ (y : Current). y .result) (d .more) ∙ q);
-}
+-- what keeps the first node and the type of what is open
+pub record Keeps (f : Current → Current) : Type 0 where
+  pub same-first : (c : Current) → f c .first ≡ c .first
+  pub same-result : (c : Current) → f c .result ≡ c .result
 
-room-node : (s : Sheet) (x : Shape) → Good s → (c : Current) → onSome (s .current) (λ d. some (withNode (s .definitions) d x)) ≡ some c → Room (s .definitions) (s .rules) c
-unfolding withNode
-room-node s x g c e = let d = was-open (s .definitions) x (s .current) c e in let r = g .room (d .before) (d .is) in record {
-  for-rule = λ q. r .for-rule (ap (λ (y : Current). y .result) (d .more) ∙ q);
-  for-definition = λ t q. r .for-definition t (ap (λ (y : Current). y .result) (d .more) ∙ q);
-}
+module _ (s : Sheet) (f : Current → Current) (g : Good s) (w : Keeps f) where
+  result-before : {c : Current} (d : WasOpen f (s .current) c) → d .before .result ≡ c .result
+  result-before d = sym (w .same-result (d .before)) ∙ ap (λ (y : Current). y .result) (d .more)
 
-good-node : (s : Sheet) (k n : ℕ) (x : Shape) → Good s → Met s (nodeLine n x) → Good (added s k (nodeLine n x))
-unfolding added sheetNumbers plain treeHolds withinLimits callsKnown withNode
-good-node s k n x g m =
-    let e = length-more (s .lines) k in
-    let w = and-r (isNode n) _ (and-l (isNode n && formWithin x) _ (and-l (isNode n && formWithin x && allOf isNode (operandsOf x)) _ (m .limits))) in record {
-      parents = g .parents;
-      rows = g .rows;
-      early = g .early;
-      slots = g .slots;
-      ascending = g .ascending;
-      definitions = subst (λ i. Each (DefinitionOk (s .definitions) i) (s .definitions)) (sym e) (each-imp (λ d y. record { type = y .type; body = body-more (y .body) }) (g .definitions));
-      rules = subst (λ i. Each (RuleOk (s .definitions) i) (s .rules)) (sym e) (each-imp (λ r. body-more) (g .rules));
-      distinct = g .distinct;
-      earlier = λ c q. let d = was-open (s .definitions) x (s .current) c q in subst (λ i. Each (λ p. p < i) (sheetNumbers s)) (ap (λ (y : Current). y .first) (d .more)) (g .earlier (d .before) (d .is));
-      few = g .few;
-      blocks = blocks-node s x g;
-      current = subst (λ i. OpenOk (s .definitions) i (onSome (s .current) (λ c. some (withNode (s .definitions) c x)))) (sym e)
-          (current-more (s .definitions) (length (s .lines)) x (g .definitions) (g .current) w (m .known) (m .tree));
-      room = room-node s x g;
+  blocks-more : Blocks (s .block) (s .rules) (onSome (s .current) (λ c. some (f c)))
+  blocks-more = record {
+    late = g .blocks .late;
+    in-rule = λ c e q. let d = was-open f (s .current) c e in g .blocks .in-rule (d .before) (d .is) (result-before d ∙ q);
+    in-definition = λ c t e q. let d = was-open f (s .current) c e in g .blocks .in-definition (d .before) t (d .is) (result-before d ∙ q);
+  }
+
+  room-more : (c : Current) → onSome (s .current) (λ d. some (f d)) ≡ some c → Room (s .definitions) (s .rules) c
+  room-more c e = let d = was-open f (s .current) c e in let r = g .room (d .before) (d .is) in
+      record { for-rule = λ q. r .for-rule (result-before d ∙ q); for-definition = λ t q. r .for-definition t (result-before d ∙ q) }
+
+  -- nodes more for what is open, at the lines ks
+  pub good-more : (ks : List ℕ) → OpenOk (s .definitions) (length (s .lines) + length ks) (onSome (s .current) (λ c. some (f c)))
+      → Good (record { block = s .block; parents = s .parents; rows = s .rows; objects = s .objects; slots = s .slots; lines = s .lines ++ ks; definitions = s .definitions; rules = s .rules; current = onSome (s .current) (λ c. some (f c)) })
+  unfolding sheetNumbers plain
+  good-more ks h = let e = length-append (s .lines) ks in record {
+    parents = g .parents;
+    rows = g .rows;
+    early = g .early;
+    slots = g .slots;
+    ascending = g .ascending;
+    definitions = definitions-more (omega arith) (g .definitions);
+    rules = each-imp (λ r. body-more (omega arith)) (g .rules);
+    distinct = g .distinct;
+    earlier = λ c q. let d = was-open f (s .current) c q in subst (λ i. Each (λ p. p < i) (sheetNumbers s)) (sym (w .same-first (d .before)) ∙ ap (λ (y : Current). y .first) (d .more)) (g .earlier (d .before) (d .is));
+    few = g .few;
+    blocks = blocks-more;
+    current = subst (λ i. OpenOk (s .definitions) i (onSome (s .current) (λ c. some (f c)))) (sym e) h;
+    room = room-more;
+  }
+
+-- ---- one node
+
+pub node-ok : (ds : List Definition) (n : ℕ) (x : Shape) (c : Current) → Each (DefinitionOk ds n) ds → CurrentOk ds n c → T (formWithin x) → T (callBelow (length ds) x) → T (fresh (length (c .trees)) (c .used) (operandsOf x))
+    → CurrentOk ds (suc n) (withNode ds c x)
+unfolding withNode literals calls Named
+node-ok ds n x c k r w b h =
+    let f = treeOf (c .trees) in
+    let e = length-more (c .trees) (node (c .first + length (c .trees)) (grow f (definitionOf ds) x)) in
+    record {
+      context = r .context;
+      result = r .result;
+      forest = forest-more (c .first) (c .trees) (c .used) (definitionOf ds) x (r .forest) h;
+      count = omega (arith, r .count, e);
+      operands = each-append (each-imp (λ a l. omega arith) (r .operands)) (each-imp (λ a l. let z = l .smaller in omega arith) (fresh-each (length (c .trees)) (c .used) (operandsOf x) h));
+      numbers-kept = each-append (r .numbers-kept) (each-cons (grown-kept f (tree-kept (r .numbers-kept)) (definitionOf ds) (definition-kept (each-imp (λ d y. y .body .numbers-kept) k)) x w) each-nil);
+      names = each-append (r .names) (each-cons (grown-names f (tree-names (r .names)) (definitionOf ds) (definition-fits (each-imp (λ d y. y .type) k)) x w) each-nil);
+      called = each-append (r .called) (each-cons (grown-called f (tree-called (r .called)) (each-imp (λ d y. y .body .called) k) x b) each-nil);
     }
 
--- ---- every line
+open-node : (ds : List Definition) (n : ℕ) (x : Shape) {o : Option Current} → Each (DefinitionOk ds n) ds → OpenOk ds n o → T (formWithin x) → T (callBelow (length ds) x) → T (operandsFresh o x)
+    → OpenOk ds (n + 1) (onSome o (λ c. some (withNode ds c x)))
+unfolding onSome operandsFresh
+open-node ds n x k none-open w b h = none-open
+open-node ds n x k (one-open {c} r) w b h = subst (λ i. OpenOk ds i (some (withNode ds c x))) (let z : suc n ≡ n + 1 = omega arith in z) (one-open (node-ok ds n x c k r w b h))
 
-pub good-added : (s : Sheet) (k : ℕ) (l : Line) → Good s → Met s l → Good (added s k l)
-good-added s k (classLine n p) g m = good-class s k n p g m
-good-added s k (rowLine n c name t) g m = good-row s k n c name t g m
-good-added s k (objectLine n c) g m = good-object s k n c g m
-good-added s k (valueLine o a v) g m = good-value s k o a v g m
-good-added s k (definitionLine n c t) g m = good-definition s k n c t g m
-good-added s k (ruleLine n c) g m = good-rule s k n c g m
-good-added s k (nodeLine n x) g m = good-node s k n x g m
+pub good-node : (s : Sheet) (k n : ℕ) (x : Shape) → Good s → Met s (nodeLine n x) → Good (added s k (nodeLine n x))
+unfolding added treeHolds withinLimits callsKnown withNode
+good-node s k n x g m =
+    let w = and-r (isNode n) _ (and-l (isNode n && formWithin x) _ (and-l (isNode n && formWithin x && allOf isNode (operandsOf x)) _ (m .limits))) in
+    good-more s (λ c. withNode (s .definitions) c x) g (record { same-first = λ c. refl; same-result = λ c. refl }) (k ∷ [])
+    (open-node (s .definitions) (length (s .lines)) x (g .definitions) (g .current) w (m .known) (m .tree))

@@ -1,3 +1,4 @@
+pub mod Grammar
 pub mod Forest
 pub mod Ascending
 pub mod NumbersKept
@@ -6,10 +7,17 @@ pub mod Belonging
 pub mod Parents
 pub mod TypeFits
 pub mod Bodies
+pub mod Stays
 pub mod Good
 pub mod GoodLines
 pub mod GoodNodes
+pub mod TextNodes
+pub mod GoodTexts
+pub mod Numbering
+pub mod Alike
+pub mod NodesRead
 pub mod Acceptance
+pub mod AsNodeLines
 pub mod Listed
 pub mod Marks
 pub mod TypeLines
@@ -28,3 +36,8 @@ pub mod Spelling
 pub mod Split
 pub mod Lengths
 pub mod ReadLength
+pub mod NodeBack
+pub mod NodeFields
+pub mod NodeSpelling
+pub mod TextLaws
+pub mod TextExamples

@@ -9,14 +9,15 @@ use lib.ListN.{length}
 use lib.Dec.{T, eqb, eqb→eq, ltb, leb, leb→le}
 use Rattle.laws.proofs.Tests.{and-l, and-r, or-e, by-if}
 use Rattle.sheet.specs.Text.{Bytes, linesOf, fieldsOf}
-use Rattle.sheet.specs.Lines.{Line, lineOf, firstIsN}
+use Rattle.sheet.specs.Lines.{Line, lineOf, inBody}
+use Rattle.sheet.specs.Texts.{bracketsWithin, isSentence, onText}
 use Rattle.sheet.specs.Sheet.{Current, Sheet, empty, endFor, endRule}
 use Rattle.sheet.specs.Limits.{withinLimits}
 use Rattle.sheet.specs.Refusals.{inOrder, partsKnown, callsSmaller, callsKnown, suits, treeHolds}
 use Rattle.sheet.specs.Reading.{Step, taken, refuse, must, stepLine, stepSpelled, step, Reading, accepted, rejected, onStep, onEnd, closing, readLast, readLines, readText}
 use Rattle.sheet.specs.Laws.{lineCount, listed, ReadRefusal, over-length, at-line, ReadRefusals}
 
--- a line's refusal is 3 to 8, 23 or 24
+-- a line's refusal is 3 to 8, 20, 23 or 24
 data LineStep : Step → Type 0 where
   goes-on : {s : Sheet} → LineStep (taken s)
   refuses : {n : ℕ} → T (listed n) → LineStep (refuse n)
@@ -24,9 +25,11 @@ data LineStep : Step → Type 0 where
 pub listed-within : (n : ℕ) → T (listed n) → (2 ≤ n) × (n ≤ 24)
 unfolding listed
 listed-within n h =
-    or-e (leb 3 n && leb n 8 || eqb n 23) (eqb n 24) h
-    (λ p. or-e (leb 3 n && leb n 8) (eqb n 23) p
-    (λ q. let a = leb→le 3 n (and-l (leb 3 n) _ q) in let b = leb→le n 8 (and-r (leb 3 n) _ q) in (omega arith, omega arith))
+    or-e (leb 3 n && leb n 8 || eqb n 20 || eqb n 23) (eqb n 24) h
+    (λ p. or-e (leb 3 n && leb n 8 || eqb n 20) (eqb n 23) p
+    (λ q. or-e (leb 3 n && leb n 8) (eqb n 20) q
+    (λ r. let a = leb→le 3 n (and-l (leb 3 n) _ r) in let b = leb→le n 8 (and-r (leb 3 n) _ r) in (omega arith, omega arith))
+    (λ r. let a = eqb→eq n 20 r in (omega arith, omega arith)))
     (λ q. let a = eqb→eq n 23 q in (omega arith, omega arith)))
     (λ p. let a = eqb→eq n 24 p in (omega arith, omega arith))
 
@@ -39,8 +42,8 @@ spelled-listed : (s : Sheet) (k : ℕ) (o : Option Line) → LineStep (stepSpell
 unfolding stepSpelled stepLine listed
 spelled-listed s k none = refuses {n = 3} tt
 spelled-listed s k (some l) =
-    must-listed (withinLimits s l) 4 tt (must-listed (inOrder s l) 5 tt (must-listed (partsKnown s l) 6 tt (must-listed (callsSmaller s l) 23 tt (must-listed (callsKnown s l) 24 tt
-    (must-listed (suits s l) 7 tt (must-listed (treeHolds s l) 8 tt goes-on))))))
+    must-listed (onText l bracketsWithin) 4 tt (must-listed (onText l isSentence) 20 tt (must-listed (withinLimits s l) 4 tt (must-listed (inOrder s l) 5 tt (must-listed (partsKnown s l) 6 tt (must-listed (callsSmaller s l) 23 tt (must-listed (callsKnown s l) 24 tt
+    (must-listed (suits s l) 7 tt (must-listed (treeHolds s l) 8 tt goes-on))))))))
 
 -- a reading's refusal is at one of the first m lines
 data Listed (m : ℕ) : Reading → Type 0 where
@@ -64,7 +67,7 @@ on-end s (suc k) o h l g none e = at-listed {n = 8} {k = suc k} tt (omega arith)
 
 on-closing : {m : ℕ} (s : Sheet) (k : ℕ) (fs : List Bytes) {f : Sheet → Reading} → Opened k s → k ≤ m → ((t : Sheet) → Listed m (f t)) → Listed m (closing s k fs f)
 unfolding closing endRule
-on-closing {m} s k fs h l g = by-if (Listed m) (firstIsN fs) _ _ (λ t. g s) (λ t. on-end s k (s .current) h l g (endFor s (s .current)) refl)
+on-closing {m} s k fs h l g = by-if (Listed m) (inBody fs) _ _ (λ t. g s) (λ t. on-end s k (s .current) h l g (endFor s (s .current)) refl)
 
 on-last : {m : ℕ} (k : ℕ) (l : Bytes) (s : Sheet) → k + lineCount (l ∷ []) ≤ m → Listed m (readLast k l s)
 unfolding readLast lineCount listed

@@ -59,7 +59,7 @@ shortOutput out = ltb (length out) 2560
 
 -- ---- read: the sheet is read, and all its definitions and then all its rules are typed in order
 
--- 2 to 8, 23 or 24, or what follows for a sheet
+-- 2 to 8, 20, 23 or 24, or what follows for a sheet
 unfoldable pub onSheet : Reading → (Sheet → Verdict) → Verdict
 onSheet (accepted s) f = f s
 onSheet (rejected n k) f = refusalAt n k
@@ -82,7 +82,7 @@ unfoldable pub onDefinitions : Sheet → List Definition → Verdict → Verdict
 onDefinitions s [] v = v
 onDefinitions s (d ∷ ds) v = onType s (typeDefinition (schemaIn s) d .answer) (λ t. onDefinitions s ds v)
 
--- a sheet is accepted only if all its definitions and rules type: 2 to 13, 23 or 24, or what follows for an accepted sheet and its
+-- a sheet is accepted only if all its definitions and rules type: 2 to 13, 20, 23 or 24, or what follows for an accepted sheet and its
 -- rules' types
 unfoldable pub onAccepted : Bytes → (Sheet → List Ty → Verdict) → Verdict
 onAccepted text f = onSheet (readText text) (λ s. onDefinitions s (s .definitions) (onTypes s (s .rules) (f s)))

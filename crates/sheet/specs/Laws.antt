@@ -25,9 +25,9 @@ lineCount (l ∷ m ∷ ls) = suc (lineCount (m ∷ ls))
 
 -- the numbers with which a line is refused
 unfoldable pub listed : ℕ → Bool
-listed n = leb 3 n && leb n 8 || eqb n 23 || eqb n 24
+listed n = leb 3 n && leb n 8 || eqb n 20 || eqb n 23 || eqb n 24
 
--- reading refuses with 2 and no place, or with 3 to 8, 23 or 24 at a line of the text
+-- reading refuses with 2 and no place, or with 3 to 8, 20, 23 or 24 at a line of the text
 pub data ReadRefusal (text : Bytes) (n k : ℕ) : Type 0 where
   over-length : n ≡ 2 → k ≡ 0 → ReadRefusal text n k
   at-line : T (listed n) → 1 ≤ k → k ≤ lineCount (linesOf text) → ReadRefusal text n k

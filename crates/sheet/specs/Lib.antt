@@ -2,6 +2,9 @@ pub mod Text
 pub mod Spelling
 pub mod SpellingLaws
 pub mod Lines
+pub mod NodeSpelling
+pub mod Grammar
+pub mod Texts
 pub mod Sheet
 pub mod Limits
 pub mod Refusals
@@ -12,3 +15,5 @@ pub mod Examples
 pub mod RealExamples
 pub mod Soundness
 pub mod Laws
+pub mod TextLaws
+pub mod TextExamples

@@ -10,7 +10,8 @@ use Rattle.reals.specs.Reals.{kept}
 use Rattle.ocl.specs.Types.{Simple, any, boolean, integer, real, class, Ty, void, simple, around, depth}
 use Rattle.ocl.specs.Values.{Value, bool, num, obj, coll, Values, nil, cons, size, everyPart}
 use Rattle.ocl.specs.Forms.{Leaf, truth, undef, number, self, var, all, Unary, negation, sizeOf, convert, castTo}
-use Rattle.sheet.specs.Lines.{Shape, leaf, unary, binary, connective, isUndef, conditional, letIn, attribute, call, quantified, iterate, assemble, Line, classLine, rowLine, objectLine, valueLine, definitionLine, ruleLine, nodeLine}
+use Rattle.sheet.specs.Lines.{Shape, leaf, unary, binary, connective, isUndef, conditional, letIn, attribute, call, quantified, iterate, assemble, Line, classLine, rowLine, objectLine, valueLine, definitionLine, ruleLine, nodeLine, textLine}
+use Rattle.sheet.specs.Texts.{nodesOf}
 use Rattle.sheet.specs.Sheet.{Slot, Sheet, operandsOf}
 
 -- ---- parts of lines
@@ -118,3 +119,4 @@ withinLimits s (definitionLine n c t) = isDefinition n && isClass c && typeWithi
 withinLimits s (ruleLine n c) = ltb n 64 && isClass c
 -- at most 768 nodes in all definitions and rules
 withinLimits s (nodeLine n x) = isNode n && formWithin x && allOf isNode (operandsOf x) && ltb (length (s .lines)) 768
+withinLimits s (textLine x) = allOf formWithin (nodesOf x) && leb (length (s .lines) + length (nodesOf x)) 768

@@ -1,7 +1,7 @@
--- Document 01, The sheet and The forms: a line's fields, as far as spelling, field count and words go. What is not a line
--- here is refused with 3.
+-- Document 01, The sheet and The forms, and the X line of document 02, F-7: a line's fields, as far as spelling, field count and words
+-- go. What is not a line here is refused with 3.
 use Prim.Native.Nat.{ℕ}
-use mathlib.Core.Bool.{Bool, true, false, _&&_}
+use mathlib.Core.Bool.{Bool, true, false, _&&_, _||_}
 use mathlib.Core.Option.{Option, none, some}
 use mathlib.Core.List.{List, [], _∷_}
 use lib.IntN.{ℤ}
@@ -41,6 +41,8 @@ pub data Line : Type 0 where
   definitionLine : ℕ → ℕ → Ty → Line
   ruleLine : ℕ → ℕ → Line
   nodeLine : ℕ → Shape → Line
+  -- "one `X` line with a single text field", as it stands (document 02, F-7)
+  textLine : Bytes → Line
 
 -- is the field this word
 unfoldable pub is : Bytes → Bytes → Bool
@@ -165,9 +167,10 @@ lineOf (w ∷ fs) =
     else if is w (bytes "D") then next aNumber (λ n. next aNumber (λ c. next readType (λ t. done (definitionLine n c t)))) fs
     else if is w (bytes "R") then next aNumber (λ n. next aNumber (λ c. done (ruleLine n c))) fs
     else if is w (bytes "N") then next aNumber (λ n. next aWord (λ form fs. mapSome (nodeLine n) (shapeOf form fs))) fs
+    else if is w (bytes "X") then next aWord (λ text. done (textLine text)) fs
     else none
 
--- is the line's first field `N`
-unfoldable pub firstIsN : List Bytes → Bool
-firstIsN [] = false
-firstIsN (w ∷ fs) = is w (bytes "N")
+-- is the line's first field `N` or `X`, so that it belongs to an open definition or rule
+unfoldable pub inBody : List Bytes → Bool
+inBody [] = false
+inBody (w ∷ fs) = is w (bytes "N") || is w (bytes "X")

@@ -1,4 +1,4 @@
--- Document 01, The sheet and Calls: a text is read line by line, to a sheet or to a refusal with its number and line.
+-- Document 01, The sheet and Calls, and document 02, F-7: a text is read line by line, to a sheet or to a refusal with its number and line.
 use Prim.Native.Nat.{ℕ, suc}
 use mathlib.Core.Bool.{Bool, true, false}
 use mathlib.Core.Option.{Option, none, some}
@@ -7,7 +7,8 @@ use lib.ListN.{length}
 use lib.Dec.{ltb}
 use Rattle.laws.specs.Choice.{if_then_else_}
 use Rattle.sheet.specs.Text.{Bytes, linesOf, fieldsOf}
-use Rattle.sheet.specs.Lines.{Line, lineOf, firstIsN}
+use Rattle.sheet.specs.Lines.{Line, lineOf, inBody}
+use Rattle.sheet.specs.Texts.{bracketsWithin, isSentence, onText}
 use Rattle.sheet.specs.Sheet.{Sheet, empty, added, endRule}
 use Rattle.sheet.specs.Limits.{withinLimits}
 use Rattle.sheet.specs.Refusals.{inOrder, partsKnown, callsSmaller, callsKnown, suits, treeHolds}
@@ -28,10 +29,10 @@ stepLine s k l =
     must (withinLimits s l) 4 (must (inOrder s l) 5 (must (partsKnown s l) 6 (must (callsSmaller s l) 23 (must (callsKnown s l) 24
     (must (suits s l) 7 (must (treeHolds s l) 8 (taken (added s k l))))))))
 
--- 3 where the fields spell no line
+-- 3 where the fields spell no line; document 02, F-7: a text's brackets (4), then 20, "ranked straight after 3"
 unfoldable pub stepSpelled : Sheet → ℕ → Option Line → Step
 stepSpelled s k none = refuse 3
-stepSpelled s k (some l) = stepLine s k l
+stepSpelled s k (some l) = must (onText l bracketsWithin) 4 (must (onText l isSentence) 20 (stepLine s k l))
 
 unfoldable pub step : Sheet → ℕ → List Bytes → Step
 step s k fields = stepSpelled s k (lineOf fields)
@@ -51,9 +52,10 @@ unfoldable pub onEnd : Option Sheet → ℕ → (Sheet → Reading) → Reading
 onEnd none k f = rejected 8 k
 onEnd (some s) k f = f s
 
--- before a line whose first field is not `N`, and at the text's end, an open definition or rule ends; k lines stand before this one
+-- before a line whose first field is neither `N` nor `X`, and at the text's end, an open definition or rule ends; k lines stand before
+-- this one
 unfoldable pub closing : Sheet → ℕ → List Bytes → (Sheet → Reading) → Reading
-closing s k fields f = if firstIsN fields then f s else onEnd (endRule s) k f
+closing s k fields f = if inBody fields then f s else onEnd (endRule s) k f
 
 -- the text's last part is empty, else it is a line without a line feed: 3
 unfoldable pub readLast : ℕ → Bytes → Sheet → Reading

@@ -5,13 +5,14 @@ use mathlib.Core.Option.{Option, none, some}
 use mathlib.Core.List.{List, [], _∷_}
 use lib.ListN.{length}
 use lib.Dec.{eqb, leb, ltb}
-use Rattle.laws.specs.Lists.{member}
+use Rattle.laws.specs.Lists.{allOf, member}
 use Rattle.reals.specs.Reals.{isLess}
 use Rattle.ocl.specs.Types.{class, Kind, set, sequence, bag, Ty}
 use Rattle.ocl.specs.Values.{Value, bool, num, obj, coll, Values, nil, cons, everyPart, order}
 use Rattle.ocl.specs.Model.{Row, isA, belongs}
 use Rattle.ocl.specs.Forms.{Leaf, truth, undef, number, self, var, all, Unary, negation, sizeOf, convert, castTo}
-use Rattle.sheet.specs.Lines.{Shape, leaf, unary, binary, connective, isUndef, conditional, letIn, attribute, call, quantified, iterate, assemble, Line, classLine, rowLine, objectLine, valueLine, definitionLine, ruleLine, nodeLine}
+use Rattle.sheet.specs.Lines.{Shape, leaf, unary, binary, connective, isUndef, conditional, letIn, attribute, call, quantified, iterate, assemble, Line, classLine, rowLine, objectLine, valueLine, definitionLine, ruleLine, nodeLine, textLine}
+use Rattle.sheet.specs.Texts.{nodesOf}
 use Rattle.sheet.specs.Sheet.{Slot, Current, Sheet, modelOf, operandsOf}
 use Rattle.sheet.specs.Limits.{classBelow}
 
@@ -41,7 +42,7 @@ unfoldable mutual
   allOrdered k nil = true
   allOrdered k (cons v vs) = ordered v && followed k v vs && allOrdered k vs
 
--- C, A, O, V, D, R; an N stands in D and in R
+-- C, A, O, V, D, R; an N stands in D and in R, an X in R
 unfoldable pub blockOf : Line → ℕ
 blockOf (classLine n p) = 0
 blockOf (rowLine n c name t) = 1
@@ -50,6 +51,7 @@ blockOf (valueLine o a v) = 3
 blockOf (definitionLine n c t) = 4
 blockOf (ruleLine n c) = 5
 blockOf (nodeLine n x) = 5
+blockOf (textLine x) = 5
 
 -- does class c declare the name
 unfoldable pub declares : List Row → ℕ → ℕ → Bool
@@ -62,10 +64,21 @@ afterSlots [] o a = true
 afterSlots (x ∷ []) o a = ltb (x .object) o || eqb (x .object) o && ltb (x .row) a
 afterSlots (x ∷ y ∷ xs) o a = afterSlots (y ∷ xs) o a
 
--- a node line stands in a definition or a rule, with the next number
+-- a node line stands in a definition or a rule, with the next number; document 02, F-7: "both in one rule .. are 5"
 unfoldable pub nextNode : Option Current → ℕ → Bool
 nextNode none n = false
-nextNode (some c) n = eqb n (length (c .trees))
+nextNode (some c) n = not (c .text) && eqb n (length (c .trees))
+
+-- is it a definition that is open
+unfoldable pub hasType : Option Ty → Bool
+hasType none = false
+hasType (some t) = true
+
+-- a text line stands in a rule that has neither a node line nor a text line yet: "both in one rule, or two `X` lines, are 5"; in a
+-- definition "an `X` there is 5" (F-13)
+unfoldable pub mayBeText : Option Current → Bool
+mayBeText none = false
+mayBeText (some c) = not (hasType (c .result)) && not (c .text) && eqb (length (c .trees)) 0
 
 -- the accumulator is another variable than the member
 unfoldable pub twoVariables : Shape → Bool
@@ -90,6 +103,7 @@ numbered s (valueLine o a v) = afterSlots (s .slots) o a && ordered v
 numbered s (definitionLine n c t) = eqb n (length (s .definitions))
 numbered s (ruleLine n c) = eqb n (length (s .rules))
 numbered s (nodeLine n x) = nextNode (s .current) n && twoVariables x
+numbered s (textLine x) = mayBeText (s .current) && allOf twoVariables (nodesOf x)
 
 unfoldable pub inOrder : Sheet → Line → Bool
 inOrder s l = leb (s .block) (blockOf l) && numbered s l
@@ -145,6 +159,7 @@ partsKnown s (valueLine o a v) =
 partsKnown s (definitionLine n c t) = ltb c (length (s .parents)) && classBelow (length (s .parents)) t
 partsKnown s (ruleLine n c) = ltb c (length (s .parents))
 partsKnown s (nodeLine n x) = formKnown (length (s .parents)) x
+partsKnown s (textLine x) = allOf (formKnown (length (s .parents))) (nodesOf x)
 
 -- ---- 23: a definition calls only smaller ones; 24: a definition that is called is on the sheet (document 02, F-13)
 
@@ -163,11 +178,6 @@ callBelow n (quantified q i a b) = true
 callBelow n (iterate i j t a e b) = true
 callBelow n (assemble k es) = true
 
--- is it a definition that is open
-unfoldable pub hasType : Option Ty → Bool
-hasType none = false
-hasType (some t) = true
-
 unfoldable pub inDefinition : Option Current → Bool
 inDefinition none = false
 inDefinition (some c) = hasType (c .result)
@@ -181,6 +191,8 @@ callsSmaller s (valueLine o a v) = true
 callsSmaller s (definitionLine n c t) = true
 callsSmaller s (ruleLine n c) = true
 callsSmaller s (nodeLine n x) = not (inDefinition (s .current)) || callBelow (length (s .definitions)) x
+-- it stands in a rule
+callsSmaller s (textLine x) = true
 
 -- in a rule all definitions have ended
 unfoldable pub callsKnown : Sheet → Line → Bool
@@ -191,6 +203,7 @@ callsKnown s (valueLine o a v) = true
 callsKnown s (definitionLine n c t) = true
 callsKnown s (ruleLine n c) = true
 callsKnown s (nodeLine n x) = callBelow (length (s .definitions)) x
+callsKnown s (textLine x) = allOf (callBelow (length (s .definitions))) (nodesOf x)
 
 -- ---- 7: the object is of the row's class or below, and the value belongs to the row's type
 
@@ -203,6 +216,7 @@ suits s (valueLine o a v) =
 suits s (definitionLine n c t) = true
 suits s (ruleLine n c) = true
 suits s (nodeLine n x) = true
+suits s (textLine x) = true
 
 -- ---- 8: an operand is a smaller node that is no operand yet
 
@@ -223,3 +237,5 @@ treeHolds s (valueLine o a v) = true
 treeHolds s (definitionLine n c t) = true
 treeHolds s (ruleLine n c) = true
 treeHolds s (nodeLine n x) = operandsFresh (s .current) x
+-- the nodes of a text make a tree (TextLaws.antt)
+treeHolds s (textLine x) = true

@@ -1,9 +1,9 @@
--- Document 01, The sheet: what the lines so far have put on it, and what a line adds.
+-- Document 01, The sheet, and document 02, F-7: what the lines so far have put on it, and what a line adds.
 use Prim.Native.Nat.{ℕ, zero, suc, _+_, _-_}
-use mathlib.Core.Bool.{Bool, true, _&&_}
+use mathlib.Core.Bool.{Bool, true, false, _&&_}
 use mathlib.Core.Option.{Option, none, some}
 use mathlib.Core.List.{List, [], _∷_, _++_}
-use lib.ListN.{length, getD, getElem?}
+use lib.ListN.{length, getD, getElem?, replicate}
 use lib.Dec.{eqb, leb}
 use Rattle.laws.specs.Choice.{if_then_else_, onSome}
 use Rattle.laws.specs.Lists.{member}
@@ -11,7 +11,8 @@ use Rattle.ocl.specs.Types.{Ty, void}
 use Rattle.ocl.specs.Values.{Value}
 use Rattle.ocl.specs.Model.{Row, Schema, Model}
 use Rattle.ocl.specs.Forms.{undef, Expr, node, Form, Operands, noOperand, operand, Definition, levels}
-use Rattle.sheet.specs.Lines.{Shape, leaf, unary, binary, connective, isUndef, conditional, letIn, attribute, call, quantified, iterate, assemble, Line, classLine, rowLine, objectLine, valueLine, definitionLine, ruleLine, nodeLine}
+use Rattle.sheet.specs.Lines.{Shape, leaf, unary, binary, connective, isUndef, conditional, letIn, attribute, call, quantified, iterate, assemble, Line, classLine, rowLine, objectLine, valueLine, definitionLine, ruleLine, nodeLine, textLine}
+use Rattle.sheet.specs.Texts.{nodesOf}
 
 -- a V line: the value of a row for an object
 pub record Slot : Type 0 where
@@ -24,11 +25,12 @@ pub record Rule : Type 0 where
   pub context : ℕ
   pub body : Expr
 
--- the definition or rule whose lines are being read: its class, a definition's type, the number of its first node among all nodes of
--- the sheet, the tree of each of its nodes, and the nodes that are operands already
+-- the definition or rule whose lines are being read: its class, a definition's type, whether an X line has given its nodes, the number of
+-- its first node among all nodes of the sheet, the tree of each of its nodes, and the nodes that are operands already
 pub record Current : Type 0 where
   pub context : ℕ
   pub result : Option Ty
+  pub text : Bool
   pub first : ℕ
   pub trees : List Expr
   pub used : List ℕ
@@ -127,10 +129,20 @@ unfoldable pub withNode : List Definition → Current → Shape → Current
 withNode ds c x = record {
   context = c .context;
   result = c .result;
+  text = c .text;
   first = c .first;
   trees = c .trees ++ (node (c .first + length (c .trees)) (grow (treeOf (c .trees)) (definitionOf ds) x) ∷ []);
   used = c .used ++ operandsOf x;
 }
+
+-- with several more
+unfoldable pub withNodes : List Definition → Current → List Shape → Current
+withNodes ds c [] = c
+withNodes ds c (x ∷ xs) = withNodes ds (withNode ds c x) xs
+
+-- an X line has given its nodes
+unfoldable pub asText : Current → Current
+asText c = record { context = c .context; result = c .result; text = true; first = c .first; trees = c .trees; used = c .used }
 
 -- ---- what an accepted line adds; k is its line number
 
@@ -188,7 +200,7 @@ added s k (definitionLine n c t) = record {
   lines = s .lines;
   definitions = s .definitions;
   rules = s .rules;
-  current = some (record { context = c; result = some t; first = length (s .lines); trees = []; used = [] });
+  current = some (record { context = c; result = some t; text = false; first = length (s .lines); trees = []; used = [] });
 }
 added s k (ruleLine n c) = record {
   block = 5;
@@ -199,7 +211,7 @@ added s k (ruleLine n c) = record {
   lines = s .lines;
   definitions = s .definitions;
   rules = s .rules;
-  current = some (record { context = c; result = none; first = length (s .lines); trees = []; used = [] });
+  current = some (record { context = c; result = none; text = false; first = length (s .lines); trees = []; used = [] });
 }
 -- the block is that of the definition or rule that it stands in
 added s k (nodeLine n x) = record {
@@ -212,6 +224,18 @@ added s k (nodeLine n x) = record {
   definitions = s .definitions;
   rules = s .rules;
   current = onSome (s .current) (λ c. some (withNode (s .definitions) c x));
+}
+-- what its node lines would add, each at the X line
+added s k (textLine x) = record {
+  block = s .block;
+  parents = s .parents;
+  rows = s .rows;
+  objects = s .objects;
+  slots = s .slots;
+  lines = s .lines ++ replicate (length (nodesOf x)) k;
+  definitions = s .definitions;
+  rules = s .rules;
+  current = onSome (s .current) (λ c. some (asText (withNodes (s .definitions) c (nodesOf x))));
 }
 
 -- ---- the end of a definition or rule

@@ -1,6 +1,6 @@
 -- The fields of a V line, and the answers of `value_line`. Assumes nothing.
-use mathlib.Core.Path.{_≡_, sym, ap, _∙_}
-use mathlib.Core.Bool.{true, false, _&&_, true≢false}
+use mathlib.Core.Path.{_≡_, refl, sym, ap, _∙_}
+use mathlib.Core.Bool.{Bool, true, false, _&&_, true≢false}
 use mathlib.Core.Option.{Option, none, some}
 use mathlib.Core.List.{List, [], _∷_, map}
 use Prim.Native.Nat.{ℕ, _+_, _-_, _<_, _≤_, min}
@@ -15,6 +15,7 @@ use Rattle.ocl.specs.Values.{Value, size}
 use Rattle.sheet.specs.Text.{Bytes, bytes, fieldsOf}
 use Rattle.sheet.specs.Lines.{Line, valueLine, is, next, done, aNumber, lineOf}
 use Rattle.sheet.specs.Spelling.{readValue}
+use Rattle.sheet.specs.Texts.{onText}
 use Rattle.sheet.specs.Sheet.{Sheet}
 use Rattle.sheet.specs.Limits.{valueWithin, withinLimits, totalSize}
 use Rattle.text.specs.Numbers.{cutNum}
@@ -49,6 +50,10 @@ value-fields : (fs : List Bytes) → is (getD fs 0 []) (bytes "V") ≡ true → 
 unfolding lineOf is bytes
 value-fields [] h = absurd (true≢false (sym h))
 value-fields (w ∷ fs) h = rw (word-is w (bytes "V") h)
+
+value-plain : (o a : ℕ) (v : Value) (test : Bytes → Bool) → onText (valueLine o a v) test ≡ true
+unfolding onText
+value-plain o a v test = refl
 
 module _ {line : Bytes} {f : Fields} (cut : Cut line f) (letter : is (getD (fieldsOf line) 0 []) (bytes "V") ≡ true) where
   pub fields-count : (f .count ≡ 4 → ⊥) → lineOf (fieldsOf line) ≡ none
@@ -193,7 +198,7 @@ module _ {st : Counts} {k : ℕ} {line : Bytes} (w1 : List ℕ) where
 
         go : ReadIs f (slice (2400 + n) 4448 A) read.Over → TookSlot st k line (code.Stop 4) B w1 A w1
         go (read-over v e m) = record {
-          is = λ s h q. rw (step-line s k (fieldsOf line) (spelled v e), over-limits s k (valueLine o a v) (never s v h m)) moved-stop;
+          is = λ s h q. rw (step-line s k (fieldsOf line) (value-plain o a v) (spelled v e), over-limits s k (valueLine o a v) (never s v h m)) moved-stop;
           kept0 = kept-read got count same room fine;
           kept1 = kept-refl w1;
         }
@@ -219,7 +224,7 @@ module _ {st : Counts} {k : ℕ} {line : Bytes} (w1 : List ℕ) where
             let d = read-sizes count same room fine got in
             let at : ValueAt st A i v = record { fits = within-fits v (y .parts) (let x = y .small in omega arith); lies = lies v d t } in
             record {
-              is = λ s h x. rw (step-line s k (fieldsOf line) (spelled v e)) (took .is s o a v (holds-read got count same room fine h) x at z (within v m) po qa);
+              is = λ s h x. rw (step-line s k (fieldsOf line) (value-plain o a v) (spelled v e)) (took .is s o a v (holds-read got count same room fine h) x at z (within v m) po qa);
               kept0 = kept-then (kept-read got count same room fine) (took .kept0);
               kept1 = kept-refl w1;
             }

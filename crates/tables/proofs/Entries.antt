@@ -186,6 +186,7 @@ pub open-kept : {st su : Counts} {w1 : List ℕ} {n : ℕ} {c : Option Current} 
 open-kept p q t r (closed e) = closed (p ∙ e)
 open-kept p q t r (opened h) = opened (record {
   is-open = p ∙ h .is-open;
+  of-rule = h .of-rule;
   context = q ∙ h .context;
   result = λ u e. ap typeIn t ∙ h .result u e;
   first = r ∙ h .first;

@@ -1,11 +1,12 @@
 -- One line's step by the tests that it passes, in their order: each refusal of a line's code is one of these. Assumes nothing.
 use mathlib.Core.Path.{_≡_}
-use mathlib.Core.Bool.{true, false}
+use mathlib.Core.Bool.{Bool, true, false}
 use mathlib.Core.Option.{none, some}
 use mathlib.Core.List.{List}
 use Prim.Native.Nat.{ℕ}
 use Rattle.sheet.specs.Text.{Bytes}
 use Rattle.sheet.specs.Lines.{Line, lineOf}
+use Rattle.sheet.specs.Texts.{bracketsWithin, isSentence, onText}
 use Rattle.sheet.specs.Sheet.{Sheet, added}
 use Rattle.sheet.specs.Limits.{withinLimits}
 use Rattle.sheet.specs.Refusals.{inOrder, partsKnown, callsSmaller, callsKnown, suits, treeHolds}
@@ -51,6 +52,7 @@ module _ (s : Sheet) (k : ℕ) (fields : List Bytes) where
   unfolding step stepSpelled
   step-bad h = rw h
 
-  pub step-line : {l : Line} → lineOf fields ≡ some l → step s k fields ≡ stepLine s k l
-  unfolding step stepSpelled
-  step-line h = rw h
+  -- a line that has no text
+  pub step-line : {l : Line} → ((test : Bytes → Bool) → onText l test ≡ true) → lineOf fields ≡ some l → step s k fields ≡ stepLine s k l
+  unfolding step stepSpelled must
+  step-line plain h = rw (h, plain bracketsWithin, plain isSentence)

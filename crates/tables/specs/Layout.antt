@@ -86,14 +86,17 @@ pub record HoldsDefinitions (w0 w1 : List ℕ) (s : Sheet) : Type 0 where
   pub roots : Each (λ n. n < length (s .lines)) (tab 4640 (length (s .definitions)) w0)
   pub depths : Each (λ n. getD w1 (6912 + n) 0 / 2 ≡ levels (treeAt w1 n)) (tab 4640 (length (s .definitions)) w0)
 
--- 1 for a rule, 2 for a definition, which has a type
-unfoldable pub openCode : Option Ty → ℕ
-openCode none = 1
-openCode (some t) = 2
+-- 1 for a rule, 3 for one whose nodes an X line has given, 2 for a definition, which has a type
+unfoldable pub openCode : Option Ty → Bool → ℕ
+openCode none false = 1
+openCode none true = 3
+openCode (some t) text = 2
 
 -- the definition or rule that is open
 pub record HoldsCurrent (st : Counts) (w1 : List ℕ) (n : ℕ) (c : Current) : Type 0 where
-  pub is-open : st .open ≡ openCode (c .result)
+  pub is-open : st .open ≡ openCode (c .result) (c .text)
+  -- an X line stands in a rule
+  pub of-rule : c .text ≡ true → c .result ≡ none
   pub context : st .context ≡ c .context
   pub result : (t : Ty) → c .result ≡ some t → typeIn (st .result) ≡ t
   pub first : st .first ≡ c .first

@@ -7,8 +7,8 @@ ghost use lib.ListN.{length};
 ghost use Rattle.sheet.specs.Calls.{wiped};
 ghost use Rattle.tables.specs.Layout.{noCounts};
 
-// How far the sheet has been read: the last block begun (0 to 5 for C, A, O, V, D, R), how much of each there is, and, where a rule (1)
-// or a definition (2, else 0) is open, its class, a definition's type as a word, and its first node.
+// How far the sheet has been read: the last block begun (0 to 5 for C, A, O, V, D, R), how much of each there is, and, where a rule (1,
+// or 3 where an X line gave its nodes) or a definition (2, else 0) is open, its class, a definition's type as a word, and its first node.
 pub struct Counts {
     pub block: u64,
     pub classes: u64,

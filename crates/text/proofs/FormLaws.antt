@@ -1,16 +1,17 @@
 -- Laws of the codes of forms: the words of a field's own length are enough. Assumes nothing.
 use Prim.Native.Nat.{ℕ, suc, _+_, _-_, _*_, _<_, _≤_}
 use mathlib.Core.Path.{_≡_, refl, sym, ap, _∙_}
-use mathlib.Core.Bool.{Bool, true, false, _&&_, true≢false}
+use mathlib.Core.Bool.{Bool, true, false, true≢false}
 use mathlib.Core.List.{List, [], _∷_}
-use native.Mathlib.Nat.{suc-mul, not-le-of-lt}
+use native.Mathlib.Nat.{suc-mul}
 use native.Mathlib.Omega.{arith}
-use borrow.Author.Tests.{eqb-false, ne-eqb, leb-true}
-use lib.Dec.{eqb, leb}
+use borrow.Author.Tests.{eqb-false, ne-eqb}
+use lib.Dec.{eqb}
 use lib.ListN.{length, getD, take, drop, drop-of-length-le}
 use lib.Seq.{drop-drop}
 use Rattle.laws.specs.Choice.{if_then_else_}
-use Rattle.laws.specs.Lists.{allOf}
+use Rattle.laws.specs.Lists.{allOf, member}
+use Rattle.laws.proofs.Tests.{and-true}
 use Rattle.laws.proofs.Parts.{at-next}
 use Rattle.sheet.specs.Text.{Bytes, bytes}
 use Rattle.sheet.specs.Lines.{is}
@@ -31,7 +32,7 @@ ofLength n [] = []
 ofLength n (x ∷ t) = if eqb (length (x .0)) n then x ∷ ofLength n t else ofLength n t
 
 -- no other row can be meant
-by-length : (w : Bytes) (t : Table) → codeIn w (ofLength (length w) t) ≡ codeIn w t
+pub by-length : (w : Bytes) (t : Table) → codeIn w (ofLength (length w) t) ≡ codeIn w t
 unfolding codeIn ofLength
 by-length w [] = refl
 by-length w (x ∷ t) = go (eqb (length (x .0)) (length w)) (by-length w t) refl
@@ -65,43 +66,38 @@ among-rows w words (c ∷ codes) = ap (λ (k : ℕ). if is w (take (length w) wo
 
 -- the words of the length of w
 module _ (w words codes : Bytes) (n : ℕ) where
+  pub in-length : (t : Table) {r : ℕ} → length w ≡ n → ofLength n t ≡ rowsOf n words codes → r ≡ codeAmong w words codes → r ≡ codeIn w t
+  in-length t e q h = h ∙ among-rows w words codes ∙ rw (e, ← q, ← e) (by-length w t)
+
   pub of-length : {r : ℕ} → length w ≡ n → ofLength n forms ≡ rowsOf n words codes → r ≡ codeAmong w words codes → r ≡ formCode w
-  of-length e q h = h ∙ among-rows w words codes ∙ rw (e, ← q, ← e) (by-length w forms) ∙ sym (forms-code w)
+  of-length e q h = in-length forms e q h ∙ sym (forms-code w)
 
--- each word of a table has 2 to 10 bytes
-unfoldable moderate : Table → Bool
-moderate t = allOf (λ x. leb 2 (length (x .0)) && leb (length (x .0)) 10) t
+-- each word's length is one of these
+unfoldable pub lengthsIn : List ℕ → Table → Bool
+lengthsIn ls t = allOf (λ x. member (length (x .0)) ls) t
 
-none-longer : (n : ℕ) (t : Table) → moderate t ≡ true → (2 ≤ n → n ≤ 10 → ⊥) → ofLength n t ≡ []
-unfolding moderate allOf ofLength
-none-longer n [] m h = refl
-none-longer n (x ∷ t) m h = go (leb 2 (length (x .0))) (leb (length (x .0)) 10) (λ k. none-longer n t k h) refl refl m
-  where
-    go : (a b : Bool) → (moderate t ≡ true → ofLength n t ≡ []) → a ≡ leb 2 (length (x .0)) → b ≡ leb (length (x .0)) 10 → (a && b && moderate t) ≡ true
-        → (if eqb (length (x .0)) n then x ∷ ofLength n t else ofLength n t) ≡ []
-    go true true ih p q m =
-        rw (ne-eqb (length (x .0)) n (λ e. h (rw e at (leb-true 2 (length (x .0)) (sym p))) (rw e at (leb-true (length (x .0)) 10 (sym q))))) (ih m)
-    go true false ih p q m = absurd (true≢false (sym m))
-    go false b ih p q m = absurd (true≢false (sym m))
+none-such : (ls : List ℕ) (n : ℕ) (t : Table) → lengthsIn ls t ≡ true → member n ls ≡ false → ofLength n t ≡ []
+unfolding lengthsIn allOf ofLength
+none-such ls n [] m h = refl
+none-such ls n (x ∷ t) m h =
+    let p = and-true (member (length (x .0)) ls) (lengthsIn ls t) m in
+    rw (ne-eqb (length (x .0)) n (λ e. true≢false (sym (p .0) ∙ ap (λ (k : ℕ). member k ls) e ∙ h))) (none-such ls n t (p .1) h)
 
-all-moderate : moderate forms ≡ true
-unfolding moderate allOf forms bytes
-all-moderate = refl
+-- no word has the length of w
+pub other-lengths : (w : Bytes) (ls : List ℕ) (t : Table) → lengthsIn ls t ≡ true → member (length w) ls ≡ false → 99 ≡ codeIn w t
+unfolding codeIn
+other-lengths w ls t m h = sym (sym (by-length w t) ∙ ap (codeIn w) (none-such ls (length w) t m h))
 
 -- a number that is at least k, and not k
 pub above : {n k : ℕ} → k ≤ n → (n ≡ k → ⊥) → k + 1 ≤ n
 above p h = omega arith
 
--- no word has the length of w
 pub no-length : (w : Bytes) → (length w ≡ 2 → ⊥) → (length w ≡ 3 → ⊥) → (length w ≡ 4 → ⊥) → (length w ≡ 5 → ⊥) → (length w ≡ 6 → ⊥) → (length w ≡ 7 → ⊥) → (length w ≡ 8 → ⊥) → (length w ≡ 9 → ⊥) → (length w ≡ 10 → ⊥) → 99 ≡ formCode w
-unfolding codeIn
-no-length w a b c d e f g h i = sym (forms-code w ∙ sym (by-length w forms) ∙ ap (codeIn w) none)
-  where
-    out : 2 ≤ length w → length w ≤ 10 → ⊥
-    out p q = not-le-of-lt (above (above (above (above (above (above (above (above (above p a) b) c) d) e) f) g) h) i) q
-
-    none : ofLength (length w) forms ≡ []
-    none = none-longer (length w) forms all-moderate out
+unfolding lengthsIn allOf forms bytes member
+no-length w a b c d e f g h i =
+    other-lengths w (2 ∷ 3 ∷ 4 ∷ 5 ∷ 6 ∷ 7 ∷ 8 ∷ 9 ∷ 10 ∷ []) forms refl
+    (simp (ne-eqb _ _ a, ne-eqb _ _ b, ne-eqb _ _ c, ne-eqb _ _ d, ne-eqb _ _ e, ne-eqb _ _ f, ne-eqb _ _ g, ne-eqb _ _ h, ne-eqb _ _ i))
+    ∙ sym (forms-code w)
 
 -- the turns of `among`: the words and codes that are left, and room for a word to each code
 pub record WordsLeft (w words codes : Bytes) (at k : ℕ) : Type 0 where

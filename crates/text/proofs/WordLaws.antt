@@ -36,9 +36,9 @@ pub kind-digit : (b : ℕ) → isDigit b ≡ true → 7 ≡ byteKind b
 unfolding byteKind
 kind-digit b h = rw h
 
-pub kind-other : (b : ℕ) → isDigit b ≡ false → (b ≡ 67 → ⊥) → (b ≡ 65 → ⊥) → (b ≡ 79 → ⊥) → (b ≡ 86 → ⊥) → (b ≡ 82 → ⊥) → (b ≡ 78 → ⊥) → (b ≡ 68 → ⊥) → 0 ≡ byteKind b
+pub kind-other : (b : ℕ) → isDigit b ≡ false → (b ≡ 67 → ⊥) → (b ≡ 65 → ⊥) → (b ≡ 79 → ⊥) → (b ≡ 86 → ⊥) → (b ≡ 82 → ⊥) → (b ≡ 78 → ⊥) → (b ≡ 68 → ⊥) → (b ≡ 88 → ⊥) → 0 ≡ byteKind b
 unfolding byteKind
-kind-other b h c a o v r n d = simp (h, ne-eqb _ _ c, ne-eqb _ _ a, ne-eqb _ _ o, ne-eqb _ _ v, ne-eqb _ _ r, ne-eqb _ _ n, ne-eqb _ _ d)
+kind-other b h c a o v r n d x = simp (h, ne-eqb _ _ c, ne-eqb _ _ a, ne-eqb _ _ o, ne-eqb _ _ v, ne-eqb _ _ r, ne-eqb _ _ n, ne-eqb _ _ d, ne-eqb _ _ x)
 
 -- the kind is told by the first test that holds
 unfoldable firstHeld : List (Bool × ℕ) → ℕ
@@ -47,7 +47,7 @@ firstHeld (x ∷ t) = if x .0 then x .1 else firstHeld t
 
 unfoldable kinds : ℕ → List (Bool × ℕ)
 kinds b =
-    (isDigit b, 7) ∷ (eqb b 67, 1) ∷ (eqb b 65, 2) ∷ (eqb b 79, 3) ∷ (eqb b 86, 4) ∷ (eqb b 82, 5) ∷ (eqb b 78, 6) ∷ (eqb b 68, 8) ∷ []
+    (isDigit b, 7) ∷ (eqb b 67, 1) ∷ (eqb b 65, 2) ∷ (eqb b 79, 3) ∷ (eqb b 86, 4) ∷ (eqb b 82, 5) ∷ (eqb b 78, 6) ∷ (eqb b 68, 8) ∷ (eqb b 88, 9) ∷ []
 
 kinds-held : (b : ℕ) → byteKind b ≡ firstHeld (kinds b)
 unfolding byteKind firstHeld kinds
@@ -169,3 +169,7 @@ module _ (f : Bytes) where
   pub is-definition-line : is f (bytes "D") ≡ eqb (byteKind (onlyByte f)) 8
   unfolding bytes byteKind isDigit kinds without allOf
   is-definition-line = is-letter f 68 (omega arith) ∙ sym (letter-by-kind 68 8 refl (λ b e. rw e) refl (onlyByte f))
+
+  pub is-text-line : is f (bytes "X") ≡ eqb (byteKind (onlyByte f)) 9
+  unfolding bytes byteKind isDigit kinds without allOf
+  is-text-line = is-letter f 88 (omega arith) ∙ sym (letter-by-kind 88 9 refl (λ b e. rw e) refl (onlyByte f))

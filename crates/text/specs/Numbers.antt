@@ -19,10 +19,13 @@ use Rattle.text.specs.declared.numbers.Whole.the-variants.{Bad as BadWho
 
 -- ---- numbers
 
--- a number, a million at most: every limit of document 01 on such a number is lower
+-- a million at most: every limit of document 01 on such a number is lower
+abbrev pub cut : ℕ → ℕ
+cut n = min n 1000000
+
 unfoldable pub cutNum : Option ℕ → Num
 cutNum none = Bad
-cutNum (some n) = Is (min n 1000000)
+cutNum (some n) = Is (cut n)
 
 -- the number in front of a text: what crates/sheet's `number` reads
 unfoldable pub leading : Bytes → Option ℕ

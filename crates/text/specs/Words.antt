@@ -8,7 +8,8 @@ use Rattle.laws.specs.Choice.{if_then_else_}
 use Rattle.sheet.specs.Text.{Bytes, byte, bytes, isDigit}
 use Rattle.sheet.specs.Lines.{is}
 
--- 1 to 6 for the letters of lines in the order in which document 01 lists them, 7 for a digit, 8 for `D` (document 02, F-13), else 0
+-- 1 to 6 for the letters of lines in the order in which document 01 lists them, 7 for a digit, 8 for `D` (document 02, F-13), 9 for
+-- `X` (F-7), else 0
 unfoldable pub byteKind : ℕ → ℕ
 byteKind b =
     if isDigit b then 7
@@ -19,6 +20,7 @@ byteKind b =
     else if eqb b (byte "R") then 5
     else if eqb b (byte "N") then 6
     else if eqb b (byte "D") then 8
+    else if eqb b (byte "X") then 9
     else 0
 
 -- the byte of a field that has one

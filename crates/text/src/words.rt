@@ -19,6 +19,7 @@ pub fn byte_kind(b: u8) -> u64
         b'R' => 5,
         b'N' => 6,
         b'D' => 8,
+        b'X' => 9,
         _ => 0,
     }
 }
@@ -51,7 +52,7 @@ pub fn same(f: &[u8], w: &[u8]) -> bool
 }
 
 // The code of the field among words of its own length, with one byte between two words; 99 if it is none of them.
-fn among(f: &[u8], words: &[u8], codes: &[u8]) -> u64
+pub fn among(f: &[u8], words: &[u8], codes: &[u8]) -> u64
     requires { ⌜ length (now codes) * (length (now f) + 1) ≤ length (now words) + 1 ⌝ }
     ensures { λ r. ⌜ r ≡ codeAmong (now (f .entry)) (now (words .entry)) (now (codes .entry)) ⌝ }
 {

@@ -1,5 +1,7 @@
 -- The tables with a definition or rule put down. Assumes nothing.
 use mathlib.Core.Path.{_≡_, refl, sym, ap, _∙_}
+use mathlib.Core.Logic.{_≢_}
+use mathlib.Core.Bool.{Bool, true, false}
 use mathlib.Core.Option.{Option, none, some}
 use mathlib.Core.List.{List, [], _∷_, _++_}
 use Prim.Native.Nat.{ℕ, _+_, _/_, _<_, _≤_}
@@ -211,19 +213,21 @@ module _ {st : Counts} {w1 : List ℕ} {n : ℕ} {c : Current} (k : HoldsCurrent
   -- what a definition has, and a rule has not
   its-type : st .«open» ≡ 2 → (t : Ty) × (c .result ≡ some t)
   unfolding openCode
-  its-type e = go (c .result) (sym (k .is-open) ∙ e)
+  its-type e = go (c .result) (c .text) (sym (k .is-open) ∙ e)
     where
-      go : (o : Option Ty) → openCode o ≡ 2 → (t : Ty) × (o ≡ some t)
-      go none q = absurd (omega arith)
-      go (some t) q = (t, refl)
+      go : (o : Option Ty) (b : Bool) → openCode o b ≡ 2 → (t : Ty) × (o ≡ some t)
+      go none true q = absurd (omega arith)
+      go none false q = absurd (omega arith)
+      go (some t) b q = (t, refl)
 
-  no-type : (st .«open» ≡ 2 → ⊥) → (c .result ≡ none) × (st .«open» ≡ 1)
+  no-type : (st .«open» ≡ 2 → ⊥) → (c .result ≡ none) × (st .«open» ≢ 0)
   unfolding openCode
-  no-type e = go (c .result) (k .is-open)
+  no-type e = go (c .result) (c .text) (k .is-open)
     where
-      go : (o : Option Ty) → st .«open» ≡ openCode o → (o ≡ none) × (st .«open» ≡ 1)
-      go none q = (refl, q)
-      go (some t) q = absurd (e q)
+      go : (o : Option Ty) (b : Bool) → st .«open» ≡ openCode o b → (o ≡ none) × (st .«open» ≢ 0)
+      go none true q = (refl, λ z. omega arith)
+      go none false q = (refl, λ z. omega arith)
+      go (some t) b q = absurd (e q)
 
 holds-open : {st : Counts} {w0 w1 : List ℕ} {s : Sheet} {c : Current} → Holds st w0 w1 s → s .current ≡ some c → HoldsCurrent st w1 (length (s .lines)) c
 holds-open {st} {w0} {w1} {s} {c} h e = go (rw e at (h .current))
@@ -255,8 +259,8 @@ module _ (st : Counts) (w0 : List ℕ) (root : ℕ) (long : 8192 ≤ length w0) 
         let k = holds-open h q in
         let n = no-type k e in
         rw (n .0) (
-          down-fine st w0 long fine (room .room (n .1)) root h (c .context) (k .context) inside,
-          down-holds st w0 long fine (room .room (n .1)) root h (c .context) (k .context) inside,
+          down-fine st w0 long fine (room .room (n .1) e) root h (c .context) (k .context) inside,
+          down-holds st w0 long fine (room .room (n .1) e) root h (c .context) (k .context) inside,
         );
     kept = kept-then (kept-set w0 (4448 + st .rules) (st .context) (omega (arith, fine .rules))) (kept-set _ (4512 + st .rules) root (omega (arith, fine .rules)));
   })

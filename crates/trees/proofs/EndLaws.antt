@@ -71,10 +71,11 @@ used-same {c = c} h (suc m) l =
     rw (h .depths m (omega arith), bit-test (levels (treeOf (c .trees) m)) (member m (c .used)), used-same h m (omega arith))
 
 -- what is open has a code
-some-open : (o : Option Ty) → openCode o ≡ 0 → ⊥
+some-open : (o : Option Ty) (b : Bool) → openCode o b ≡ 0 → ⊥
 unfolding openCode
-some-open none e = omega arith
-some-open (some t) e = omega arith
+some-open none true e = omega arith
+some-open none false e = omega arith
+some-open (some t) b e = omega arith
 
 -- ---- the answers
 
@@ -88,7 +89,7 @@ module _ {st : Counts} {w1 : List ℕ} (w0 : List ℕ) where
     where
       go : (s : Sheet) → Holds st w0 w1 s → (o : Option Current) → s .current ≡ o → HoldsOpen st w1 (length (s .lines)) o → EndMoved w0 w1 (code.Next st) (endFor s o)
       go s h none q k = ended fine h
-      go s h (some c) q (opened k) = absurd (some-open (c .result) (sym (k .is-open) ∙ e))
+      go s h (some c) q (opened k) = absurd (some-open (c .result) (c .text) (sym (k .is-open) ∙ e))
 
   module _ (is-open : st .«open» ≡ 0 → ⊥) where
     rule-end : (s : Sheet) (o : OpenRule st w1 s) → endRule s ≡ endOf s (o .rule)

@@ -1,7 +1,7 @@
 -- The form that fields spell, from code to code: what the code's words stand for. Assumes nothing.
 use mathlib.Core.Path.{_≡_, refl, sym, ap, _∙_}
 use mathlib.Core.Bool.{Bool, true, false, _&&_, true≢false}
-use mathlib.Core.Option.{Option, none, some}
+use mathlib.Core.Option.{none}
 use mathlib.Core.List.{List, [], _∷_, map}
 use Prim.Native.Nat.{ℕ, _+_, _<_, _≤_}
 use native.Mathlib.Nat.{zero-add}
@@ -10,24 +10,20 @@ use native.Mathlib.Decide.{decLt}
 use borrow.Author.Tests.{lt-leb, le-leb, ltb-true, lt-ltb, le-ltb}
 use lib.Dec.{ltb, leb}
 use lib.ListN.{length, getD, take}
-use Rattle.laws.specs.Choice.{mapSome}
+use Rattle.laws.specs.Choice.{if_then_else_}
 use Rattle.laws.specs.Lists.{allOf}
 use Rattle.laws.proofs.Cases.{AllBelow, all-below, from-below, zero-least}
 use Rattle.ocl.specs.Types.{set, sequence, bag}
 use Rattle.ocl.specs.Forms.{plus, minus, times, div, modulo, Connective, and, or, Leaf, truth, undef, self, Unary, negation, sizeOf, convert, Binary, equal, less, arith as calculation, divide, over, includes, including, union}
-use Rattle.sheet.specs.Text.{Bytes}
-use Rattle.sheet.specs.Lines.{Shape, leaf, unary, binary, connective, isUndef, conditional, letIn, attribute, call, quantified, iterate, assemble, done, oneOperand, twoOperands, threeNumbers}
+use Rattle.sheet.specs.Lines.{Shape, leaf, unary, binary, connective, isUndef, conditional, letIn, attribute, call, quantified, iterate, assemble}
 use Rattle.sheet.specs.Sheet.{operandsOf}
 use Rattle.sheet.specs.Limits.{isNode, isVariable, leafWithin, unaryWithin, formWithin}
 use Rattle.sheet.specs.Refusals.{twoVariables, leafKnown, unaryKnown, formKnown}
-use Rattle.text.specs.Forms.{shapeBy}
-use Rattle.nodes.specs.Nodes.{Called, TypeSaid, leafWords, unaryWords, binaryCode, arithCode, divisionCode, connectiveCode, shapeWords}
-use Rattle.trees.specs.declared.Parsed.{Parsed}
-use Rattle.trees.specs.declared.numbers.Numbers.{Numbers}
-use Rattle.trees.specs.Fields.{cut, four, exact, Read, unread, read, NumbersRead}
+use Rattle.nodes.specs.Nodes.{Called, unaryOf, binaryOf, arithByCode, divisionByCode, connectiveOf, TypeSaid, leafWords, unaryWords, binaryCode, arithCode, divisionCode, connectiveCode, shapeWords}
+use Rattle.trees.specs.Fields.{cut, four}
 use Rattle.trees.specs.Calls.{calledBy, byNumber}
-use Rattle.trees.specs.Forms.{StandsFor, Spelled, misspelled, spelled, FormRead, PlainCode, constant, itself, one, two, undefTest, conditional as conditionalCode, quotient}
-use Rattle.trees.proofs.ExactLaws.{chain, chain-exact, exact-length}
+use Rattle.trees.specs.Forms.{StandsFor, misspelled, FormRead, PlainCode, constant, itself, one, two, undefTest, conditional as conditionalCode, quotient}
+use Rattle.trees.specs.Built.{classCount, numbersOf, shapeFrom, shapeIn, Builds}
 
 -- ---- tests that do not see the cut
 
@@ -52,13 +48,24 @@ variable-small i h = go (decLt i 1000000)
 pub below-small : (i n : ℕ) → n ≤ 1000000 → ltb i n ≡ true → cut i ≡ i
 below-small i n l h = omega (arith, ltb-true i n h)
 
--- one more class than the one that is named
-pub cut-class : (c n : ℕ) → n ≤ 64 → leb (cut c + 1) n ≡ ltb c n
-cut-class c n h = go (decLt c n)
+-- the class that is named is one of n
+pub class-known : (c n : ℕ) → n ≤ 64 → leb (classCount (cut c)) n ≡ ltb c n
+unfolding classCount
+class-known c n h = go (decLt c n) (decLt (cut c) 64)
   where
-    go : Dec (c < n) → leb (cut c + 1) n ≡ ltb c n
-    go (yes l) = le-leb (cut c + 1) n (omega arith) ∙ sym (lt-ltb c n l)
-    go (no l) = lt-leb (cut c + 1) n (omega arith) ∙ sym (le-ltb c n (omega arith))
+    go : Dec (c < n) → Dec (cut c < 64) → leb (if ltb (cut c) 64 then cut c + 1 else 65) n ≡ ltb c n
+    go (yes l) (yes k) = rw (lt-ltb (cut c) 64 k) (le-leb (cut c + 1) n (omega arith) ∙ sym (lt-ltb c n l))
+    go (yes l) (no k) = absurd (omega arith)
+    go (no l) (yes k) = rw (lt-ltb (cut c) 64 k) (lt-leb (cut c + 1) n (omega arith) ∙ sym (le-ltb c n (omega arith)))
+    go (no l) (no k) = rw (le-ltb (cut c) 64 (omega arith)) (lt-leb 65 n (omega arith) ∙ sym (le-ltb c n (omega arith)))
+
+pub class-low : (c : ℕ) → classCount c ≤ 65
+unfolding classCount
+class-low c = go (decLt c 64)
+  where
+    go : Dec (c < 64) → (if ltb c 64 then c + 1 else 65) ≤ 65
+    go (yes k) = rw (lt-ltb c 64 k) (omega arith)
+    go (no k) = rw (le-ltb c 64 (omega arith)) (omega arith)
 
 pub nodes-small : (l : List ℕ) → allOf isNode l ≡ true → map cut l ≡ l
 unfolding allOf isNode
@@ -69,20 +76,10 @@ nodes-small (a ∷ l) h = go (ltb a 768) refl (nodes-small l) h
     go true e ih h = rw (below-small a 768 (omega arith) e, ih h)
     go false e ih h = absurd (true≢false (sym h))
 
--- ---- a form that fields of numbers spell
+-- ---- no form
 
 pub no-form : (line : ℕ) → FormRead line none (record { spelled = false; words = 0 ∷ 0 ∷ 0 ∷ 0 ∷ 0 ∷ 0 ∷ 0 ∷ 0 ∷ []; count = 0; within = false; apart = false; classes = 0 })
-no-form line = record { is = misspelled refl; few = omega arith; size = refl }
-
-pub numbers-form : {line : ℕ} {o : Option Shape} {r : Numbers} {p : Parsed} (m : ℕ) (fs : List Bytes) (k : List ℕ → Shape)
-    → NumbersRead (exact m fs) r → o ≡ chain m k fs → p .spelled ≡ r .good → ((l : List ℕ) → length l ≡ m → r .at ≡ four (map cut l) → StandsFor line (k l) p)
-    → Spelled line o p
-unfolding mapSome
-numbers-form {line} {o} {r} {p} m fs k n e s h = rw (e, chain-exact m k fs) (go (exact m fs) refl (n .is))
-  where
-    go : (q : Option (List ℕ)) → exact m fs ≡ q → Read q r → Spelled line (mapSome k q) p
-    go none e (unread b) = misspelled (s ∙ b)
-    go (some l) e (read b a) = spelled (s ∙ b) (h l (exact-length m fs l e) a)
+no-form line = record { is = misspelled refl; few = omega arith; size = refl; low = omega arith }
 
 -- ---- nothing but operands
 
@@ -94,10 +91,13 @@ record Plain (code : ℕ) (l : List ℕ) (x : Shape) : Type 0 where
   words : (d : Called) (line : ℕ) → shapeWords 0 0 d line x ≡ code ∷ getD l 0 0 ∷ getD l 1 0 ∷ getD l 2 0 ∷ 0 ∷ 0 ∷ 0 ∷ line ∷ []
   said : TypeSaid 0 x
 
+-- of m numbers
 record PlainForm (code m : ℕ) : Type 0 where
-  shape : List ℕ → Shape
-  reads : (fs : List Bytes) → shapeBy code fs ≡ chain m shape fs
-  is : (l : List ℕ) → length l ≡ m → Plain code l (shape l)
+  counts : numbersOf code ≡ m
+  is : (l : List ℕ) → length l ≡ m → Plain code l (shapeIn code l)
+
+plain-as : {code : ℕ} {l : List ℕ} {x y : Shape} → x ≡ y → Plain code l y → Plain code l x
+plain-as e p = rw e p
 
 plain-operands : (l : List ℕ) (d : ℕ) → length l ≤ 3 → take (length l) (getD (map cut l) 0 0 ∷ getD (map cut l) 1 0 ∷ getD (map cut l) 2 0 ∷ 0 ∷ 0 ∷ 0 ∷ d ∷ []) ≡ map cut l
 plain-operands [] d h = refl
@@ -106,8 +106,8 @@ plain-operands (x ∷ y ∷ []) d h = refl
 plain-operands (x ∷ y ∷ z ∷ []) d h = refl
 plain-operands (x ∷ y ∷ z ∷ w ∷ l) d h = absurd (omega arith)
 
-plain-stands : {code line m : ℕ} {g : Bool} {at : List ℕ} (l : List ℕ) {x : Shape} → Plain code l x → length l ≡ m → m ≤ 3 → at ≡ four (map cut l)
-    → StandsFor line x (record { spelled = g; words = code ∷ getD at 0 0 ∷ getD at 1 0 ∷ getD at 2 0 ∷ 0 ∷ 0 ∷ 0 ∷ line ∷ []; count = m; within = true; apart = true; classes = 0 })
+plain-stands : {code line m : ℕ} {at : List ℕ} (l : List ℕ) {x : Shape} → Plain code l x → length l ≡ m → m ≤ 3 → at ≡ four (map cut l)
+    → StandsFor line x (record { spelled = true; words = code ∷ getD at 0 0 ∷ getD at 1 0 ∷ getD at 2 0 ∷ 0 ∷ 0 ∷ 0 ∷ line ∷ []; count = m; within = true; apart = true; classes = 0 })
 plain-stands {code} {line} {m} l {x} is n few e = record {
   within = sym (is .within);
   apart = λ h. sym (is .apart);
@@ -137,56 +137,57 @@ pub no-type : (x : Shape) → isIterate x ≡ false → TypeSaid 0 x
 unfolding isIterate
 no-type x h = record { said = λ i j t a e b q. absurd (true≢false (sym (ap isIterate q) ∙ h)) }
 
-leaf-plain : (code : ℕ) (l : Leaf) → leafWithin l ≡ true → ((n : ℕ) → leafKnown n l ≡ true) → leafWords l ≡ (code, 0) → ((fs : List Bytes) → shapeBy code fs ≡ done (leaf l) fs) → PlainForm code 0
-unfolding chain formWithin twoVariables formKnown operandsOf shapeWords isIterate
-leaf-plain code l w k e r = record { shape = λ es. leaf l; reads = r; is = is }
-  where
-    is : (es : List ℕ) → length es ≡ 0 → Plain code es (leaf l)
-    is [] h = record { within = w; apart = refl; known = k; operands = refl; words = λ d line. rw e; said = no-type (leaf l) refl }
-    is (a ∷ es) h = absurd (omega arith)
+module _ (code : ℕ) where
+  leaf-plain : (l : Leaf) → leafWithin l ≡ true → ((n : ℕ) → leafKnown n l ≡ true) → leafWords l ≡ (code, 0) → numbersOf code ≡ 0 → ((a b c : ℕ) → shapeFrom code a b c ≡ leaf l) → PlainForm code 0
+  unfolding formWithin twoVariables formKnown operandsOf shapeWords isIterate
+  leaf-plain l w k e m r = record { counts = m; is = is }
+    where
+      is : (es : List ℕ) → length es ≡ 0 → Plain code es (shapeIn code es)
+      is [] h = plain-as (r _ _ _) (record { within = w; apart = refl; known = k; operands = refl; words = λ d line. rw e; said = no-type (leaf l) refl })
+      is (a ∷ es) h = absurd (omega arith)
 
-unary-plain : (code : ℕ) (op : Unary) → unaryWithin op ≡ true → ((n : ℕ) → unaryKnown n op ≡ true) → unaryWords op ≡ (code, 0) → ((fs : List Bytes) → shapeBy code fs ≡ oneOperand (unary op) fs) → PlainForm code 1
-unfolding chain oneOperand formWithin twoVariables formKnown operandsOf shapeWords isIterate
-unary-plain code op w k e r = record { shape = λ es. unary op (getD es 0 0); reads = r; is = is }
-  where
-    is : (es : List ℕ) → length es ≡ 1 → Plain code es (unary op (getD es 0 0))
-    is [] h = absurd (omega arith)
-    is (a ∷ []) h = record { within = w; apart = refl; known = k; operands = refl; words = λ d line. simp (e, zero-add); said = no-type (unary op a) refl }
-    is (a ∷ b ∷ es) h = absurd (omega arith)
+  -- a form of one operand and nothing else
+  one-plain : (f : ℕ → Shape) → ((a : ℕ) → Plain code (a ∷ []) (f a)) → numbersOf code ≡ 1 → ((a b c : ℕ) → shapeFrom code a b c ≡ f a) → PlainForm code 1
+  one-plain f p m r = record { counts = m; is = is }
+    where
+      is : (es : List ℕ) → length es ≡ 1 → Plain code es (shapeIn code es)
+      is [] h = absurd (omega arith)
+      is (a ∷ []) h = plain-as (r _ _ _) (p a)
+      is (a ∷ b ∷ es) h = absurd (omega arith)
 
--- a form of two operands and nothing else
-two-plain : (code : ℕ) (f : ℕ → ℕ → Shape) → ((a b : ℕ) → Plain code (a ∷ b ∷ []) (f a b)) → ((fs : List Bytes) → shapeBy code fs ≡ twoOperands f fs) → PlainForm code 2
-unfolding chain twoOperands
-two-plain code f p r = record { shape = λ es. f (getD es 0 0) (getD es 1 0); reads = r; is = is }
-  where
-    is : (es : List ℕ) → length es ≡ 2 → Plain code es (f (getD es 0 0) (getD es 1 0))
-    is [] h = absurd (omega arith)
-    is (a ∷ []) h = absurd (omega arith)
-    is (a ∷ b ∷ []) h = p a b
-    is (a ∷ b ∷ c ∷ es) h = absurd (omega arith)
+  unary-plain : (op : Unary) → unaryWithin op ≡ true → ((n : ℕ) → unaryKnown n op ≡ true) → unaryWords op ≡ (code, 0) → numbersOf code ≡ 1 → ((a b c : ℕ) → shapeFrom code a b c ≡ unary op a) → PlainForm code 1
+  unfolding formWithin twoVariables formKnown operandsOf shapeWords isIterate
+  unary-plain op w k e = one-plain (unary op) (λ a.
+      record { within = w; apart = refl; known = k; operands = refl; words = λ d line. simp (e, zero-add); said = no-type (unary op a) refl })
 
-binary-plain : (code : ℕ) (op : Binary) → binaryCode op ≡ code → ((fs : List Bytes) → shapeBy code fs ≡ twoOperands (binary op) fs) → PlainForm code 2
-unfolding formWithin twoVariables formKnown operandsOf shapeWords isIterate
-binary-plain code op e = two-plain code (binary op) (λ a b.
-    record { within = refl; apart = refl; known = λ n. refl; operands = refl; words = λ d line. simp (e, zero-add); said = no-type (binary op a b) refl })
+  -- of two
+  two-plain : (f : ℕ → ℕ → Shape) → ((a b : ℕ) → Plain code (a ∷ b ∷ []) (f a b)) → numbersOf code ≡ 2 → ((a b c : ℕ) → shapeFrom code a b c ≡ f a b) → PlainForm code 2
+  two-plain f p m r = record { counts = m; is = is }
+    where
+      is : (es : List ℕ) → length es ≡ 2 → Plain code es (shapeIn code es)
+      is [] h = absurd (omega arith)
+      is (a ∷ []) h = absurd (omega arith)
+      is (a ∷ b ∷ []) h = plain-as (r _ _ _) (p a b)
+      is (a ∷ b ∷ c ∷ es) h = absurd (omega arith)
 
-connective-plain : (code : ℕ) (op : Connective) → connectiveCode op ≡ code → ((fs : List Bytes) → shapeBy code fs ≡ twoOperands (connective op) fs) → PlainForm code 2
-unfolding formWithin twoVariables formKnown operandsOf shapeWords isIterate
-connective-plain code op e = two-plain code (connective op) (λ a b.
-    record { within = refl; apart = refl; known = λ n. refl; operands = refl; words = λ d line. simp (e, zero-add); said = no-type (connective op a b) refl })
+  binary-plain : (op : Binary) → binaryCode op ≡ code → numbersOf code ≡ 2 → ((a b c : ℕ) → shapeFrom code a b c ≡ binary op a b) → PlainForm code 2
+  unfolding formWithin twoVariables formKnown operandsOf shapeWords isIterate
+  binary-plain op e = two-plain (binary op) (λ a b.
+      record { within = refl; apart = refl; known = λ n. refl; operands = refl; words = λ d line. simp (e, zero-add); said = no-type (binary op a b) refl })
+
+  connective-plain : (op : Connective) → connectiveCode op ≡ code → numbersOf code ≡ 2 → ((a b c : ℕ) → shapeFrom code a b c ≡ connective op a b) → PlainForm code 2
+  unfolding formWithin twoVariables formKnown operandsOf shapeWords isIterate
+  connective-plain op e = two-plain (connective op) (λ a b.
+      record { within = refl; apart = refl; known = λ n. refl; operands = refl; words = λ d line. simp (e, zero-add); said = no-type (connective op a b) refl })
 
 isUndef-plain : PlainForm 30 1
-unfolding chain oneOperand formWithin twoVariables formKnown operandsOf shapeWords isIterate shapeBy
-isUndef-plain = record { shape = λ es. isUndef (getD es 0 0); reads = λ fs. refl; is = is }
-  where
-    is : (es : List ℕ) → length es ≡ 1 → Plain 30 es (isUndef (getD es 0 0))
-    is [] h = absurd (omega arith)
-    is (a ∷ []) h = record { within = refl; apart = refl; known = λ n. refl; operands = refl; words = λ d line. simp zero-add; said = no-type (isUndef a) refl }
-    is (a ∷ b ∷ es) h = absurd (omega arith)
+unfolding formWithin twoVariables formKnown operandsOf shapeWords isIterate numbersOf shapeFrom
+isUndef-plain = one-plain 30 isUndef (λ a.
+    record { within = refl; apart = refl; known = λ n. refl; operands = refl; words = λ d line. simp zero-add; said = no-type (isUndef a) refl }) refl (λ a b c. refl)
 
 conditional-plain : PlainForm 31 3
-unfolding chain threeNumbers formWithin twoVariables formKnown operandsOf shapeWords isIterate shapeBy
-conditional-plain = record { shape = λ es. conditional (getD es 0 0) (getD es 1 0) (getD es 2 0); reads = λ fs. refl; is = is }
+unfolding formWithin twoVariables formKnown operandsOf shapeWords isIterate numbersOf shapeFrom
+conditional-plain = record { counts = refl; is = is }
   where
     is : (es : List ℕ) → length es ≡ 3 → Plain 31 es (conditional (getD es 0 0) (getD es 1 0) (getD es 2 0))
     is [] h = absurd (omega arith)
@@ -196,19 +197,19 @@ conditional-plain = record { shape = λ es. conditional (getD es 0 0) (getD es 1
     is (a ∷ b ∷ c ∷ d ∷ es) h = absurd (omega arith)
 
 plain-code : {code m : ℕ} → PlainCode code m → PlainForm code m
-unfolding shapeBy leafWithin leafKnown leafWords unaryWithin unaryKnown unaryWords binaryCode arithCode divisionCode connectiveCode AllBelow
+unfolding numbersOf shapeFrom unaryOf binaryOf arithByCode divisionByCode connectiveOf leafWithin leafKnown leafWords unaryWithin unaryKnown unaryWords binaryCode arithCode divisionCode connectiveCode AllBelow
 plain-code (constant {k} h) =
     all-below (λ k. PlainForm k 0) 3
-    (((tt, leaf-plain 0 (truth false) refl (λ n. refl) refl (λ fs. refl)), leaf-plain 1 (truth true) refl (λ n. refl) refl (λ fs. refl)), leaf-plain 2 undef refl (λ n. refl) refl (λ fs. refl))
+    (((tt, leaf-plain 0 (truth false) refl (λ n. refl) refl refl (λ a b c. refl)), leaf-plain 1 (truth true) refl (λ n. refl) refl refl (λ a b c. refl)), leaf-plain 2 undef refl (λ n. refl) refl refl (λ a b c. refl))
     k h
-plain-code itself = leaf-plain 4 self refl (λ n. refl) refl (λ fs. refl)
+plain-code itself = leaf-plain 4 self refl (λ n. refl) refl refl (λ a b c. refl)
 plain-code (one {k} l h) =
     from-below (λ k. PlainForm k 1) 7 5 (
       (
-        (((tt, unary-plain 7 negation refl (λ n. refl) refl (λ fs. refl)), unary-plain 8 sizeOf refl (λ n. refl) refl (λ fs. refl)), unary-plain 9 (convert set) refl (λ n. refl) refl (λ fs. refl)),
-        unary-plain 10 (convert sequence) refl (λ n. refl) refl (λ fs. refl),
+        (((tt, unary-plain 7 negation refl (λ n. refl) refl refl (λ a b c. refl)), unary-plain 8 sizeOf refl (λ n. refl) refl refl (λ a b c. refl)), unary-plain 9 (convert set) refl (λ n. refl) refl refl (λ a b c. refl)),
+        unary-plain 10 (convert sequence) refl (λ n. refl) refl refl (λ a b c. refl),
       ),
-      unary-plain 11 (convert bag) refl (λ n. refl) refl (λ fs. refl),
+      unary-plain 11 (convert bag) refl (λ n. refl) refl refl (λ a b c. refl),
     )
     k l (omega arith)
 plain-code (two {k} l h) =
@@ -220,29 +221,29 @@ plain-code (two {k} l h) =
               (
                 (
                   (
-                    ((((tt, binary-plain 13 equal refl (λ fs. refl)), binary-plain 14 less refl (λ fs. refl)), binary-plain 15 (calculation plus) refl (λ fs. refl)), binary-plain 16 (calculation minus) refl (λ fs. refl)),
-                    binary-plain 17 (calculation times) refl (λ fs. refl),
+                    ((((tt, binary-plain 13 equal refl refl (λ a b c. refl)), binary-plain 14 less refl refl (λ a b c. refl)), binary-plain 15 (calculation plus) refl refl (λ a b c. refl)), binary-plain 16 (calculation minus) refl refl (λ a b c. refl)),
+                    binary-plain 17 (calculation times) refl refl (λ a b c. refl),
                   ),
-                  binary-plain 18 (divide div) refl (λ fs. refl),
+                  binary-plain 18 (divide div) refl refl (λ a b c. refl),
                 ),
-                binary-plain 19 (divide modulo) refl (λ fs. refl),
+                binary-plain 19 (divide modulo) refl refl (λ a b c. refl),
               ),
-              binary-plain 20 includes refl (λ fs. refl),
+              binary-plain 20 includes refl refl (λ a b c. refl),
             ),
-            binary-plain 21 including refl (λ fs. refl),
+            binary-plain 21 including refl refl (λ a b c. refl),
           ),
-          binary-plain 22 union refl (λ fs. refl),
+          binary-plain 22 union refl refl (λ a b c. refl),
         ),
-        connective-plain 23 and refl (λ fs. refl),
+        connective-plain 23 and refl refl (λ a b c. refl),
       ),
-      connective-plain 24 or refl (λ fs. refl),
+      connective-plain 24 or refl refl (λ a b c. refl),
     )
     k l (omega arith)
 plain-code undefTest = isUndef-plain
 plain-code conditionalCode = conditional-plain
-plain-code quotient = binary-plain 37 over refl (λ fs. refl)
+plain-code quotient = binary-plain 37 over refl refl (λ a b c. refl)
 
-pub plain-few : {code m : ℕ} → PlainCode code m → m ≤ 3
+plain-few : {code m : ℕ} → PlainCode code m → m ≤ 3
 plain-few (constant h) = omega arith
 plain-few itself = omega arith
 plain-few (one l h) = omega arith
@@ -251,9 +252,12 @@ plain-few undefTest = omega arith
 plain-few conditionalCode = omega arith
 plain-few quotient = omega arith
 
-pub plain-read : {code m line : ℕ} {r : Numbers} (fs : List Bytes) → PlainCode code m → NumbersRead (exact m fs) r
-    → FormRead line (shapeBy code fs) (record { spelled = r .good; words = code ∷ getD (r .at) 0 0 ∷ getD (r .at) 1 0 ∷ getD (r .at) 2 0 ∷ 0 ∷ 0 ∷ 0 ∷ line ∷ []; count = m; within = true; apart = true; classes = 0 })
-plain-read {code} {m} {line} {r} fs c n =
+pub plain-built : {code m line : ℕ} {at : List ℕ} → PlainCode code m
+    → Builds code at line (record { spelled = true; words = code ∷ getD at 0 0 ∷ getD at 1 0 ∷ getD at 2 0 ∷ 0 ∷ 0 ∷ 0 ∷ line ∷ []; count = m; within = true; apart = true; classes = 0 })
+plain-built c =
     let p = plain-code c in
     let few = plain-few c in
-    record { is = numbers-form m fs (p .shape) n (p .reads fs) refl (λ l h e. plain-stands l (p .is l h) h few e); few = omega arith; size = refl }
+    record {
+      is = λ l s n e. plain-stands l (p .is l (n ∙ p .counts)) (n ∙ p .counts) few e;
+      fine = record { spelled = refl; few = omega arith; size = refl; classes = omega arith };
+    }

@@ -1,32 +1,33 @@
 -- A line whose first field is `N`: what its fields spell, and what the code makes of it. Assumes nothing.
 use mathlib.Core.Path.{_≡_, refl, sym, _∙_}
-use mathlib.Core.Bool.{true, false, not, true≢false}
+use mathlib.Core.Bool.{Bool, true, false, not, true≢false}
 use mathlib.Core.Option.{Option, none, some}
 use mathlib.Core.List.{List, [], _∷_}
 use Prim.Native.Nat.{ℕ, _<_, _≤_}
 use native.Mathlib.Omega.{arith}
-use borrow.Author.Tests.{eqb-true, not-true, not-false}
+use borrow.Author.Tests.{not-true, not-false}
 use lib.ListN.{length, getD, drop}
 use Rattle.laws.specs.Choice.{onSome, mapSome}
 use Rattle.laws.proofs.Options.{nowhere}
 use Rattle.laws.proofs.Tests.{Any?, any-some}
-use Rattle.sheet.specs.Text.{Bytes, fieldsOf}
-use Rattle.sheet.specs.Lines.{Shape, nodeLine, is, next, aNumber, aWord, shapeOf, lineOf, firstIsN}
-use Rattle.sheet.specs.Reading.{stepSpelled, step}
+use Rattle.sheet.specs.Text.{Bytes, bytes, fieldsOf}
+use Rattle.sheet.specs.Lines.{Shape, nodeLine, is, next, aNumber, aWord, shapeOf, lineOf}
+use Rattle.sheet.specs.Texts.{onText}
 use Rattle.text.specs.Forms.{shapeBy}
 use Rattle.text.specs.Numbers.{cutNum}
 use Rattle.text.specs.Parts.{Cut}
-use Rattle.text.specs.Words.{byteKind, onlyByte, formCode}
+use Rattle.text.specs.Words.{formCode}
 use Rattle.text.specs.declared.numbers.Num.the-variants as num
 use Rattle.text.specs.declared.parts.Fields.{Fields}
 use Rattle.text.proofs.NumberLaws.{num-bad, num-is}
 use Rattle.text.proofs.ShapeLaws.{shape-code}
-use Rattle.text.proofs.WordLaws.{is-class-line, is-row-line, is-object-line, is-value-line, is-definition-line, is-rule-line, is-node-line}
 use Rattle.tables.specs.Layout.{moved-stop, Took}
 use Rattle.tables.specs.declared.Counts.{Counts}
 use Rattle.tables.specs.declared.Step.{Step}
 use Rattle.tables.specs.declared.Step.the-variants as code
 use Rattle.tables.proofs.Tables.{kept-refl}
+use Rattle.tables.proofs.LineFields.{word-is}
+use Rattle.tables.proofs.Steps.{step-bad, step-line}
 use Rattle.trees.specs.declared.Parsed.{Parsed}
 use Rattle.trees.specs.Fields.{cut}
 use Rattle.trees.specs.Forms.{StandsFor, Spelled, misspelled, spelled, FormRead}
@@ -35,14 +36,12 @@ use Rattle.trees.proofs.FieldLaws.{field-count}
 
 -- ---- the fields
 
-node-fields : (fs : List Bytes) → firstIsN fs ≡ true → lineOf fs ≡ next aNumber (λ n. next aWord (λ form gs. mapSome (nodeLine n) (shapeOf form gs))) (drop 1 fs)
-unfolding firstIsN lineOf
+node-fields : (fs : List Bytes) → is (getD fs 0 []) (bytes "N") ≡ true → lineOf fs ≡ next aNumber (λ n. next aWord (λ form gs. mapSome (nodeLine n) (shapeOf form gs))) (drop 1 fs)
+unfolding lineOf is bytes
 node-fields [] h = absurd (true≢false (sym h))
-node-fields (w ∷ fs) h =
-    let k : byteKind (onlyByte w) ≡ 6 = eqb-true (byteKind (onlyByte w)) 6 (sym (is-node-line w) ∙ h) in
-    rw (is-class-line w, is-row-line w, is-object-line w, is-value-line w, is-definition-line w, is-rule-line w, h, k)
+node-fields (w ∷ fs) h = rw (word-is w (bytes "N") h)
 
-module _ (fs : List Bytes) (starts : firstIsN fs ≡ true) where
+module _ (fs : List Bytes) (starts : is (getD fs 0 []) (bytes "N") ≡ true) where
   few-fields : length fs < 3 → lineOf fs ≡ none
   unfolding onSome next
   few-fields h = node-fields fs starts ∙ go fs h
@@ -67,20 +66,22 @@ module _ (fs : List Bytes) (starts : firstIsN fs ≡ true) where
 -- ---- 3, and a line that spells a node
 
 took-none : {st : Counts} {k : ℕ} {line w0 w : List ℕ} → lineOf (fieldsOf line) ≡ none → Took st k line (code.Stop 3) w0 w w0 w
-unfolding step stepSpelled
-took-none {w0 = w0} {w = w} e = record { is = λ s h. rw e moved-stop; kept0 = kept-refl w0; kept1 = kept-refl w }
+took-none {k = k} {line = line} {w0 = w0} {w = w} e = record { is = λ s h. rw (step-bad s k (fieldsOf line) e) moved-stop; kept0 = kept-refl w0; kept1 = kept-refl w }
+
+node-plain : (i : ℕ) (x : Shape) (test : Bytes → Bool) → onText (nodeLine i x) test ≡ true
+unfolding onText
+node-plain i x test = refl
 
 took-node : {st : Counts} {k n : ℕ} {line w0 w v : List ℕ} {p : Parsed} {r : Step} (i : ℕ) (x : Shape) → lineOf (fieldsOf line) ≡ some (nodeLine i x) → n ≡ cut i → StandsFor k x p → Placed st n p r w0 w v → Took st k line r w0 w w0 v
-unfolding step stepSpelled
-took-node {k = k} {w0 = w0} i x e q z d = record { is = λ s h. rw e (d .is k s i x q z h); kept0 = kept-refl w0; kept1 = d .kept }
+took-node {k = k} {line = line} {w0 = w0} i x e q z d = record { is = λ s h. rw (step-line s k (fieldsOf line) (node-plain i x) e) (d .is k s i x q z h); kept0 = kept-refl w0; kept1 = d .kept }
 
-module _ {line : List ℕ} {f : Fields} (is : Cut line f) (starts : firstIsN (fieldsOf line) ≡ true) where
+module _ {line : List ℕ} {f : Fields} (cut-up : Cut line f) (starts : is (getD (fieldsOf line) 0 []) (bytes "N") ≡ true) where
   pub line-short : {st : Counts} {k : ℕ} {w0 w : List ℕ} → f .count < 3 → Took st k line (code.Stop 3) w0 w w0 w
-  line-short h = took-none (few-fields (fieldsOf line) starts (omega (arith, is .counted)))
+  line-short h = took-none (few-fields (fieldsOf line) starts (omega (arith, cut-up .counted)))
 
   module _ (long : 3 ≤ f .count) where
     spelled-line : lineOf (fieldsOf line) ≡ onSome (aNumber (getD (fieldsOf line) 1 [])) (λ n. mapSome (nodeLine n) (shapeBy (formCode (getD (fieldsOf line) 2 [])) (drop 3 (fieldsOf line))))
-    spelled-line = line-of (fieldsOf line) starts (field-count is long)
+    spelled-line = line-of (fieldsOf line) starts (field-count cut-up long)
 
     pub line-number : {st : Counts} {k : ℕ} {w0 w : List ℕ} → num.Bad ≡ cutNum (aNumber (getD (fieldsOf line) 1 [])) → Took st k line (code.Stop 3) w0 w w0 w
     unfolding onSome

@@ -1,12 +1,12 @@
 -- `int`, `real` and `coll`, and codes of no form. Assumes nothing.
 use mathlib.Core.Path.{_≡_, refl, sym, _∙_}
-use mathlib.Core.Bool.{Bool, true, false, true≢false}
+use mathlib.Core.Bool.{Bool, true, false, not, true≢false}
 use mathlib.Core.Option.{Option, none, some}
 use mathlib.Core.List.{List, [], _∷_, map}
 use Prim.Native.Nat.{ℕ, _<_, _≤_}
 use native.Mathlib.Nat.{zero-add}
 use native.Mathlib.Omega.{arith}
-use borrow.Author.Tests.{eq-eqb, ne-eqb, eqb-true, eqb-false, le-leb, lt-leb}
+use borrow.Author.Tests.{eq-eqb, ne-eqb, eqb-true, eqb-false, le-leb, lt-leb, not-true, not-false}
 use lib.Dec.{eqb}
 use lib.ListN.{length, getD, take}
 use Rattle.laws.specs.Choice.{if_then_else_, orElse, onSome, mapSome}
@@ -32,7 +32,8 @@ use Rattle.trees.specs.declared.Parsed.{Parsed}
 use Rattle.trees.specs.declared.numbers.Numbers.{Numbers}
 use Rattle.trees.specs.Fields.{cut, four, Read, unread, read, NumbersRead}
 use Rattle.trees.specs.Calls.{calledBy, byNumber}
-use Rattle.trees.specs.Forms.{StandsFor, Spelled, misspelled, spelled, FormRead, kindByteCode}
+use Rattle.trees.specs.Forms.{StandsFor, Spelled, spelled, FormRead, kindByteCode}
+use Rattle.trees.specs.Built.{Assembles}
 use Rattle.trees.proofs.ExactLaws.{each-length}
 use Rattle.trees.proofs.FormLaws.{nodes-small, isIterate, no-type}
 
@@ -84,7 +85,7 @@ module _ (o : Option Number) where
   pub number-over : {line : ℕ} → Over ≡ literalOf o
       → FormRead line (mapSome (λ x. leaf (number x)) o) (record { spelled = true; words = 3 ∷ 0 ∷ 0 ∷ 0 ∷ 0 ∷ 0 ∷ 0 ∷ line ∷ []; count = 0; within = false; apart = true; classes = 0 })
   unfolding mapSome formWithin leafWithin twoVariables operandsOf isIterate
-  number-over {line} h = record { is = go (literal-over o h); few = omega arith; size = refl }
+  number-over {line} h = record { is = go (literal-over o h); few = omega arith; size = refl; low = omega arith }
     where
       p : Parsed
       p = record { spelled = true; words = 3 ∷ 0 ∷ 0 ∷ 0 ∷ 0 ∷ 0 ∷ 0 ∷ line ∷ []; count = 0; within = false; apart = true; classes = 0 }
@@ -106,7 +107,7 @@ module _ (o : Option Number) where
   pub number-is : {line w : ℕ} → Is w ≡ literalOf o
       → FormRead line (mapSome (λ x. leaf (number x)) o) (record { spelled = true; words = 3 ∷ w ∷ 0 ∷ 0 ∷ 0 ∷ 0 ∷ 0 ∷ line ∷ []; count = 0; within = true; apart = true; classes = 0 })
   unfolding mapSome formWithin leafWithin twoVariables formKnown leafKnown operandsOf shapeWords leafWords isIterate
-  number-is {line} {w} h = record { is = go (literal-is o h); few = omega arith; size = refl }
+  number-is {line} {w} h = record { is = go (literal-is o h); few = omega arith; size = refl; low = omega arith }
     where
       p : Parsed
       p = record { spelled = true; words = 3 ∷ w ∷ 0 ∷ 0 ∷ 0 ∷ 0 ∷ 0 ∷ line ∷ []; count = 0; within = true; apart = true; classes = 0 }
@@ -198,8 +199,8 @@ assemble-words k (w ∷ x ∷ y ∷ []) d line h = simp zero-add
 assemble-words k (w ∷ x ∷ y ∷ z ∷ []) d line h = simp zero-add
 assemble-words k (w ∷ x ∷ y ∷ z ∷ v ∷ es) d line h = absurd (omega arith)
 
-assemble-stands : {line m code : ℕ} {g : Bool} {at : List ℕ} (k : Kind) (es : List ℕ) → code ≡ assembleCode k → length es ≡ m → m ≤ 4 → at ≡ four (map cut es)
-    → StandsFor line (assemble k es) (record { spelled = g; words = code ∷ getD at 0 0 ∷ getD at 1 0 ∷ getD at 2 0 ∷ getD at 3 0 ∷ m ∷ 0 ∷ line ∷ []; count = m; within = true; apart = true; classes = 0 })
+assemble-stands : {line m code : ℕ} {at : List ℕ} (k : Kind) (es : List ℕ) → code ≡ assembleCode k → length es ≡ m → m ≤ 4 → at ≡ four (map cut es)
+    → StandsFor line (assemble k es) (record { spelled = true; words = code ∷ getD at 0 0 ∷ getD at 1 0 ∷ getD at 2 0 ∷ getD at 3 0 ∷ m ∷ 0 ∷ line ∷ []; count = m; within = true; apart = true; classes = 0 })
 unfolding formWithin twoVariables formKnown operandsOf isIterate
 assemble-stands {line} k es c n few e = record {
   within = refl;
@@ -248,23 +249,37 @@ assemble-other {code} f gs c z = go (kind-said f) (sym c ∙ z)
     go no-kind e = refl
     go (a-kind {k}) e = absurd (never k e)
 
-pub assemble-read : {line m code : ℕ} {r : Numbers} (f : Bytes) (gs : List Bytes) → code ≡ kindByteCode (onlyByte f) → (code ≡ 0 → ⊥) → length gs ≡ m → m ≤ 4 → NumbersRead (each aNumber gs) r
-    → FormRead line (shapeBy 27 (f ∷ gs)) (record { spelled = r .good; words = code ∷ getD (r .at) 0 0 ∷ getD (r .at) 1 0 ∷ getD (r .at) 2 0 ∷ getD (r .at) 3 0 ∷ m ∷ 0 ∷ line ∷ []; count = m; within = true; apart = true; classes = 0 })
-unfolding shapeBy assembleFields next onSome atMostFour
-assemble-read {line} {m} {code} {r} f gs c z n few is = record { is = go (kind-said f) c; few = few; size = refl }
-  where
-    p : Parsed
-    p = record { spelled = r .good; words = code ∷ getD (r .at) 0 0 ∷ getD (r .at) 1 0 ∷ getD (r .at) 2 0 ∷ getD (r .at) 3 0 ∷ m ∷ 0 ∷ line ∷ []; count = m; within = true; apart = true; classes = 0 }
+pub assemble-built : {code m line : ℕ} {at : List ℕ} → m ≤ 4
+    → Assembles code at m line (record { spelled = true; words = code ∷ getD at 0 0 ∷ getD at 1 0 ∷ getD at 2 0 ∷ getD at 3 0 ∷ m ∷ 0 ∷ line ∷ []; count = m; within = true; apart = true; classes = 0 })
+assemble-built few = record {
+  is = λ k es c n e. assemble-stands k es c n few e;
+  fine = record { spelled = refl; few = few; size = refl; classes = omega arith };
+}
 
-    members : (k : Kind) → code ≡ assembleCode k → (o : Option (List ℕ)) → each aNumber gs ≡ o → Read o r → Spelled line (onSome o (atMostFour k)) p
-    members k c none e (unread b) = misspelled b
-    members k c (some es) e (read b a) =
-        let l : length es ≡ m = each-length gs es e ∙ n in
-        rw (le-leb (length es) 4 (omega arith)) (spelled {p = p} b (assemble-stands k es c l few a))
+module _ {m code : ℕ} {r : Numbers} (f : Bytes) (gs : List Bytes) (c : code ≡ kindByteCode (onlyByte f)) (z : code ≡ 0 → ⊥) (n : length gs ≡ m) (few : m ≤ 4) (is : NumbersRead (each aNumber gs) r) where
+  -- a member that is no number, and members that are
+  pub assemble-bad : not (r .good) ≡ true → shapeBy 27 (f ∷ gs) ≡ none
+  unfolding shapeBy assembleFields next onSome
+  assemble-bad b = go (aKind f) (each aNumber gs) (is .is)
+    where
+      go : (o : Option Kind) (q : Option (List ℕ)) → Read q r → onSome o (λ k. onSome q (atMostFour k)) ≡ none
+      go none q x = refl
+      go (some k) none (unread e) = refl
+      go (some k) (some es) (read e a) = absurd (true≢false (sym e ∙ not-true (r .good) b))
 
-    go : {o : Option Kind} {n : ℕ} → KindSaid o n → code ≡ n → Spelled line (onSome o (λ k. onSome (each aNumber gs) (atMostFour k))) p
-    go no-kind c = absurd (z c)
-    go (a-kind {k}) c = members k c (each aNumber gs) refl (is .is)
+  pub assemble-read : {line : ℕ} {p : Parsed} → not (r .good) ≡ false → Assembles code (r .at) m line p → FormRead line (shapeBy 27 (f ∷ gs)) p
+  unfolding shapeBy assembleFields next onSome atMostFour
+  assemble-read {line} {p} b y = record { is = go (kind-said f) c; few = y .fine .few; size = y .fine .size; low = y .fine .classes }
+    where
+      members : (k : Kind) → code ≡ assembleCode k → (o : Option (List ℕ)) → each aNumber gs ≡ o → Read o r → Spelled line (onSome o (atMostFour k)) p
+      members k c none e (unread x) = absurd (true≢false (sym (not-false (r .good) b) ∙ x))
+      members k c (some es) e (read x a) =
+          let l : length es ≡ m = each-length gs es e ∙ n in
+          rw (le-leb (length es) 4 (omega arith)) (spelled {p = p} (y .fine .spelled) (y .is k es c l a))
+
+      go : {o : Option Kind} {n : ℕ} → KindSaid o n → code ≡ n → Spelled line (onSome o (λ k. onSome (each aNumber gs) (atMostFour k))) p
+      go no-kind c = absurd (z c)
+      go (a-kind {k}) c = members k c (each aNumber gs) refl (is .is)
 
 -- ---- codes of no form
 

@@ -119,6 +119,7 @@ module _ {st : Counts} {line : ℕ} {p : Parsed} {w0 w1 v1 : List ℕ} {s : Shee
   unfolding nodeCounts growRule new
   more-current = record {
     is-open = o .holds .is-open;
+    of-rule = o .holds .of-rule;
     context = o .holds .context;
     result = o .holds .result;
     first = o .holds .first;

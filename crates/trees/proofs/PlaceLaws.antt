@@ -1,7 +1,7 @@
 -- A node line's tests, the code's and the definition's, and its refusals. Assumes nothing.
 use mathlib.Core.Path.{_≡_, refl, sym, ap, _∙_}
 use mathlib.Core.Bool.{Bool, true, false, not, _&&_}
-use mathlib.Core.Option.{Option, none, some}
+use mathlib.Core.Option.{Option, none, some, Option·none-ne-some}
 use mathlib.Core.List.{List, [], _∷_, map}
 use Prim.Native.Nat.{ℕ, _-_, _<_, _≤_}
 use native.Mathlib.Omega.{arith}
@@ -58,13 +58,17 @@ module _ (st : Counts) (n : ℕ) (p : Parsed) where
   unfolding nodeOrder
   order-open h k = rw (le-leb (st .block) 5 h, eq-eqb (st .«open») 0 k)
 
-  pub order-number : st .block ≤ 5 → (st .«open» ≡ 0 → ⊥) → (n ≡ st .nodes - st .first → ⊥) → false ≡ nodeOrder st n p
+  pub order-text : st .block ≤ 5 → (st .«open» ≡ 0 → ⊥) → st .«open» ≡ 3 → false ≡ nodeOrder st n p
   unfolding nodeOrder
-  order-number h k q = rw (le-leb (st .block) 5 h, ne-eqb (st .«open») 0 k, ne-eqb n (st .nodes - st .first) q)
+  order-text h k t = rw (le-leb (st .block) 5 h, ne-eqb (st .«open») 0 k, eq-eqb (st .«open») 3 t)
 
-  pub order-apart : st .block ≤ 5 → (st .«open» ≡ 0 → ⊥) → n ≡ st .nodes - st .first → p .apart ≡ nodeOrder st n p
+  pub order-number : st .block ≤ 5 → (st .«open» ≡ 0 → ⊥) → (st .«open» ≡ 3 → ⊥) → (n ≡ st .nodes - st .first → ⊥) → false ≡ nodeOrder st n p
   unfolding nodeOrder
-  order-apart h k q = rw (le-leb (st .block) 5 h, ne-eqb (st .«open») 0 k, eq-eqb n (st .nodes - st .first) q)
+  order-number h k t q = rw (le-leb (st .block) 5 h, ne-eqb (st .«open») 0 k, ne-eqb (st .«open») 3 t, ne-eqb n (st .nodes - st .first) q)
+
+  pub order-apart : st .block ≤ 5 → (st .«open» ≡ 0 → ⊥) → (st .«open» ≡ 3 → ⊥) → n ≡ st .nodes - st .first → p .apart ≡ nodeOrder st n p
+  unfolding nodeOrder
+  order-apart h k t q = rw (le-leb (st .block) 5 h, ne-eqb (st .«open») 0 k, ne-eqb (st .«open») 3 t, eq-eqb n (st .nodes - st .first) q)
 
   -- ---- what a node that passes them has
 
@@ -88,25 +92,35 @@ module _ (st : Counts) (n : ℕ) (p : Parsed) where
     nodes-low = ltb-true (st .nodes) 768 (and-true (isNode n && p .within && allOf isNode (operandsAt (p .words) (p .count))) (ltb (st .nodes) 768) ok .1)
 
   module _ (ok : nodeOrder st n p ≡ true) where
-    behind : (not (eqb (st .«open») 0) && eqb n (st .nodes - st .first) && p .apart) ≡ true
+    behind : (not (eqb (st .«open») 0) && not (eqb (st .«open») 3) && eqb n (st .nodes - st .first) && p .apart) ≡ true
     unfolding nodeOrder
     behind = and-true (leb (st .block) 5) _ ok .1
 
-    both : (not (eqb (st .«open») 0) && eqb n (st .nodes - st .first)) ≡ true
-    both = and-true (not (eqb (st .«open») 0) && eqb n (st .nodes - st .first)) (p .apart) behind .0
+    both : (not (eqb (st .«open») 0) && not (eqb (st .«open») 3) && eqb n (st .nodes - st .first)) ≡ true
+    both = and-true (not (eqb (st .«open») 0) && not (eqb (st .«open») 3) && eqb n (st .nodes - st .first)) (p .apart) behind .0
 
     pub is-open : st .«open» ≡ 0 → ⊥
-    is-open = eqb-false (st .«open») 0 (not-true (eqb (st .«open») 0) (and-true (not (eqb (st .«open») 0)) _ both .0))
+    is-open =
+        eqb-false (st .«open») 0
+        (not-true (eqb (st .«open») 0) (and-true (not (eqb (st .«open») 0)) _ (and-true (not (eqb (st .«open») 0) && not (eqb (st .«open») 3)) _ both .0) .0))
 
     pub is-next : n ≡ st .nodes - st .first
-    is-next = eqb-true n (st .nodes - st .first) (and-true (not (eqb (st .«open») 0)) _ both .1)
+    is-next = eqb-true n (st .nodes - st .first) (and-true (not (eqb (st .«open») 0) && not (eqb (st .«open») 3)) _ both .1)
 
 -- ---- the two agree
 
-opens : (o : Option Ty) → eqb (openCode o) 0 ≡ false
+opens : (o : Option Ty) (b : Bool) → eqb (openCode o b) 0 ≡ false
 unfolding openCode
-opens none = refl
-opens (some t) = refl
+opens none true = refl
+opens none false = refl
+opens (some t) b = refl
+
+by-text : (o : Option Ty) (b : Bool) → (b ≡ true → o ≡ none) → eqb (openCode o b) 3 ≡ b
+unfolding openCode
+by-text none true h = refl
+by-text none false h = refl
+by-text (some t) true h = absurd (Option·none-ne-some t (sym (h refl)))
+by-text (some t) false h = refl
 
 nodes-cut : (l : List ℕ) → allOf isNode (map cut l) ≡ allOf isNode l
 unfolding allOf isNode
@@ -136,11 +150,11 @@ module _ {st : Counts} {n line : ℕ} {p : Parsed} {w0 w1 : List ℕ} {s : Sheet
     unfolding nodeOrder inOrder blockOf numbered nextNode
     order-same = rw (h .counted .block, z .apart form-within) (ap (λ (b : Bool). leb (s .block) 5 && (b && twoVariables x)) (go (s .current) (h .current)))
       where
-        go : (o : Option Current) → HoldsOpen st w1 (length (s .lines)) o → (not (eqb (st .«open») 0) && eqb n (st .nodes - st .first)) ≡ nextNode o i
+        go : (o : Option Current) → HoldsOpen st w1 (length (s .lines)) o → (not (eqb (st .«open») 0) && not (eqb (st .«open») 3) && eqb n (st .nodes - st .first)) ≡ nextNode o i
         go none (closed e) = rw e
         go (some c) (opened q) =
             let l : st .nodes - st .first ≡ length (c .trees) = omega (arith, q .count, q .first, h .counted .nodes) in
-            rw (q .is-open, opens (c .result), l, number-is)
+            rw (q .is-open, opens (c .result) (c .text), by-text (c .result) (c .text) (q .of-rule), l, number-is)
 
     pub known-same : leb (p .classes) (st .classes) ≡ partsKnown s (nodeLine i x)
     unfolding partsKnown
@@ -159,18 +173,24 @@ module _ {st : Counts} {n line : ℕ} {p : Parsed} {w0 w1 : List ℕ} {s : Sheet
 defines : {st : Counts} {w1 : List ℕ} {m : ℕ} (o : Option Current) → HoldsOpen st w1 m o → inDefinition o ≡ eqb (st .«open») 2
 unfolding inDefinition hasType openCode
 defines none (closed e) = rw e
-defines (some c) (opened q) = rw (q .is-open) (go (c .result))
+defines (some c) (opened q) = rw (q .is-open) (go (c .result) (c .text))
   where
-    go : (o : Option Ty) → hasType o ≡ eqb (openCode o) 2
-    go none = refl
-    go (some t) = refl
+    go : (o : Option Ty) (b : Bool) → hasType o ≡ eqb (openCode o b) 2
+    go none true = refl
+    go none false = refl
+    go (some t) b = refl
 
 -- ---- 4, 5, 6, 23 and 24
+
+-- a refusal has no counts
+pub stopped : {n : ℕ} (u : Counts) → code.Stop n ≡ code.Next u → Fine u
+stopped u e = absurd (let z : _≡_ {A = ℕ} 0 1 = cc in omega arith)
 
 module _ {st : Counts} {n : ℕ} {p : Parsed} (w0 w1 : List ℕ) (fine : Fine st) where
   pub place-4 : {b : Bool} → b ≡ nodeLimits st n p → not b ≡ true → Placed st n p (code.Stop 4) w0 w1 w1
   place-4 {b} e q = record {
     is = λ line s i x u z h. rw (over-limits s line (nodeLine i x) (sym (limits-same i u z h) ∙ sym e ∙ not-true b q)) moved-stop;
+    fine = stopped;
     kept = kept-refl w1;
   }
 
@@ -178,6 +198,7 @@ module _ {st : Counts} {n : ℕ} {p : Parsed} (w0 w1 : List ℕ) (fine : Fine st
     pub place-5 : {b : Bool} → b ≡ nodeOrder st n p → not b ≡ true → Placed st n p (code.Stop 5) w0 w1 w1
     place-5 {b} e q = record {
       is = λ line s i x u z h. rw (out-of-order s line (nodeLine i x) (sym (limits-same i u z h) ∙ ok) (sym (order-same i u z h fine ok) ∙ sym e ∙ not-true b q)) moved-stop;
+      fine = stopped;
       kept = kept-refl w1;
     }
 
@@ -186,6 +207,7 @@ module _ {st : Counts} {n : ℕ} {p : Parsed} (w0 w1 : List ℕ) (fine : Fine st
       place-6 l = record {
         is = λ line s i x u z h.
             rw (unknown-part s line (nodeLine i x) (sym (limits-same i u z h) ∙ ok) (sym (order-same i u z h fine ok) ∙ o) (sym (known-same i u z h fine ok) ∙ lt-leb (p .classes) (st .classes) l)) moved-stop;
+        fine = stopped;
         kept = kept-refl w1;
       }
 
@@ -196,6 +218,7 @@ module _ {st : Counts} {n : ℕ} {p : Parsed} (w0 w1 : List ℕ) (fine : Fine st
           is = λ line s i x u z h.
               rw (calls-up s line (nodeLine i x) (sym (limits-same i u z h) ∙ ok) (sym (order-same i u z h fine ok) ∙ o) (sym (known-same i u z h fine ok) ∙ le-leb (p .classes) (st .classes) classes)
               (rw (defines (s .current) (h .current), eq-eqb (st .«open») 2 e) (sym (calls-same i u z h fine ok) ∙ sym told ∙ upward))) moved-stop;
+          fine = stopped;
           kept = kept-refl w1;
         }
 
@@ -205,5 +228,6 @@ module _ {st : Counts} {n : ℕ} {p : Parsed} (w0 w1 : List ℕ) (fine : Fine st
           is = λ line s i x u z h.
               rw (calls-none s line (nodeLine i x) (sym (limits-same i u z h) ∙ ok) (sym (order-same i u z h fine ok) ∙ o) (sym (known-same i u z h fine ok) ∙ le-leb (p .classes) (st .classes) classes)
               (rw (defines (s .current) (h .current), ne-eqb (st .«open») 2 e)) (sym (calls-same i u z h fine ok) ∙ sym told ∙ upward)) moved-stop;
+          fine = stopped;
           kept = kept-refl w1;
         }

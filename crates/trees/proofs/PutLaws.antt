@@ -1,5 +1,5 @@
 -- A node that is taken, or refused for its operands. Assumes nothing.
-use mathlib.Core.Path.{_≡_, refl, sym, ap, _∙_}
+use mathlib.Core.Path.{_≡_, refl, sym, ap, _∙_, subst}
 use mathlib.Core.Bool.{Bool, true, false, not, _||_}
 use mathlib.Core.Option.{Option}
 use mathlib.Core.List.{List, _++_}
@@ -28,7 +28,7 @@ use Rattle.trees.specs.Rules.{nodeLimits, nodeOrder, nodeCounts, Fit, Pl
 use Rattle.trees.proofs.MarkLaws.{wordsOf, depthOf, Framed, mark-frame, mark-small, mark-half, Depths, deepestOf, Marks, marks-law, fresh-low, malformed-fresh, deepest-fresh}
 use Rattle.trees.proofs.ShapeLaws.{bodyLevels, shape-shifted}
 use Rattle.trees.proofs.CallLaws.{depth-shape}
-use Rattle.trees.proofs.PlaceLaws.{nodes-low, is-open, is-next, limits-same, form-within, operands-are, order-same, known-same, calls-same, full-words}
+use Rattle.trees.proofs.PlaceLaws.{nodes-low, is-open, is-next, limits-same, form-within, operands-are, order-same, known-same, calls-same, full-words, stopped}
 use Rattle.trees.proofs.NodeLaws.{OpenRule, open-rule, rule-depth, rule-depths, node-holds}
 
 pub place-room : (st : Counts) (n : ℕ) (p : Parsed) → Fine st → nodeLimits st n p ≡ true → nodeOrder st n p ≡ true → st .first + n ≤ 768
@@ -93,6 +93,7 @@ module _ (st : Counts) (n : ℕ) (p : Parsed) (w0 w1 : List ℕ) (fine : Fine st
         let o = open-rule h (is-open st n p ordered) in
         rw (malformed-tree s line (nodeLine i x) (calls-smaller i u z h o) (calls-known i u z h o) (sym (limits-same i u z h) ∙ ok) (sym (order-same i u z h fine ok) ∙ ordered) (parts-known i u z h o) refl
         (tree-test i u z h o ∙ malformed-fresh (marks i u z h o) (e ∙ marking-same i u z h o))) moved-stop;
+    fine = stopped;
     kept = rw (ap wordsOf e) (mark-frame (st .first) n room (operandsAt (p .words) (p .count)) 0 w1 .kept);
   }
 
@@ -190,5 +191,6 @@ module _ (st : Counts) (n : ℕ) (p : Parsed) (w0 w1 : List ℕ) (fine : Fine st
           let o = open-rule h (is-open st n p ordered) in
           rw (steps-on s line (nodeLine i x) (calls-smaller i number z h o) (calls-known i number z h o) (sym (limits-same i number z h) ∙ ok) (sym (order-same i number z h fine ok) ∙ ordered) (parts-known i number z h o) refl
           (tree-test i number z h o ∙ told i few number z h o .0)) (moved-next more-fine (next-holds i few number z h o));
+      fine = λ y f. let v : nodeCounts st ≡ y = cc in subst Fine v more-fine;
       kept = kept-after;
     })

@@ -3,17 +3,14 @@ use mathlib.Core.Path.{_≡_}
 use mathlib.Core.Bool.{true, false}
 use mathlib.Core.Option.{Option, none, some}
 use mathlib.Core.List.{List, [], _∷_, map}
-use Prim.Native.Nat.{ℕ, _≤_, min}
+use Prim.Native.Nat.{ℕ, _≤_}
 use lib.ListN.{length, getD}
 use lib.Dec.{eqb}
 use Rattle.laws.specs.Choice.{if_then_else_}
 use Rattle.sheet.specs.Text.{Bytes}
 use Rattle.sheet.specs.Lines.{each, aNumber}
+pub use Rattle.text.specs.Numbers.{cut}
 use Rattle.trees.specs.declared.numbers.Numbers.{Numbers}
-
--- a number as crates/text reads it, a million at most
-abbrev pub cut : ℕ → ℕ
-cut n = min n 1000000
 
 -- four numbers, 0 where there is none
 abbrev pub four : List ℕ → List ℕ

@@ -42,6 +42,7 @@ pub record FormRead (line : ℕ) (o : Option Shape) (p : Parsed) : Type 0 where
   pub is : Spelled line o p
   pub few : p .count ≤ 4
   pub size : length (p .words) ≡ 8
+  pub low : p .classes ≤ 65
 
 -- ---- the codes of forms that hold nothing but m operands
 

@@ -1,5 +1,6 @@
 -- What the code promises of a node line, and of the end of a definition or rule.
 use mathlib.Core.Path.{_≡_}
+use mathlib.Core.Logic.{_≢_}
 use mathlib.Core.Bool.{Bool, true, not, _&&_}
 use mathlib.Core.Option.{Option, none, some}
 use mathlib.Core.List.{List}
@@ -25,7 +26,7 @@ use Rattle.trees.specs.Calls.{callsIn}
 
 -- an open rule has a number below 64, and an open definition one below 32: an R line and a D line were held to that
 pub record RuleRoom (st : Counts) : Type 0 where
-  pub room : st .«open» ≡ 1 → st .rules < 64
+  pub room : st .«open» ≢ 0 → st .«open» ≢ 2 → st .rules < 64
   pub space : st .«open» ≡ 2 → st .definitions < 32
 
 -- ---- a node line
@@ -36,7 +37,7 @@ nodeLimits st n p = isNode n && p .within && allOf isNode (operandsAt (p .words)
 
 -- 5
 unfoldable pub nodeOrder : Counts → ℕ → Parsed → Bool
-nodeOrder st n p = leb (st .block) 5 && (not (eqb (st .«open») 0) && eqb n (st .nodes - st .first) && p .apart)
+nodeOrder st n p = leb (st .block) 5 && (not (eqb (st .«open») 0) && not (eqb (st .«open») 3) && eqb n (st .nodes - st .first) && p .apart)
 
 -- neither 4 nor 5, 6, 23 or 24
 pub record Fit (st : Counts) (n : ℕ) (p : Parsed) : Type 0 where
@@ -66,6 +67,7 @@ nodeCounts st = record {
 -- a line that spells a node: the words were w0 and w1 and are w0 and v1
 pub record Placed (st : Counts) (n : ℕ) (p : Parsed) (r : Step) (w0 w1 v1 : List ℕ) : Type 0 where
   pub is : (line : ℕ) (s : Sheet) (i : ℕ) (x : Shape) → n ≡ cut i → StandsFor line x p → Holds st w0 w1 s → Moved w0 v1 r (stepLine s line (nodeLine i x))
+  pub fine : (u : Counts) → r ≡ code.Next u → Fine u
   pub kept : Kept w1 v1
 
 -- ---- the end of a definition or rule

@@ -6,7 +6,7 @@ ghost use lib.Dec.{leb};
 ghost use lib.ListN.{length};
 ghost use Rattle.trees.specs.Calls.{isCall, callsIn, resolvedIn, bodyDepth};
 
-fn is_call(words: [u64; 8], count: usize) -> bool
+pub fn is_call(words: [u64; 8], count: usize) -> bool
     requires { ⌜ length words ≡ 8 ⌝ }
     ensures { λ r. ⌜ r ≡ isCall words count ⌝ }
 {

@@ -2,16 +2,16 @@
 ghost use mathlib.Core.Path.{_≡_};
 ghost use mathlib.Core.Bool.{_&&_};
 ghost use Prim.Native.Nat.{_≤_, _<_};
-ghost use lib.ListN.{drop};
+ghost use lib.ListN.{length, drop};
 ghost use Rattle.sheet.specs.Text.{fieldsOf};
-ghost use Rattle.sheet.specs.Spelling.{readType};
 ghost use Rattle.text.specs.Parts.{Cut};
 ghost use Rattle.text.specs.Forms.{shapeBy};
 ghost use Rattle.types.specs.Flat.{baseClass};
 ghost use Rattle.trees.specs.Forms.{FormRead};
-ghost use Rattle.trees.specs.Iterate.{TypeSpelled, classesIn};
+ghost use Rattle.trees.specs.Iterate.{classesIn, Held, TypeTold};
+ghost use Rattle.trees.specs.Built.{Iterates};
 use super::Parsed;
-use super::forms::is_variable;
+use super::built::is_variable;
 use super::forms::misspelled;
 use super::numbers::number_fields;
 use text::parts::Fields;
@@ -21,13 +21,13 @@ use types::GotType;
 use types::reading::read_type;
 use types::word::pack;
 
-// A field that should spell a type: whether it does, whether the type is within its limits, its word, and how many classes
-// there must be for the class in it.
-struct TypeRead {
-    spelled: bool,
-    within: bool,
-    word: u64,
-    classes: u64,
+// What should be a type: whether it is one, whether the type is within its limits, its word, and how many classes there must be for the
+// class in it.
+pub struct TypeRead {
+    pub spelled: bool,
+    pub within: bool,
+    pub word: u64,
+    pub classes: u64,
 }
 
 fn classes_in(b: Base) -> u64
@@ -44,10 +44,12 @@ fn classes_in(b: Base) -> u64
     }
 }
 
-fn type_field(f: &[u8]) -> TypeRead
-    ensures { λ r. ⌜ TypeSpelled (readType (now (f .entry))) r ⌝ }
+// A type that was read, or none that was, as the node table has it.
+pub fn type_read(g: GotType) -> TypeRead
+    requires { ⌜ Held g ⌝ }
+    ensures { λ r. ⌜ TypeTold g r ⌝ }
 {
-    match read_type(f) {
+    match g {
         GotType::Bad => TypeRead {
             spelled: false,
             within: false,
@@ -84,6 +86,21 @@ fn all_three(a: bool, b: bool, c: bool) -> bool
     c
 }
 
+// `iter` from s, i and j, its type, and e and b.
+pub fn iterated(h: [u64; 4], of: TypeRead, t: [u64; 4], k: u64) -> Parsed
+    requires { ⌜ (length h ≡ 4) × (length t ≡ 4) × (of .classes ≤ 65) ⌝ }
+    ensures { λ r. ⌜ Iterates h of t k r ⌝ }
+{
+    Parsed {
+        spelled: true,
+        words: [35, h[0], t[0], t[1], h[1], h[2], of.word, k],
+        count: 3,
+        within: all_three(is_variable(h[1]), is_variable(h[2]), of.within),
+        apart: h[1] != h[2],
+        classes: of.classes,
+    }
+}
+
 pub fn iterate_form(line: &[u8], f: Fields, k: u64) -> Parsed
     requires { ⌜ Cut (now line) f × (3 ≤ f .count) ⌝ }
     ensures { λ r. ⌜ FormRead k (shapeBy 35 (drop 3 (fieldsOf (now (line .entry))))) r ⌝ }
@@ -92,16 +109,12 @@ pub fn iterate_form(line: &[u8], f: Fields, k: u64) -> Parsed
         return misspelled();
     }
     let head = number_fields(line, f, 3, 6);
-    let of = type_field(field(line, f, 6));
+    let of = type_read(read_type(field(line, f, 6)));
     let tail = number_fields(line, f, 7, 9);
+    if !all_three(head.good, of.spelled, tail.good) {
+        return misspelled();
+    }
     let h = head.at;
     let t = tail.at;
-    Parsed {
-        spelled: all_three(head.good, of.spelled, tail.good),
-        words: [35, h[0], t[0], t[1], h[1], h[2], of.word, k],
-        count: 3,
-        within: all_three(is_variable(h[1]), is_variable(h[2]), of.within),
-        apart: h[1] != h[2],
-        classes: of.classes,
-    }
+    iterated(h, of, t, k)
 }

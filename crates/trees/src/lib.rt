@@ -3,6 +3,7 @@
 // depends on `text` and `types`, which read fields, on `nodes` for what a node's words say, and on `tables`.
 
 pub mod numbers; // fields that are numbers
+pub mod built; // a form from its numbers
 pub mod forms; // the fields after a form's word
 pub mod literals; // those of `int` and `real`
 pub mod iterate; // those of `iter`

@@ -22,7 +22,7 @@ use text::parts::Fields;
 use text::parts::field;
 
 // The form of a number, if a value may hold it.
-fn number_form(n: Literal, k: u64) -> Parsed
+pub fn number_form(n: Literal, k: u64) -> Parsed
     ensures { λ r. ⌜ ((o : Option Number) → n ≡ literalOf o → FormRead k (mapSome (λ x. leaf (number x)) o) r) ⌝ }
 {
     match n {

@@ -2,10 +2,11 @@
 // refusals, 4, 5, 6, 23 or 24, and 8; then its words are written.
 ghost use mathlib.Core.Path.{_≡_};
 ghost use mathlib.Core.Bool.{true};
+ghost use mathlib.Core.List.{[]};
 ghost use Prim.Native.Nat.{_≤_};
-ghost use lib.ListN.{length};
-ghost use Rattle.sheet.specs.Text.{fieldsOf};
-ghost use Rattle.sheet.specs.Lines.{firstIsN};
+ghost use lib.ListN.{length, getD};
+ghost use Rattle.sheet.specs.Text.{bytes, fieldsOf};
+ghost use Rattle.sheet.specs.Lines.{is};
 ghost use Rattle.text.specs.Parts.{Cut};
 ghost use Rattle.tables.specs.Layout.{Fine, Took};
 ghost use Rattle.trees.specs.Rules.{nodeLimits, nodeOrder, nodeCounts, Fit, Placed};
@@ -54,6 +55,9 @@ fn in_order(st: Counts, n: u64, p: Parsed) -> bool
     if st.open == 0 {
         return false;
     }
+    if st.open == 3 {
+        return false;
+    }
     if n != st.nodes - st.first {
         return false;
     }
@@ -89,7 +93,7 @@ fn put_node(w0: &[u64], w1: &mut [u64], st: Counts, n: u64, p: Parsed) -> Step
 }
 
 // In a definition all that is not smaller is upward, in a rule it is not on the sheet.
-fn place_node(w0: &[u64], w1: &mut [u64], st: Counts, n: u64, p: Parsed) -> Step
+pub fn place_node(w0: &[u64], w1: &mut [u64], st: Counts, n: u64, p: Parsed) -> Step
     requires { ⌜ (8192 ≤ length (now w0)) × (8192 ≤ length (now w1)) × Fine st × (length (p .words) ≡ 8) × (p .count ≤ 4) ⌝ }
     ensures { λ r. ⌜ Placed st n p r (now (w0 .entry)) (now (w1 .entry)) (now (w1 .exit)) ⌝ }
 {
@@ -114,7 +118,7 @@ fn place_node(w0: &[u64], w1: &mut [u64], st: Counts, n: u64, p: Parsed) -> Step
 
 // The line k, whose first field is `N`.
 pub fn node_line(line: &[u8], f: Fields, w0: &[u64], w1: &mut [u64], st: Counts, k: u64) -> Step
-    requires { ⌜ Cut (now line) f × (firstIsN (fieldsOf (now line)) ≡ true) × (8192 ≤ length (now w0)) × (8192 ≤ length (now w1)) × Fine st ⌝ }
+    requires { ⌜ Cut (now line) f × (is (getD (fieldsOf (now line)) 0 []) (bytes "N") ≡ true) × (8192 ≤ length (now w0)) × (8192 ≤ length (now w1)) × Fine st ⌝ }
     ensures { λ r. ⌜ Took st k (now (line .entry)) r (now (w0 .entry)) (now (w1 .entry)) (now (w0 .entry)) (now (w1 .exit)) ⌝ }
 {
     if f.count < 3 {

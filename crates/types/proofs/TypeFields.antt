@@ -113,7 +113,7 @@ deeper-held l t = by (decLt (depth t) 3)
     by (yes h) = rw (le-leb (suc (depth t)) 3 h, le-leb (depth t) 3 (omega arith)) (deep-by l t (classBelow 64 t) h)
     by (no h) = rw (lt-leb (suc (depth t)) 3 (omega arith)) (full-by l t (leb (depth t) 3 && classBelow 64 t) (omega arith))
 
-letter-held : (k : ℕ) (o : Option Ty) → held (onSome (codeLetter k) (λ l. mapSome (around l) o)) ≡ letteredField k (held o)
+pub letter-held : (k : ℕ) (o : Option Ty) → held (onSome (codeLetter k) (λ l. mapSome (around l) o)) ≡ letteredField k (held o)
 unfolding onSome mapSome letteredField held deeper
 letter-held zero o = refl
 letter-held (suc k) none = refl

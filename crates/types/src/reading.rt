@@ -65,7 +65,7 @@ fn spells(s: &[u8], w: &[u8], d: usize) -> bool
 }
 
 // The class that a number spells.
-fn class_of(n: Num) -> GotType
+pub fn class_of(n: Num) -> GotType
     ensures { λ r. ⌜ typeField r ≡ classField n ⌝ }
 {
     match n {
@@ -145,7 +145,7 @@ fn deeper(k: u8, t: FlatType) -> GotType
 }
 
 // A letter's byte around what was read.
-fn lettered(b: u8, g: GotType) -> GotType
+pub fn lettered(b: u8, g: GotType) -> GotType
     ensures { λ r. ⌜ typeField r ≡ letteredField (byteCode b) (typeField g) ⌝ }
 {
     let k = letter_code(b);

@@ -46,6 +46,8 @@ pub enum Refusal {
     ReportTooLong,
     /// A result of Integers leaves their range, or one of Reals is infinite.
     OverRange,
+    /// The text of a rule is no sentence.
+    NotASentence,
     /// A definition calls itself or a larger one.
     CallUpward = 23,
     /// A rule calls a definition that the sheet does not have.
@@ -54,7 +56,7 @@ pub enum Refusal {
 
 impl Refusal {
     /// All of them, in the order of their numbers.
-    pub const ALL: [Refusal; 21] = [
+    pub const ALL: [Refusal; 22] = [
         Refusal::ShortSlice,
         Refusal::SheetTooLong,
         Refusal::BadLine,
@@ -74,11 +76,12 @@ impl Refusal {
         Refusal::SizeStop,
         Refusal::ReportTooLong,
         Refusal::OverRange,
+        Refusal::NotASentence,
         Refusal::CallUpward,
         Refusal::UnknownDefinition,
     ];
 
-    /// The refusal of a number from 1 to 19, of 23 or of 24.
+    /// The refusal of a number from 1 to 20, of 23 or of 24.
     pub fn of(number: u64) -> Option<Refusal> {
         Refusal::ALL
             .into_iter()
@@ -112,6 +115,7 @@ impl Refusal {
             Refusal::SizeStop => "size stop",
             Refusal::ReportTooLong => "slip too long",
             Refusal::OverRange => "over the range",
+            Refusal::NotASentence => "not a sentence",
             Refusal::CallUpward => "call upward",
             Refusal::UnknownDefinition => "unknown definition",
         }
@@ -143,6 +147,7 @@ impl Refusal {
             Refusal::OverRange => {
                 "a result of Integers leaves their range, or one of Reals is infinite"
             }
+            Refusal::NotASentence => "the text of the rule is no sentence",
             Refusal::CallUpward => "the definition calls itself or a larger one",
             Refusal::UnknownDefinition => "the sheet has no such definition",
         }
@@ -152,7 +157,7 @@ impl Refusal {
 /// A call's refusal, or a stop of its evaluation.
 #[derive(Clone, Copy, PartialEq, Eq, Debug)]
 pub struct Refused {
-    /// The refusal's number. The calls give no other than 1 to 19, 23 and 24.
+    /// The refusal's number. The calls give no other than 1 to 20, 23 and 24.
     pub number: u64,
     /// The steps begun where an evaluation was stopped, else 0.
     pub steps: u64,

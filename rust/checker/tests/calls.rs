@@ -170,6 +170,35 @@ fn definitions_are_called() {
 }
 
 #[test]
+fn rules_may_be_texts() {
+    let mut memory = Box::new(Memory::new());
+    let mut output = [0; LEAST_OUTPUT];
+    let start = "C\t0\t-\nA\t0\t0\t5\tInt\nO\t0\t0\nO\t1\t0\nV\t0\t0\t9\nR\t0\t0\n";
+    let text = format!("{start}X\tself.a5 < 12\n");
+    let types = read_types(text.as_bytes(), &mut memory, &mut output).unwrap();
+    assert_eq!(types.collect::<Vec<_>>(), ["Bool"]);
+    let lines = report(text.as_bytes(), &mut memory, &mut output);
+    assert_eq!(lines, Ok("0 0 t 4\n0 1 u 3\n"));
+    let open = "(".repeat(65);
+    let cases = [
+        ("self.a5 <", Refusal::NotASentence, 7),
+        (open.as_str(), Refusal::OutOfLimits, 7),
+        ("true\nX\ttrue", Refusal::OutOfOrder, 8),
+        ("#9.allInstances()", Refusal::UnknownReference, 7),
+        ("self.d0()", Refusal::UnknownDefinition, 7),
+        ("v1", Refusal::UnboundVariable, 7),
+    ];
+    for (rule, refusal, place) in cases {
+        let text = format!("{start}X\t{rule}\n");
+        let types = read_types(text.as_bytes(), &mut memory, &mut output);
+        assert_eq!(types.unwrap_err(), refused(refusal, 0, place), "{rule}");
+    }
+    let line = refused(Refusal::NotASentence, 0, 7).to_string();
+    let words = "line 7: not a sentence (20): the text of the rule is no sentence";
+    assert_eq!(line, words);
+}
+
+#[test]
 fn a_stop_has_its_steps() {
     let members = vec!["7"; 127].join(",");
     let text = sheet(&format!(
@@ -193,11 +222,11 @@ fn a_stop_has_its_steps() {
 
 #[test]
 fn refusals_have_numbers_and_words() {
-    for number in (1..=19).chain([23, 24]) {
+    for number in (1..=20).chain([23, 24]) {
         let refusal = Refusal::of(number).unwrap();
         assert_eq!(refusal.number(), number);
     }
-    for number in [0, 20, 21, 22, 25, 100, u64::MAX] {
+    for number in [0, 21, 22, 25, 100, u64::MAX] {
         assert_eq!(Refusal::of(number), None);
     }
     assert_eq!(Refusal::MalformedTree.word(), "broken tree");

@@ -52,7 +52,7 @@ impl Lent {
     fn units(&mut self, calls: &dyn Calls, workload: &Workload, job: &[Vec<u8>]) -> usize {
         let units = job.iter().map(|text| {
             let answer = self.call(calls, workload, text);
-            assert_eq!(answer.number, 0, "{}", workload.name);
+            assert_eq!(answer.number, workload.number, "{}", workload.name);
             workload.units(text, answer, &self.out)
         });
         units.sum()

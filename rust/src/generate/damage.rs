@@ -3,7 +3,7 @@
 use super::fields::change;
 use super::random::Random;
 
-const BYTES: &[u8] = b"\n\t\r 0123456789-@#(),SQBCAOVDRNutf\x00\xff";
+const BYTES: &[u8] = b"\n\t\r 0123456789-@#(),SQBCAOVDRNXutf\x00\xff";
 
 type Lines = Vec<Vec<u8>>;
 
@@ -70,11 +70,12 @@ fn lines(random: &mut Random, mut lines: Lines) -> Lines {
         }
         5 => lines.insert(one, b"\n".to_vec()),
         6 => {
-            let strange: [&[u8]; 5] = [
+            let strange: [&[u8]; 6] = [
                 b"N\n",
                 b"R\t0\t0\n",
                 b"D\t0\t0\tBool\n",
                 b"X\n",
+                b"X\ttrue\n",
                 b"N\t0\ttrue\n",
             ];
             lines.insert(one, random.pick(&strange).to_vec());

@@ -1,6 +1,7 @@
 //! Damage to the fields of a line.
 
 use super::random::Random;
+use super::slips::change_text;
 
 /// Fields that are wrong in most places, or just outside a limit.
 const FIELDS: [&str; 75] = [
@@ -84,6 +85,9 @@ const FIELDS: [&str; 75] = [
 /// A change to a line's fields, given those of a like line.
 pub fn change(random: &mut Random, fields: &mut Vec<Vec<u8>>, other: &[Vec<u8>]) {
     match fields.as_mut_slice() {
+        [letter, text] if letter == b"X" && !random.one_in(8) => {
+            return change_text(random, text);
+        }
         [letter, .., value] if letter == b"V" && random.one_in(3) => {
             return change_members(random, value);
         }

@@ -13,7 +13,7 @@ pub const OF_RULES: [usize; 9] = [5, 8, 10, 11, 14, 15, 21, 22, 23];
 /// The kinds that are about definitions.
 pub const OF_DEFINITIONS: [usize; 5] = [16, 17, 18, 19, 20];
 /// The kinds that are about Reals, those that can go in most ways more often.
-pub const OF_REALS: [usize; 10] = [21, 21, 21, 22, 23, 24, 24, 24, 25, 25];
+pub const OF_REALS: [usize; 11] = [21, 21, 21, 22, 22, 23, 24, 24, 24, 25, 25];
 
 /// A sheet at the limit of the kind, or one over it.
 pub fn limit(random: &mut Random, kind: usize) -> Vec<u8> {

@@ -1,5 +1,6 @@
 //! Sheets by seed, and what is asked of the calls about them.
 
+pub mod chains;
 pub mod damage;
 pub mod definitions;
 pub mod draft;
@@ -13,6 +14,9 @@ pub mod random;
 pub mod reals;
 pub mod rules;
 pub mod runs;
+pub mod sentences;
+pub mod slips;
+pub mod texts;
 pub mod trees;
 pub mod world;
 
@@ -26,7 +30,7 @@ use trees::grown;
 /// A sheet for a seed: most type, some are damaged, some stand at a limit.
 pub fn sheet(seed: u64) -> Vec<u8> {
     let mut random = Random::new(seed);
-    match random.below(24) {
+    match random.below(38) {
         0..=7 => grown(&mut random),
         8 => with_definitions(&mut random),
         9 => large::large(&mut random),
@@ -34,10 +38,20 @@ pub fn sheet(seed: u64) -> Vec<u8> {
             let text = grown(&mut random);
             damage::damage(&mut random, &text)
         }
-        20..=23 => {
+        20..=24 => {
             let kind = *random.pick(&limits::OF_REALS);
             limits::limit(&mut random, kind)
         }
+        25..=27 => told(&mut random),
+        28 => {
+            let text = told(&mut random);
+            if random.one_in(3) {
+                damage::damage(&mut random, &text)
+            } else {
+                texts::slipped(&mut random, text)
+            }
+        }
+        29..=37 => sentences::about(&mut random).into_bytes(),
         _ => {
             let kind = random.below(limits::KINDS);
             let text = limits::limit(&mut random, kind);
@@ -48,6 +62,20 @@ pub fn sheet(seed: u64) -> Vec<u8> {
             }
         }
     }
+}
+
+/// Another sheet with its rules in text.
+fn told(random: &mut Random) -> Vec<u8> {
+    let text = match random.below(6) {
+        0 => large::large(random),
+        1 => {
+            let kind = *random.pick(&limits::OF_RULES);
+            limits::limit(random, kind)
+        }
+        2 => with_definitions(random),
+        _ => grown(random),
+    };
+    texts::retold(random, &text).unwrap_or(text)
 }
 
 /// A sheet about definitions, or another one with its rules made definitions.

@@ -136,7 +136,12 @@ fn rule(number: usize, left: &str, form: &str, right: &str) -> String {
 /// definition or by the other branch; or typed Int, and so by Integers alone.
 fn widened(random: &mut Random) -> String {
     let row = *random.pick(&["Real", "Real", "Int"]);
-    let (one, other) = (any_integer(random), any_integer(random));
+    // Half of them at the ends of the range, which a result then leaves.
+    let [one, other] = [0; 2].map(|_| match random.below(4) {
+        0 => i32::MIN,
+        1 => i32::MAX,
+        _ => any_integer(random),
+    });
     let form = *random.pick(&["plus", "minus", "times", "less", "over", "div"]);
     let start = one_value(row, &one.to_string());
     let operand = match random.below(3) {

@@ -5,6 +5,7 @@ use crate::calls::Answer;
 use crate::generate::Call;
 use crate::model::{Rule, Sheet};
 use crate::read::read;
+use crate::read::tokens::tokens;
 use crate::tree::{Form, Node, DEEPEST_RULE};
 use crate::typing::type_rule;
 
@@ -69,7 +70,12 @@ impl<'t> Definitions<'t> {
     fn without_calls(&self) -> Vec<u8> {
         let mut text = Vec::new();
         for line in &self.lines {
+            let bare;
             let fields = match line.as_slice() {
+                [b"X", text] => {
+                    bare = without_calls(text);
+                    vec![b"X".as_slice(), &bare]
+                }
                 [letter, node, b"call", operand, _] => {
                     vec![*letter, *node, b"isUndef", *operand]
                 }
@@ -165,6 +171,14 @@ impl Definitions<'_> {
             type_rule(&sheet.model, &sheet.definitions, &mut rule).is_ok()
         })
     }
+}
+
+/// The text of a rule with `isUndef` in the place of each definition.
+fn without_calls(text: &[u8]) -> Vec<u8> {
+    let is_call = |word: &[u8]| matches!(word, [b'd', digit, ..] if digit.is_ascii_digit());
+    let bare = |token| if is_call(token) { b"isUndef" } else { token };
+    let tokens: Vec<&[u8]> = tokens(text).into_iter().map(bare).collect();
+    tokens.join(&b' ')
 }
 
 /// All nodes below one, itself first.

@@ -8,7 +8,7 @@ use ocl_checker::calls as product;
 pub struct Linked;
 
 /// The stack that `docs/USING.md` says a call does with.
-const STACK: usize = 96 * 1024;
+const STACK: usize = 384 * 1024;
 
 impl Calls for Linked {
     fn stack(&self) -> usize {

@@ -7,6 +7,7 @@ pub mod definitions;
 pub mod faults;
 #[cfg(feature = "linked")]
 pub mod linked;
+pub mod misreadings;
 pub mod numbers;
 pub mod operations;
 pub mod program;
@@ -14,8 +15,11 @@ pub mod reals;
 pub mod run;
 pub mod runs;
 pub mod shrink;
+pub mod slips;
 pub mod standin;
 pub mod tally;
+pub mod text_cases;
+pub mod texts;
 
 use crate::calls::{self, Answer, Words, LEAST_WORDS};
 use crate::generate::{Ask, Call};

@@ -5,6 +5,7 @@ use super::compare::compare;
 use super::program;
 use super::shrink::shrink;
 use super::tally::Tally;
+use super::texts::Texts;
 use super::Calls;
 use crate::calls;
 use crate::generate::random::Random;
@@ -32,12 +33,19 @@ pub fn sheet(
 ) -> Result<(), Difference> {
     let mut garbage = Random::new(seed);
     let cases = Cases::of(text);
+    let texts = Texts::of(text);
     for ask in asks.iter().copied() {
         let seed = garbage.word();
         let compared = compare(calls, text, ask, seed);
         tally.add(ask.call, compared.answer);
         for case in cases.met(ask.call, compared.answer) {
             tally.add_case(case);
+        }
+        for case in texts
+            .iter()
+            .flat_map(|texts| texts.met(ask.call, compared.answer))
+        {
+            tally.add_text(case);
         }
         if compared.difference.is_some() {
             let how = |text: &[u8]| compare(calls, text, ask, seed).difference;

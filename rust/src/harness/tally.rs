@@ -1,18 +1,21 @@
 //! Which answers each call was compared in, and which cases.
 
 use super::cases::Case;
+use super::text_cases::TextCase;
 use crate::calls::Answer;
 use crate::generate::Call;
 use std::fmt;
 
 const NAMES: [&str; 3] = ["read", "evaluate", "report"];
-/// The numbers from 0 on; 20 to 22 are given to no call yet.
+/// The numbers from 0 on; 21 and 22 are given to no call yet.
 pub const NUMBERS: usize = 25;
 
-/// Answers by call and number, and cases in the order of `Case::ALL`.
+/// Answers by call and number, and cases in the order of `Case::ALL` and of
+/// `TextCase::ALL`.
 pub struct Tally {
     answers: [[u64; NUMBERS]; 3],
     cases: [u64; Case::ALL.len()],
+    texts: [u64; TextCase::ALL.len()],
 }
 
 impl Default for Tally {
@@ -20,6 +23,7 @@ impl Default for Tally {
         Tally {
             answers: [[0; NUMBERS]; 3],
             cases: [0; Case::ALL.len()],
+            texts: [0; TextCase::ALL.len()],
         }
     }
 }
@@ -42,9 +46,9 @@ fn position(call: Call) -> usize {
 /// Whether a call can answer with the number.
 fn relevant(call: Call, number: usize) -> bool {
     match call {
-        Call::Read => matches!(number, 0..=13 | 23 | 24),
-        Call::Evaluate { .. } => matches!(number, 0..=17 | 19 | 23 | 24),
-        Call::Report => matches!(number, 0..=13 | 18 | 23 | 24),
+        Call::Read => matches!(number, 0..=13 | 20 | 23 | 24),
+        Call::Evaluate { .. } => matches!(number, 0..=17 | 19 | 20 | 23 | 24),
+        Call::Report => matches!(number, 0..=13 | 18 | 20 | 23 | 24),
     }
 }
 
@@ -57,11 +61,23 @@ impl Tally {
         self.cases[case as usize] += 1;
     }
 
+    pub fn add_text(&mut self, case: TextCase) {
+        self.texts[case as usize] += 1;
+    }
+
+    /// The names of all cases, with how often each was met.
+    fn cases(&self) -> impl Iterator<Item = (&'static str, u64)> + '_ {
+        let cases = Case::ALL.iter().map(|case| case.name());
+        let texts = TextCase::ALL.iter().map(|case| case.name());
+        cases.zip(self.cases).chain(texts.zip(self.texts))
+    }
+
     /// Adds what another one has counted.
     pub fn join(&mut self, other: Tally) {
         let counts = self.answers.iter_mut().flatten().chain(&mut self.cases);
         let more = other.answers.into_iter().flatten().chain(other.cases);
-        for (count, more) in counts.zip(more) {
+        let counts = counts.chain(&mut self.texts);
+        for (count, more) in counts.zip(more.chain(other.texts)) {
             *count += more;
         }
     }
@@ -77,8 +93,8 @@ impl Tally {
                 }
             }
         }
-        let unmet = (Case::ALL.iter().zip(self.cases)).filter(|(_, count)| *count == 0);
-        missing.extend(unmet.map(|(case, _)| case.name().to_string()));
+        let unmet = self.cases().filter(|(_, count)| *count == 0);
+        missing.extend(unmet.map(|(name, _)| name.to_string()));
         missing
     }
 }
@@ -100,8 +116,8 @@ impl fmt::Display for Tally {
             }
             writeln!(out)?;
         }
-        for (case, count) in Case::ALL.iter().zip(self.cases) {
-            writeln!(out, "{count:>8} {}", case.name())?;
+        for (name, count) in self.cases() {
+            writeln!(out, "{count:>8} {name}")?;
         }
         Ok(())
     }

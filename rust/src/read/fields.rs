@@ -83,15 +83,15 @@ impl<'a> Fields<'a> {
     }
 
     pub fn name(&mut self) -> u8 {
-        self.number(0, 255) as u8
+        self.number(0, spelling::LAST_NAME) as u8
     }
 
     pub fn definition(&mut self) -> u8 {
-        self.number(0, 31) as u8
+        self.number(0, spelling::LAST_DEFINITION) as u8
     }
 
     pub fn variable(&mut self) -> u8 {
-        self.number(1, 15) as u8
+        self.number(1, spelling::LAST_VARIABLE) as u8
     }
 
     /// A class, or none for a minus sign.

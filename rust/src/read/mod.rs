@@ -2,7 +2,12 @@
 
 mod fields;
 mod nodes;
+mod primaries;
+pub mod sentences;
 pub mod spelling;
+mod steps;
+mod texts;
+pub mod tokens;
 
 use crate::model::{Definition, Row, Rule, Sheet};
 use crate::refusal::{Refusal, Refused};
@@ -31,6 +36,8 @@ struct OpenTree {
     /// What a definition gives; a rule says nothing of it.
     declared: Option<Type>,
     last_line: usize,
+    /// Whether its nodes come from a text.
+    is_text: bool,
     /// The nodes so far; a node that became an operand has moved into its user.
     nodes: Vec<Option<Node>>,
 }
@@ -53,7 +60,7 @@ pub fn read(text: &[u8]) -> Result<Sheet, Refused> {
         let whole = line.strip_suffix(b"\n");
         let mut fields = Fields::of(whole.unwrap_or(line));
         let letter = fields.next();
-        if letter != b"N" {
+        if letter != b"N" && letter != b"X" {
             reader.end_tree()?;
         }
         if whole.is_none() {
@@ -77,6 +84,7 @@ impl Reader {
             b"D" => self.definition(fields, place),
             b"R" => self.rule(fields, place),
             b"N" => self.node(fields, place),
+            b"X" => self.text(fields, place),
             _ => Err(Refusal::BadLine),
         }
     }
@@ -176,6 +184,7 @@ impl Reader {
             class,
             declared: Some(ty),
             last_line: place,
+            is_text: false,
             nodes: Vec::new(),
         });
         Ok(())
@@ -191,6 +200,7 @@ impl Reader {
             class,
             declared: None,
             last_line: place,
+            is_text: false,
             nodes: Vec::new(),
         });
         Ok(())

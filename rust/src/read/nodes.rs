@@ -6,7 +6,7 @@ use crate::refusal::Refusal;
 use crate::tree::{Form, Node};
 use crate::types::Kind;
 
-const MOST_NODES: usize = 768;
+pub(super) const MOST_NODES: usize = 768;
 const MOST_MEMBERS: usize = 4;
 
 /// An N line's fields after its number.
@@ -140,34 +140,14 @@ impl Reader {
         }
         fields.end()?;
 
-        let tree = self.open.as_mut().ok_or(Refusal::OutOfOrder)?;
-        require(number == tree.nodes.len(), Refusal::OutOfOrder)?;
-        if let Form::Iter {
-            member,
-            accumulator,
-            ..
-        } = &form
-        {
-            require(member != accumulator, Refusal::OutOfOrder)?;
-        }
-        let class = match &form {
-            Form::All(class) | Form::As(class) => Some(*class),
-            Form::Iter { ty, .. } => ty.class(),
-            _ => None,
-        };
-        let known = class.is_none_or(|class| self.sheet.model.classes.holds(class));
-        require(known, Refusal::UnknownReference)?;
-        if let Form::Call(called) = form {
-            // Those that are read are all that a rule finds on the sheet, and the
-            // ones smaller than a definition that is being read.
-            let callable = usize::from(called) < self.sheet.definitions.len();
-            let refusal = match tree.declared {
-                Some(_) => Refusal::CallUpward,
-                None => Refusal::UnknownDefinition,
-            };
-            require(callable, refusal)?;
-        }
+        let tree = self.open.as_ref().filter(|tree| !tree.is_text);
+        let tree = tree.ok_or(Refusal::OutOfOrder)?;
+        let next = number == tree.nodes.len() && !form.binds_twice();
+        require(next, Refusal::OutOfOrder)?;
+        self.known_class(form.class())?;
+        self.callable(&form, tree.declared.is_some())?;
 
+        let tree = self.open.as_mut().ok_or(Refusal::OutOfOrder)?;
         // A node not there yet and a node moved away already are both refused.
         let mut take = |operand: usize| tree.nodes.get_mut(operand).and_then(Option::take);
         let operands = operands.into_iter().map(&mut take).collect();
@@ -180,5 +160,19 @@ impl Reader {
         tree.last_line = place;
         self.nodes += 1;
         Ok(())
+    }
+    /// A definition that a form calls. Those that are read are all that a rule finds
+    /// on the sheet, and the ones smaller than a definition that is being read.
+    pub(super) fn callable(&self, form: &Form, in_definition: bool) -> Result<(), Refusal> {
+        let Form::Call(called) = form else {
+            return Ok(());
+        };
+        let refusal = if in_definition {
+            Refusal::CallUpward
+        } else {
+            Refusal::UnknownDefinition
+        };
+        let callable = usize::from(*called) < self.sheet.definitions.len();
+        require(callable, refusal)
     }
 }

@@ -4,6 +4,7 @@ mod areas;
 mod cap;
 mod densities;
 mod sheets;
+mod texts;
 
 use crate::calls::Answer;
 use crate::generate::full::full;
@@ -32,6 +33,8 @@ pub struct Workload {
     /// The small job and the large one: the texts a call is made for.
     pub jobs: [Vec<Vec<u8>>; 2],
     pub call: Call,
+    /// What the call answers: 0 but where a refusal is what is timed.
+    pub number: u64,
 }
 
 impl Workload {
@@ -71,6 +74,7 @@ pub fn workloads() -> Vec<Workload> {
         unit,
         call,
         jobs,
+        number: 0,
     };
     let one = |small: Vec<u8>, large: Vec<u8>| [vec![small], vec![large]];
     vec![
@@ -92,12 +96,33 @@ pub fn workloads() -> Vec<Workload> {
             Call::Read,
             one([values(2, 50), nodes_of(12, 1)].concat(), full(49_152, 128)),
         ),
+        workload(
+            "reading, a text",
+            Unit::Byte,
+            Call::Read,
+            one(texts::quantified(12), texts::quantified(128)),
+        ),
+        Workload {
+            number: 4,
+            ..workload(
+                "reading, a long text",
+                Unit::Byte,
+                Call::Read,
+                one(texts::sum(4_900), texts::sum(49_000)),
+            )
+        },
         workload("typing", Unit::Node, Call::Read, one(types(10), types(96))),
         workload(
             "a day of 400 cap sheets",
             Unit::Line,
             Call::Report,
             [40, 400].map(|sheets| (0..sheets).map(cap).collect()),
+        ),
+        workload(
+            "a day of 400 texts",
+            Unit::Line,
+            Call::Report,
+            [40, 400].map(|sheets| (0..sheets).map(texts::told).collect()),
         ),
         workload(
             "a day of 400 area sheets",

@@ -1,3 +1,4 @@
+-- `no_output` meets its contract.
 use mathlib.Core.Path.{refl}
 use Rattle.sheet.specs.Calls.{refusalAt}
 use Rattle.checker.proofs.no_output.Statement.{statement}

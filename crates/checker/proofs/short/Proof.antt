@@ -1,3 +1,4 @@
+-- `short` meets its contract.
 use Rattle.checker.proofs.Answers.{short0, short1, short2}
 use Rattle.checker.proofs.short.Statement.{statement}
 use Rattle.checker.proofs.short.Tie as tie

@@ -1,3 +1,4 @@
+-- `short_lent` meets its contract.
 use borrow.Author.Needs.{needs}
 use mathlib.Core.Path.{sym, _∙_}
 use Rattle.sheet.specs.Calls.{shortOutput}

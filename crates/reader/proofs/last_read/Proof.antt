@@ -1,11 +1,11 @@
 -- `last_read` meets its contract: the end of an open rule and the text's last part, by proofs/Laws.antt. Assumes nothing.
-use borrow.Author.Needs.{needs}
 use mathlib.Core.Path.{ap, _∙_}
 use native.Mathlib.Omega.{arith}
 use Rattle.sheet.specs.Text.{fieldsOf}
 use Rattle.text.specs.Words.{byteKind, onlyByte}
 use Rattle.text.proofs.PartLaws.{counted-some}
-use Rattle.reader.proofs.Laws.{is-node, is-other, rule-room, node-last, stop-last, sheet-last, left-last}
+use Rattle.reader.proofs.Laws.{in-body, not-body, rule-room, body-last, stop-last, sheet-last, left-last}
+use borrow.Author.Needs.{needs}
 use Rattle.reader.proofs.last_read.Statement.{statement}
 use Rattle.reader.proofs.last_read.Tie as tie
 
@@ -21,14 +21,17 @@ letter-requires c κs = search needs
 byte-kind-requires : tie.Need-byte-kind-requires
 byte-kind-requires c κs = search needs
 
+in-body-requires : tie.Need-in-body-requires
+in-body-requires c κs = search needs
+
 add-t13 : tie.Need-add-t13
 add-t13 c = search needs
 
 returns : tie.Need-returns
-returns c = node-last (c .before .before .before .before .before .before .before .before .args .st) (c .before .before .before .before .before .before .before .before .args .k) (c .before .before .before .before .before .before .before .before .args .part .now) (is-node (fieldsOf (c .before .before .before .before .before .before .before .before .args .part .now)) (c .before .byte-kind .result) (c .before .byte-kind .ensures ∙ ap byteKind (c .before .before .letter .ensures ∙ ap onlyByte (c .before .before .before .field .ensures))) (c .if1 .taken))
+returns c = body-last (c .before .before .before .before .before .before .before .before .before .args .st) (c .before .before .before .before .before .before .before .before .before .args .k) (c .before .before .before .before .before .before .before .before .before .args .part .now) (in-body (fieldsOf (c .before .before .before .before .before .before .before .before .before .args .part .now)) (c .before .before .byte-kind .result) (c .before .before .byte-kind .ensures ∙ ap byteKind (c .before .before .before .letter .ensures ∙ ap onlyByte (c .before .before .before .before .field .ensures))) (c .before .in-body .ensures) (c .if1 .taken))
 
 end-rule-requires : tie.Need-end-rule-requires
-end-rule-requires c κs = (c .before .before .before .before .before .before .before .before .before .pre .0, c .before .before .before .before .before .before .before .before .before .pre .1, c .before .before .before .before .before .before .before .before .before .pre .2 .fine, rule-room (c .before .before .before .before .before .before .before .before .before .pre .2 .sheet) (c .before .before .before .before .before .before .before .before .before .pre .2 .holds) (c .before .before .before .before .before .before .before .before .before .pre .2 .good))
+end-rule-requires c κs = (c .before .before .before .before .before .before .before .before .before .before .pre .0, c .before .before .before .before .before .before .before .before .before .before .pre .1, c .before .before .before .before .before .before .before .before .before .before .pre .2 .fine, rule-room (c .before .before .before .before .before .before .before .before .before .before .pre .2 .sheet) (c .before .before .before .before .before .before .before .before .before .before .pre .2 .holds) (c .before .before .before .before .before .before .before .before .before .before .pre .2 .good))
 
 enum-known-n : tie.Need-enum-known-n
 enum-known-n c = search needs
@@ -43,19 +46,19 @@ same-length : tie.Need-same-length
 same-length c = search needs
 
 returns-2 : tie.Need-returns-2
-returns-2 c = stop-last (c .before .before .before .before .before .before .before .before .before .before .before .before .before .before .before .args .st) (c .before .before .before .before .before .before .before .before .before .before .before .before .before .before .before .args .k) (c .before .before .before .before .before .before .before .before .before .before .before .before .before .before .before .args .part .now) (is-other (fieldsOf (c .before .before .before .before .before .before .before .before .before .before .before .before .before .before .before .args .part .now)) (c .before .before .before .before .before .before .before .before .byte-kind .result) (c .before .before .before .before .before .before .before .before .byte-kind .ensures ∙ ap byteKind (c .before .before .before .before .before .before .before .before .before .letter .ensures ∙ ap onlyByte (c .before .before .before .before .before .before .before .before .before .before .field .ensures))) (c .before .before .before .before .before .before .before .if1 .left)) (rw (c .before .n .given .1) at (c .before .before .before .before .before .end-rule .ensures))
+returns-2 c = stop-last (c .before .before .before .before .before .before .before .before .before .before .before .before .before .before .before .before .args .st) (c .before .before .before .before .before .before .before .before .before .before .before .before .before .before .before .before .args .k) (c .before .before .before .before .before .before .before .before .before .before .before .before .before .before .before .before .args .part .now) (not-body (fieldsOf (c .before .before .before .before .before .before .before .before .before .before .before .before .before .before .before .before .args .part .now)) (c .before .before .before .before .before .before .before .before .before .byte-kind .result) (c .before .before .before .before .before .before .before .before .before .byte-kind .ensures ∙ ap byteKind (c .before .before .before .before .before .before .before .before .before .before .letter .ensures ∙ ap onlyByte (c .before .before .before .before .before .before .before .before .before .before .before .field .ensures))) (c .before .before .before .before .before .before .before .before .in-body .ensures) (c .before .before .before .before .before .before .before .if1 .left)) (rw (c .before .n .given .1) at (c .before .before .before .before .before .end-rule .ensures))
 
 same-length-2 : tie.Need-same-length-2
 same-length-2 c = search needs
 
 returns-3 : tie.Need-returns-3
-returns-3 c = sheet-last (c .before .before .before .before .before .before .before .before .before .before .before .before .before .before .before .before .args .st) (c .before .before .before .before .before .before .before .before .before .before .before .before .before .before .before .before .args .k) (c .before .before .before .before .before .before .before .before .before .before .before .before .before .before .before .before .args .part .now) (is-other (fieldsOf (c .before .before .before .before .before .before .before .before .before .before .before .before .before .before .before .before .args .part .now)) (c .before .before .before .before .before .before .before .before .before .byte-kind .result) (c .before .before .before .before .before .before .before .before .before .byte-kind .ensures ∙ ap byteKind (c .before .before .before .before .before .before .before .before .before .before .letter .ensures ∙ ap onlyByte (c .before .before .before .before .before .before .before .before .before .before .before .field .ensures))) (c .before .before .before .before .before .before .before .before .if1 .left)) (rw (c .before .before .next .given .1) at (c .before .before .before .before .before .before .end-rule .ensures)) (c .if2 .taken)
+returns-3 c = sheet-last (c .before .before .before .before .before .before .before .before .before .before .before .before .before .before .before .before .before .args .st) (c .before .before .before .before .before .before .before .before .before .before .before .before .before .before .before .before .before .args .k) (c .before .before .before .before .before .before .before .before .before .before .before .before .before .before .before .before .before .args .part .now) (not-body (fieldsOf (c .before .before .before .before .before .before .before .before .before .before .before .before .before .before .before .before .before .args .part .now)) (c .before .before .before .before .before .before .before .before .before .before .byte-kind .result) (c .before .before .before .before .before .before .before .before .before .before .byte-kind .ensures ∙ ap byteKind (c .before .before .before .before .before .before .before .before .before .before .before .letter .ensures ∙ ap onlyByte (c .before .before .before .before .before .before .before .before .before .before .before .before .field .ensures))) (c .before .before .before .before .before .before .before .before .before .in-body .ensures) (c .before .before .before .before .before .before .before .before .if1 .left)) (rw (c .before .before .next .given .1) at (c .before .before .before .before .before .before .end-rule .ensures)) (c .if2 .taken)
 
 same-length-3 : tie.Need-same-length-3
 same-length-3 c = search needs
 
 returns-4 : tie.Need-returns-4
-returns-4 c = left-last (c .before .before .before .before .before .before .before .before .before .before .before .before .before .before .before .before .args .st) (c .before .before .before .before .before .before .before .before .before .before .before .before .before .before .before .before .args .k) (c .before .before .before .before .before .before .before .before .before .before .before .before .before .before .before .before .args .part .now) (is-other (fieldsOf (c .before .before .before .before .before .before .before .before .before .before .before .before .before .before .before .before .args .part .now)) (c .before .before .before .before .before .before .before .before .before .byte-kind .result) (c .before .before .before .before .before .before .before .before .before .byte-kind .ensures ∙ ap byteKind (c .before .before .before .before .before .before .before .before .before .before .letter .ensures ∙ ap onlyByte (c .before .before .before .before .before .before .before .before .before .before .before .field .ensures))) (c .before .before .before .before .before .before .before .before .if1 .left)) (rw (c .before .before .next .given .1) at (c .before .before .before .before .before .before .end-rule .ensures)) (c .if2 .left)
+returns-4 c = left-last (c .before .before .before .before .before .before .before .before .before .before .before .before .before .before .before .before .before .args .st) (c .before .before .before .before .before .before .before .before .before .before .before .before .before .before .before .before .before .args .k) (c .before .before .before .before .before .before .before .before .before .before .before .before .before .before .before .before .before .args .part .now) (not-body (fieldsOf (c .before .before .before .before .before .before .before .before .before .before .before .before .before .before .before .before .before .args .part .now)) (c .before .before .before .before .before .before .before .before .before .before .byte-kind .result) (c .before .before .before .before .before .before .before .before .before .before .byte-kind .ensures ∙ ap byteKind (c .before .before .before .before .before .before .before .before .before .before .before .letter .ensures ∙ ap onlyByte (c .before .before .before .before .before .before .before .before .before .before .before .before .field .ensures))) (c .before .before .before .before .before .before .before .before .before .in-body .ensures) (c .before .before .before .before .before .before .before .before .if1 .left)) (rw (c .before .before .next .given .1) at (c .before .before .before .before .before .before .end-rule .ensures)) (c .if2 .left)
 
 pub last-read-spec : {M : Type 1} → statement M
 last-read-spec =
@@ -65,6 +68,7 @@ last-read-spec =
     field-requires
     letter-requires
     byte-kind-requires
+    in-body-requires
     add-t13
     returns
     end-rule-requires

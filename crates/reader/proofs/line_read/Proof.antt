@@ -1,12 +1,12 @@
 -- `line_read` meets its contract: the end of an open rule and the line, put together by proofs/Laws.antt. Assumes nothing.
-use borrow.Author.Needs.{needs}
-use mathlib.Core.Path.{ap, _∙_}
+use mathlib.Core.Path.{sym, ap, _∙_}
 use native.Mathlib.Omega.{arith}
 use Prim.Native.Nat.{_+_}
 use Rattle.sheet.specs.Text.{fieldsOf}
 use Rattle.text.specs.Words.{byteKind, onlyByte}
 use Rattle.text.proofs.PartLaws.{counted-some}
-use Rattle.reader.proofs.Laws.{is-node, is-other, rule-room, ended-fine, node-whole, stop-whole, next-whole}
+use Rattle.reader.proofs.Laws.{in-body, not-body, rule-room, ended-fine, body-whole, stop-whole, next-whole}
+use borrow.Author.Needs.{needs}
 use Rattle.reader.proofs.line_read.Statement.{statement}
 use Rattle.reader.proofs.line_read.Tie as tie
 
@@ -22,11 +22,14 @@ letter-requires c κs = search needs
 byte-kind-requires : tie.Need-byte-kind-requires
 byte-kind-requires c κs = search needs
 
-add-node-line : tie.Need-add-node-line
-add-node-line c = search needs
+in-body-requires : tie.Need-in-body-requires
+in-body-requires c κs = search needs
 
-node-line-requires : tie.Need-node-line-requires
-node-line-requires c κs = (c .before .before .before .before .before .before .cut .ensures, is-node (fieldsOf (c .before .before .before .before .before .before .before .before .before .before .args .line .now)) (c .before .before .before .byte-kind .result) (c .before .before .before .byte-kind .ensures ∙ ap byteKind (c .before .before .before .before .letter .ensures ∙ ap onlyByte (c .before .before .before .before .before .field .ensures))) (c .before .before .if1 .taken), c .before .before .before .before .before .before .before .before .before .before .pre .0, c .before .before .before .before .before .before .before .before .before .before .pre .1, c .before .before .before .before .before .before .before .before .before .before .pre .2 .fine)
+add-body-line : tie.Need-add-body-line
+add-body-line c = search needs
+
+body-line-requires : tie.Need-body-line-requires
+body-line-requires c κs = (c .before .before .before .before .before .before .before .before .cut .ensures, (c .before .before .before .before .before .byte-kind .ensures ∙ ap byteKind (c .before .before .before .before .before .before .letter .ensures ∙ ap onlyByte (c .before .before .before .before .before .before .before .field .ensures))), sym (c .before .before .before .before .in-body .ensures) ∙ c .before .before .before .if1 .taken, c .before .before .before .before .before .before .before .before .before .before .before .before .before .pre .0, c .before .before .before .before .before .before .before .before .before .before .before .before .before .pre .1, c .before .before .before .before .before .before .before .before .before .before .before .before .before .pre .2, c .before .before .before .before .before .before .before .before .before .before .before .before .before .pre .3 .fine)
 
 add-placed : tie.Need-add-placed
 add-placed c = search needs
@@ -40,11 +43,14 @@ same-length c = search needs
 same-length-2 : tie.Need-same-length-2
 same-length-2 c = search needs
 
+same-length-3 : tie.Need-same-length-3
+same-length-3 c = search needs
+
 returns : tie.Need-returns
-returns c = rw (c .placed .ensures) (node-whole (c .before .before .before .before .before .before .before .before .before .before .before .before .before .before .args .st) (c .before .before .before .before .before .before .before .before .before .before .before .before .before .before .args .k) (c .before .before .before .before .before .before .before .before .before .before .before .before .before .before .args .line .now) (is-node (fieldsOf (c .before .before .before .before .before .before .before .before .before .before .before .before .before .before .args .line .now)) (c .before .before .before .before .before .before .before .byte-kind .result) (c .before .before .before .before .before .before .before .byte-kind .ensures ∙ ap byteKind (c .before .before .before .before .before .before .before .before .letter .ensures ∙ ap onlyByte (c .before .before .before .before .before .before .before .before .before .field .ensures))) (c .before .before .before .before .before .before .if1 .taken)) (c .before .before .before .node-line .ensures))
+returns c = rw (c .placed .ensures) (body-whole (c .before .before .before .before .before .before .before .before .before .before .before .before .before .before .before .before .before .before .before .args .st) (c .before .before .before .before .before .before .before .before .before .before .before .before .before .before .before .before .before .before .before .args .k) (c .before .before .before .before .before .before .before .before .before .before .before .before .before .before .before .before .before .before .before .args .line .now) (in-body (fieldsOf (c .before .before .before .before .before .before .before .before .before .before .before .before .before .before .before .before .before .before .before .args .line .now)) (c .before .before .before .before .before .before .before .before .before .before .before .byte-kind .result) (c .before .before .before .before .before .before .before .before .before .before .before .byte-kind .ensures ∙ ap byteKind (c .before .before .before .before .before .before .before .before .before .before .before .before .letter .ensures ∙ ap onlyByte (c .before .before .before .before .before .before .before .before .before .before .before .before .before .field .ensures))) (c .before .before .before .before .before .before .before .before .before .before .in-body .ensures) (c .before .before .before .before .before .before .before .before .before .if1 .taken)) (c .before .before .before .before .before .body-line .ensures))
 
 end-rule-requires : tie.Need-end-rule-requires
-end-rule-requires c κs = (c .before .before .before .before .before .before .before .before .before .before .pre .0, c .before .before .before .before .before .before .before .before .before .before .pre .1, c .before .before .before .before .before .before .before .before .before .before .pre .2 .fine, rule-room (c .before .before .before .before .before .before .before .before .before .before .pre .2 .sheet) (c .before .before .before .before .before .before .before .before .before .before .pre .2 .holds) (c .before .before .before .before .before .before .before .before .before .before .pre .2 .good))
+end-rule-requires c κs = (c .before .before .before .before .before .before .before .before .before .before .before .before .pre .0, c .before .before .before .before .before .before .before .before .before .before .before .before .pre .1, c .before .before .before .before .before .before .before .before .before .before .before .before .pre .3 .fine, rule-room (c .before .before .before .before .before .before .before .before .before .before .before .before .pre .3 .sheet) (c .before .before .before .before .before .before .before .before .before .before .before .before .pre .3 .holds) (c .before .before .before .before .before .before .before .before .before .before .before .before .pre .3 .good))
 
 enum-known-n : tie.Need-enum-known-n
 enum-known-n c = search needs
@@ -53,31 +59,31 @@ enum-known-next : tie.Need-enum-known-next
 enum-known-next c = search needs
 
 other-line-requires : tie.Need-other-line-requires
-other-line-requires c κs = (c .before .before .before .before .before .before .before .before .before .before .before .before .before .cut .ensures, (c .before .before .before .before .before .before .before .before .before .before .byte-kind .ensures ∙ ap byteKind (c .before .before .before .before .before .before .before .before .before .before .before .letter .ensures ∙ ap onlyByte (c .before .before .before .before .before .before .before .before .before .before .before .before .field .ensures))), c .before .before .before .before .before .before .before .before .before .if1 .left, omega (arith, c .before .before .before .before .before .before .before .before .before .before .before .before .before .before .before .before .before .pre .0, c .before .before .before .before .before .before .end-rule .ensures .kept .size), ended-fine _ (c .before .before .before .before .before .before .end-rule .ensures .is (c .before .before .before .before .before .before .before .before .before .before .before .before .before .before .before .before .before .pre .2 .sheet) (c .before .before .before .before .before .before .before .before .before .before .before .before .before .before .before .before .before .pre .2 .holds)) (c .before .before .next .given .1))
+other-line-requires c κs = (c .before .before .before .before .before .before .before .before .before .before .before .before .before .before .cut .ensures, (c .before .before .before .before .before .before .before .before .before .before .before .byte-kind .ensures ∙ ap byteKind (c .before .before .before .before .before .before .before .before .before .before .before .before .letter .ensures ∙ ap onlyByte (c .before .before .before .before .before .before .before .before .before .before .before .before .before .field .ensures))), sym (c .before .before .before .before .before .before .before .before .before .before .in-body .ensures) ∙ c .before .before .before .before .before .before .before .before .before .if1 .left, omega (arith, c .before .before .before .before .before .before .before .before .before .before .before .before .before .before .before .before .before .before .before .pre .0, c .before .before .before .before .before .before .end-rule .ensures .kept .size), ended-fine _ (c .before .before .before .before .before .before .end-rule .ensures .is (c .before .before .before .before .before .before .before .before .before .before .before .before .before .before .before .before .before .before .before .pre .3 .sheet) (c .before .before .before .before .before .before .before .before .before .before .before .before .before .before .before .before .before .before .before .pre .3 .holds)) (c .before .before .next .given .1))
 
 add-placed-2 : tie.Need-add-placed-2
-add-placed-2 c = omega (arith, c .before .before .before .before .before .before .before .before .before .before .before .before .before .before .before .before .before .before .before .before .pre .3)
+add-placed-2 c = omega (arith, c .before .before .before .before .before .before .before .before .before .before .before .before .before .before .before .before .before .before .before .before .before .before .pre .4)
 
 placed-requires-2 : tie.Need-placed-requires-2
 placed-requires-2 c κs = search needs
 
-same-length-3 : tie.Need-same-length-3
-same-length-3 c = search needs
-
 same-length-4 : tie.Need-same-length-4
 same-length-4 c = search needs
-
-returns-2 : tie.Need-returns-2
-returns-2 c = stop-whole (c .before .before .before .before .before .before .before .before .before .before .before .before .before .before .before .before .args .st) (c .before .before .before .before .before .before .before .before .before .before .before .before .before .before .before .before .args .k) (c .before .before .before .before .before .before .before .before .before .before .before .before .before .before .before .before .args .line .now) (is-other (fieldsOf (c .before .before .before .before .before .before .before .before .before .before .before .before .before .before .before .before .args .line .now)) (c .before .before .before .before .before .before .before .before .before .byte-kind .result) (c .before .before .before .before .before .before .before .before .before .byte-kind .ensures ∙ ap byteKind (c .before .before .before .before .before .before .before .before .before .before .letter .ensures ∙ ap onlyByte (c .before .before .before .before .before .before .before .before .before .before .before .field .ensures))) (c .before .before .before .before .before .before .before .before .if1 .left)) (rw (c .before .n .given .1) at (c .before .before .before .before .before .end-rule .ensures))
 
 same-length-5 : tie.Need-same-length-5
 same-length-5 c = search needs
 
+returns-2 : tie.Need-returns-2
+returns-2 c = stop-whole (c .before .before .before .before .before .before .before .before .before .before .before .before .before .before .before .before .before .before .args .st) (c .before .before .before .before .before .before .before .before .before .before .before .before .before .before .before .before .before .before .args .k) (c .before .before .before .before .before .before .before .before .before .before .before .before .before .before .before .before .before .before .args .line .now) _ (not-body (fieldsOf (c .before .before .before .before .before .before .before .before .before .before .before .before .before .before .before .before .before .before .args .line .now)) (c .before .before .before .before .before .before .before .before .before .before .byte-kind .result) (c .before .before .before .before .before .before .before .before .before .before .byte-kind .ensures ∙ ap byteKind (c .before .before .before .before .before .before .before .before .before .before .before .letter .ensures ∙ ap onlyByte (c .before .before .before .before .before .before .before .before .before .before .before .before .field .ensures))) (c .before .before .before .before .before .before .before .before .before .in-body .ensures) (c .before .before .before .before .before .before .before .before .if1 .left)) (rw (c .before .n .given .1) at (c .before .before .before .before .before .end-rule .ensures))
+
 same-length-6 : tie.Need-same-length-6
 same-length-6 c = search needs
 
+same-length-7 : tie.Need-same-length-7
+same-length-7 c = search needs
+
 returns-3 : tie.Need-returns-3
-returns-3 c = rw (c .placed2 .ensures) (next-whole (c .before .before .before .before .before .before .before .before .before .before .before .before .before .before .before .before .before .before .before .before .before .args .st) (c .before .before .before .before .before .before .before .before .before .before .before .before .before .before .before .before .before .before .before .before .before .args .k) (c .before .before .before .before .before .before .before .before .before .before .before .before .before .before .before .before .before .before .before .before .before .args .line .now) (is-other (fieldsOf (c .before .before .before .before .before .before .before .before .before .before .before .before .before .before .before .before .before .before .before .before .before .args .line .now)) (c .before .before .before .before .before .before .before .before .before .before .before .before .before .before .byte-kind .result) (c .before .before .before .before .before .before .before .before .before .before .before .before .before .before .byte-kind .ensures ∙ ap byteKind (c .before .before .before .before .before .before .before .before .before .before .before .before .before .before .before .letter .ensures ∙ ap onlyByte (c .before .before .before .before .before .before .before .before .before .before .before .before .before .before .before .before .field .ensures))) (c .before .before .before .before .before .before .before .before .before .before .before .before .before .if1 .left)) (rw (c .before .before .before .before .before .before .next .given .1) at (c .before .before .before .before .before .before .before .before .before .before .end-rule .ensures)) (c .before .before .before .other-line .ensures (c .before .before .before .before .before .before .before .before .before .before .before .before .before .before .before .before .before .before .before .before .before .args .w1 .now) (c .before .before .before .before .before .before .before .before .before .before .before .before .before .before .before .before .before .before .before .before .before .args .k + 1)))
+returns-3 c = rw (c .placed2 .ensures) (next-whole (c .before .before .before .before .before .before .before .before .before .before .before .before .before .before .before .before .before .before .before .before .before .before .before .args .st) (c .before .before .before .before .before .before .before .before .before .before .before .before .before .before .before .before .before .before .before .before .before .before .before .args .k) (c .before .before .before .before .before .before .before .before .before .before .before .before .before .before .before .before .before .before .before .before .before .before .before .args .line .now) _ (not-body (fieldsOf (c .before .before .before .before .before .before .before .before .before .before .before .before .before .before .before .before .before .before .before .before .before .before .before .args .line .now)) (c .before .before .before .before .before .before .before .before .before .before .before .before .before .before .before .byte-kind .result) (c .before .before .before .before .before .before .before .before .before .before .before .before .before .before .before .byte-kind .ensures ∙ ap byteKind (c .before .before .before .before .before .before .before .before .before .before .before .before .before .before .before .before .letter .ensures ∙ ap onlyByte (c .before .before .before .before .before .before .before .before .before .before .before .before .before .before .before .before .before .field .ensures))) (c .before .before .before .before .before .before .before .before .before .before .before .before .before .before .in-body .ensures) (c .before .before .before .before .before .before .before .before .before .before .before .before .before .if1 .left)) (rw (c .before .before .before .before .before .before .next .given .1) at (c .before .before .before .before .before .before .before .before .before .before .end-rule .ensures)) (c .before .before .before .other-line .ensures (c .before .before .before .before .before .before .before .before .before .before .before .before .before .before .before .before .before .before .before .before .before .before .before .args .w1 .now) (c .before .before .before .before .before .before .before .before .before .before .before .before .before .before .before .before .before .before .before .before .before .before .before .args .k + 1)))
 
 pub line-read-spec : {M : Type 1} → statement M
 line-read-spec =
@@ -87,12 +93,14 @@ line-read-spec =
     field-requires
     letter-requires
     byte-kind-requires
-    add-node-line
-    node-line-requires
+    in-body-requires
+    add-body-line
+    body-line-requires
     add-placed
     placed-requires
     same-length
     same-length-2
+    same-length-3
     returns
     end-rule-requires
     enum-known-n
@@ -100,9 +108,9 @@ line-read-spec =
     other-line-requires
     add-placed-2
     placed-requires-2
-    same-length-3
     same-length-4
-    returns-2
     same-length-5
+    returns-2
     same-length-6
+    same-length-7
     returns-3)

@@ -1,18 +1,18 @@
 -- The loop's invariant: `Going` of proofs/Loop.antt. What is left of the text falls. Assumes nothing.
-use borrow.Author.Needs.{needs}
 use mathlib.Core.Path.{sym, _∙_}
 use native.Mathlib.Omega.{arith}
 use lib.ListN.{length}
 use lib.Seq.{length-take-le}
 use Rattle.reader.proofs.Loop.{Going, going-start, going-refused, going-next, going-last}
+use borrow.Author.Needs.{needs}
 use Rattle.reader.proofs.read.Statement.{statement}
 use Rattle.reader.proofs.read.Tie as tie
 
 abbrev Inv-loop : tie.InvT-loop
-Inv-loop text w0₀ w1₀ rest₀ st₀ k₀ e₀ w0 w1 rest st k e = Going text w0₀ w1₀ w0 w1 rest st k e
+Inv-loop text w0₀ w1₀ w2₀ rest₀ st₀ k₀ e₀ w0 w1 w2 rest st k e = Going text w0₀ w1₀ w2₀ w0 w1 w2 rest st k e
 
 abbrev μ-loop : tie.MeasureT-loop
-μ-loop text w0₀ w1₀ rest₀ st₀ k₀ e₀ w0 w1 rest st k e = length rest
+μ-loop text w0₀ w1₀ w2₀ rest₀ st₀ k₀ e₀ w0 w1 w2 rest st k e = length rest
 
 nothing-requires : tie.Need-nothing-requires Inv-loop μ-loop
 nothing-requires c κs = search needs
@@ -21,61 +21,67 @@ find-requires : tie.Need-find-requires Inv-loop μ-loop
 find-requires c κs = search needs
 
 loop-holds : tie.Need-loop-holds Inv-loop μ-loop
-loop-holds c = going-start (c .before .before .before .before .before .args .text .now) (c .before .before .before .before .before .args .w0 .now) (c .before .before .before .before .before .args .w1 .now) (c .before .nothing .result) (c .before .nothing .ensures) (c .find .ensures)
+loop-holds c = going-start (c .before .before .before .before .before .before .args .text .now) (c .before .before .before .before .before .before .args .w0 .now) (c .before .before .before .before .before .before .args .w1 .now) (c .before .before .before .before .before .before .args .w2 .now) (c .before .nothing .result) (c .before .nothing .ensures) (c .find .ensures)
 
 slice-aggregate-line-read : tie.Need-slice-aggregate-line-read Inv-loop μ-loop
 slice-aggregate-line-read c = sym (length-take-le _ _ (c .before .before .loop .inv .ends .within))
 
 line-read-requires : tie.Need-line-read-requires Inv-loop μ-loop
-line-read-requires c κs = (omega (arith, c .before .before .before .before .loop .inv .kept0 .size, c .before .before .before .before .before .before .before .before .before .before .pre .0), omega (arith, c .before .before .before .before .loop .inv .kept1 .size, c .before .before .before .before .before .before .before .before .before .before .pre .1), c .before .before .before .before .loop .inv .held, omega (arith, c .before .before .before .before .loop .inv .short, c .before .before .before .before .before .before .before .before .before .before .pre .2))
+line-read-requires c κs = (omega (arith, c .before .before .before .before .before .loop .inv .kept0 .size, c .before .before .before .before .before .before .before .before .before .before .before .before .pre .0), omega (arith, c .before .before .before .before .before .loop .inv .kept1 .size, c .before .before .before .before .before .before .before .before .before .before .before .before .pre .1), omega (arith, c .before .before .before .before .before .loop .inv .kept2 .size, c .before .before .before .before .before .before .before .before .before .before .before .before .pre .2), c .before .before .before .before .before .loop .inv .held, omega (arith, c .before .before .before .before .before .loop .inv .short, c .before .before .before .before .before .before .before .before .before .before .before .before .pre .3))
 
 enum-known-n : tie.Need-enum-known-n Inv-loop μ-loop
 enum-known-n c = search needs
 
 same-length : tie.Need-same-length Inv-loop μ-loop
-same-length c = c .before .before .before .before .before .before .before .line-read .ensures .kept0 .size ∙ c .before .before .before .before .before .before .before .before .before .before .before .before .loop .inv .kept0 .size
+same-length c = c .before .before .before .before .before .before .before .before .before .line-read .ensures .kept0 .size ∙ c .before .before .before .before .before .before .before .before .before .before .before .before .before .before .before .loop .inv .kept0 .size
 
 same-length-2 : tie.Need-same-length-2 Inv-loop μ-loop
-same-length-2 c = c .before .before .before .before .before .before .before .line-read .ensures .kept1 .size ∙ c .before .before .before .before .before .before .before .before .before .before .before .before .loop .inv .kept1 .size
+same-length-2 c = c .before .before .before .before .before .before .before .before .before .line-read .ensures .kept1 .size ∙ c .before .before .before .before .before .before .before .before .before .before .before .before .before .before .before .loop .inv .kept1 .size
+
+same-length-3 : tie.Need-same-length-3 Inv-loop μ-loop
+same-length-3 c = c .before .before .before .before .before .before .before .before .before .line-read .ensures .kept2 .size ∙ c .before .before .before .before .before .before .before .before .before .before .before .before .before .before .before .loop .inv .kept2 .size
 
 returns : tie.Need-returns Inv-loop μ-loop
-returns c = going-refused (c .before .before .before .before .before .before .before .before .before .before .before .before .loop .inv) (c .before .before .before .before .before .before .before .before .before .before .before .loop-test .taken) (rw (c .before .n .given .1) at (c .before .before .before .before .before .before .before .line-read .ensures))
+returns c = going-refused (c .before .before .before .before .before .before .before .before .before .before .before .before .before .before .before .loop .inv) (c .before .before .before .before .before .before .before .before .before .before .before .before .before .before .loop-test .taken) (rw (c .before .n .given .1) at (c .before .before .before .before .before .before .before .before .before .line-read .ensures))
 
 enum-known-next : tie.Need-enum-known-next Inv-loop μ-loop
 enum-known-next c = search needs
 
 add-rest : tie.Need-add-rest Inv-loop μ-loop
-add-rest c = omega (arith, c .before .before .before .before .before .before .before .before .before .before .before .before .loop .inv .ends .within, c .before .before .before .before .before .before .before .before .before .before .before .before .loop .inv .short, c .before .before .before .before .before .before .before .before .before .before .before .before .before .before .before .before .before .before .pre .2)
+add-rest c = omega (arith, c .before .before .before .before .before .before .before .before .before .before .before .before .before .before .before .loop .inv .ends .within, c .before .before .before .before .before .before .before .before .before .before .before .before .before .before .before .loop .inv .short, c .before .before .before .before .before .before .before .before .before .before .before .before .before .before .before .before .before .before .before .before .before .before .pre .3)
 
 sub-rest : tie.Need-sub-rest Inv-loop μ-loop
-sub-rest c = omega (arith, c .before .before .before .before .before .before .before .before .before .before .before .before .loop .inv .ends .within, c .before .before .before .before .before .before .before .before .before .before .before .loop-test .taken)
+sub-rest c = omega (arith, c .before .before .before .before .before .before .before .before .before .before .before .before .before .before .before .loop .inv .ends .within, c .before .before .before .before .before .before .before .before .before .before .before .before .before .before .loop-test .taken)
 
 part-rest-start : tie.Need-part-rest-start Inv-loop μ-loop
-part-rest-start c = omega (arith, c .before .before .before .before .before .before .before .before .before .before .before .before .loop .inv .ends .within, c .before .before .before .before .before .before .before .before .before .before .before .loop-test .taken)
+part-rest-start c = omega (arith, c .before .before .before .before .before .before .before .before .before .before .before .before .before .before .before .loop .inv .ends .within, c .before .before .before .before .before .before .before .before .before .before .before .before .before .before .loop-test .taken)
 
 part-rest-end : tie.Need-part-rest-end Inv-loop μ-loop
 part-rest-end c = search needs
 
 add-k : tie.Need-add-k Inv-loop μ-loop
-add-k c = omega (arith, c .before .before .before .before .before .before .before .before .before .before .before .before .before .loop .inv .short, c .before .before .before .before .before .before .before .before .before .before .before .before .before .before .before .before .before .before .before .pre .2)
+add-k c = omega (arith, c .before .before .before .before .before .before .before .before .before .before .before .before .before .before .before .before .loop .inv .short, c .before .before .before .before .before .before .before .before .before .before .before .before .before .before .before .before .before .before .before .before .before .before .before .pre .3)
 
 find-requires-2 : tie.Need-find-requires-2 Inv-loop μ-loop
 find-requires-2 c κs = search needs
 
 loop-less : tie.Need-loop-less Inv-loop μ-loop
-loop-less c = omega (arith, c .before .rest .given .2, c .before .before .before .before .before .before .before .before .before .before .before .before .before .loop-test .taken)
+loop-less c = omega (arith, c .before .rest .given .2, c .before .before .before .before .before .before .before .before .before .before .before .before .before .before .before .before .loop-test .taken)
 
 loop-again : tie.Need-loop-again Inv-loop μ-loop
-loop-again c = going-next (c .before .before .before .before .before .before .before .before .before .before .before .before .before .before .loop .inv) (c .before .before .before .before .before .before .before .before .before .before .before .before .before .loop-test .taken) (rw (c .before .before .before .next .given .1) at (c .before .before .before .before .before .before .before .before .before .line-read .ensures)) (c .find2 .ensures)
+loop-again c = going-next (c .before .before .before .before .before .before .before .before .before .before .before .before .before .before .before .before .before .loop .inv) (c .before .before .before .before .before .before .before .before .before .before .before .before .before .before .before .before .loop-test .taken) (rw (c .before .before .before .next .given .1) at (c .before .before .before .before .before .before .before .before .before .before .before .line-read .ensures)) (c .find2 .ensures)
 
 last-read-requires : tie.Need-last-read-requires Inv-loop μ-loop
-last-read-requires c κs = (omega (arith, c .before .before .before .loop .inv .kept0 .size, c .before .before .before .before .before .before .before .before .before .pre .0), omega (arith, c .before .before .before .loop .inv .kept1 .size, c .before .before .before .before .before .before .before .before .before .pre .1), c .before .before .before .loop .inv .held, omega (arith, c .before .before .before .loop .inv .short, c .before .before .before .before .before .before .before .before .before .pre .2))
-
-same-length-3 : tie.Need-same-length-3 Inv-loop μ-loop
-same-length-3 c = c .before .before .last-read .ensures .kept0 .size ∙ c .before .before .before .before .before .before .loop .inv .kept0 .size
+last-read-requires c κs = (omega (arith, c .before .before .before .loop .inv .kept0 .size, c .before .before .before .before .before .before .before .before .before .before .pre .0), omega (arith, c .before .before .before .loop .inv .kept1 .size, c .before .before .before .before .before .before .before .before .before .before .pre .1), c .before .before .before .loop .inv .held, omega (arith, c .before .before .before .loop .inv .short, c .before .before .before .before .before .before .before .before .before .before .pre .3))
 
 same-length-4 : tie.Need-same-length-4 Inv-loop μ-loop
-same-length-4 c = c .before .before .before .before .before .before .loop .inv .kept1 .size
+same-length-4 c = c .before .before .last-read .ensures .kept0 .size ∙ c .before .before .before .before .before .before .loop .inv .kept0 .size
+
+same-length-5 : tie.Need-same-length-5 Inv-loop μ-loop
+same-length-5 c = c .before .before .before .before .before .before .loop .inv .kept1 .size
+
+same-length-6 : tie.Need-same-length-6 Inv-loop μ-loop
+same-length-6 c = c .before .before .before .before .before .before .loop .inv .kept2 .size
 
 returns-2 : tie.Need-returns-2 Inv-loop μ-loop
 returns-2 c = going-last (c .before .before .before .before .before .before .loop .inv) (c .before .before .before .before .before .loop-test .left) (c .before .before .last-read .ensures)
@@ -94,6 +100,7 @@ read-spec =
     enum-known-n
     same-length
     same-length-2
+    same-length-3
     returns
     enum-known-next
     add-rest
@@ -105,6 +112,7 @@ read-spec =
     loop-less
     loop-again
     last-read-requires
-    same-length-3
     same-length-4
+    same-length-5
+    same-length-6
     returns-2)

@@ -1,3 +1,4 @@
+-- `ocl_evaluate_rule` meets its contract.
 use borrow.Author.Needs.{needs}
 use Rattle.sheet.specs.Calls.{evaluateCall}
 use Rattle.checker.proofs.Answers.{all-lent, still-long, short-call, long-call}

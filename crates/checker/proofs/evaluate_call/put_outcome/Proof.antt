@@ -1,3 +1,4 @@
+-- `put_outcome` meets its contract.
 use borrow.Author.Needs.{needs}
 use native.Mathlib.Omega.{arith}
 use lib.ListN.{length}

@@ -2,7 +2,7 @@
 use borrow.Author.Needs.{needs}
 use mathlib.Core.Path.{sym, _∙_}
 use Rattle.tables.proofs.LineFields.{num-cut}
-use Rattle.declarations.proofs.TakenLaws.{unspelled, spelled}
+use Rattle.declarations.proofs.TakenLaws.{unspelled, class-plain, spelled}
 use Rattle.declarations.proofs.ParentLaws.{parent-over}
 use Rattle.declarations.proofs.ClassLaws.{class-count, class-number, class-parent, class-spelled, class-exact, class-over, class-over-parent}
 use Rattle.declarations.proofs.classes.class_line.Statement.{statement}
@@ -42,10 +42,10 @@ returns-3 : tie.Need-returns-3
 returns-3 c = λ w1 k. unspelled (c .before .before .before .before .before .before .before .before .before .before .before .before .before .args .st) k (c .before .before .before .before .before .before .before .before .before .before .before .before .before .args .w0 .now) w1 (c .before .before .before .before .before .before .before .before .before .before .before .before .before .args .line .now) (class-parent (c .before .before .before .before .before .before .before .before .before .before .before .before .before .pre .0) (c .before .before .before .before .before .before .before .before .before .if1 .left) (c .before .before .before .before .before .before .before .before .field .ensures) (c .before .before .before .field2 .ensures) (sym (c .before .before .before .before .before .n .given .1) ∙ c .before .before .before .before .before .before .before .number .ensures) (sym (c .enum-told2 .given .1) ∙ c .before .before .parent .ensures))
 
 returns-4 : tie.Need-returns-4
-returns-4 c = λ w1 k. spelled (c .before .before .before .before .before .before .before .before .before .before .before .before .before .before .before .args .line .now) (class-spelled (c .before .before .before .before .before .before .before .before .before .before .before .before .before .before .before .pre .0) (c .before .before .before .before .before .before .before .before .before .before .before .if1 .left) (c .before .before .before .before .before .before .before .before .before .before .field .ensures) (c .before .before .before .before .before .field2 .ensures) (sym (c .before .before .before .before .before .before .before .n .given .1) ∙ c .before .before .before .before .before .before .before .before .before .number .ensures) (sym (c .before .before .p .given .1) ∙ c .before .before .before .before .parent .ensures)) (class-over (c .before .before .before .before .before .before .before .before .before .before .before .before .before .before .before .args .st) k (c .before .before .before .before .before .before .before .before .before .before .before .before .before .before .before .args .w0 .now) w1 _ _ (num-cut _ (sym (c .before .before .before .before .before .before .before .n .given .1) ∙ c .before .before .before .before .before .before .before .before .before .number .ensures)) (c .if2 .taken))
+returns-4 c = λ w1 k. spelled (c .before .before .before .before .before .before .before .before .before .before .before .before .before .before .before .args .line .now) (class-plain _ _) (class-spelled (c .before .before .before .before .before .before .before .before .before .before .before .before .before .before .before .pre .0) (c .before .before .before .before .before .before .before .before .before .before .before .if1 .left) (c .before .before .before .before .before .before .before .before .before .before .field .ensures) (c .before .before .before .before .before .field2 .ensures) (sym (c .before .before .before .before .before .before .before .n .given .1) ∙ c .before .before .before .before .before .before .before .before .before .number .ensures) (sym (c .before .before .p .given .1) ∙ c .before .before .before .before .parent .ensures)) (class-over (c .before .before .before .before .before .before .before .before .before .before .before .before .before .before .before .args .st) k (c .before .before .before .before .before .before .before .before .before .before .before .before .before .before .before .args .w0 .now) w1 _ _ (num-cut _ (sym (c .before .before .before .before .before .before .before .n .given .1) ∙ c .before .before .before .before .before .before .before .before .before .number .ensures)) (c .if2 .taken))
 
 returns-5 : tie.Need-returns-5
-returns-5 c = λ w1 k. spelled (c .before .before .before .before .before .before .before .before .before .before .before .before .before .before .before .before .args .line .now) (class-spelled (c .before .before .before .before .before .before .before .before .before .before .before .before .before .before .before .before .pre .0) (c .before .before .before .before .before .before .before .before .before .before .before .before .if1 .left) (c .before .before .before .before .before .before .before .before .before .before .before .field .ensures) (c .before .before .before .before .before .before .field2 .ensures) (sym (c .before .before .before .before .before .before .before .before .n .given .1) ∙ c .before .before .before .before .before .before .before .before .before .before .number .ensures) (sym (c .before .before .before .p .given .1) ∙ c .before .before .before .before .before .parent .ensures)) (class-over-parent (c .before .before .before .before .before .before .before .before .before .before .before .before .before .before .before .before .args .st) k (c .before .before .before .before .before .before .before .before .before .before .before .before .before .before .before .before .args .w0 .now) w1 _ _ (num-cut _ (sym (c .before .before .before .before .before .before .before .before .n .given .1) ∙ c .before .before .before .before .before .before .before .before .before .before .number .ensures)) (c .before .if2 .left) (parent-over _ (sym (c .before .before .before .p .given .1) ∙ c .before .before .before .before .before .parent .ensures) (c .if3 .taken)))
+returns-5 c = λ w1 k. spelled (c .before .before .before .before .before .before .before .before .before .before .before .before .before .before .before .before .args .line .now) (class-plain _ _) (class-spelled (c .before .before .before .before .before .before .before .before .before .before .before .before .before .before .before .before .pre .0) (c .before .before .before .before .before .before .before .before .before .before .before .before .if1 .left) (c .before .before .before .before .before .before .before .before .before .before .before .field .ensures) (c .before .before .before .before .before .before .field2 .ensures) (sym (c .before .before .before .before .before .before .before .before .n .given .1) ∙ c .before .before .before .before .before .before .before .before .before .before .number .ensures) (sym (c .before .before .before .p .given .1) ∙ c .before .before .before .before .before .parent .ensures)) (class-over-parent (c .before .before .before .before .before .before .before .before .before .before .before .before .before .before .before .before .args .st) k (c .before .before .before .before .before .before .before .before .before .before .before .before .before .before .before .before .args .w0 .now) w1 _ _ (num-cut _ (sym (c .before .before .before .before .before .before .before .before .n .given .1) ∙ c .before .before .before .before .before .before .before .before .before .before .number .ensures)) (c .before .if2 .left) (parent-over _ (sym (c .before .before .before .p .given .1) ∙ c .before .before .before .before .before .parent .ensures) (c .if3 .taken)))
 
 put-class-requires : tie.Need-put-class-requires
 put-class-requires c κs = search needs
@@ -54,7 +54,7 @@ same-length : tie.Need-same-length
 same-length c = search needs
 
 returns-6 : tie.Need-returns-6
-returns-6 c = λ w1 k. spelled (c .before .before .before .before .before .before .before .before .before .before .before .before .before .before .before .before .before .before .before .before .args .line .now) (class-exact (c .before .before .before .before .before .before .before .before .before .before .before .before .before .before .before .before .before .before .before .before .pre .0) (c .before .before .before .before .before .before .before .before .before .before .before .before .before .before .before .before .if1 .left) (c .before .before .before .before .before .before .before .before .before .before .before .before .before .before .before .field .ensures) (c .before .before .before .before .before .before .before .before .before .before .field2 .ensures) (sym (c .before .before .before .before .before .before .before .before .before .before .before .before .n .given .1) ∙ c .before .before .before .before .before .before .before .before .before .before .before .before .before .before .number .ensures) (sym (c .before .before .before .before .before .before .before .p .given .1) ∙ c .before .before .before .before .before .before .before .before .before .parent .ensures) (c .before .before .before .before .before .if2 .left) (c .before .before .before .before .if3 .left)) (c .before .before .put-class .ensures w1 k)
+returns-6 c = λ w1 k. spelled (c .before .before .before .before .before .before .before .before .before .before .before .before .before .before .before .before .before .before .before .before .args .line .now) (class-plain _ _) (class-exact (c .before .before .before .before .before .before .before .before .before .before .before .before .before .before .before .before .before .before .before .before .pre .0) (c .before .before .before .before .before .before .before .before .before .before .before .before .before .before .before .before .if1 .left) (c .before .before .before .before .before .before .before .before .before .before .before .before .before .before .before .field .ensures) (c .before .before .before .before .before .before .before .before .before .before .field2 .ensures) (sym (c .before .before .before .before .before .before .before .before .before .before .before .before .n .given .1) ∙ c .before .before .before .before .before .before .before .before .before .before .before .before .before .before .number .ensures) (sym (c .before .before .before .before .before .before .before .p .given .1) ∙ c .before .before .before .before .before .before .before .before .before .parent .ensures) (c .before .before .before .before .before .if2 .left) (c .before .before .before .before .if3 .left)) (c .before .before .put-class .ensures w1 k)
 
 pub class-line-spec : {M : Type 1} → statement M
 class-line-spec =

@@ -4,7 +4,7 @@ use mathlib.Core.Path.{sym, _∙_}
 use Rattle.sheet.specs.Spelling.{readType}
 use Rattle.types.proofs.Within.{read-bad, read-big, read-is}
 use Rattle.tables.proofs.LineFields.{num-cut}
-use Rattle.declarations.proofs.TakenLaws.{unspelled, spelled}
+use Rattle.declarations.proofs.TakenLaws.{unspelled, definition-plain, spelled}
 use Rattle.declarations.proofs.DefinitionFields.{definition-count, definition-number, definition-class, definition-type, definition-spelled}
 use Rattle.declarations.proofs.DefinitionLaws.{definition-over-type}
 use Rattle.declarations.proofs.definitions.definition_line.Statement.{statement}
@@ -65,10 +65,10 @@ returns-4 : tie.Need-returns-4
 returns-4 c = λ w0 w1 k. unspelled (c .before .before .before .before .before .before .before .before .before .before .before .before .before .before .before .before .before .args .st) k w0 w1 (c .before .before .before .before .before .before .before .before .before .before .before .before .before .before .before .before .before .args .line .now) (definition-type (c .before .before .before .before .before .before .before .before .before .before .before .before .before .before .before .before .before .pre .0) (c .before .before .before .before .before .before .before .before .before .before .before .before .before .before .if1 .left) (c .before .before .before .before .before .before .before .before .before .before .before .before .before .field .ensures) (c .before .before .before .before .before .before .before .before .field2 .ensures) (sym (c .before .before .before .before .before .before .before .before .before .before .n .given .1) ∙ c .before .before .before .before .before .before .before .before .before .before .before .before .number .ensures) (c .before .before .before .field3 .ensures) (sym (c .before .before .before .before .before .c .given .1) ∙ c .before .before .before .before .before .before .before .number2 .ensures) (read-bad (readType (c .before .before .before .field3 .result .now)) (c .before .before .read-type .ensures) (c .enum-told3 .given .1)))
 
 returns-5 : tie.Need-returns-5
-returns-5 c = λ w0 w1 k. let t = (read-big (readType (c .before .before .before .field3 .result .now)) (c .before .before .read-type .ensures) (c .enum-told4 .given .1)) in spelled (c .before .before .before .before .before .before .before .before .before .before .before .before .before .before .before .before .before .args .line .now) (definition-spelled (c .before .before .before .before .before .before .before .before .before .before .before .before .before .before .before .before .before .pre .0) (c .before .before .before .before .before .before .before .before .before .before .before .before .before .before .if1 .left) (c .before .before .before .before .before .before .before .before .before .before .before .before .before .field .ensures) (c .before .before .before .before .before .before .before .before .field2 .ensures) (sym (c .before .before .before .before .before .before .before .before .before .before .n .given .1) ∙ c .before .before .before .before .before .before .before .before .before .before .before .before .number .ensures) (c .before .before .before .field3 .ensures) (sym (c .before .before .before .before .before .c .given .1) ∙ c .before .before .before .before .before .before .before .number2 .ensures) (t .1)) (definition-over-type (c .before .before .before .before .before .before .before .before .before .before .before .before .before .before .before .before .before .args .st) k w0 w1 _ _ (t .0) (t .2))
+returns-5 c = λ w0 w1 k. let t = (read-big (readType (c .before .before .before .field3 .result .now)) (c .before .before .read-type .ensures) (c .enum-told4 .given .1)) in spelled (c .before .before .before .before .before .before .before .before .before .before .before .before .before .before .before .before .before .args .line .now) (definition-plain _ _ _) (definition-spelled (c .before .before .before .before .before .before .before .before .before .before .before .before .before .before .before .before .before .pre .0) (c .before .before .before .before .before .before .before .before .before .before .before .before .before .before .if1 .left) (c .before .before .before .before .before .before .before .before .before .before .before .before .before .field .ensures) (c .before .before .before .before .before .before .before .before .field2 .ensures) (sym (c .before .before .before .before .before .before .before .before .before .before .n .given .1) ∙ c .before .before .before .before .before .before .before .before .before .before .before .before .number .ensures) (c .before .before .before .field3 .ensures) (sym (c .before .before .before .before .before .c .given .1) ∙ c .before .before .before .before .before .before .before .number2 .ensures) (t .1)) (definition-over-type (c .before .before .before .before .before .before .before .before .before .before .before .before .before .before .before .before .before .args .st) k w0 w1 _ _ (t .0) (t .2))
 
 returns-6 : tie.Need-returns-6
-returns-6 c = λ w0 w1 k. let t = (read-is (readType (c .before .before .before .before .before .field3 .result .now)) (c .before .before .before .before .read-type .ensures) (c .before .before .t .given .0 .0) (c .before .before .t .given .1)) in spelled (c .before .before .before .before .before .before .before .before .before .before .before .before .before .before .before .before .before .before .before .args .line .now) (definition-spelled (c .before .before .before .before .before .before .before .before .before .before .before .before .before .before .before .before .before .before .before .pre .0) (c .before .before .before .before .before .before .before .before .before .before .before .before .before .before .before .before .if1 .left) (c .before .before .before .before .before .before .before .before .before .before .before .before .before .before .before .field .ensures) (c .before .before .before .before .before .before .before .before .before .before .field2 .ensures) (sym (c .before .before .before .before .before .before .before .before .before .before .before .before .n .given .1) ∙ c .before .before .before .before .before .before .before .before .before .before .before .before .before .before .number .ensures) (c .before .before .before .before .before .field3 .ensures) (sym (c .before .before .before .before .before .before .before .c .given .1) ∙ c .before .before .before .before .before .before .before .before .before .number2 .ensures) (t .0)) (c .open-definition .ensures .is w0 w1 k _ _ (num-cut _ (sym (c .before .before .before .before .before .before .before .before .before .before .before .before .n .given .1) ∙ c .before .before .before .before .before .before .before .before .before .before .before .before .before .before .number .ensures)) (num-cut _ (sym (c .before .before .before .before .before .before .before .c .given .1) ∙ c .before .before .before .before .before .before .before .before .before .number2 .ensures)))
+returns-6 c = λ w0 w1 k. let t = (read-is (readType (c .before .before .before .before .before .field3 .result .now)) (c .before .before .before .before .read-type .ensures) (c .before .before .t .given .0 .0) (c .before .before .t .given .1)) in spelled (c .before .before .before .before .before .before .before .before .before .before .before .before .before .before .before .before .before .before .before .args .line .now) (definition-plain _ _ _) (definition-spelled (c .before .before .before .before .before .before .before .before .before .before .before .before .before .before .before .before .before .before .before .pre .0) (c .before .before .before .before .before .before .before .before .before .before .before .before .before .before .before .before .if1 .left) (c .before .before .before .before .before .before .before .before .before .before .before .before .before .before .before .field .ensures) (c .before .before .before .before .before .before .before .before .before .before .field2 .ensures) (sym (c .before .before .before .before .before .before .before .before .before .before .before .before .n .given .1) ∙ c .before .before .before .before .before .before .before .before .before .before .before .before .before .before .number .ensures) (c .before .before .before .before .before .field3 .ensures) (sym (c .before .before .before .before .before .before .before .c .given .1) ∙ c .before .before .before .before .before .before .before .before .before .number2 .ensures) (t .0)) (c .open-definition .ensures .is w0 w1 k _ _ (num-cut _ (sym (c .before .before .before .before .before .before .before .before .before .before .before .before .n .given .1) ∙ c .before .before .before .before .before .before .before .before .before .before .before .before .before .before .number .ensures)) (num-cut _ (sym (c .before .before .before .before .before .before .before .c .given .1) ∙ c .before .before .before .before .before .before .before .before .before .number2 .ensures)))
 
 pub definition-line-spec : {M : Type 1} → statement M
 definition-line-spec =

@@ -5,6 +5,7 @@ use lib.ListN.{drop}
 use Rattle.sheet.specs.Text.{fieldsOf}
 use Rattle.sheet.specs.Lines.{objectLine}
 use Rattle.declarations.specs.Fields.{twoNumbers}
+use Rattle.declarations.proofs.TakenLaws.{object-plain}
 use Rattle.declarations.proofs.PairLaws.{object-fields, pair-within, pair-stopped, pair-taken}
 use Rattle.declarations.proofs.ObjectLaws.{object-limits}
 use Rattle.declarations.proofs.objects.object_line.Statement.{statement}
@@ -23,13 +24,13 @@ put-object-requires : tie.Need-put-object-requires
 put-object-requires c κs = let p = pair-within 96 (twoNumbers (drop 1 (fieldsOf (c .before .before .before .before .before .before .before .args .line .now)))) (sym (c .before .before .n2 .given .1) ∙ c .before .before .before .before .read-pair .ensures) in (c .before .before .before .before .before .before .before .pre .1, c .before .before .before .before .before .before .before .pre .2, p .low, p .class)
 
 returns : tie.Need-returns
-returns c = λ w1 k. pair-stopped (c .before .before .before .before .before .before .args .st) k (c .before .before .before .before .before .before .args .w0 .now) w1 (c .before .before .before .before .before .before .args .line .now) (twoNumbers (drop 1 (fieldsOf (c .before .before .before .before .before .before .args .line .now)))) objectLine 96 (object-fields _ (c .before .before .before .before .before .before .pre .0 .is-letter)) object-limits (sym (c .before .n .given .1) ∙ c .before .before .before .read-pair .ensures)
+returns c = λ w1 k. pair-stopped (c .before .before .before .before .before .before .args .st) k (c .before .before .before .before .before .before .args .w0 .now) w1 (c .before .before .before .before .before .before .args .line .now) (twoNumbers (drop 1 (fieldsOf (c .before .before .before .before .before .before .args .line .now)))) objectLine 96 (object-fields _ (c .before .before .before .before .before .before .pre .0 .is-letter)) object-plain object-limits (sym (c .before .n .given .1) ∙ c .before .before .before .read-pair .ensures)
 
 same-length : tie.Need-same-length
 same-length c = search needs
 
 returns-2 : tie.Need-returns-2
-returns-2 c = λ w1 k. pair-taken (c .before .before .before .before .before .before .before .before .before .before .args .st) k (c .before .before .before .before .before .before .before .before .before .before .args .w0 .now) w1 (c .before .before .before .before .before .before .before .before .before .before .args .line .now) (twoNumbers (drop 1 (fieldsOf (c .before .before .before .before .before .before .before .before .before .before .args .line .now)))) objectLine 96 (object-fields _ (c .before .before .before .before .before .before .before .before .before .before .pre .0 .is-letter)) object-limits (pair-within 96 (twoNumbers (drop 1 (fieldsOf (c .before .before .before .before .before .before .before .before .before .before .args .line .now)))) (sym (c .before .before .before .before .before .n2 .given .1) ∙ c .before .before .before .before .before .before .before .read-pair .ensures) .are) (c .before .before .put-object .ensures w1 k)
+returns-2 c = λ w1 k. pair-taken (c .before .before .before .before .before .before .before .before .before .before .args .st) k (c .before .before .before .before .before .before .before .before .before .before .args .w0 .now) w1 (c .before .before .before .before .before .before .before .before .before .before .args .line .now) (twoNumbers (drop 1 (fieldsOf (c .before .before .before .before .before .before .before .before .before .before .args .line .now)))) objectLine 96 (object-fields _ (c .before .before .before .before .before .before .before .before .before .before .pre .0 .is-letter)) object-plain object-limits (pair-within 96 (twoNumbers (drop 1 (fieldsOf (c .before .before .before .before .before .before .before .before .before .before .args .line .now)))) (sym (c .before .before .before .before .before .n2 .given .1) ∙ c .before .before .before .before .before .before .before .read-pair .ensures) .are) (c .before .before .put-object .ensures w1 k)
 
 pub object-line-spec : {M : Type 1} → statement M
 object-line-spec =

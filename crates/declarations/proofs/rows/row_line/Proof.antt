@@ -3,7 +3,7 @@ use borrow.Author.Needs.{needs}
 use mathlib.Core.Path.{sym, _∙_}
 use Rattle.sheet.specs.Spelling.{readType}
 use Rattle.tables.proofs.LineFields.{num-cut}
-use Rattle.declarations.proofs.TakenLaws.{unspelled, spelled}
+use Rattle.declarations.proofs.TakenLaws.{unspelled, row-plain, spelled}
 use Rattle.types.proofs.Within.{read-bad, read-big, read-is}
 use Rattle.declarations.proofs.RowFields.{row-count, row-number, row-class, row-name, row-type, row-spelled, row-exact}
 use Rattle.declarations.proofs.RowLaws.{are-low, row-over, row-over-type}
@@ -83,16 +83,16 @@ returns-5 : tie.Need-returns-5
 returns-5 c = λ w1 k. unspelled (c .before .before .before .before .before .before .before .before .before .before .before .before .before .before .before .before .before .before .before .before .before .before .before .args .st) k (c .before .before .before .before .before .before .before .before .before .before .before .before .before .before .before .before .before .before .before .before .before .before .before .args .w0 .now) w1 (c .before .before .before .before .before .before .before .before .before .before .before .before .before .before .before .before .before .before .before .before .before .before .before .args .line .now) (row-type (c .before .before .before .before .before .before .before .before .before .before .before .before .before .before .before .before .before .before .before .before .before .before .before .pre .0) (c .before .before .before .before .before .before .before .before .before .before .before .before .before .before .before .before .before .before .before .if1 .left) (c .before .before .before .before .before .before .before .before .before .before .before .before .before .before .before .before .before .before .field .ensures) (c .before .before .before .before .before .before .before .before .before .before .before .before .before .field2 .ensures) (sym (c .before .before .before .before .before .before .before .before .before .before .before .before .before .before .before .n .given .1) ∙ c .before .before .before .before .before .before .before .before .before .before .before .before .before .before .before .before .before .number .ensures) (c .before .before .before .before .before .before .before .before .field3 .ensures) (sym (c .before .before .before .before .before .before .before .before .before .before .c .given .1) ∙ c .before .before .before .before .before .before .before .before .before .before .before .before .number2 .ensures) (c .before .before .before .field4 .ensures) (sym (c .before .before .before .before .before .name .given .1) ∙ c .before .before .before .before .before .before .before .number3 .ensures) (read-bad (readType (c .before .before .before .field4 .result .now)) (c .before .before .read-type .ensures) (c .enum-told4 .given .1)))
 
 returns-6 : tie.Need-returns-6
-returns-6 c = λ w1 k. let t = (read-big (readType (c .before .before .before .field4 .result .now)) (c .before .before .read-type .ensures) (c .enum-told5 .given .1)) in spelled (c .before .before .before .before .before .before .before .before .before .before .before .before .before .before .before .before .before .before .before .before .before .before .before .args .line .now) (row-spelled (c .before .before .before .before .before .before .before .before .before .before .before .before .before .before .before .before .before .before .before .before .before .before .before .pre .0) (c .before .before .before .before .before .before .before .before .before .before .before .before .before .before .before .before .before .before .before .if1 .left) (c .before .before .before .before .before .before .before .before .before .before .before .before .before .before .before .before .before .before .field .ensures) (c .before .before .before .before .before .before .before .before .before .before .before .before .before .field2 .ensures) (sym (c .before .before .before .before .before .before .before .before .before .before .before .before .before .before .before .n .given .1) ∙ c .before .before .before .before .before .before .before .before .before .before .before .before .before .before .before .before .before .number .ensures) (c .before .before .before .before .before .before .before .before .field3 .ensures) (sym (c .before .before .before .before .before .before .before .before .before .before .c .given .1) ∙ c .before .before .before .before .before .before .before .before .before .before .before .before .number2 .ensures) (c .before .before .before .field4 .ensures) (sym (c .before .before .before .before .before .name .given .1) ∙ c .before .before .before .before .before .before .before .number3 .ensures) (t .1)) (row-over-type (c .before .before .before .before .before .before .before .before .before .before .before .before .before .before .before .before .before .before .before .before .before .before .before .args .st) k (c .before .before .before .before .before .before .before .before .before .before .before .before .before .before .before .before .before .before .before .before .before .before .before .args .w0 .now) w1 _ _ _ _ (t .2))
+returns-6 c = λ w1 k. let t = (read-big (readType (c .before .before .before .field4 .result .now)) (c .before .before .read-type .ensures) (c .enum-told5 .given .1)) in spelled (c .before .before .before .before .before .before .before .before .before .before .before .before .before .before .before .before .before .before .before .before .before .before .before .args .line .now) (row-plain _ _ _ _) (row-spelled (c .before .before .before .before .before .before .before .before .before .before .before .before .before .before .before .before .before .before .before .before .before .before .before .pre .0) (c .before .before .before .before .before .before .before .before .before .before .before .before .before .before .before .before .before .before .before .if1 .left) (c .before .before .before .before .before .before .before .before .before .before .before .before .before .before .before .before .before .before .field .ensures) (c .before .before .before .before .before .before .before .before .before .before .before .before .before .field2 .ensures) (sym (c .before .before .before .before .before .before .before .before .before .before .before .before .before .before .before .n .given .1) ∙ c .before .before .before .before .before .before .before .before .before .before .before .before .before .before .before .before .before .number .ensures) (c .before .before .before .before .before .before .before .before .field3 .ensures) (sym (c .before .before .before .before .before .before .before .before .before .before .c .given .1) ∙ c .before .before .before .before .before .before .before .before .before .before .before .before .number2 .ensures) (c .before .before .before .field4 .ensures) (sym (c .before .before .before .before .before .name .given .1) ∙ c .before .before .before .before .before .before .before .number3 .ensures) (t .1)) (row-over-type (c .before .before .before .before .before .before .before .before .before .before .before .before .before .before .before .before .before .before .before .before .before .before .before .args .st) k (c .before .before .before .before .before .before .before .before .before .before .before .before .before .before .before .before .before .before .before .before .before .before .before .args .w0 .now) w1 _ _ _ _ (t .2))
 
 same-length : tie.Need-same-length
 same-length c = search needs
 
 returns-7 : tie.Need-returns-7
-returns-7 c = λ w1 k. let t = (read-is (readType (c .before .before .before .before .before .before .before .before .before .before .field4 .result .now)) (c .before .before .before .before .before .before .before .before .before .read-type .ensures) (c .before .before .before .before .before .before .before .t .given .0 .0) (c .before .before .before .before .before .before .before .t .given .1)) in let low = (are-low (c .before .before .before .before .before .before .before .before .before .before .before .before .before .before .before .before .before .before .before .before .before .before .n .given .0 .0) (c .before .before .before .before .before .before .before .before .before .before .before .before .before .before .before .before .before .c .given .0 .0) (c .before .before .before .before .before .before .before .before .before .before .before .before .name .given .0 .0) (sym (c .before .before .before .before .before .numbers-within .ensures) ∙ c .before .before .before .before .if2 .taken)) in spelled (c .before .before .before .before .before .before .before .before .before .before .before .before .before .before .before .before .before .before .before .before .before .before .before .before .before .before .before .before .before .before .args .line .now) (row-exact (c .before .before .before .before .before .before .before .before .before .before .before .before .before .before .before .before .before .before .before .before .before .before .before .before .before .before .before .before .before .before .pre .0) (c .before .before .before .before .before .before .before .before .before .before .before .before .before .before .before .before .before .before .before .before .before .before .before .before .before .before .if1 .left) (c .before .before .before .before .before .before .before .before .before .before .before .before .before .before .before .before .before .before .before .before .before .before .before .before .before .field .ensures) (c .before .before .before .before .before .before .before .before .before .before .before .before .before .before .before .before .before .before .before .before .field2 .ensures) (sym (c .before .before .before .before .before .before .before .before .before .before .before .before .before .before .before .before .before .before .before .before .before .before .n .given .1) ∙ c .before .before .before .before .before .before .before .before .before .before .before .before .before .before .before .before .before .before .before .before .before .before .before .before .number .ensures) (c .before .before .before .before .before .before .before .before .before .before .before .before .before .before .before .field3 .ensures) (sym (c .before .before .before .before .before .before .before .before .before .before .before .before .before .before .before .before .before .c .given .1) ∙ c .before .before .before .before .before .before .before .before .before .before .before .before .before .before .before .before .before .before .before .number2 .ensures) (c .before .before .before .before .before .before .before .before .before .before .field4 .ensures) (sym (c .before .before .before .before .before .before .before .before .before .before .before .before .name .given .1) ∙ c .before .before .before .before .before .before .before .before .before .before .before .before .before .before .number3 .ensures) (t .0) (low .number) (low .class) (low .named)) (c .before .before .put-row .ensures w1 k)
+returns-7 c = λ w1 k. let t = (read-is (readType (c .before .before .before .before .before .before .before .before .before .before .field4 .result .now)) (c .before .before .before .before .before .before .before .before .before .read-type .ensures) (c .before .before .before .before .before .before .before .t .given .0 .0) (c .before .before .before .before .before .before .before .t .given .1)) in let low = (are-low (c .before .before .before .before .before .before .before .before .before .before .before .before .before .before .before .before .before .before .before .before .before .before .n .given .0 .0) (c .before .before .before .before .before .before .before .before .before .before .before .before .before .before .before .before .before .c .given .0 .0) (c .before .before .before .before .before .before .before .before .before .before .before .before .name .given .0 .0) (sym (c .before .before .before .before .before .numbers-within .ensures) ∙ c .before .before .before .before .if2 .taken)) in spelled (c .before .before .before .before .before .before .before .before .before .before .before .before .before .before .before .before .before .before .before .before .before .before .before .before .before .before .before .before .before .before .args .line .now) (row-plain _ _ _ _) (row-exact (c .before .before .before .before .before .before .before .before .before .before .before .before .before .before .before .before .before .before .before .before .before .before .before .before .before .before .before .before .before .before .pre .0) (c .before .before .before .before .before .before .before .before .before .before .before .before .before .before .before .before .before .before .before .before .before .before .before .before .before .before .if1 .left) (c .before .before .before .before .before .before .before .before .before .before .before .before .before .before .before .before .before .before .before .before .before .before .before .before .before .field .ensures) (c .before .before .before .before .before .before .before .before .before .before .before .before .before .before .before .before .before .before .before .before .field2 .ensures) (sym (c .before .before .before .before .before .before .before .before .before .before .before .before .before .before .before .before .before .before .before .before .before .before .n .given .1) ∙ c .before .before .before .before .before .before .before .before .before .before .before .before .before .before .before .before .before .before .before .before .before .before .before .before .number .ensures) (c .before .before .before .before .before .before .before .before .before .before .before .before .before .before .before .field3 .ensures) (sym (c .before .before .before .before .before .before .before .before .before .before .before .before .before .before .before .before .before .c .given .1) ∙ c .before .before .before .before .before .before .before .before .before .before .before .before .before .before .before .before .before .before .before .number2 .ensures) (c .before .before .before .before .before .before .before .before .before .before .field4 .ensures) (sym (c .before .before .before .before .before .before .before .before .before .before .before .before .name .given .1) ∙ c .before .before .before .before .before .before .before .before .before .before .before .before .before .before .number3 .ensures) (t .0) (low .number) (low .class) (low .named)) (c .before .before .put-row .ensures w1 k)
 
 returns-8 : tie.Need-returns-8
-returns-8 c = λ w1 k. let t = (read-is (readType (c .before .before .before .before .before .before .field4 .result .now)) (c .before .before .before .before .before .read-type .ensures) (c .before .before .before .t .given .0 .0) (c .before .before .before .t .given .1)) in spelled (c .before .before .before .before .before .before .before .before .before .before .before .before .before .before .before .before .before .before .before .before .before .before .before .before .before .before .args .line .now) (row-spelled (c .before .before .before .before .before .before .before .before .before .before .before .before .before .before .before .before .before .before .before .before .before .before .before .before .before .before .pre .0) (c .before .before .before .before .before .before .before .before .before .before .before .before .before .before .before .before .before .before .before .before .before .before .if1 .left) (c .before .before .before .before .before .before .before .before .before .before .before .before .before .before .before .before .before .before .before .before .before .field .ensures) (c .before .before .before .before .before .before .before .before .before .before .before .before .before .before .before .before .field2 .ensures) (sym (c .before .before .before .before .before .before .before .before .before .before .before .before .before .before .before .before .before .before .n .given .1) ∙ c .before .before .before .before .before .before .before .before .before .before .before .before .before .before .before .before .before .before .before .before .number .ensures) (c .before .before .before .before .before .before .before .before .before .before .before .field3 .ensures) (sym (c .before .before .before .before .before .before .before .before .before .before .before .before .before .c .given .1) ∙ c .before .before .before .before .before .before .before .before .before .before .before .before .before .before .before .number2 .ensures) (c .before .before .before .before .before .before .field4 .ensures) (sym (c .before .before .before .before .before .before .before .before .name .given .1) ∙ c .before .before .before .before .before .before .before .before .before .before .number3 .ensures) (t .0)) (row-over (c .before .before .before .before .before .before .before .before .before .before .before .before .before .before .before .before .before .before .before .before .before .before .before .before .before .before .args .st) k (c .before .before .before .before .before .before .before .before .before .before .before .before .before .before .before .before .before .before .before .before .before .before .before .before .before .before .args .w0 .now) w1 _ _ _ _ (num-cut _ (sym (c .before .before .before .before .before .before .before .before .before .before .before .before .before .before .before .before .before .before .n .given .1) ∙ c .before .before .before .before .before .before .before .before .before .before .before .before .before .before .before .before .before .before .before .before .number .ensures)) (num-cut _ (sym (c .before .before .before .before .before .before .before .before .before .before .before .before .before .c .given .1) ∙ c .before .before .before .before .before .before .before .before .before .before .before .before .before .before .before .number2 .ensures)) (num-cut _ (sym (c .before .before .before .before .before .before .before .before .name .given .1) ∙ c .before .before .before .before .before .before .before .before .before .before .number3 .ensures)) (sym (c .before .numbers-within .ensures) ∙ c .if2 .left))
+returns-8 c = λ w1 k. let t = (read-is (readType (c .before .before .before .before .before .before .field4 .result .now)) (c .before .before .before .before .before .read-type .ensures) (c .before .before .before .t .given .0 .0) (c .before .before .before .t .given .1)) in spelled (c .before .before .before .before .before .before .before .before .before .before .before .before .before .before .before .before .before .before .before .before .before .before .before .before .before .before .args .line .now) (row-plain _ _ _ _) (row-spelled (c .before .before .before .before .before .before .before .before .before .before .before .before .before .before .before .before .before .before .before .before .before .before .before .before .before .before .pre .0) (c .before .before .before .before .before .before .before .before .before .before .before .before .before .before .before .before .before .before .before .before .before .before .if1 .left) (c .before .before .before .before .before .before .before .before .before .before .before .before .before .before .before .before .before .before .before .before .before .field .ensures) (c .before .before .before .before .before .before .before .before .before .before .before .before .before .before .before .before .field2 .ensures) (sym (c .before .before .before .before .before .before .before .before .before .before .before .before .before .before .before .before .before .before .n .given .1) ∙ c .before .before .before .before .before .before .before .before .before .before .before .before .before .before .before .before .before .before .before .before .number .ensures) (c .before .before .before .before .before .before .before .before .before .before .before .field3 .ensures) (sym (c .before .before .before .before .before .before .before .before .before .before .before .before .before .c .given .1) ∙ c .before .before .before .before .before .before .before .before .before .before .before .before .before .before .before .number2 .ensures) (c .before .before .before .before .before .before .field4 .ensures) (sym (c .before .before .before .before .before .before .before .before .name .given .1) ∙ c .before .before .before .before .before .before .before .before .before .before .number3 .ensures) (t .0)) (row-over (c .before .before .before .before .before .before .before .before .before .before .before .before .before .before .before .before .before .before .before .before .before .before .before .before .before .before .args .st) k (c .before .before .before .before .before .before .before .before .before .before .before .before .before .before .before .before .before .before .before .before .before .before .before .before .before .before .args .w0 .now) w1 _ _ _ _ (num-cut _ (sym (c .before .before .before .before .before .before .before .before .before .before .before .before .before .before .before .before .before .before .n .given .1) ∙ c .before .before .before .before .before .before .before .before .before .before .before .before .before .before .before .before .before .before .before .before .number .ensures)) (num-cut _ (sym (c .before .before .before .before .before .before .before .before .before .before .before .before .before .c .given .1) ∙ c .before .before .before .before .before .before .before .before .before .before .before .before .before .before .before .number2 .ensures)) (num-cut _ (sym (c .before .before .before .before .before .before .before .before .name .given .1) ∙ c .before .before .before .before .before .before .before .before .before .before .number3 .ensures)) (sym (c .before .numbers-within .ensures) ∙ c .if2 .left))
 
 pub row-line-spec : {M : Type 1} → statement M
 row-line-spec =

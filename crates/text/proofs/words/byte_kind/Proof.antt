@@ -34,13 +34,17 @@ unfolding byteKind isDigit
 returns-7 c = rw (c .match .keys7)
 
 returns-8 : tie.Need-returns-8
-returns-8 c = kind-digit _ (digit-is _ (c .before .if1 .left) (c .if2 .taken))
+unfolding byteKind isDigit
+returns-8 c = rw (c .match .keys8)
 
 returns-9 : tie.Need-returns-9
-returns-9 c = let r = c .before .match .rest in kind-other _ (below-digits _ (c .if1 .taken)) (r .0 .0 .0 .0 .0 .0 .1) (r .0 .0 .0 .0 .0 .1) (r .0 .0 .0 .0 .1) (r .0 .0 .0 .1) (r .0 .0 .1) (r .0 .1) (r .1)
+returns-9 c = kind-digit _ (digit-is _ (c .before .if1 .left) (c .if2 .taken))
 
 returns-10 : tie.Need-returns-10
-returns-10 c = let r = c .before .before .match .rest in kind-other _ (above-digits _ (c .if2 .left)) (r .0 .0 .0 .0 .0 .0 .1) (r .0 .0 .0 .0 .0 .1) (r .0 .0 .0 .0 .1) (r .0 .0 .0 .1) (r .0 .0 .1) (r .0 .1) (r .1)
+returns-10 c = let r = c .before .match .rest in kind-other _ (below-digits _ (c .if1 .taken)) (r .0 .0 .0 .0 .0 .0 .0 .1) (r .0 .0 .0 .0 .0 .0 .1) (r .0 .0 .0 .0 .0 .1) (r .0 .0 .0 .0 .1) (r .0 .0 .0 .1) (r .0 .0 .1) (r .0 .1) (r .1)
+
+returns-11 : tie.Need-returns-11
+returns-11 c = let r = c .before .before .match .rest in kind-other _ (above-digits _ (c .if2 .left)) (r .0 .0 .0 .0 .0 .0 .0 .1) (r .0 .0 .0 .0 .0 .0 .1) (r .0 .0 .0 .0 .0 .1) (r .0 .0 .0 .0 .1) (r .0 .0 .0 .1) (r .0 .0 .1) (r .0 .1) (r .1)
 
 pub byte-kind-spec : {M : Type 1} → statement M
 byte-kind-spec =
@@ -55,4 +59,5 @@ byte-kind-spec =
     returns-7
     returns-8
     returns-9
-    returns-10)
+    returns-10
+    returns-11)

@@ -3,7 +3,7 @@ use Rattle.text.specs.Words.{onlyByte}
 use Rattle.trees.specs.Forms.{kindByteCode}
 use native.Mathlib.Omega.{arith}
 use mathlib.Core.Path.{ap, _∙_}
-use Rattle.trees.proofs.LiteralLaws.{assemble-none, assemble-over, assemble-other, assemble-read}
+use Rattle.trees.proofs.LiteralLaws.{assemble-none, assemble-over, assemble-other, assemble-bad, assemble-read}
 use Rattle.trees.proofs.FieldLaws.{rest-cons, rest-short, rest-long, rest-length, rest-part}
 use borrow.Author.Needs.{needs}
 use Rattle.trees.proofs.forms.collection_form.Statement.{statement}
@@ -36,20 +36,17 @@ returns-3 c = rw (rest-cons (c .before .before .before .before .before .before .
 number-fields-requires : tie.Need-number-fields-requires
 number-fields-requires c κs = search needs
 
-array-read-t13 : tie.Need-array-read-t13
-array-read-t13 c = search needs
-
-array-read-t16 : tie.Need-array-read-t16
-array-read-t16 c = search needs
-
-array-read-t19 : tie.Need-array-read-t19
-array-read-t19 c = search needs
-
-array-read-t22 : tie.Need-array-read-t22
-array-read-t22 c = search needs
+misspelled-requires-4 : tie.Need-misspelled-requires-4
+misspelled-requires-4 c κs = search needs
 
 returns-4 : tie.Need-returns-4
-returns-4 c = rw (rest-cons (c .before .before .before .before .before .before .before .before .pre .0) (c .before .before .before .before .before .before .if1 .left)) (assemble-read _ _ (c .before .before .before .kind-code .ensures ∙ ap (λ x. kindByteCode (onlyByte x)) (c .before .before .before .before .field .ensures)) (c .before .before .if3 .left) (rest-length (c .before .before .before .before .before .before .before .before .pre .0) (c .before .before .before .before .before .if2 .left)) (omega arith) (rest-part (c .before .before .before .before .before .before .before .before .pre .0) (c .before .before .before .before .before .if2 .left) (c .before .number-fields .ensures)))
+returns-4 c = rw (rest-cons (c .before .before .before .before .before .before .before .before .before .before .pre .0) (c .before .before .before .before .before .before .before .before .if1 .left), assemble-bad _ _ (c .before .before .before .before .before .kind-code .ensures ∙ ap (λ x. kindByteCode (onlyByte x)) (c .before .before .before .before .before .before .field .ensures)) (c .before .before .before .before .if3 .left) (rest-length (c .before .before .before .before .before .before .before .before .before .before .pre .0) (c .before .before .before .before .before .before .before .if2 .left)) (omega arith) (rest-part (c .before .before .before .before .before .before .before .before .before .before .pre .0) (c .before .before .before .before .before .before .before .if2 .left) (c .before .before .before .number-fields .ensures)) (c .before .if4 .taken)) (c .misspelled4 .ensures _)
+
+assembled-requires : tie.Need-assembled-requires
+assembled-requires c κs = search needs
+
+returns-5 : tie.Need-returns-5
+returns-5 c = rw (rest-cons (c .before .before .before .before .before .before .before .before .before .before .before .pre .0) (c .before .before .before .before .before .before .before .before .before .if1 .left)) (assemble-read _ _ (c .before .before .before .before .before .before .kind-code .ensures ∙ ap (λ x. kindByteCode (onlyByte x)) (c .before .before .before .before .before .before .before .field .ensures)) (c .before .before .before .before .before .if3 .left) (rest-length (c .before .before .before .before .before .before .before .before .before .before .before .pre .0) (c .before .before .before .before .before .before .before .before .if2 .left)) (omega arith) (rest-part (c .before .before .before .before .before .before .before .before .before .before .before .pre .0) (c .before .before .before .before .before .before .before .before .if2 .left) (c .before .before .before .before .number-fields .ensures)) (c .before .before .if4 .left) (c .assembled .ensures))
 
 pub collection-form-spec : {M : Type 1} → statement M
 collection-form-spec =
@@ -64,8 +61,7 @@ collection-form-spec =
     misspelled-requires-3
     returns-3
     number-fields-requires
-    array-read-t13
-    array-read-t16
-    array-read-t19
-    array-read-t22
-    returns-4)
+    misspelled-requires-4
+    returns-4
+    assembled-requires
+    returns-5)

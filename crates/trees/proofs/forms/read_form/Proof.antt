@@ -1,7 +1,8 @@
 -- `read_form` meets its contract.
+use native.Mathlib.Omega.{arith}
 use Rattle.text.proofs.FormLaws.{above}
 use Rattle.trees.proofs.LiteralLaws.{gap-code, no-code}
-use Rattle.trees.specs.Forms.{constant, itself, one, two, undefTest, conditional, quotient}
+use Rattle.trees.proofs.BuiltLaws.{of-none, of-one, of-two, of-quantifier, of-three, of-access, of-last, one-of-none, one-of-one}
 use borrow.Author.Needs.{needs}
 use Rattle.trees.proofs.forms.read_form.Statement.{statement}
 use Rattle.trees.proofs.forms.read_form.Tie as tie
@@ -9,59 +10,44 @@ use Rattle.trees.proofs.forms.read_form.Tie as tie
 integer-form-requires : tie.Need-integer-form-requires
 integer-form-requires c κs = search needs
 
-plain-form-requires : tie.Need-plain-form-requires
-plain-form-requires c κs = (c .before .before .pre .0, c .before .before .pre .1, itself)
-
-variable-form-requires : tie.Need-variable-form-requires
-variable-form-requires c κs = search needs
-
-all-form-requires : tie.Need-all-form-requires
-all-form-requires c κs = search needs
-
-cast-form-requires : tie.Need-cast-form-requires
-cast-form-requires c κs = search needs
+numbers-form-requires : tie.Need-numbers-form-requires
+numbers-form-requires c κs = (c .before .before .pre .0, c .before .before .pre .1, one-of-none, omega arith)
 
 collection-form-requires : tie.Need-collection-form-requires
 collection-form-requires c κs = search needs
 
-plain-form-requires-2 : tie.Need-plain-form-requires-2
-plain-form-requires-2 c κs = (c .before .before .pre .0, c .before .before .pre .1, undefTest)
-
-plain-form-requires-3 : tie.Need-plain-form-requires-3
-plain-form-requires-3 c κs = (c .before .before .pre .0, c .before .before .pre .1, conditional)
-
-let-form-requires : tie.Need-let-form-requires
-let-form-requires c κs = search needs
+numbers-form-requires-2 : tie.Need-numbers-form-requires-2
+numbers-form-requires-2 c κs = (c .before .before .pre .0, c .before .before .pre .1, one-of-one, omega arith)
 
 iterate-form-requires : tie.Need-iterate-form-requires
 iterate-form-requires c κs = search needs
 
-call-form-requires : tie.Need-call-form-requires
-call-form-requires c κs = search needs
-
-plain-form-requires-4 : tie.Need-plain-form-requires-4
-plain-form-requires-4 c κs = (c .before .before .pre .0, c .before .before .pre .1, quotient)
-
 real-form-requires : tie.Need-real-form-requires
 real-form-requires c κs = search needs
 
-plain-form-requires-5 : tie.Need-plain-form-requires-5
-plain-form-requires-5 c κs = (c .before .before .before .pre .0, c .before .before .before .pre .1, constant {k = c .before .before .before .args .code} (c .if1 .taken))
+numbers-form-requires-3 : tie.Need-numbers-form-requires-3
+numbers-form-requires-3 c κs = (c .before .before .before .pre .0, c .before .before .before .pre .1, of-none _ (c .if1 .taken), omega arith)
 
-plain-form-requires-6 : tie.Need-plain-form-requires-6
-plain-form-requires-6 c κs = (c .before .before .before .before .pre .0, c .before .before .before .before .pre .1, one {k = c .before .before .before .before .args .code} (above (above (above (above (c .before .if1 .left) (c .before .before .match .rest .0 .0 .0 .0 .0 .0 .0 .0 .0 .0 .0 .0 .1)) (c .before .before .match .rest .0 .0 .0 .0 .0 .0 .0 .0 .0 .0 .0 .1)) (c .before .before .match .rest .0 .0 .0 .0 .0 .0 .0 .0 .0 .0 .1)) (c .before .before .match .rest .0 .0 .0 .0 .0 .0 .0 .0 .0 .1)) (c .if2 .taken))
+numbers-form-requires-4 : tie.Need-numbers-form-requires-4
+numbers-form-requires-4 c κs = (c .before .before .before .before .pre .0, c .before .before .before .before .pre .1, of-one _ (above (above (c .before .if1 .left) (c .before .before .match .rest .0 .0 .0 .0 .0 .1)) (c .before .before .match .rest .0 .0 .0 .0 .1)) (c .if2 .taken), omega arith)
 
-plain-form-requires-7 : tie.Need-plain-form-requires-7
-plain-form-requires-7 c κs = (c .before .before .before .before .before .pre .0, c .before .before .before .before .before .pre .1, two {k = c .before .before .before .before .before .args .code} (above (c .before .if2 .left) (c .before .before .before .match .rest .0 .0 .0 .0 .0 .0 .0 .0 .1)) (c .if3 .taken))
+numbers-form-requires-5 : tie.Need-numbers-form-requires-5
+numbers-form-requires-5 c κs = (c .before .before .before .before .before .pre .0, c .before .before .before .before .before .pre .1, of-two _ (c .before .if2 .left) (c .if3 .taken), omega arith)
 
-quantifier-form-requires : tie.Need-quantifier-form-requires
-quantifier-form-requires c κs = search needs
+numbers-form-requires-6 : tie.Need-numbers-form-requires-6
+numbers-form-requires-6 c κs = (c .before .before .before .before .before .before .pre .0, c .before .before .before .before .before .before .pre .1, of-quantifier _ (c .before .if3 .left) (c .if4 .taken), omega arith)
 
 misspelled-requires : tie.Need-misspelled-requires
 misspelled-requires c κs = search needs
 
-attribute-form-requires : tie.Need-attribute-form-requires
-attribute-form-requires c κs = (c .before .before .before .before .before .before .before .before .pre .0, c .before .before .before .before .before .before .before .before .pre .1, record { low = above (above (above (c .before .if5 .left) (c .before .before .before .before .before .before .match .rest .0 .0 .0 .0 .0 .0 .1)) (c .before .before .before .before .before .before .match .rest .0 .0 .0 .0 .0 .1)) (c .before .before .before .before .before .before .match .rest .0 .0 .0 .0 .1); high = c .if6 .taken })
+numbers-form-requires-7 : tie.Need-numbers-form-requires-7
+numbers-form-requires-7 c κs = (c .before .before .before .before .before .before .before .before .pre .0, c .before .before .before .before .before .before .before .before .pre .1, of-three _ (above (c .before .if5 .left) (c .before .before .before .before .before .before .match .rest .0 .0 .1)) (c .if6 .taken), omega arith)
+
+numbers-form-requires-8 : tie.Need-numbers-form-requires-8
+numbers-form-requires-8 c κs = (c .before .before .before .before .before .before .before .before .before .pre .0, c .before .before .before .before .before .before .before .before .before .pre .1, of-access _ (c .before .if6 .left) (c .if7 .taken), omega arith)
+
+numbers-form-requires-9 : tie.Need-numbers-form-requires-9
+numbers-form-requires-9 c κs = (c .before .before .before .before .before .before .before .before .before .before .pre .0, c .before .before .before .before .before .before .before .before .before .before .pre .1, of-last _ (above (c .before .if7 .left) (c .before .before .before .before .before .before .before .before .match .rest .0 .1)) (c .if8 .taken), omega arith)
 
 misspelled-requires-2 : tie.Need-misspelled-requires-2
 misspelled-requires-2 c κs = search needs
@@ -70,85 +56,65 @@ returns : tie.Need-returns
 returns c = rw (c .before .match .keys1) (c .integer-form .ensures)
 
 returns-2 : tie.Need-returns-2
-returns-2 c = rw (c .before .match .keys2) (c .plain-form .ensures)
+returns-2 c = rw (c .before .match .keys2) (c .numbers-form .ensures)
 
 returns-3 : tie.Need-returns-3
-returns-3 c = rw (c .before .match .keys3) (c .variable-form .ensures)
+returns-3 c = rw (c .before .match .keys3) (c .collection-form .ensures)
 
 returns-4 : tie.Need-returns-4
-returns-4 c = rw (c .before .match .keys4) (c .all-form .ensures)
+returns-4 c = rw (c .before .match .keys4) (c .numbers-form2 .ensures)
 
 returns-5 : tie.Need-returns-5
-returns-5 c = rw (c .before .match .keys5) (c .cast-form .ensures)
+returns-5 c = rw (c .before .match .keys5) (c .iterate-form .ensures)
 
 returns-6 : tie.Need-returns-6
-returns-6 c = rw (c .before .match .keys6) (c .collection-form .ensures)
+returns-6 c = rw (c .before .match .keys6) (c .real-form .ensures)
 
 returns-7 : tie.Need-returns-7
-returns-7 c = rw (c .before .match .keys7) (c .plain-form2 .ensures)
+returns-7 c = search needs
 
 returns-8 : tie.Need-returns-8
-returns-8 c = rw (c .before .match .keys8) (c .plain-form3 .ensures)
+returns-8 c = search needs
 
 returns-9 : tie.Need-returns-9
-returns-9 c = rw (c .before .match .keys9) (c .let-form .ensures)
+returns-9 c = search needs
 
 returns-10 : tie.Need-returns-10
-returns-10 c = rw (c .before .match .keys10) (c .iterate-form .ensures)
+returns-10 c = search needs
 
 returns-11 : tie.Need-returns-11
-returns-11 c = rw (c .before .match .keys11) (c .call-form .ensures)
+returns-11 c = rw (gap-code _ _ (above (c .before .before .if4 .left) (c .before .before .before .before .before .before .match .rest .0 .0 .0 .1)) (c .before .if5 .taken)) (c .misspelled .ensures _)
 
 returns-12 : tie.Need-returns-12
-returns-12 c = rw (c .before .match .keys12) (c .plain-form4 .ensures)
+returns-12 c = search needs
 
 returns-13 : tie.Need-returns-13
-returns-13 c = rw (c .before .match .keys13) (c .real-form .ensures)
+returns-13 c = search needs
 
 returns-14 : tie.Need-returns-14
 returns-14 c = search needs
 
 returns-15 : tie.Need-returns-15
-returns-15 c = search needs
-
-returns-16 : tie.Need-returns-16
-returns-16 c = search needs
-
-returns-17 : tie.Need-returns-17
-returns-17 c = search needs
-
-returns-18 : tie.Need-returns-18
-returns-18 c = rw (gap-code _ _ (above (c .before .before .if4 .left) (c .before .before .before .before .before .before .match .rest .0 .0 .0 .0 .0 .0 .0 .1)) (c .before .if5 .taken)) (c .misspelled .ensures _)
-
-returns-19 : tie.Need-returns-19
-returns-19 c = search needs
-
-returns-20 : tie.Need-returns-20
-returns-20 c = rw (no-code _ _ (above (above (above (above (c .before .if6 .left) (c .before .before .before .before .before .before .before .match .rest .0 .0 .0 .1)) (c .before .before .before .before .before .before .before .match .rest .0 .0 .1)) (c .before .before .before .before .before .before .before .match .rest .0 .1)) (c .before .before .before .before .before .before .before .match .rest .1))) (c .misspelled2 .ensures _)
+returns-15 c = rw (no-code _ _ (above (c .before .if8 .left) (c .before .before .before .before .before .before .before .before .before .match .rest .1))) (c .misspelled2 .ensures _)
 
 pub read-form-spec : {M : Type 1} → statement M
 read-form-spec =
     tie.close
     (tie.spec
     integer-form-requires
-    plain-form-requires
-    variable-form-requires
-    all-form-requires
-    cast-form-requires
+    numbers-form-requires
     collection-form-requires
-    plain-form-requires-2
-    plain-form-requires-3
-    let-form-requires
+    numbers-form-requires-2
     iterate-form-requires
-    call-form-requires
-    plain-form-requires-4
     real-form-requires
-    plain-form-requires-5
-    plain-form-requires-6
-    plain-form-requires-7
-    quantifier-form-requires
+    numbers-form-requires-3
+    numbers-form-requires-4
+    numbers-form-requires-5
+    numbers-form-requires-6
     misspelled-requires
-    attribute-form-requires
+    numbers-form-requires-7
+    numbers-form-requires-8
+    numbers-form-requires-9
     misspelled-requires-2
     returns
     returns-2
@@ -164,9 +130,4 @@ read-form-spec =
     returns-12
     returns-13
     returns-14
-    returns-15
-    returns-16
-    returns-17
-    returns-18
-    returns-19
-    returns-20)
+    returns-15)

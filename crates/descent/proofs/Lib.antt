@@ -1,0 +1,10 @@
+pub mod WroteLaws
+pub mod FoundLaws
+pub mod LevelLaws
+pub mod OperandLaws
+pub mod BegunLaws
+pub mod PostfixLaws
+pub mod MemberLaws
+pub mod WaitingLaws
+pub mod LoopLaws
+pub mod ImportLaws

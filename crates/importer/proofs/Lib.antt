@@ -1,0 +1,12 @@
+pub mod LetLaws
+pub mod CloseLaws
+pub mod AnswerLaws
+pub mod StepLaws
+pub mod PrimaryLaws
+pub mod WholeLaws
+pub mod LeafLaws
+pub mod NotLaws
+pub mod NegateLaws
+pub mod HeadLaws
+pub mod PutLaws
+pub mod BeginLaws

@@ -1,0 +1,49 @@
+// How a primary begins.
+ghost use Prim.Native.Nat.{_≤_};
+ghost use lib.ListN.{length};
+ghost use Rattle.tokens.specs.Contracts.{Ahead};
+ghost use Rattle.importer.specs.Puts.{BeginAt};
+use super::leaves::leaf;
+use emission::emit;
+use phrases::Opening;
+use phrases::openings::opening;
+use tokens::Token;
+use tokens::next_token;
+use trees::built::assembled;
+use trees::built::built;
+
+// No primary; one of a single node, which is put down; or an expression, a condition or members come next.
+pub enum Begun {
+    No,
+    Done(Token),
+    Bracket(Token),
+    Condition(Token),
+    Members { code: u64, next: Token },
+}
+
+pub fn begin(s: &[u8], t: Token, w2: &mut [u64], n: usize, k: u64) -> Begun
+    requires { ⌜ Ahead (now s) t × (8192 ≤ length (now w2)) ⌝ }
+    ensures { λ r. ⌜ BeginAt k (now (s .entry)) t n (now (w2 .entry)) r (now (w2 .exit)) ⌝ }
+{
+    let p = leaf(s, t, k);
+    if p.spelled {
+        emit(w2, n, p);
+        let e = t.end;
+        return Begun::Done(next_token(s, e));
+    }
+    let found = opening(s, t);
+    match found {
+        Opening::No => Begun::No,
+        Opening::All { class, next } => {
+            emit(w2, n, built(6, [class, 0, 0, 0], k));
+            Begun::Done(next)
+        }
+        Opening::Bracket(u) => Begun::Bracket(u),
+        Opening::Condition(u) => Begun::Condition(u),
+        Opening::Empty { code, next } => {
+            emit(w2, n, assembled(code, [0; 4], 0, k));
+            Begun::Done(next)
+        }
+        Opening::Members { code, next } => Begun::Members { code, next },
+    }
+}

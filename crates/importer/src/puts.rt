@@ -1,0 +1,77 @@
+// Nodes that are put down after their operands. An operand is named by how many nodes there are after it: its root is the last of them.
+ghost use mathlib.Core.Path.{_≡_};
+ghost use mathlib.Core.Option.{some};
+ghost use Prim.Native.Nat.{ℕ, _-_, _≤_, _<_};
+ghost use lib.ListN.{length};
+ghost use Rattle.ocl.specs.Types.{Ty};
+ghost use Rattle.sheet.specs.Grammar.Trees.{One, Two, conditional, iterate, oneShape, twoShape, threeShape};
+ghost use Rattle.types.specs.Reading.{typeField, held};
+ghost use Rattle.phrases.specs.Contracts.{StandsAs, StandsAsTwo};
+ghost use Rattle.trees.specs.Fields.{cut};
+ghost use Rattle.trees.specs.Iterate.{Held};
+ghost use Rattle.importer.specs.Puts.{PutNode};
+use emission::emit;
+use trees::built::built;
+use trees::iterate::iterated;
+use trees::iterate::type_read;
+use types::GotType;
+
+// A form with one operand, and the class, attribute or definition x that it may hold.
+pub fn put_one(w2: &mut [u64], code: u64, x: u64, a: usize, k: u64)
+    requires { ⌜ (8192 ≤ length (now w2)) × (0 < a) ⌝ }
+    ensures { λ _. ⌜ ((f : One) → StandsAs f code x → PutNode k a (oneShape f (a - 1)) (now (w2 .entry)) (now (w2 .exit))) ⌝ }
+{
+    emit(w2, a, built(code, [a as u64 - 1, x, 0, 0], k));
+}
+
+// A form with two operands, and the variable that it may hold.
+pub fn put_two(w2: &mut [u64], code: u64, variable: u64, a: usize, b: usize, k: u64)
+    requires { ⌜ (8192 ≤ length (now w2)) × (0 < a) × (a < b) ⌝ }
+    ensures { λ _. ⌜ ((f : Two) → StandsAsTwo f code variable → PutNode k b (twoShape f (a - 1) (b - 1)) (now (w2 .entry)) (now (w2 .exit))) ⌝ }
+{
+    let x = a as u64 - 1;
+    let y = b as u64 - 1;
+    match code {
+        25..=26 => emit(w2, b, built(code, [x, variable, y, 0], k)),
+        32 => emit(w2, b, built(32, [variable, x, y, 0], k)),
+        _ => emit(w2, b, built(code, [x, y, 0, 0], k)),
+    }
+}
+
+// `if`
+pub fn put_condition(w2: &mut [u64], a: usize, b: usize, c: usize, k: u64)
+    requires { ⌜ (8192 ≤ length (now w2)) × (0 < a) × (a < b) × (b < c) ⌝ }
+    ensures { λ _. ⌜ PutNode k c (threeShape conditional (a - 1) (b - 1) (c - 1)) (now (w2 .entry)) (now (w2 .exit)) ⌝ }
+{
+    emit(
+        w2,
+        c,
+        built(31, [a as u64 - 1, b as u64 - 1, c as u64 - 1, 0], k),
+    );
+}
+
+// `iter`
+pub fn put_iteration(
+    w2: &mut [u64],
+    i: u64,
+    j: u64,
+    of: GotType,
+    a: usize,
+    b: usize,
+    c: usize,
+    k: u64,
+)
+    requires { ⌜ (8192 ≤ length (now w2)) × (0 < a) × (a < b) × (b < c) × Held of ⌝ }
+    ensures { λ _. ⌜ ((x y : ℕ) (u : Ty) → i ≡ cut x → j ≡ cut y → typeField of ≡ held (some u) → PutNode k c (threeShape (iterate x y u) (a - 1) (b - 1) (c - 1)) (now (w2 .entry)) (now (w2 .exit))) ⌝ }
+{
+    emit(
+        w2,
+        c,
+        iterated(
+            [a as u64 - 1, i, j, 0],
+            type_read(of),
+            [b as u64 - 1, c as u64 - 1, 0, 0],
+            k,
+        ),
+    );
+}

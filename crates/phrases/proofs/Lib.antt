@@ -1,0 +1,10 @@
+pub mod WordLaws
+pub mod RowLaws
+pub mod SignLaws
+pub mod StepLaws
+pub mod CallLaws
+pub mod DotLaws
+pub mod OpeningLaws
+pub mod TypeLaws
+pub mod KindLaws
+pub mod IterateLaws

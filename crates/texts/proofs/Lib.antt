@@ -1,0 +1,4 @@
+pub mod GatherLaws
+pub mod PlacingLaws
+pub mod JudgeLaws
+pub mod LineLaws

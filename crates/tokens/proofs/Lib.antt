@@ -1,0 +1,7 @@
+pub mod CodeLaws
+pub mod WordCodes
+pub mod LengthLaws
+pub mod TokenLaws
+pub mod LabelLaws
+pub mod BracketLaws
+pub mod ByteLaws

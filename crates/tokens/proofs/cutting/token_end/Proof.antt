@@ -1,0 +1,51 @@
+-- `token_end` meets its contract.
+use mathlib.Core.Path.{sym, _∙_}
+use Rattle.tokens.proofs.TokenLaws.{word-ends, arrow-ends, sign-ends}
+use borrow.Author.Needs.{needs}
+use Rattle.tokens.proofs.cutting.token_end.Statement.{statement}
+use Rattle.tokens.proofs.cutting.token_end.Tie as tie
+
+shared-slice-read-in-word : tie.Need-shared-slice-read-in-word
+shared-slice-read-in-word c = search needs
+
+in-word-requires : tie.Need-in-word-requires
+in-word-requires c κs = search needs
+
+add-run-end : tie.Need-add-run-end
+add-run-end c = search needs
+
+run-end-requires : tie.Need-run-end-requires
+run-end-requires c κs = search needs
+
+returns : tie.Need-returns
+returns c = word-ends _ _ _ (c .before .before .before .before .before .pre .0) (sym (c .before .before .in-word .ensures) ∙ c .before .if1 .taken) (c .run-end .ensures)
+
+is-arrow-requires : tie.Need-is-arrow-requires
+is-arrow-requires c κs = search needs
+
+add-result : tie.Need-add-result
+add-result c = search needs
+
+returns-2 : tie.Need-returns-2
+returns-2 c = arrow-ends _ _ (c .before .before .before .before .before .before .pre .0) (sym (c .before .is-arrow .ensures) ∙ c .if2 .taken)
+
+add-result-2 : tie.Need-add-result-2
+add-result-2 c = search needs
+
+returns-3 : tie.Need-returns-3
+returns-3 c = sign-ends _ _ (c .before .before .before .before .before .before .pre .0) (c .before .before .before .before .before .before .pre .1) (sym (c .before .before .before .in-word .ensures) ∙ c .before .before .if1 .left) (sym (c .before .is-arrow .ensures) ∙ c .if2 .left)
+
+pub token-end-spec : {M : Type 1} → statement M
+token-end-spec =
+    tie.close
+    (tie.spec
+    shared-slice-read-in-word
+    in-word-requires
+    add-run-end
+    run-end-requires
+    returns
+    is-arrow-requires
+    add-result
+    returns-2
+    add-result-2
+    returns-3)
