@@ -2,8 +2,8 @@
 use Prim.Native.Nat.{ℕ, _≤_}
 use mathlib.Core.List.{List}
 use lib.ListN.{length}
-use Rattle.ocl_report.specs.declared.Filled.{Filled}
-use Rattle.ocl_report.specs.declared.Filled.the-variants.{With, Failed}
+use Rattle.input.specs.declared.Filled.{Filled}
+use Rattle.input.specs.declared.Filled.the-variants.{With, Failed}
 
 -- it lies within the buffer
 abbrev pub Within : List ℕ → Filled → Type 0
