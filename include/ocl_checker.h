@@ -1,5 +1,5 @@
 /*
- * The rule checker's three calls, for C and C++. Link with libchecker.a; docs/USING.md says how, and what a call needs.
+ * The rule checker's calls, for C and C++. Link with libchecker.a; docs/USING.md says how, and what a call needs.
  *
  * What a call does depends on the text, the numbers and the lengths that it is given, and on nothing else. It keeps nothing
  * between calls, calls nothing but the C library's memset, memcpy and memmove, and can fail only by the number that it
@@ -52,37 +52,37 @@ typedef struct ocl_answer {
     uint64_t length; /* bytes written to the output; 0 unless the number is 0 */
 } ocl_answer;
 
-/* The numbers; 21 and 22 are not given. In brackets: who gives it, R read, E evaluate, P report; and whether with a place. */
+/* The numbers; 21 and 22 are not given. In brackets: who gives it, R read, E evaluate, P report, W rows; whether with a place. */
 enum ocl_number {
-    OCL_ANSWERED = 0,            /* an answer (REP) */
-    OCL_SHORT_SLICE = 1,         /* a word slice or the output is too short; nothing was touched (REP) */
-    OCL_SHEET_TOO_LONG = 2,      /* the text is longer than a sheet may be (REP) */
-    OCL_BAD_LINE = 3,            /* a line is misspelled: fields, letter, form, number, line feed (REP, place) */
-    OCL_OUT_OF_LIMITS = 4,       /* a number, count, size or nesting is outside its limits (REP, place) */
-    OCL_OUT_OF_ORDER = 5,        /* lines, numbers or members out of order; a name or variable twice (REP, place) */
-    OCL_UNKNOWN_REFERENCE = 6,   /* a class, row or object that the sheet does not have by then (REP, place) */
-    OCL_VALUE_MISMATCH = 7,      /* a value that its row, or a row that its object, does not take (REP, place) */
-    OCL_MALFORMED_TREE = 8,      /* the nodes of a rule or a definition make no tree, or one too deep (REP, place) */
-    OCL_UNBOUND_VARIABLE = 9,    /* a variable that nothing binds (REP, place) */
-    OCL_NO_COMMON_TYPE = 10,     /* two types without a common one; a cast between unrelated classes (REP, place) */
-    OCL_WRONG_OPERAND_TYPE = 11, /* a form does not take an operand of this type (REP, place) */
-    OCL_NO_ATTRIBUTE = 12,       /* the class has no attribute of this name (REP, place) */
-    OCL_TYPE_TOO_DEEP = 13,      /* a type would be over three deep (REP, place) */
+    OCL_ANSWERED = 0,            /* an answer (REPW) */
+    OCL_SHORT_SLICE = 1,         /* a word slice or the output is too short; nothing was touched (REPW) */
+    OCL_SHEET_TOO_LONG = 2,      /* the text is longer than a sheet may be (REPW) */
+    OCL_BAD_LINE = 3,            /* a line is misspelled: fields, letter, form, number, line feed (REPW, place) */
+    OCL_OUT_OF_LIMITS = 4,       /* a number, count, size or nesting is outside its limits (REPW, place) */
+    OCL_OUT_OF_ORDER = 5,        /* lines, numbers or members out of order; a name or variable twice (REPW, place) */
+    OCL_UNKNOWN_REFERENCE = 6,   /* a class, row or object that the sheet does not have by then (REPW, place) */
+    OCL_VALUE_MISMATCH = 7,      /* a value that its row, or a row that its object, does not take (REPW, place) */
+    OCL_MALFORMED_TREE = 8,      /* the nodes of a rule or a definition make no tree, or one too deep (REPW, place) */
+    OCL_UNBOUND_VARIABLE = 9,    /* a variable that nothing binds (REPW, place) */
+    OCL_NO_COMMON_TYPE = 10,     /* two types without a common one; a cast between unrelated classes (REPW, place) */
+    OCL_WRONG_OPERAND_TYPE = 11, /* a form does not take an operand of this type (REPW, place) */
+    OCL_NO_ATTRIBUTE = 12,       /* the class has no attribute of this name (REPW, place) */
+    OCL_TYPE_TOO_DEEP = 13,      /* a type would be over three deep (REPW, place) */
     OCL_NOT_FOUND = 14,          /* the sheet has no such rule, or no such object (E) */
     OCL_OTHER_CLASS = 15,        /* the rule does not apply to objects of this class (E) */
     OCL_STEP_STOP = 16,          /* stopped: over OCL_MOST_STEPS steps are due (E, with the steps) */
     OCL_SIZE_STOP = 17,          /* stopped: a value of a size over 128 would be formed (E, with the steps) */
-    OCL_REPORT_TOO_LONG = 18,    /* the output is too short for the report (P) */
+    OCL_REPORT_TOO_LONG = 18,    /* the output is too short for the report, or for the rows (PW) */
     OCL_OVER_RANGE = 19,         /* stopped: a result of Integers leaves their range, or one of Reals is infinite (E, with the steps) */
-    OCL_NOT_A_SENTENCE = 20,     /* the text of a rule is no sentence (REP, place) */
-    OCL_CALL_UPWARD = 23,        /* a definition calls itself or a larger one (REP, place) */
-    OCL_UNKNOWN_DEFINITION = 24  /* a rule calls a definition that the sheet does not have (REP, place) */
+    OCL_NOT_A_SENTENCE = 20,     /* the text of a rule is no sentence (REPW, place) */
+    OCL_CALL_UPWARD = 23,        /* a definition calls itself or a larger one (REPW, place) */
+    OCL_UNKNOWN_DEFINITION = 24  /* a rule calls a definition that the sheet does not have (REPW, place) */
 };
 
 /*
  * Reads a sheet, types its definitions and then all its rules, in order, and writes the rules' types, one a line, as `Bool` or
- * `S(#2)`, with a line feed at the end of each. A sheet is accepted only if all its definitions and rules type. The other two
- * read and type it too, and refuse it with the same number and place.
+ * `S(#2)`, with a line feed at the end of each. A sheet is accepted only if all its definitions and rules type. The other
+ * calls read and type it too, and refuse it with the same number and place.
  */
 ocl_answer ocl_read_sheet(
     const uint8_t *text, size_t text_length,
@@ -109,6 +109,18 @@ ocl_answer ocl_evaluate_rule(
  * single spaces between them and a line feed at the end. A stop is written in its line as `!16`, `!17` or `!19`.
  */
 ocl_answer ocl_report(
+    const uint8_t *text, size_t text_length,
+    uint64_t *words0, size_t words0_length,
+    uint64_t *words1, size_t words1_length,
+    uint64_t *words2, size_t words2_length,
+    uint8_t *output, size_t output_length);
+
+/*
+ * Writes for each rule a line with the rows that it sees: the rule, then the rows, ascending, with single spaces between them and
+ * a line feed at the end. A rule sees a row if one of its nodes, or of a definition that it reaches, reads the row, whether that
+ * node is ever run or not. The values of all other rows can change nothing in what the rule answers (docs/ROWS.md).
+ */
+ocl_answer ocl_rows(
     const uint8_t *text, size_t text_length,
     uint64_t *words0, size_t words0_length,
     uint64_t *words1, size_t words1_length,

@@ -13,8 +13,8 @@
 #define WORD UINT64_C(0x7e7e7e7e7e7e7e7e)
 #define BYTE 0x7e
 
-enum call { READ, EVALUATE, REPORT };
-static const char *const names[] = {"read", "evaluate", "report"};
+enum call { READ, EVALUATE, REPORT, ROWS };
+static const char *const names[] = {"read", "evaluate", "report", "rows"};
 
 static uint64_t words[3][OCL_LEAST_WORDS + MARGIN];
 static uint8_t output[OCL_LEAST_OUTPUT + MARGIN];
@@ -38,8 +38,10 @@ static ocl_answer call(enum call which, const void *text, size_t text_length)
     case EVALUATE:
         return ocl_evaluate_rule(
             text, text_length, 0, 0, w[0], lengths[0], w[1], lengths[1], w[2], lengths[2], out, room);
-    default:
+    case REPORT:
         return ocl_report(text, text_length, w[0], lengths[0], w[1], lengths[1], w[2], lengths[2], out, room);
+    default:
+        return ocl_rows(text, text_length, w[0], lengths[0], w[1], lengths[1], w[2], lengths[2], out, room);
     }
 }
 
@@ -98,11 +100,15 @@ int main(void)
     static const char text[] = "C\t0\t-\nO\t0\t0\nR\t0\t0\nX\tnot (1 = 2)\n";
     static const char no_sentence[] = "C\t0\t-\nO\t0\t0\nR\t0\t0\nX\t1 = 2 = 3\n";
     static const char behind[] = "C\t0\t-\nO\t0\t0\nR\t0\t0\nX\ttrue\nN\t0\ttrue\n";
+    static const char row[] = "C\t0\t-\nA\t0\t0\t5\tInt\nA\t1\t0\t6\tInt\nO\t0\t0\nV\t0\t1\t9\n"
+                              "D\t0\t0\tInt\nN\t0\tself\nN\t1\tattr\t0\t5\n"
+                              "R\t0\t0\nX\t8 < self.a6 or true\n"
+                              "R\t1\t0\nX\tif self.a6 = 0 then self.d0() else 7 endif\n";
     static const uint8_t longer[OCL_LONGEST_TEXT + 1];
     static const size_t little[] = {0, 1, OCL_LEAST_WORDS - 1};
     const size_t most = OCL_LEAST_WORDS, sheet_length = sizeof sheet - 1;
 
-    for (enum call which = READ; which <= REPORT; which++) {
+    for (enum call which = READ; which <= ROWS; which++) {
         for (size_t i = 0; i < 3; i++) {
             lend(little[i], most, most, OCL_LEAST_OUTPUT);
             expect(which, sheet, sheet_length, OCL_SHORT_SLICE, "");
@@ -124,11 +130,12 @@ int main(void)
         lend(most, most, most, 2288);
         expect(which, sheet, sheet_length, OCL_SHORT_SLICE, "");
     }
-    for (enum call which = READ; which <= REPORT; which++) {
-        static const char *const written[] = {"Bool\n", "t", "0 0 t 1\n"};
-        static const char *const of_call[] = {"Bool\n", "t", "0 0 t 3\n"};
-        static const char *const of_text[] = {"Bool\n", "t", "0 0 t 4\n"};
-        static const char *const of_real[] = {"Real\n", "r3ff8000000000000", "0 0 r3ff8000000000000 3\n"};
+    for (enum call which = READ; which <= ROWS; which++) {
+        static const char *const written[] = {"Bool\n", "t", "0 0 t 1\n", "0\n"};
+        static const char *const of_call[] = {"Bool\n", "t", "0 0 t 3\n", "0\n"};
+        static const char *const of_text[] = {"Bool\n", "t", "0 0 t 4\n", "0\n"};
+        static const char *const of_real[] = {"Real\n", "r3ff8000000000000", "0 0 r3ff8000000000000 3\n", "0\n"};
+        static const char *const of_row[] = {"Bool\nInt\n", "t", "0 0 t 5\n1 0 7 6\n", "0 1\n1 0 1\n"};
         lend(most, most, most, OCL_LEAST_OUTPUT);
         expect(which, sheet, sheet_length, OCL_ANSWERED, written[which]);
         expect(which, bad, sizeof bad - 1, OCL_UNKNOWN_REFERENCE, "");
@@ -143,6 +150,7 @@ int main(void)
         expect(which, whole, sizeof whole - 1, OCL_BAD_LINE, "");
         expect(which, infinity, sizeof infinity - 1, OCL_OUT_OF_LIMITS, "");
         expect(which, text, sizeof text - 1, OCL_ANSWERED, of_text[which]);
+        expect(which, row, sizeof row - 1, OCL_ANSWERED, of_row[which]);
         expect(which, no_sentence, sizeof no_sentence - 1, OCL_NOT_A_SENTENCE, "");
         expect(which, behind, sizeof behind - 1, OCL_OUT_OF_ORDER, "");
         expect(which, longer, sizeof longer, OCL_SHEET_TOO_LONG, "");

@@ -13,8 +13,8 @@
 #define STACK_WORDS (512 * 1024 / 8)
 #define PAINT UINT64_C(0xa5c3a5c3a5c3a5c3)
 
-enum call { READ, EVALUATE, REPORT };
-static const char *const names[] = {"read", "evaluate", "report"};
+enum call { READ, EVALUATE, REPORT, ROWS };
+static const char *const names[] = {"read", "evaluate", "report", "rows"};
 
 static uint64_t stack[STACK_WORDS];
 static uint8_t text[OCL_LONGEST_TEXT + 1];
@@ -28,8 +28,8 @@ static uint64_t rule, object;
 static ocl_answer answer;
 static uintptr_t frame;
 
-static size_t most[3];
-static const char *most_in[3];
+static size_t most[4];
+static const char *most_in[4];
 static uint64_t runs;
 
 #define TEXT text, text_length
@@ -48,6 +48,9 @@ static void run(void)
         break;
     case REPORT:
         answer = ocl_report(TEXT, WORDS, OUTPUT);
+        break;
+    case ROWS:
+        answer = ocl_rows(TEXT, WORDS, OUTPUT);
         break;
     }
 }
@@ -84,6 +87,7 @@ static void measure_sheet(const char *sheet)
     if (measure(REPORT, sheet) != OCL_ANSWERED) {
         printf("refused %s\n", sheet);
     }
+    measure(ROWS, sheet);
     rule = 0;
     object = 0;
     measure(EVALUATE, sheet);
@@ -112,7 +116,7 @@ int main(int argc, char **argv)
         fclose(file);
         measure_sheet(argv[i]);
     }
-    for (int i = READ; i <= REPORT; i++) {
+    for (int i = READ; i <= ROWS; i++) {
         printf("%s %zu %s\n", names[i], most[i], most_in[i] == NULL ? "-" : most_in[i]);
     }
     printf("runs %" PRIu64 "\n", runs);

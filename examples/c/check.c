@@ -1,6 +1,7 @@
 /*
- * check SHEET: reads a job sheet from a file and prints each rule's type, what the rule comes to for each of its objects, and
- * the report; or why the sheet is refused, in words. It shows the three calls of include/ocl_checker.h. All memory is static.
+ * check SHEET: reads a job sheet from a file and prints each rule's type, what the rule comes to for each of its objects, the
+ * rows that each rule sees, and the report; or why the sheet is refused, in words. It shows the calls of include/ocl_checker.h. All
+ * memory is static.
  *
  *     cc -std=c11 -Wall -Wextra -Werror -Iinclude examples/c/check.c target/staticlib/libchecker.a -o target/check
  *     target/check examples/cap.sheet
@@ -44,7 +45,7 @@ static const char *const meanings[][2] = {
     [OCL_OTHER_CLASS] = {"other class", "the object is not of the rule's class or below"},
     [OCL_STEP_STOP] = {"step stop", "more steps are due than an evaluation may take"},
     [OCL_SIZE_STOP] = {"size stop", "a value of a size over 128 would be formed"},
-    [OCL_REPORT_TOO_LONG] = {"slip too long", "the report is longer than the output"},
+    [OCL_REPORT_TOO_LONG] = {"slip too long", "what is to be written is longer than the output"},
     [OCL_OVER_RANGE] = {"over the range", "a result of Integers leaves their range, or one of Reals is infinite"},
     [OCL_NOT_A_SENTENCE] = {"not a sentence", "the text of the rule is no sentence"},
     [OCL_CALL_UPWARD] = {"call upward", "the definition calls itself or a larger one"},
@@ -97,6 +98,18 @@ static void print_rules(uint64_t length)
     }
 }
 
+/* Prints what a call has written, or its refusal; whether there is something. */
+static int print_lines(const char *what, ocl_answer answer)
+{
+    if (answer.number != OCL_ANSWERED) {
+        print_refusal(answer);
+        return 0;
+    }
+    printf("%s:\n", what);
+    fwrite(output, 1, (size_t)answer.length, stdout);
+    return 1;
+}
+
 static int load(const char *path)
 {
     FILE *file = fopen(path, "rb");
@@ -125,12 +138,8 @@ int main(int argc, char **argv)
         return 1;
     }
     print_rules(answer.length);
-    answer = ocl_report(TEXT, WORDS, OUTPUT);
-    if (answer.number != OCL_ANSWERED) {
-        print_refusal(answer);
+    if (!print_lines("rows", ocl_rows(TEXT, WORDS, OUTPUT))) {
         return 1;
     }
-    printf("report:\n");
-    fwrite(output, 1, (size_t)answer.length, stdout);
-    return 0;
+    return print_lines("report", ocl_report(TEXT, WORDS, OUTPUT)) ? 0 : 1;
 }

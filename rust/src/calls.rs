@@ -1,4 +1,4 @@
-//! The three calls, with everything they answer: number, steps, place, length,
+//! The calls, with everything they answer: number, steps, place, length,
 //! the output bytes and the word slices. Each reads the text anew.
 
 use crate::eval::evaluate;
@@ -6,6 +6,7 @@ use crate::model::Sheet;
 use crate::read::read;
 use crate::refusal::{Refusal, Refused};
 use crate::report;
+use crate::rows;
 use crate::types::Type;
 use crate::typing::type_rules;
 
@@ -68,13 +69,32 @@ pub fn report(text: &[u8], words: Words, out: &mut [u8]) -> Answer {
     })
 }
 
-/// What the program prints for a text.
+/// Reads and types the sheet and writes the rows that each rule sees, a line a rule.
+pub fn rows(text: &[u8], words: Words, out: &mut [u8]) -> Answer {
+    lent(words, out, |room| {
+        let (sheet, _) = accepted(text)?;
+        let written = rows::lines(&sheet, room).map_err(without_steps)?;
+        Ok((written, 0))
+    })
+}
+
+/// What the program prints for a text: the report.
 pub fn program(text: &[u8]) -> Vec<u8> {
+    printed(text, report)
+}
+
+/// What the program prints that tells the rows.
+pub fn rows_program(text: &[u8]) -> Vec<u8> {
+    printed(text, rows)
+}
+
+/// What a program prints that makes the call.
+fn printed(text: &[u8], call: impl Fn(&[u8], Words, &mut [u8]) -> Answer) -> Vec<u8> {
     let mut words = vec![0; 3 * LEAST_WORDS];
     let (first, rest) = words.split_at_mut(LEAST_WORDS);
     let (second, third) = rest.split_at_mut(LEAST_WORDS);
     let mut out = vec![0; PROGRAM_OUTPUT];
-    let answer = report(text, [first, second, third], &mut out);
+    let answer = call(text, [first, second, third], &mut out);
     if answer.number != 0 {
         return format!("! {} {}\n", answer.number, answer.place).into_bytes();
     }
@@ -84,7 +104,7 @@ pub fn program(text: &[u8]) -> Vec<u8> {
 
 /// The sheet and its rules' types: it is accepted only if its definitions and all
 /// of its rules type.
-fn accepted(text: &[u8]) -> Result<(Sheet, Vec<Type>), (Refused, u64)> {
+pub fn accepted(text: &[u8]) -> Result<(Sheet, Vec<Type>), (Refused, u64)> {
     if text.len() > LONGEST_SHEET {
         return Err((Refusal::SheetTooLong.at(0), 0));
     }

@@ -40,6 +40,8 @@ struct Evaluation<'m> {
     /// What `self` is.
     object: u8,
     steps: u64,
+    /// The rows of `attr`s and `collect`s that began, as bits.
+    rows: u64,
     /// The values of the variables, by number.
     environment: [Option<Value>; 16],
 }
@@ -51,13 +53,7 @@ pub fn evaluate(sheet: &Sheet, rule: &Rule, object: u8) -> (Result<Option<Value>
 
 /// The same of a node below which no variable is read that is bound above it.
 pub fn evaluate_node(sheet: &Sheet, root: &Node, object: u8) -> (Result<Option<Value>, Stop>, u64) {
-    let mut evaluation = Evaluation {
-        model: &sheet.model,
-        definitions: &sheet.definitions,
-        object,
-        steps: 0,
-        environment: Default::default(),
-    };
+    let mut evaluation = Evaluation::new(sheet, object);
     let outcome = match evaluation.node(root) {
         Ok(value) => Ok(Some(value)),
         Err(End::Undefined) => Ok(None),
@@ -66,7 +62,26 @@ pub fn evaluate_node(sheet: &Sheet, root: &Node, object: u8) -> (Result<Option<V
     (outcome, evaluation.steps)
 }
 
+/// The rows, as bits, of the nodes that a rule runs for an object.
+pub fn rows_run(sheet: &Sheet, rule: &Rule, object: u8) -> u64 {
+    let mut evaluation = Evaluation::new(sheet, object);
+    // However it ends, they began.
+    let _ = evaluation.node(&rule.root);
+    evaluation.rows
+}
+
 impl Evaluation<'_> {
+    fn new(sheet: &Sheet, object: u8) -> Evaluation<'_> {
+        Evaluation {
+            model: &sheet.model,
+            definitions: &sheet.definitions,
+            object,
+            steps: 0,
+            rows: 0,
+            environment: Default::default(),
+        }
+    }
+
     fn node(&mut self, node: &Node) -> Outcome {
         if self.steps == MOST_STEPS {
             return Err(End::Stop(Stop::Steps));
@@ -119,11 +134,13 @@ impl Evaluation<'_> {
             | Form::Over => self.arithmetic(&node.form, operands),
             Form::Attr { row, .. } => {
                 let row = row.expect("typing marks the row of every attr");
+                self.rows |= 1 << row;
                 let value = self.node(&operands[0])?;
                 self.in_row(row, &value)?.ok_or(End::Undefined)
             }
             Form::Collect { mark, .. } => {
                 let (row, kind) = mark.expect("typing marks every collect");
+                self.rows |= 1 << row;
                 let source = self.collection(&operands[0])?;
                 // All members are looked at first: a wrong kind goes before a missing value.
                 let values: Result<Vec<Option<Value>>, End> = source

@@ -12,6 +12,7 @@ pub mod numbers;
 pub mod read;
 pub mod refusal;
 pub mod report;
+pub mod rows;
 pub mod statistics;
 pub mod tree;
 pub mod types;

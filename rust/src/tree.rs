@@ -128,6 +128,15 @@ impl Form {
         matches!(self, Form::Iter { member, accumulator, .. } if member == accumulator)
     }
 
+    /// The row that typing resolved it to.
+    pub fn row(&self) -> Option<u8> {
+        match self {
+            Form::Attr { row, .. } => *row,
+            Form::Collect { mark, .. } => mark.map(|(row, _)| row),
+            _ => None,
+        }
+    }
+
     /// What it does with Reals, if it computes with them.
     pub fn operation(&self) -> Option<Operation> {
         match self {
@@ -148,6 +157,13 @@ pub struct Node {
 }
 
 impl Node {
+    /// All nodes below it, itself first.
+    pub fn nodes(&self) -> Vec<&Node> {
+        let mut found = vec![self];
+        found.extend(self.operands.iter().flat_map(Node::nodes));
+        found
+    }
+
     /// A called body stands below the call, as its operand does.
     pub fn depth(&self, definitions: &[Definition]) -> usize {
         let operands = self.operands.iter();

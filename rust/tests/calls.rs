@@ -1,4 +1,4 @@
-//! What the three calls answer, beyond what a report can show.
+//! What the calls answer, beyond what a report can show.
 
 mod common;
 

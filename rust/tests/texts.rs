@@ -148,7 +148,7 @@ fn the_examples_stand_in_both_forms() {
         assert_eq!(calls::program(&told), report, "{name:?}");
         count += 1;
     }
-    assert_eq!(count, 8);
+    assert_eq!(count, 9);
 }
 
 #[test]

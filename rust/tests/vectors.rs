@@ -1,15 +1,25 @@
 //! The second evaluator prints what each vector says.
 
-use second_evaluator::calls::program;
-use second_evaluator::harness::run::vectors;
+use second_evaluator::calls::{program, rows_program};
+use second_evaluator::harness::run::{row_vectors, vectors, Vector};
+
+/// The names of those for which something else is printed.
+fn wrong(vectors: Vec<Vector>, printed: fn(&[u8]) -> Vec<u8>) -> Vec<String> {
+    assert!(!vectors.is_empty());
+    let wrong = vectors
+        .into_iter()
+        .filter(|vector| printed(&vector.text) != vector.printed);
+    wrong.map(|vector| vector.name).collect()
+}
 
 #[test]
 fn every_vector_prints_what_it_says() {
-    let vectors = vectors().unwrap();
-    assert!(!vectors.is_empty());
-    let wrong: Vec<String> = (vectors.into_iter())
-        .filter(|vector| program(&vector.text) != vector.printed)
-        .map(|vector| vector.name)
-        .collect();
+    let wrong = wrong(vectors().unwrap(), program);
+    assert!(wrong.is_empty(), "{wrong:#?}");
+}
+
+#[test]
+fn every_vector_prints_the_rows_that_it_says() {
+    let wrong = wrong(row_vectors().unwrap(), rows_program);
     assert!(wrong.is_empty(), "{wrong:#?}");
 }

@@ -4,4 +4,6 @@ pub mod ReadCalls
 pub mod OutcomeLaws
 pub mod EvaluateCalls
 pub mod ReportCalls
+pub mod RowsCalls
 pub mod Soundness
+pub mod Unseen

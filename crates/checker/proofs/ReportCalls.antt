@@ -1,4 +1,4 @@
--- The call that writes the report. Assumes nothing.
+-- The call that writes the report, and what the lines of a call come to. Assumes nothing.
 use mathlib.Core.Path.{_≡_}
 use mathlib.Core.Logic.{_≢_}
 use mathlib.Core.Bool.{Bool, true, false}
@@ -23,28 +23,28 @@ use Rattle.checker.specs.Answers.{answerOf}
 use Rattle.checker.specs.Parts.{OpensText, GivesFor, Leaves, writtenTo}
 use Rattle.checker.proofs.Readings.{leaves-on, leaves-stop, accepted-number}
 
--- ---- on an accepted sheet
+-- ---- what lines come to
 
-module _ {st : Counts} {w0 w1 w2 v2 : List ℕ} {out now : Bytes} {a : Answer} where
-  of-answer : {r : Reported} → Reports st w0 w1 w2 v2 out now r → ((v : Verdict) → SaysReport r v → a ≡ answerOf v)
-      → GivesFor st w0 w1 w2 (λ s ts. reportOn s (length out)) a out now
-  of-answer d e = record { for = λ s ts g i. record { is = e (reportOn s (length out)) (d .is s ts g i); output = d .output s ts g i } }
-
-  pub report-written : {r : Reported} {n : ℕ} → Reports st w0 w1 w2 v2 out now r → r ≡ reported.Written n → a ≡ writtenTo n 0
-      → GivesFor st w0 w1 w2 (λ s ts. reportOn s (length out)) a out now
+module _ {a : Answer} {r : Reported} where
+  pub lines-written : {n : ℕ} → r ≡ reported.Written n → a ≡ writtenTo n 0 → (v : Verdict) → SaysReport r v → a ≡ answerOf v
   unfolding answer
-  report-written {r} {n} d q e = of-answer (rw q at d) by
+  lines-written {n} q e v z = by v (rw q at z)
     where
       by : (v : Verdict) → SaysReport (reported.Written n) v → a ≡ answerOf v
       by _ (written b l) = rw l at e
 
-  pub report-short : {r : Reported} → Reports st w0 w1 w2 v2 out now r → r ≡ reported.Short → a ≡ answerOf (refusalAt 18 0)
-      → GivesFor st w0 w1 w2 (λ s ts. reportOn s (length out)) a out now
+  pub lines-short : r ≡ reported.Short → a ≡ answerOf (refusalAt 18 0) → (v : Verdict) → SaysReport r v → a ≡ answerOf v
   unfolding refusal
-  report-short {r} d q e = of-answer (rw q at d) by
+  lines-short q e v z = by v (rw q at z)
     where
       by : (v : Verdict) → SaysReport reported.Short v → a ≡ answerOf v
       by _ too-long = e
+
+-- ---- on an accepted sheet
+
+pub report-gives : {st : Counts} {w0 w1 w2 v2 : List ℕ} {out now : Bytes} {a : Answer} {r : Reported} → Reports st w0 w1 w2 v2 out now r
+    → ((v : Verdict) → SaysReport r v → a ≡ answerOf v) → GivesFor st w0 w1 w2 (λ s ts. reportOn s (length out)) a out now
+report-gives {out = out} d e = record { for = λ s ts g i. record { is = e (reportOn s (length out)) (d .is s ts g i); output = d .output s ts g i } }
 
 -- ---- after a text is opened
 
@@ -60,7 +60,7 @@ module _ {text : Bytes} {w0 w1 w2 v0 v1 v2 : List ℕ} {z : SheetRead} {a : Answ
 
 -- ---- the call does not refuse with 1 once nothing is short
 
-fitting-number : (room : ℕ) (b : Bytes) → fitting room b .number ≢ 1
+pub fitting-number : (room : ℕ) (b : Bytes) → fitting room b .number ≢ 1
 unfolding fitting refusal refusalAt answer
 fitting-number room b = by (ltb room (length b))
   where

@@ -19,7 +19,7 @@ use Rattle.checker.specs.Answers.{answerOf, AnswersWith}
 use Rattle.checker.specs.Soundness.{Says, AnswerEnding, undefined-said, value-said, stop-said, Demand3OfCall, NeverStuckOfCall}
 
 -- what is written is what the definition says
-written : (v : Verdict) {a : Answer} {w0 w1 w2 v0 v1 v2 : List ℕ} {out after : Bytes} → AnswersWith v a w0 w1 w2 out v0 v1 v2 after → take (a .length) after ≡ v .output
+pub written : (v : Verdict) {a : Answer} {w0 w1 w2 v0 v1 v2 : List ℕ} {out after : Bytes} → AnswersWith v a w0 w1 w2 out v0 v1 v2 after → take (a .length) after ≡ v .output
 unfolding outputAfter
 written v {out = out} {after = after} z =
     ap (λ (b : Answer). take (b .length) after) (z .is) ∙ ap (take (length (v .output))) (z .output) ∙ take-append-seam (v .output) (drop (length (v .output)) out)

@@ -3,3 +3,4 @@ pub mod Parts
 pub mod TypeLines
 pub mod Outcomes
 pub mod Soundness
+pub mod Unseen

@@ -1,15 +1,18 @@
 // The public calls. Each reads the text anew, uses the lent words as working memory and leaves their first 8,192 words zero.
-// Document 01, Calls. It depends on `reader` for the sheet, on `rules` for a rule of it and on `report` for the report.
+// Document 01, Calls; document 02, F-9. It depends on `reader` for the sheet, on `rules` for a rule of it, on `report` for the report and on
+// `rows` for the rows.
 ghost use mathlib.Core.Bool.{_||_};
 ghost use mathlib.Core.Path.{_≡_};
 ghost use Prim.Native.Nat.{_≤_};
 ghost use lib.ListN.{length};
-ghost use Rattle.sheet.specs.Calls.{refusalAt, shortWords, shortOutput};
+ghost use Rattle.sheet.specs.Calls.{Verdict, refusalAt, shortWords, shortOutput};
 ghost use Rattle.rules.specs.Accepted.{Known};
+ghost use Rattle.report.specs.Reports.{SaysReport};
 ghost use Rattle.checker.specs.Answers.{answerOf};
 ghost use Rattle.checker.specs.Parts.{ReadsText, AcceptsSheet, OpensText, Wipes, writtenTo};
 use reader::SheetRead;
 use reader::read;
+use report::Reported;
 use rules::all::RulesTyped;
 use rules::all::accept;
 use tables::Counts;
@@ -17,6 +20,7 @@ use tables::Counts;
 pub mod evaluate_call; // ocl_evaluate_rule
 pub mod read_call; // ocl_read_sheet
 pub mod report_call; // ocl_report
+pub mod rows_call; // ocl_rows
 
 // What a call returns: 0 or a refusal's number, the steps of an evaluation, a line number, and the bytes written.
 #[repr(C)]
@@ -48,6 +52,16 @@ fn written(end: usize, steps: u64) -> Answer
         steps: steps,
         place: 0,
         length: end as u64,
+    }
+}
+
+// What lines come to that are put into the output: their length; or 18, where they are longer than it.
+fn lines_answer(r: Reported) -> Answer
+    ensures { λ a. ⌜ ((v : Verdict) → SaysReport r v → a ≡ answerOf v) ⌝ }
+{
+    match r {
+        Reported::Written(end) => written(end, 0),
+        Reported::Short => no_output(18, 0),
     }
 }
 

@@ -8,13 +8,12 @@ ghost use Rattle.report.specs.Reports.{reportOn};
 ghost use Rattle.checker.specs.Answers.{AnswersWith};
 ghost use Rattle.checker.specs.Parts.{Leaves, GivesFor};
 use super::Answer;
+use super::lines_answer;
 use super::no_output;
 use super::open_text;
 use super::short_lent;
 use super::wipe_all;
-use super::written;
 use reader::SheetRead;
-use report::Reported;
 use report::report_sheet;
 use tables::Counts;
 
@@ -23,10 +22,7 @@ fn report_on(w0: &[u64], st: Counts, w1: &[u64], w2: &mut [u64], out: &mut [u8])
     requires { ⌜ Lent (now w0) (now w1) (now w2) (now out) × KnownTyped st (now w0) (now w1) (now w2) ⌝ }
     ensures { λ a. ⌜ GivesFor st (now (w0 .entry)) (now (w1 .entry)) (now (w2 .entry)) (λ s ts. reportOn s (length (now (out .entry)))) a (now (out .entry)) (now (out .exit)) × Kept (now (w2 .entry)) (now (w2 .exit)) ⌝ }
 {
-    match report_sheet(w0, st, w1, w2, out) {
-        Reported::Written(end) => written(end, 0),
-        Reported::Short => no_output(18, 0),
-    }
+    lines_answer(report_sheet(w0, st, w1, w2, out))
 }
 
 // The answer for the text, whatever the words held before; they are not wiped yet.

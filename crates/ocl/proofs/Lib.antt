@@ -16,6 +16,8 @@ pub mod Marks
 pub mod Places
 pub mod MarksRead
 pub mod Means
+pub mod Rows
+pub mod Unseen
 pub mod Answered
 pub mod ByType
 pub mod StrictForms

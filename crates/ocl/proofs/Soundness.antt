@@ -14,8 +14,8 @@ use Rattle.ocl.specs.Environment.{Env, extend, start}
 use Rattle.ocl.specs.Types.{class, Kind, Letter, exactly, Ty, void, around, Boolean, Class, letterSubtype, subtype}
 use Rattle.ocl.specs.Values.{Value, bool, num, obj, coll, Values, nil, cons, size, add}
 use Rattle.ocl.specs.Model.{Model, schemaOf, isA, every}
-use Rattle.ocl.specs.Forms.{Connective, Quantifier, Access, ofObject, ofMembers, Expr, node, Form, leaf, unary, binary, connective, isUndef, conditional, letIn, attribute, call, quantified, iterate, assemble, Operands, noOperand, operand, Definition, reach, inside, reaches}
-use Rattle.ocl.specs.Laws.{literals, calls, callsIn, callsOf, Agree}
+use Rattle.ocl.specs.Forms.{Connective, Quantifier, Access, ofObject, ofMembers, Expr, node, Form, leaf, unary, binary, connective, isUndef, conditional, letIn, attribute, call, quantified, iterate, assemble, Operands, noOperand, operand, Definition, reach, inside, reaches, calls, callsIn, callsOf}
+use Rattle.ocl.specs.Laws.{literals, Agree}
 use Rattle.ocl.specs.Marks.{Mark, ofRow, ofRows, rowMarked, kindMarked}
 use Rattle.ocl.specs.Typing.{Answer, typed, wrap, collectKind, bothBelow, conditionalType, rowType, attributeType, leafTyping, unaryTyping, binaryTyping, connectiveTyping, isUndefTyping, conditionalTyping, letTyping, attributeTyping, callType, callTyping, quantifiedTyping, iterateTyping, noOperandTyping, operandTyping, assembleTyping, typing, formTyping, operandsTyping, typeRule, root, typeDefinition}
 use Rattle.ocl.specs.Operations.{hasRow, valueInRow, valuesInRow, formAll, access}

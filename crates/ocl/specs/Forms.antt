@@ -1,5 +1,6 @@
 -- Document 01, The forms and their typing: a rule as a tree of nodes. Evaluation: its reach. Document 02, F-13: named definitions.
 use mathlib.Core.Bool.{Bool}
+use mathlib.Core.List.{List, [], _∷_, _++_}
 use Prim.Native.Nat.{ℕ, suc, _+_, _*_, max}
 use Rattle.reals.specs.Reals.{Number}
 use Rattle.ocl.specs.Types.{Kind, Ty}
@@ -133,3 +134,26 @@ unfoldable mutual
   pub levelsOf : Operands → ℕ
   levelsOf noOperand = 0
   levelsOf (operand e es) = max (levels e) (levelsOf es)
+
+-- the definitions that a tree reaches: those that it calls, with those that their bodies call
+unfoldable mutual
+  pub calls : Expr → List Definition
+  calls (node n f) = callsIn f
+
+  pub callsIn : Form → List Definition
+  callsIn (leaf l) = []
+  callsIn (unary op a) = calls a
+  callsIn (binary op a b) = calls a ++ calls b
+  callsIn (connective c a b) = calls a ++ calls b
+  callsIn (isUndef a) = calls a
+  callsIn (conditional c a b) = calls c ++ (calls a ++ calls b)
+  callsIn (letIn i a b) = calls a ++ calls b
+  callsIn (attribute x name a) = calls a
+  callsIn (call c t a b) = calls a ++ (calls b ++ (record { context = c; type = t; body = b } ∷ []))
+  callsIn (quantified q i a b) = calls a ++ calls b
+  callsIn (iterate i j t a e b) = calls a ++ (calls e ++ calls b)
+  callsIn (assemble k es) = callsOf es
+
+  pub callsOf : Operands → List Definition
+  callsOf noOperand = []
+  callsOf (operand e es) = calls e ++ callsOf es

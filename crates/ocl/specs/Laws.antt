@@ -13,13 +13,13 @@ use Rattle.ocl.specs.Types.{Kind, set, sequence, bag, Ty, Parents, Subty
 use Rattle.ocl.specs.Values.{Value, bool, num, obj, coll, Values, nil, cons, everyPart, everyParts, order, same, has, add, addAll}
 use Rattle.ocl.specs.Model.{Schema, Model, belongs}
 use Rattle.ocl.specs.Environment.{Env}
-use Rattle.ocl.specs.Forms.{Leaf, truth, undef, number, self, var, all, Expr, node, Form, leaf, unary, binary, connective, isUndef, conditional, letIn, attribute, call, quantified, iterate, assemble, Operands, noOperand, operand, Definition}
+use Rattle.ocl.specs.Forms.{Leaf, truth, undef, number, self, var, all, Expr, node, Form, leaf, unary, binary, connective, isUndef, conditional, letIn, attribute, call, quantified, iterate, assemble, Operands, noOperand, operand}
 use Rattle.ocl.specs.Marks.{Scale, Mark, ofRow, ofRows, ofNumbers, kindMarked, Marks}
 use Rattle.ocl.specs.Typing.{refused, typing}
 use Rattle.ocl.specs.Operations.{value, instances}
 use Rattle.ocl.specs.Evaluation.{evaluation, evaluateRule}
 
--- ---- what the statements speak of: the nodes, literals and definitions of a tree, the numbers of a value
+-- ---- what the statements speak of: the nodes and literals of a tree, the numbers of a value
 
 -- the numbers of a tree's own nodes, operands first; a called body's nodes are its definition's
 unfoldable mutual
@@ -74,29 +74,6 @@ unfoldable mutual
   pub literalsOf : Operands → List Number
   literalsOf noOperand = []
   literalsOf (operand e es) = literals e ++ literalsOf es
-
--- the definitions that a tree calls, with those that their bodies call
-unfoldable mutual
-  pub calls : Expr → List Definition
-  calls (node n f) = callsIn f
-
-  pub callsIn : Form → List Definition
-  callsIn (leaf l) = []
-  callsIn (unary op a) = calls a
-  callsIn (binary op a b) = calls a ++ calls b
-  callsIn (connective c a b) = calls a ++ calls b
-  callsIn (isUndef a) = calls a
-  callsIn (conditional c a b) = calls c ++ (calls a ++ calls b)
-  callsIn (letIn i a b) = calls a ++ calls b
-  callsIn (attribute x name a) = calls a
-  callsIn (call c t a b) = calls a ++ (calls b ++ (record { context = c; type = t; body = b } ∷ []))
-  callsIn (quantified q i a b) = calls a ++ calls b
-  callsIn (iterate i j t a e b) = calls a ++ (calls e ++ calls b)
-  callsIn (assemble k es) = callsOf es
-
-  pub callsOf : Operands → List Definition
-  callsOf noOperand = []
-  callsOf (operand e es) = calls e ++ callsOf es
 
 -- of a value that is no collection: an Integer in range, or a binary64 number that is no such Integer
 unfoldable pub numberKept : Value → Bool

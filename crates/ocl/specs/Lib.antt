@@ -5,11 +5,13 @@ pub mod Environment
 pub mod Forms
 pub mod Marks
 pub mod Typing
+pub mod Rows
 pub mod Operations
 pub mod Evaluation
 pub mod Stops
 pub mod Laws
 pub mod Soundness
+pub mod Unseen
 pub mod Worked
 pub mod Mistakes
 pub mod Collect

@@ -11,12 +11,12 @@ use Rattle.ocl.specs.Types.{class, Ty}
 use Rattle.ocl.specs.Values.{Value, size}
 use Rattle.ocl.specs.Model.{Model, schemaOf, isA, belongs}
 use Rattle.ocl.specs.Environment.{Env}
-use Rattle.ocl.specs.Forms.{Expr, Definition, reach}
+use Rattle.ocl.specs.Forms.{Expr, Definition, reach, calls}
 use Rattle.ocl.specs.Marks.{Mark}
 use Rattle.ocl.specs.Typing.{typed, typeRule, typeDefinition}
 use Rattle.ocl.specs.Operations.{Outcome, value, stuck, stop, Stop, stepsOf}
 use Rattle.ocl.specs.Evaluation.{evaluation, evaluateRule}
-use Rattle.ocl.specs.Laws.{numbersKept, Formed, literals, calls, Agree}
+use Rattle.ocl.specs.Laws.{numbersKept, Formed, literals, Agree}
 
 -- what reading makes sure of
 pub record AcceptedModel (s : Model) : Type 0 where

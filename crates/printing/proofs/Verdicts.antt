@@ -1,4 +1,4 @@
--- From the report call's promise to what the program prints. Assumes nothing.
+-- From what a call promises to what its program prints. Assumes nothing.
 use Prim.Native.Nat.{ℕ, _+_, _≤_}
 use mathlib.Core.Path.{_≡_, refl, sym, ap, _∙_}
 use mathlib.Core.Logic.{_≢_}
@@ -10,13 +10,15 @@ use lib.Seq.{take-at}
 use Rattle.sheet.specs.Text.{Bytes}
 use Rattle.sheet.specs.Calls.{Verdict, refusalAt, outputAfter, shortWords, shortOutput}
 use Rattle.sheet.specs.Report.{reportOf, reportCall, printed, program}
-use Rattle.checker.specs.Answers.{answerOf, AnswersWith}
+use Rattle.sheet.specs.Rows.{rowsInto, rowsCall, rowsProgram}
+use Rattle.checker.specs.Answers.{AnswersWith}
 use Rattle.checker.specs.declared.Answer.{Answer}
 use Rattle.text.specs.Written.{Puts}
 use Rattle.printing.specs.Printed.{Front}
+use Rattle.printing.specs.Answered.{Prints}
 
 -- what was written from the start stands at the front
-pub puts-front : {w a b : Bytes} {r : ℕ} → Puts 0 w a b r × (r ≤ length b) → Front w b r
+puts-front : {w a b : Bytes} {r : ℕ} → Puts 0 w a b r × (r ≤ length b) → Front w b r
 puts-front {w} {a} {b} {r} (p, room) = record {
   size = p .end ∙ omega arith;
   room = room;
@@ -37,20 +39,31 @@ refusal-printed : (v : Verdict) → v .number ≢ 0 → printed (refusalAt (v .n
 unfolding printed refusalAt
 refusal-printed v h = rw (ne-eqb (v .number) 0 h)
 
+-- ---- what is printed for an answer
+
+pub prints-answer : {a : Answer} (left : Bytes) → a .number ≡ 0 → Prints a left left (a .length)
+prints-answer left h = record { is = λ v out e q. rw (e, q) (answer-front v out (sym (ap (λ (x : Answer). x .number) e) ∙ h)) }
+
+pub prints-refusal : {a : Answer} {left after : Bytes} {r : ℕ} → a .number ≢ 0
+    → Puts 0 (printed (refusalAt (a .number) (a .place))) left after r × (r ≤ length after) → Prints a left after r
+prints-refusal h p = record { is = λ v out e q. rw (← refusal-printed v (rw e at h)) (puts-front (rw e at p)) }
+
+-- ---- nothing is short
+
 module _ (text : Bytes) (w0 w1 w2 : List ℕ) (out : Bytes) (long0 : length w0 ≡ 8192) (long1 : length w1 ≡ 8192) (long2 : length w2 ≡ 8192) (room : length out ≡ 65536) where
-  lent : reportCall text w0 w1 w2 out ≡ reportOf text 65536
+  report-lent : reportCall text w0 w1 w2 out ≡ reportOf text 65536
   unfolding reportCall shortWords shortOutput
-  lent = rw (long0, long1, long2, room)
+  report-lent = rw (long0, long1, long2, room)
 
-  module _ {r : Answer} {v0 v1 v2 : List ℕ} {after : Bytes} (told : AnswersWith (reportCall text w0 w1 w2 out) r w0 w1 w2 out v0 v1 v2 after) where
-    is : r ≡ answerOf (reportOf text 65536)
-    is = told .is ∙ ap answerOf lent
+  rows-lent : rowsCall text w0 w1 w2 out ≡ rowsInto text 65536
+  unfolding rowsCall shortWords shortOutput
+  rows-lent = rw (long0, long1, long2, room)
 
-    pub report-printed : r .number ≡ 0 → Front (program text) after (r .length)
+  module _ {a : Answer} {v0 v1 v2 : List ℕ} {left after : Bytes} {r : ℕ} (p : Prints a left after r) where
+    pub report-printed : AnswersWith (reportCall text w0 w1 w2 out) a w0 w1 w2 out v0 v1 v2 left → Front (program text) after r
     unfolding program
-    report-printed h =
-        rw (told .output, lent, is) (answer-front (reportOf text 65536) out (sym (ap (λ (x : Answer). x .number) is) ∙ h))
+    report-printed told = rw report-lent at (p .is (reportCall text w0 w1 w2 out) out (told .is) (told .output))
 
-    pub refusal-is : r .number ≢ 0 → printed (refusalAt (r .number) (r .place)) ≡ program text
-    unfolding program
-    refusal-is h = rw is (refusal-printed (reportOf text 65536) (rw is at h))
+    pub rows-printed : AnswersWith (rowsCall text w0 w1 w2 out) a w0 w1 w2 out v0 v1 v2 left → Front (rowsProgram text) after r
+    unfolding rowsProgram
+    rows-printed told = rw rows-lent at (p .is (rowsCall text w0 w1 w2 out) out (told .is) (told .output))

@@ -1,10 +1,28 @@
-// What the program prints for a text. It depends on `checker` for the report and on `text` for writing a refusal.
+// What the programs print for a text. It depends on `checker` for the report and the rows and on `text` for writing a refusal.
+ghost use mathlib.Core.Path.{_≡_};
+ghost use lib.ListN.{length};
 ghost use Rattle.sheet.specs.Report.{program};
+ghost use Rattle.sheet.specs.Rows.{rowsProgram};
+ghost use Rattle.printing.specs.Answered.{Prints};
 ghost use Rattle.printing.specs.Printed.{Front};
+use checker::Answer;
 use checker::report_call::ocl_report;
+use checker::rows_call::ocl_rows;
 use text::printed::put_refusal;
 
-// Puts what the program prints for a text at the front of the output, and answers its length.
+// What is printed for a call's answer: the output that it left, or the refusal.
+fn put_answer(answer: Answer, out: &mut [u8]) -> usize
+    requires { ⌜ length (now out) ≡ 65536 ⌝ }
+    ensures { λ r. ⌜ Prints answer (now (out .entry)) (now (out .exit)) r ⌝ }
+{
+    let number = answer.number;
+    if number == 0 {
+        return answer.length as usize;
+    }
+    put_refusal(number, answer.place, out)
+}
+
+// Puts what the report's program prints for a text at the front of the output, and answers its length.
 pub fn printed_text(text: &[u8], out: &mut [u8; 65536]) -> usize
     ensures { λ r. ⌜ Front (program (now (text .entry))) (now (out .exit)) r ⌝ }
 {
@@ -12,9 +30,16 @@ pub fn printed_text(text: &[u8], out: &mut [u8; 65536]) -> usize
     let mut w1: [u64; 8192] = [0; 8192];
     let mut w2: [u64; 8192] = [0; 8192];
     let answer = ocl_report(text, &mut w0, &mut w1, &mut w2, out);
-    let number = answer.number;
-    if number == 0 {
-        return answer.length as usize;
-    }
-    put_refusal(number, answer.place, out)
+    put_answer(answer, out)
+}
+
+// The same for the program that prints rows.
+pub fn printed_rows(text: &[u8], out: &mut [u8; 65536]) -> usize
+    ensures { λ r. ⌜ Front (rowsProgram (now (text .entry))) (now (out .exit)) r ⌝ }
+{
+    let mut w0: [u64; 8192] = [0; 8192];
+    let mut w1: [u64; 8192] = [0; 8192];
+    let mut w2: [u64; 8192] = [0; 8192];
+    let answer = ocl_rows(text, &mut w0, &mut w1, &mut w2, out);
+    put_answer(answer, out)
 }

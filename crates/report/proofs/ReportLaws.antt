@@ -1,5 +1,5 @@
 -- Laws of the report's lines and of their bound, rule by rule. Assumes nothing.
-use mathlib.Core.Path.{_≡_, refl, sym, ap, subst, _∙_}
+use mathlib.Core.Path.{_≡_, refl, ap, subst, _∙_}
 use mathlib.Core.Bool.{Bool, true, false}
 use mathlib.Core.Option.{some, Option·some-injective, Option·none-ne-some}
 use mathlib.Core.List.{List, [], _∷_, _++_, append-nil, append-assoc}
@@ -90,29 +90,28 @@ module _ (s : Sheet) (x : Rule) (t : Ty) where
 
 -- ---- the lines of the first rules, and their bound
 
-module _ (s : Sheet) where
-  lines-take : (xs : List Rule) (k i : ℕ) (x : Rule) → getElem? xs i ≡ some x
-      → ruleLines s k (take (suc i) xs) ≡ ruleLines s k (take i xs) ++ objectLines s (k + i) x (length (s .objects))
-  unfolding ruleLines
-  lines-take [] k i x e = absurd (let z : _≡_ {A = ℕ} 0 1 = cc in omega arith)
+-- lines that are numbered through a list of rules, f those of one rule and g those of all
+module _ (f : ℕ → Rule → Bytes) (g : ℕ → List Rule → Bytes) (none : (k : ℕ) → g k [] ≡ []) (one : (k : ℕ) (x : Rule) (xs : List Rule) → g k (x ∷ xs) ≡ f k x ++ g (suc k) xs) where
+  pub lines-take : (xs : List Rule) (k i : ℕ) (x : Rule) → getElem? xs i ≡ some x → g k (take (suc i) xs) ≡ g k (take i xs) ++ f (k + i) x
+  lines-take [] k i x e = absurd (Option·none-ne-some _ e)
   lines-take (y ∷ xs) k zero x e =
-      let q : y ≡ x = cc in
+      let q : y ≡ x = Option·some-injective _ _ e in
       let z : k + 0 ≡ k = omega arith in
-      append-nil (objectLines s k y (length (s .objects))) ∙ rw (q, z)
+      one k y [] ∙ rw (none (suc k), none k, append-nil (f k y), q, z)
   lines-take (y ∷ xs) k (suc i) x e =
       let z : suc k + i ≡ k + suc i = omega arith in
-      ap (λ (b : Bytes). objectLines s k y (length (s .objects)) ++ b) (lines-take xs (suc k) i x e)
-      ∙ sym (append-assoc (objectLines s k y (length (s .objects))) (ruleLines s (suc k) (take i xs)) (objectLines s (suc k + i) x (length (s .objects))))
-      ∙ ap (λ (n : ℕ). objectLines s k y (length (s .objects)) ++ ruleLines s (suc k) (take i xs) ++ objectLines s n x (length (s .objects))) z
+      one k y (take (suc i) xs) ∙ rw (lines-take xs (suc k) i x e, one k y (take i xs), z, append-assoc (f k y) (g (suc k) (take i xs)) (f (k + suc i) x))
 
+module _ (s : Sheet) where
   -- of the first r rules
   abbrev pub linesTo : ℕ → Bytes
   linesTo r = ruleLines s 0 (take r (s .rules))
 
   pub lines-rule : (r : ℕ) (x : Rule) → getElem? (s .rules) r ≡ some x → linesTo (suc r) ≡ linesTo r ++ objectLines s r x (length (s .objects))
+  unfolding ruleLines
   lines-rule r x e =
       let z : 0 + r ≡ r = omega arith in
-      lines-take (s .rules) 0 r x e ∙ ap (λ (n : ℕ). linesTo r ++ objectLines s n x (length (s .objects))) z
+      lines-take (λ n y. objectLines s n y (length (s .objects))) (ruleLines s) (λ k. refl) (λ k y ys. refl) (s .rules) 0 r x e ∙ ap (λ (n : ℕ). linesTo r ++ objectLines s n x (length (s .objects))) z
 
   pub lines-all : (r : ℕ) → r ≡ length (s .rules) → linesTo r ≡ ruleLines s 0 (s .rules)
   lines-all r e = ap (ruleLines s 0) (ap (λ (n : ℕ). take n (s .rules)) e ∙ take-length (s .rules))

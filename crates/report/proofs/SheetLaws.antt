@@ -51,12 +51,12 @@ module _ {st : Counts} {w0 w1 : List ℕ} where
 
 -- ---- the report
 
-untouched : (out : Bytes) → out ≡ outputAfter (refusal 18) out
+pub untouched : (out : Bytes) → out ≡ outputAfter (refusal 18) out
 unfolding outputAfter refusal refusalAt
 untouched out = refl
 
 -- lines that were put from the first byte on
-written-output : (b out : Bytes) {now : Bytes} → now ≡ putBytes 0 b out → now ≡ outputAfter (answer b) out
+pub written-output : (b out : Bytes) {now : Bytes} → now ≡ putBytes 0 b out → now ≡ outputAfter (answer b) out
 unfolding outputAfter answer
 written-output b out e = e ∙ rw (zero-add (length b))
 

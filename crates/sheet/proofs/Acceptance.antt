@@ -16,8 +16,8 @@ use Rattle.laws.proofs.Lists.{length-more, each-imp, each-append, each-left, di
 use Rattle.ocl.specs.Types.{Ty}
 use Rattle.ocl.specs.Values.{Value, size}
 use Rattle.ocl.specs.Model.{Model, belongs}
-use Rattle.ocl.specs.Forms.{Expr, Definition, levels}
-use Rattle.ocl.specs.Laws.{numbersKept, Formed, numbers, literals, calls}
+use Rattle.ocl.specs.Forms.{Expr, Definition, levels, calls}
+use Rattle.ocl.specs.Laws.{numbersKept, Formed, numbers, literals}
 use Rattle.ocl.specs.Soundness.{AcceptedModel}
 use Rattle.sheet.specs.Text.{Bytes, fieldsOf, linesOf}
 use Rattle.sheet.specs.Lines.{Line, lineOf, inBody}

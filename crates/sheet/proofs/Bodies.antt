@@ -9,8 +9,8 @@ use lib.Dec.{T, ltb→lt}
 use Rattle.laws.specs.Lists.{Each, each-nil, each-cons}
 use Rattle.laws.proofs.Lists.{each-imp, each-append}
 use Rattle.laws.proofs.Elements.{each-elem, elem-some}
-use Rattle.ocl.specs.Forms.{Expr, Definition}
-use Rattle.ocl.specs.Laws.{numbers, calls, callsIn, callsOf}
+use Rattle.ocl.specs.Forms.{Expr, Definition, calls, callsIn, callsOf}
+use Rattle.ocl.specs.Laws.{numbers}
 use Rattle.sheet.specs.Lines.{Shape, leaf, unary, binary, connective, isUndef, conditional, letIn, attribute, call, quantified, iterate, assemble}
 use Rattle.sheet.specs.Sheet.{growAll, grow, treeOf, definitionOf}
 use Rattle.sheet.specs.Refusals.{callBelow}

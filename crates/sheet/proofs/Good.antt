@@ -13,8 +13,8 @@ use Rattle.laws.proofs.Tests.{All?}
 use Rattle.ocl.specs.Types.{Ty}
 use Rattle.ocl.specs.Values.{size}
 use Rattle.ocl.specs.Model.{Row, Model, belongs}
-use Rattle.ocl.specs.Forms.{Expr, Definition, levels}
-use Rattle.ocl.specs.Laws.{numbersKept, Formed, numbers, literals, calls}
+use Rattle.ocl.specs.Forms.{Expr, Definition, levels, calls}
+use Rattle.ocl.specs.Laws.{numbersKept, Formed, numbers, literals}
 use Rattle.sheet.specs.Sheet.{Slot, Rule, Current, Sheet, empty, noRow, mostLevels}
 use Rattle.sheet.specs.Limits.{isClass}
 use Rattle.sheet.proofs.Ascending.{Ascending, ascending-nil}

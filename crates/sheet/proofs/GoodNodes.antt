@@ -11,8 +11,8 @@ use Rattle.laws.specs.Choice.{onSome}
 use Rattle.laws.specs.Lists.{allOf, Each, each-nil, each-cons}
 use Rattle.laws.proofs.Tests.{and-l, and-r}
 use Rattle.laws.proofs.Lists.{length-more, each-imp, each-append}
-use Rattle.ocl.specs.Forms.{Expr, node, Definition}
-use Rattle.ocl.specs.Laws.{literals, calls}
+use Rattle.ocl.specs.Forms.{Expr, node, Definition, calls}
+use Rattle.ocl.specs.Laws.{literals}
 use Rattle.ocl.proofs.Answered.{Named}
 use Rattle.sheet.specs.Lines.{nodeLine, Shape}
 use Rattle.sheet.specs.Sheet.{Current, Sheet, operandsOf, grow, treeOf, definitionOf, withNode, added}

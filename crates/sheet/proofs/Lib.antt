@@ -40,4 +40,8 @@ pub mod NodeBack
 pub mod NodeFields
 pub mod NodeSpelling
 pub mod TextLaws
+pub mod Bare
+pub mod Edited
+pub mod Unseen
+pub mod RowLines
 pub mod TextExamples

@@ -83,7 +83,7 @@ clean-rules s r (x ∷ xs) h = clean-objects s r x (h 0 x refl) (length (s .obje
 
 -- ---- the calls: what holds of every refusal that the documents list, and of what follows an accepted sheet and a rule
 
-type-of : {s : Sheet} {xs : List Rule} {ts : List Ty} → AllTyped s xs ts → (r : ℕ) (x : Rule) → getElem? xs r ≡ some x → (t : Ty) × (typingOf s x .answer ≡ typed t)
+pub type-of : {s : Sheet} {xs : List Rule} {ts : List Ty} → AllTyped s xs ts → (r : ℕ) (x : Rule) → getElem? xs r ≡ some x → (t : Ty) × (typingOf s x .answer ≡ typed t)
 type-of none-typed r x e = absurd (Option·none-ne-some _ e)
 type-of {s} (one-typed {t} a h) zero x e = (t, subst (λ y. typingOf s y .answer ≡ typed t) (Option·some-injective _ _ e) a)
 type-of (one-typed a h) (suc r) x e = type-of h r x e

@@ -15,8 +15,8 @@ use Rattle.laws.proofs.Lists.{each-imp, each-at, member-exact}
 use Rattle.laws.proofs.Elements.{each-elem}
 use Rattle.ocl.specs.Types.{class, Ty, Class}
 use Rattle.ocl.specs.Model.{Model, classIsA, isA}
-use Rattle.ocl.specs.Forms.{Definition, reach}
-use Rattle.ocl.specs.Laws.{numbers, calls, Agree}
+use Rattle.ocl.specs.Forms.{Definition, reach, calls}
+use Rattle.ocl.specs.Laws.{numbers, Agree}
 use Rattle.ocl.specs.Marks.{Mark}
 use Rattle.ocl.specs.Typing.{typed, refused, typeRule, typeDefinition}
 use Rattle.ocl.specs.Environment.{start}
@@ -71,7 +71,7 @@ typed-definitions each-nil each-nil = each-nil
 typed-definitions (each-cons p h) (each-cons q k) = each-cons (record { typed-body = p .typed-body; marked = q }) (typed-definitions h k)
 
 -- every definition that a rule reaches is the sheet's, and typed
-reached-typed : (s : Sheet) → Good s → Each (Defined s) (s .definitions) → (r : ℕ) (x : Rule) → getElem? (s .rules) r ≡ some x → Each (TypedDefinition (modelOf s) (marksOf s)) (calls (x .body))
+pub reached-typed : (s : Sheet) → Good s → Each (Defined s) (s .definitions) → (r : ℕ) (x : Rule) → getElem? (s .rules) r ≡ some x → Each (TypedDefinition (modelOf s) (marksOf s)) (calls (x .body))
 reached-typed s g d r x e = each-imp (λ y a. each-elem (a .index) (typed-definitions d (all-agree s g)) (a .there)) (each-elem r (g .rules) e .called)
 
 pub sound-rule : (s : Sheet) → Good s → Each (Defined s) (s .definitions) → (r o : ℕ) (x : Rule) (t : Ty) → getElem? (s .rules) r ≡ some x → typingOf s x .answer ≡ typed t
@@ -147,7 +147,7 @@ sound-sheet s g d r o t (some y) e h c =
       no-step-stop = no-stop (modelOf s) t (reach (y .body)) (outcomeOf s y o) z;
     })
 
-sheet-is : (text : Bytes) (s : Sheet) → readText text ≡ accepted s → sheetIn text ≡ s
+pub sheet-is : (text : Bytes) (s : Sheet) → readText text ≡ accepted s → sheetIn text ≡ s
 unfolding sheetIn sheetFrom
 sheet-is text s e = rw e
 

@@ -119,7 +119,7 @@ module _ (s : Sheet) (ls : List ℕ) where
   same-rules r [] = refl
   same-rules r (x ∷ xs) = rw (same-objects r x (length (s .objects)), same-rules (suc r) xs)
 
-lines-read : (text : Bytes) (s : Sheet) → readText text ≡ accepted s → readLines empty 0 (linesOf text) ≡ accepted s
+pub lines-read : (text : Bytes) (s : Sheet) → readText text ≡ accepted s → readLines empty 0 (linesOf text) ≡ accepted s
 unfolding readText
 lines-read text s e = by-if (λ r. r ≡ accepted s → readLines empty 0 (linesOf text) ≡ accepted s) (ltb 49152 (length text)) _ _ (λ t q. absurd (not-accepted q)) (λ t q. q) e
 

@@ -9,6 +9,7 @@ use Rattle.laws.specs.Choice.{if_then_else_}
 use Rattle.sheet.specs.Text.{Bytes, bytes, spellNumber}
 use Rattle.sheet.specs.Calls.{Verdict, answer, refusalAt, refusal, readCall, evaluateCall}
 use Rattle.sheet.specs.Report.{program}
+use Rattle.sheet.specs.Rows.{rowsInto, rowsProgram}
 
 -- a space stands for the tab between two fields
 unfoldable pub tabbed : Bytes → Bytes
@@ -23,6 +24,10 @@ lines (l ∷ ls) = tabbed (bytes l) ++ bytes "\n" ++ lines ls
 -- what the program prints for the lines
 unfoldable pub prints : List String → Bytes
 prints ls = program (lines ls)
+
+-- and what the program prints that tells a rule's rows
+unfoldable pub printsRows : List String → Bytes
+printsRows ls = rowsProgram (lines ls)
 
 -- after these lines, nodes in which n times `not` stands over `true`
 unfoldable pub nots : List String → ℕ → Bytes
@@ -182,3 +187,10 @@ pub record Examples : Type 0 where
   -- values with members, as they are spelled
   pub spelled : prints ("C 0 -" ∷ "A 0 0 5 S(Q(Any))" ∷ "O 0 0" ∷ "V 0 0 S(Q(),Q(f,-3),Q(@0,t))" ∷ "R 0 0" ∷ "N 0 self" ∷ "N 1 attr 0 5" ∷ "N 2 asBag 1" ∷ [])
       ≡ bytes "0 0 B(Q(),Q(f,-3),Q(@0,t)) 3\n"
+  -- document 02, F-9: the rows that each rule sees: of a branch that is not run, of a definition that it reaches, of `collect`, of none
+  pub rows-seen : printsRows ("C 0 -" ∷ "C 1 -" ∷ "A 0 0 1 Int" ∷ "A 1 0 2 #1" ∷ "A 2 1 3 Int" ∷ "A 3 1 4 Int" ∷ "D 0 1 Int" ∷ "N 0 self" ∷ "N 1 attr 0 3"
+      ∷ "R 0 0" ∷ "N 0 false" ∷ "N 1 self" ∷ "N 2 attr 1 1" ∷ "N 3 int 7" ∷ "N 4 if 0 2 3" ∷ "R 1 0" ∷ "N 0 self" ∷ "N 1 attr 0 2" ∷ "N 2 call 1 0"
+      ∷ "R 2 0" ∷ "N 0 all 1" ∷ "N 1 collect 0 4" ∷ "R 3 0" ∷ "N 0 true" ∷ []) ≡ bytes "0 0\n1 1 2\n2 3\n3\n"
+  -- it refuses as the report does, and with 18 by its own lines
+  pub rows-refused : printsRows ("C 0 0" ∷ []) ≡ bytes "! 6 1\n"
+  pub rows-too-long : rowsInto (lines ("C 0 -" ∷ "R 0 0" ∷ "N 0 true" ∷ [])) 1 ≡ refusal 18

@@ -11,9 +11,11 @@ pub mod Refusals
 pub mod Reading
 pub mod Calls
 pub mod Report
+pub mod Rows
 pub mod Examples
 pub mod RealExamples
 pub mod Soundness
+pub mod Unseen
 pub mod Laws
 pub mod TextLaws
 pub mod TextExamples

@@ -64,6 +64,19 @@ extern "C" {
         output: *mut u8,
         output_length: usize,
     ) -> Answer;
+
+    fn ocl_rows(
+        text: *const u8,
+        text_length: usize,
+        words0: *mut u64,
+        words0_length: usize,
+        words1: *mut u64,
+        words1_length: usize,
+        words2: *mut u64,
+        words2_length: usize,
+        output: *mut u8,
+        output_length: usize,
+    ) -> Answer;
 }
 
 /// A call: its text, its numbers, the words and the output.
@@ -110,4 +123,9 @@ pub fn evaluate_rule(
 /// Reads and types, evaluates all rules and writes the report.
 pub fn report(text: &[u8], words: Words, output: &mut [u8]) -> Answer {
     call!(ocl_report, text, [], words, output)
+}
+
+/// Reads and types, and writes the rows that each rule sees, a line for each rule.
+pub fn rows(text: &[u8], words: Words, output: &mut [u8]) -> Answer {
+    call!(ocl_rows, text, [], words, output)
 }

@@ -1,5 +1,5 @@
 //! The rule checker of job sheets: reads a sheet, types its rules, evaluates
-//! them, and writes the report. What the functions answer is proved; this crate
+//! them, writes the report, and tells which rows a rule sees. What the functions answer is proved; this crate
 //! only lends them memory and turns their answers into [`Result`]s.
 //!
 //! Numbers that are not whole are binary64. Floating point has to be in the state in
@@ -163,6 +163,35 @@ pub fn report<'o>(
     output: &'o mut [u8],
 ) -> Result<&'o str, Refused> {
     let answer = calls::report(text, memory.lend(), output);
+    checked(answer).map(|answer| written(output, answer))
+}
+
+/// The rows that each rule sees: a line for each rule, with the rule and then its
+/// rows, ascending. A rule sees a row if one of its nodes, or of a definition that it
+/// reaches, reads the row, whether that node is ever run or not. The values of all
+/// other rows can change nothing in what [`evaluate_rule`] answers for it.
+///
+/// # Errors
+///
+/// What [`read_types`] refuses; [`Refusal::ReportTooLong`] where the lines are longer
+/// than the output. They have at most 11,830 bytes.
+///
+/// ```
+/// use ocl_checker::{rows, Memory, LEAST_OUTPUT};
+///
+/// // Two rows; rule 0 reads the second, and rule 1 none.
+/// let sheet = b"C\t0\t-\nA\t0\t0\t5\tInt\nA\t1\t0\t6\tInt\n\
+///     R\t0\t0\nX\tself.a6 < 12\nR\t1\t0\nX\ttrue\n";
+/// let mut memory = Box::new(Memory::new());
+/// let mut output = [0; LEAST_OUTPUT];
+/// assert_eq!(rows(sheet, &mut memory, &mut output), Ok("0 1\n1\n"));
+/// ```
+pub fn rows<'o>(
+    text: &[u8],
+    memory: &mut Memory,
+    output: &'o mut [u8],
+) -> Result<&'o str, Refused> {
+    let answer = calls::rows(text, memory.lend(), output);
     checked(answer).map(|answer| written(output, answer))
 }
 

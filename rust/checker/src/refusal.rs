@@ -42,7 +42,7 @@ pub enum Refusal {
     StepStop,
     /// A value of a size over 128 would be formed.
     SizeStop,
-    /// The report is longer than the output.
+    /// The report, or the rows, are longer than the output.
     ReportTooLong,
     /// A result of Integers leaves their range, or one of Reals is infinite.
     OverRange,
@@ -143,7 +143,7 @@ impl Refusal {
             Refusal::OtherClass => "the object is not of the rule's class or below",
             Refusal::StepStop => "more steps are due than an evaluation may take",
             Refusal::SizeStop => "a value of a size over 128 would be formed",
-            Refusal::ReportTooLong => "the report is longer than the output",
+            Refusal::ReportTooLong => "what is to be written is longer than the output",
             Refusal::OverRange => {
                 "a result of Integers leaves their range, or one of Reals is infinite"
             }

@@ -1,24 +1,25 @@
-//! `compare FIRST COUNT`: compares the linked calls, and the program that
-//! CHECKER_PROGRAM names, with the second evaluator over the vectors and the
-//! sheets of COUNT seeds from FIRST on, on all processors. `--stand-in` compares
-//! the second evaluator with itself in place of the linked calls.
+//! `compare FIRST COUNT`: compares the linked calls, and the programs that
+//! CHECKER_PROGRAM and ROWS_PROGRAM name, with the second evaluator over the vectors
+//! and the sheets of COUNT seeds from FIRST on, on all processors; and a rule of each
+//! with itself, on two sheets that differ in what it does not see. `--stand-in`
+//! compares the second evaluator with itself in place of the linked calls.
 
 use second_evaluator::generate::{asks, sheet, vector_asks, Ask};
 use second_evaluator::harness::faults::Fault;
-use second_evaluator::harness::program::long_texts;
-use second_evaluator::harness::run::{self, Difference, Vector};
+use second_evaluator::harness::program::{long_texts, programs, Program};
+use second_evaluator::harness::run::{self, Difference, Differs, Vector};
 use second_evaluator::harness::standin::StandIn;
 use second_evaluator::harness::tally::Tally;
 use second_evaluator::harness::Calls;
 use std::io::IsTerminal;
 use std::ops::Range;
-use std::path::PathBuf;
 use std::process::ExitCode;
 use std::sync::atomic::{AtomicBool, AtomicUsize, Ordering};
 use std::thread;
 
-/// Where the sheet of a difference is written.
+/// Where the sheet of a difference is written, and the second one of two.
 const DIFFERENCE: &str = "difference.sheet";
+const OTHER: &str = "difference-other.sheet";
 
 /// A sheet, what is asked about it, and the seed of the garbage that is lent.
 struct Case {
@@ -78,20 +79,19 @@ impl Cases {
 
 struct Comparison {
     calls: Option<Box<dyn Calls>>,
-    program: Option<PathBuf>,
+    programs: Vec<Program>,
 }
 
 impl Comparison {
     fn case(&self, case: &Case, tally: &mut Tally) -> Result<(), Difference> {
         if let Some(calls) = &self.calls {
             run::sheet(&**calls, &case.text, case.seed, &case.asks, tally)?;
+            run::paired(&**calls, &case.text, case.seed, tally)?;
         }
-        match &self.program {
-            Some(program) => {
-                run::program_sheet(program, &case.text).expect("the program can be run")
-            }
-            None => Ok(()),
-        }
+        let mut programs = self.programs.iter();
+        programs.try_for_each(|program| {
+            run::program_sheet(program, &case.text).expect("the program can be run")
+        })
     }
 
     /// Compares all cases, spread over the processors, up to a difference, which
@@ -128,14 +128,22 @@ impl Comparison {
 
 fn print_difference(case: &Case, difference: &Difference) {
     let Case { name, seed, .. } = case;
-    match difference.ask {
-        Some(ask) => println!("{name} differs in {ask:?}, garbage of seed {seed}:"),
-        None => println!("{name} differs in what the program prints:"),
+    match &difference.differs {
+        Differs::Call(ask) => println!("{name} differs in {ask:?}, garbage of seed {seed}:"),
+        Differs::Program => println!("{name} differs in what a program prints:"),
+        Differs::Rule { .. } => println!("{name} and a sheet like it to a rule differ:"),
     }
     println!("{}", difference.how);
-    match std::fs::write(DIFFERENCE, &difference.text) {
-        Ok(()) => println!("The sheet, shortened, is in {DIFFERENCE}."),
-        Err(error) => println!("The sheet could not be written: {error}"),
+    write_sheet(DIFFERENCE, &difference.text);
+    if let Differs::Rule { other } = &difference.differs {
+        write_sheet(OTHER, other);
+    }
+}
+
+fn write_sheet(path: &str, text: &[u8]) {
+    match std::fs::write(path, text) {
+        Ok(()) => println!("A sheet, shortened, is in {path}."),
+        Err(error) => println!("A sheet could not be written: {error}"),
     }
 }
 
@@ -170,14 +178,16 @@ fn main() -> ExitCode {
         } else {
             linked()
         },
-        program: std::env::var_os("CHECKER_PROGRAM").map(PathBuf::from),
+        programs: programs(),
     };
-    if comparison.calls.is_none() && comparison.program.is_none() {
-        eprintln!("The calls are not linked and CHECKER_PROGRAM is not set: nothing to compare.");
+    if comparison.calls.is_none() && comparison.programs.is_empty() {
+        eprintln!("The calls are not linked and no program is named: nothing to compare.");
         return ExitCode::from(2);
     }
+    let mut vectors = run::vectors().expect("the vectors can be read");
+    vectors.extend(run::row_vectors().expect("the vectors can be read"));
     let cases = Cases {
-        vectors: run::vectors().expect("the vectors can be read"),
+        vectors,
         long: long_texts(),
         seeds,
     };

@@ -10,8 +10,10 @@ pub mod full;
 pub mod large;
 pub mod limits;
 pub mod operands;
+pub mod pairs;
 pub mod random;
 pub mod reals;
+pub mod rows;
 pub mod rules;
 pub mod runs;
 pub mod sentences;
@@ -20,7 +22,7 @@ pub mod texts;
 pub mod trees;
 pub mod world;
 
-use crate::calls::{program, LEAST_OUTPUT, LEAST_WORDS, PROGRAM_OUTPUT};
+use crate::calls::{program, rows_program, LEAST_OUTPUT, LEAST_WORDS, PROGRAM_OUTPUT};
 use crate::read::read;
 use definitions::defined;
 use random::Random;
@@ -30,7 +32,7 @@ use trees::grown;
 /// A sheet for a seed: most type, some are damaged, some stand at a limit.
 pub fn sheet(seed: u64) -> Vec<u8> {
     let mut random = Random::new(seed);
-    match random.below(38) {
+    match random.below(40) {
         0..=7 => grown(&mut random),
         8 => with_definitions(&mut random),
         9 => large::large(&mut random),
@@ -52,6 +54,7 @@ pub fn sheet(seed: u64) -> Vec<u8> {
             }
         }
         29..=37 => sentences::about(&mut random).into_bytes(),
+        38 | 39 => rows::about(&mut random).into_bytes(),
         _ => {
             let kind = random.below(limits::KINDS);
             let text = limits::limit(&mut random, kind);
@@ -66,13 +69,14 @@ pub fn sheet(seed: u64) -> Vec<u8> {
 
 /// Another sheet with its rules in text.
 fn told(random: &mut Random) -> Vec<u8> {
-    let text = match random.below(6) {
+    let text = match random.below(7) {
         0 => large::large(random),
         1 => {
             let kind = *random.pick(&limits::OF_RULES);
             limits::limit(random, kind)
         }
         2 => with_definitions(random),
+        3 => rows::about(random).into_bytes(),
         _ => grown(random),
     };
     texts::retold(random, &text).unwrap_or(text)
@@ -100,6 +104,7 @@ pub enum Call {
     Read,
     Evaluate { rule: u64, object: u64 },
     Report,
+    Rows,
 }
 
 /// A call and the lengths of what is lent to it.
@@ -117,7 +122,7 @@ pub fn asks(seed: u64, text: &[u8]) -> Vec<Ask> {
         Ok(sheet) => (sheet.rules.len(), sheet.model.objects.len()),
         Err(_) => (1, 1),
     };
-    let mut calls = vec![Call::Read, Call::Read, Call::Report];
+    let mut calls = vec![Call::Read, Call::Read, Call::Report, Call::Rows];
     for _ in 0..5 {
         let rule = number(&mut random, rules);
         let object = number(&mut random, objects);
@@ -132,7 +137,10 @@ pub fn asks(seed: u64, text: &[u8]) -> Vec<Ask> {
         .collect();
     // So many lines may be more than the least output.
     if rules * objects > 32 || random.one_in(4) {
-        asks.extend(exact_reports(text));
+        asks.extend(exact(Call::Report, &program(text)));
+    }
+    if rules > 16 {
+        asks.extend(exact(Call::Rows, &rows_program(text)));
     }
     asks
 }
@@ -157,13 +165,12 @@ pub fn vector_asks(seed: u64, text: &[u8]) -> Vec<Ask> {
     asks
 }
 
-/// The report in an output just long enough, and one byte too short.
-fn exact_reports(text: &[u8]) -> Vec<Ask> {
-    let report = program(text);
-    let lengths = [report.len(), report.len().saturating_sub(1)];
+/// The call in an output just long enough for what it writes, and one byte too short.
+fn exact(call: Call, written: &[u8]) -> Vec<Ask> {
+    let lengths = [written.len(), written.len().saturating_sub(1)];
     (lengths.into_iter().filter(|out| *out >= LEAST_OUTPUT))
         .map(|out| Ask {
-            call: Call::Report,
+            call,
             words: [LEAST_WORDS; 3],
             out,
         })

@@ -11,11 +11,14 @@ use crate::typing::type_rule;
 
 /// The rules of a sheet, 0 to 63.
 const MOST_RULES: usize = 64;
+/// The bytes of 64 lines that have all of 64 rows.
+const MOST_ROWS: u64 = 11_830;
 
 #[derive(Clone, Copy, PartialEq, Eq, Debug)]
 pub enum Case {
     NoRules,
     MostRules,
+    MostRows,
     EarlierRule,
     LaterRule,
     TwoRules,
@@ -76,9 +79,10 @@ pub enum Case {
 }
 
 impl Case {
-    pub const ALL: [Case; 59] = [
+    pub const ALL: [Case; 60] = [
         Case::NoRules,
         Case::MostRules,
+        Case::MostRows,
         Case::EarlierRule,
         Case::LaterRule,
         Case::TwoRules,
@@ -142,6 +146,7 @@ impl Case {
         match self {
             Case::NoRules => "read a sheet without rules",
             Case::MostRules => "read the types of as many rules as a sheet can have",
+            Case::MostRows => "tell as many rows of as many rules as a sheet can have",
             Case::EarlierRule => "evaluate a rule, an earlier one does not type",
             Case::LaterRule => "evaluate a rule, only later ones do not type",
             Case::TwoRules => "evaluate a rule that does not type, an earlier one neither",
@@ -261,6 +266,7 @@ impl Rules {
         match (call, answer.number) {
             (Call::Read, 0) if self.typed.is_empty() => Some(Case::NoRules),
             (Call::Read, 0) if self.typed.len() == MOST_RULES => Some(Case::MostRules),
+            (Call::Rows, 0) if answer.length == MOST_ROWS => Some(Case::MostRows),
             (Call::Evaluate { rule, object }, 9..=13) => self.untyped(rule, object),
             _ => None,
         }

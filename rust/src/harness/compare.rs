@@ -2,7 +2,7 @@
 //! and bytes around them.
 
 use super::{second, Calls};
-use crate::calls::{Answer, Words, PROGRAM_OUTPUT};
+use crate::calls::{Answer, Words, LEAST_OUTPUT, LEAST_WORDS, PROGRAM_OUTPUT};
 use crate::generate::random::Random;
 use crate::generate::{Ask, Call};
 use std::sync::LazyLock;
@@ -84,6 +84,20 @@ pub fn compare(calls: &dyn Calls, text: &[u8], ask: Ask, seed: u64) -> Compared 
         (copy != text).then(|| "the text was changed".to_string())
     };
     Compared { answer, difference }
+}
+
+/// The answer to a call that is lent the least it can be, garbage that follows from
+/// the seed, and what it writes.
+pub(super) fn answered(calls: &dyn Calls, call: Call, text: &[u8], seed: u64) -> (Answer, String) {
+    let ask = Ask {
+        call,
+        words: [LEAST_WORDS; 3],
+        out: LEAST_OUTPUT,
+    };
+    let mut lent = Lent::garbage(seed, ask);
+    let (words, out) = lent.slices();
+    let answer = on_stack(calls, call, text, words, out);
+    (answer, spelt(&mut lent, answer))
 }
 
 /// Where two slices differ first, counted from the start of what is lent.

@@ -6,6 +6,7 @@ use crate::generate::Call;
 use crate::model::{Rule, Sheet};
 use crate::read::read;
 use crate::read::tokens::tokens;
+use crate::rows::reached;
 use crate::tree::{Form, Node, DEEPEST_RULE};
 use crate::typing::type_rule;
 
@@ -181,15 +182,8 @@ fn without_calls(text: &[u8]) -> Vec<u8> {
     tokens.join(&b' ')
 }
 
-/// All nodes below one, itself first.
-fn nodes(root: &Node) -> Vec<&Node> {
-    let mut found = vec![root];
-    found.extend(root.operands.iter().flat_map(nodes));
-    found
-}
-
 fn calls(root: &Node) -> impl Iterator<Item = (usize, &Node)> {
-    nodes(root).into_iter().filter_map(|node| match node.form {
+    root.nodes().into_iter().filter_map(|node| match node.form {
         Form::Call(number) => Some((usize::from(number), &node.operands[0])),
         _ => None,
     })
@@ -197,11 +191,8 @@ fn calls(root: &Node) -> impl Iterator<Item = (usize, &Node)> {
 
 /// Whether a rule calls the definition, or one that does.
 fn is_reached(sheet: &Sheet, number: usize) -> bool {
-    let reaches = |root: &Node| calls(root).any(|(called, _)| called == number);
-    let larger = (sheet.definitions.iter().enumerate()).skip(number + 1);
-    let mut callers = larger.filter(|(_, definition)| reaches(&definition.root));
-    sheet.rules.iter().any(|rule| reaches(&rule.root))
-        || callers.any(|(caller, _)| is_reached(sheet, caller))
+    let mut rules = sheet.rules.iter();
+    rules.any(|rule| reached(sheet, &rule.root).contains(&(number as u8)))
 }
 
 /// The cases of a rule that was evaluated up to the number.
@@ -215,7 +206,7 @@ fn evaluated(sheet: &Sheet, rule: &Rule, number: u64) -> Vec<Case> {
         17 => met.push(Case::SizeStopCalled),
         19 => met.push(Case::RangeStopCalled),
         _ => {
-            let all = nodes(&rule.root);
+            let all = rule.root.nodes();
             if all.iter().any(|node| calls_in_body(node)) {
                 met.push(Case::CallInLoop);
             }
@@ -249,13 +240,13 @@ fn reads_after_call(sheet: &Sheet, node: &Node) -> bool {
     };
     let called_binds = |operand: &Node, read: u8| {
         calls(operand).any(|(number, _)| {
-            let body = nodes(&sheet.definitions[number].root);
+            let body = sheet.definitions[number].root.nodes();
             body.into_iter().any(|node| binds(node, read))
         })
     };
     let operands = &node.operands;
     (1..operands.len()).any(|later| {
-        nodes(&operands[later]).iter().any(|node| match node.form {
+        operands[later].nodes().iter().any(|node| match node.form {
             Form::Var(read) => operands[..later]
                 .iter()
                 .any(|earlier| called_binds(earlier, read)),
@@ -279,7 +270,7 @@ fn of_subclass(sheet: &Sheet, rule: &Rule) -> Vec<Case> {
             }
             _ => false,
         };
-        if nodes(&definition.root).into_iter().any(other_row) {
+        if definition.root.nodes().into_iter().any(other_row) {
             met.push(Case::OwnRow);
         }
     }

@@ -22,6 +22,7 @@ impl Calls for Linked {
                 product::evaluate_rule(text, rule, object, words, out)
             }
             Call::Report => product::report(text, words, out),
+            Call::Rows => product::rows(text, words, out),
         };
         Answer {
             number: answer.number,

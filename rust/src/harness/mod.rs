@@ -8,8 +8,11 @@ pub mod faults;
 #[cfg(feature = "linked")]
 pub mod linked;
 pub mod misreadings;
+mod named;
 pub mod numbers;
 pub mod operations;
+pub mod oversights;
+pub mod pairs;
 pub mod program;
 pub mod reals;
 pub mod run;
@@ -24,7 +27,7 @@ pub mod texts;
 use crate::calls::{self, Answer, Words, LEAST_WORDS};
 use crate::generate::{Ask, Call};
 
-/// An implementation of the three calls.
+/// An implementation of the calls.
 pub trait Calls: Sync {
     /// The stack the calls must do with.
     fn stack(&self) -> usize;
@@ -39,6 +42,7 @@ pub fn second(call: Call, text: &[u8], words: Words, out: &mut [u8]) -> Answer {
         Call::Read => calls::read_types(text, words, out),
         Call::Evaluate { rule, object } => calls::evaluate_rule(text, rule, object, words, out),
         Call::Report => calls::report(text, words, out),
+        Call::Rows => calls::rows(text, words, out),
     }
 }
 

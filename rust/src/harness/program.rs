@@ -1,9 +1,33 @@
-//! The product's program, compared on standard input and output.
+//! The product's programs, compared on standard input and output.
 
+use crate::calls;
+use std::env;
 use std::io::{self, Write};
-use std::path::Path;
+use std::path::{Path, PathBuf};
 use std::process::{Command, Stdio};
 use std::thread;
+
+/// What a program must print for a text.
+type Printed = fn(&[u8]) -> Vec<u8>;
+
+/// A program of the product's.
+pub struct Program {
+    pub path: PathBuf,
+    pub printed: Printed,
+}
+
+/// Those that CHECKER_PROGRAM and ROWS_PROGRAM name.
+pub fn programs() -> Vec<Program> {
+    let known: [(_, Printed); 2] = [
+        ("CHECKER_PROGRAM", calls::program),
+        ("ROWS_PROGRAM", calls::rows_program),
+    ];
+    let named = known.into_iter().filter_map(|(name, printed)| {
+        let path = env::var_os(name)?.into();
+        Some(Program { path, printed })
+    });
+    named.collect()
+}
 
 /// What the program prints for a text.
 pub fn run(program: &Path, text: &[u8]) -> io::Result<Vec<u8>> {

@@ -2,12 +2,14 @@
 
 use super::cases::Cases;
 use super::compare::compare;
-use super::program;
+use super::pairs;
+use super::program::{self, Program};
 use super::shrink::shrink;
 use super::tally::Tally;
 use super::texts::Texts;
 use super::Calls;
-use crate::calls;
+use crate::calls::accepted;
+use crate::generate::pairs::{pair, Pair};
 use crate::generate::random::Random;
 use crate::generate::Ask;
 use std::fs;
@@ -17,9 +19,16 @@ use std::path::Path;
 /// The first case in which the two differ, its sheet shortened.
 pub struct Difference {
     pub text: Vec<u8>,
-    /// None where the program differs.
-    pub ask: Option<Ask>,
+    pub differs: Differs,
     pub how: String,
+}
+
+/// What differs: a call or a program from the second evaluator's, or a rule's answers
+/// on a sheet from those on another one.
+pub enum Differs {
+    Call(Ask),
+    Program,
+    Rule { other: Vec<u8> },
 }
 
 /// What is asked about one sheet. The garbage, another one for each call, follows
@@ -52,7 +61,7 @@ pub fn sheet(
             let text = shrink(text, |text| how(text).is_some());
             return Err(Difference {
                 how: how(&text).unwrap_or_default(),
-                ask: Some(ask),
+                differs: Differs::Call(ask),
                 text,
             });
         }
@@ -60,20 +69,75 @@ pub fn sheet(
     Ok(())
 }
 
-/// What the product's program prints for one sheet.
-pub fn program_sheet(product: &Path, text: &[u8]) -> io::Result<Result<(), Difference>> {
-    if program::run(product, text)? == calls::program(text) {
+/// The rules of a sheet that are tried on another one.
+const MOST_PAIRS: usize = 4;
+
+/// Some rules' answers for every object, and for one that is not there, on a sheet and
+/// on another that differs in what the rule does not see. Rules and sheets follow
+/// from the seed.
+pub fn paired(
+    calls: &dyn Calls,
+    text: &[u8],
+    seed: u64,
+    tally: &mut Tally,
+) -> Result<(), Difference> {
+    let Ok((sheet, _)) = accepted(text) else {
+        return Ok(());
+    };
+    let mut random = Random::new(!seed);
+    for _ in 0..MOST_PAIRS.min(sheet.rules.len()) {
+        let Some(pair) = pair(&mut random, text) else {
+            continue;
+        };
+        let mut numbers = Vec::new();
+        for object in 0..=sheet.model.objects.len() as u64 {
+            let seed = random.word();
+            let (answer, difference) = pairs::compared(calls, &pair, object, seed);
+            numbers.push(answer.number);
+            if difference.is_some() {
+                return Err(shortened(calls, pair, object, seed));
+            }
+        }
+        for case in pairs::met(&pair, &numbers) {
+            tally.add_pair(case);
+        }
+    }
+    Ok(())
+}
+
+/// The difference on two sheets, both shortened by the same lines.
+fn shortened(calls: &dyn Calls, mut pair: Pair, object: u64, seed: u64) -> Difference {
+    let text = pair.text.clone();
+    let text = shrink(&text, |text| {
+        pair.text = text.to_vec();
+        pair.holds() && pairs::compared(calls, &pair, object, seed).1.is_some()
+    });
+    pair.text = text;
+    Difference {
+        how: pairs::compared(calls, &pair, object, seed)
+            .1
+            .unwrap_or_default(),
+        differs: Differs::Rule {
+            other: pair.other(),
+        },
+        text: pair.text,
+    }
+}
+
+/// What a program of the product's prints for one sheet.
+pub fn program_sheet(product: &Program, text: &[u8]) -> io::Result<Result<(), Difference>> {
+    let Program { path, printed } = product;
+    if program::run(path, text)? == printed(text) {
         return Ok(Ok(()));
     }
-    let differs =
-        |text: &[u8]| program::run(product, text).is_ok_and(|got| got != calls::program(text));
+    let differs = |text: &[u8]| program::run(path, text).is_ok_and(|got| got != printed(text));
     let text = shrink(text, differs);
-    let got = program::run(product, &text)?;
+    let got = program::run(path, &text)?;
     let spelt = |bytes: &[u8]| String::from_utf8_lossy(bytes).into_owned();
-    let expected = calls::program(&text);
+    let expected = printed(&text);
     Ok(Err(Difference {
         text,
-        ask: None,
+        differs: Differs::Program,
         how: format!("expected\n{}got\n{}", spelt(&expected), spelt(&got)),
     }))
 }
@@ -85,9 +149,14 @@ pub struct Vector {
     pub printed: Vec<u8>,
 }
 
-/// The sheets among the vectors.
+/// The sheets among the vectors, with their reports.
 pub fn vectors() -> io::Result<Vec<Vector>> {
     vectors_of("sheet_vectors", "sheet")
+}
+
+/// Those with the rows that their rules see.
+pub fn row_vectors() -> io::Result<Vec<Vector>> {
+    vectors_of("row_vectors", "sheet")
 }
 
 /// The vectors of a crate in the order of their names.

@@ -1,7 +1,7 @@
 //! Makes a sheet that shows a difference shorter.
 
 /// The text with as many lines left out as still keep what `shows` looks for.
-pub fn shrink(text: &[u8], shows: impl Fn(&[u8]) -> bool) -> Vec<u8> {
+pub fn shrink(text: &[u8], mut shows: impl FnMut(&[u8]) -> bool) -> Vec<u8> {
     let mut lines: Vec<&[u8]> = text.split_inclusive(|byte| *byte == b'\n').collect();
     let mut run = lines.len().max(1);
     while run > 0 {

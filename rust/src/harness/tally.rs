@@ -1,38 +1,42 @@
 //! Which answers each call was compared in, and which cases.
 
 use super::cases::Case;
+use super::pairs::PairCase;
 use super::text_cases::TextCase;
 use crate::calls::Answer;
 use crate::generate::Call;
 use std::fmt;
 
-const NAMES: [&str; 3] = ["read", "evaluate", "report"];
+const NAMES: [&str; 4] = ["read", "evaluate", "report", "rows"];
 /// The numbers from 0 on; 21 and 22 are given to no call yet.
 pub const NUMBERS: usize = 25;
 
-/// Answers by call and number, and cases in the order of `Case::ALL` and of
-/// `TextCase::ALL`.
+/// Answers by call and number, and cases in the order of `Case::ALL`, `TextCase::ALL`
+/// and `PairCase::ALL`.
 pub struct Tally {
-    answers: [[u64; NUMBERS]; 3],
+    answers: [[u64; NUMBERS]; 4],
     cases: [u64; Case::ALL.len()],
     texts: [u64; TextCase::ALL.len()],
+    pairs: [u64; PairCase::ALL.len()],
 }
 
 impl Default for Tally {
     fn default() -> Tally {
         Tally {
-            answers: [[0; NUMBERS]; 3],
+            answers: [[0; NUMBERS]; 4],
             cases: [0; Case::ALL.len()],
             texts: [0; TextCase::ALL.len()],
+            pairs: [0; PairCase::ALL.len()],
         }
     }
 }
 
 /// The calls in the order of `NAMES`, whatever their numbers.
-const CALLS: [Call; 3] = [
+const CALLS: [Call; 4] = [
     Call::Read,
     Call::Evaluate { rule: 0, object: 0 },
     Call::Report,
+    Call::Rows,
 ];
 
 fn position(call: Call) -> usize {
@@ -40,6 +44,7 @@ fn position(call: Call) -> usize {
         Call::Read => 0,
         Call::Evaluate { .. } => 1,
         Call::Report => 2,
+        Call::Rows => 3,
     }
 }
 
@@ -48,7 +53,7 @@ fn relevant(call: Call, number: usize) -> bool {
     match call {
         Call::Read => matches!(number, 0..=13 | 20 | 23 | 24),
         Call::Evaluate { .. } => matches!(number, 0..=17 | 19 | 20 | 23 | 24),
-        Call::Report => matches!(number, 0..=13 | 18 | 20 | 23 | 24),
+        Call::Report | Call::Rows => matches!(number, 0..=13 | 18 | 20 | 23 | 24),
     }
 }
 
@@ -65,19 +70,26 @@ impl Tally {
         self.texts[case as usize] += 1;
     }
 
+    pub fn add_pair(&mut self, case: PairCase) {
+        self.pairs[case as usize] += 1;
+    }
+
     /// The names of all cases, with how often each was met.
     fn cases(&self) -> impl Iterator<Item = (&'static str, u64)> + '_ {
         let cases = Case::ALL.iter().map(|case| case.name());
         let texts = TextCase::ALL.iter().map(|case| case.name());
-        cases.zip(self.cases).chain(texts.zip(self.texts))
+        let pairs = PairCase::ALL.iter().map(|case| case.name());
+        let counts = cases.zip(self.cases).chain(texts.zip(self.texts));
+        counts.chain(pairs.zip(self.pairs))
     }
 
     /// Adds what another one has counted.
     pub fn join(&mut self, other: Tally) {
         let counts = self.answers.iter_mut().flatten().chain(&mut self.cases);
+        let counts = counts.chain(&mut self.texts).chain(&mut self.pairs);
         let more = other.answers.into_iter().flatten().chain(other.cases);
-        let counts = counts.chain(&mut self.texts);
-        for (count, more) in counts.zip(more.chain(other.texts)) {
+        let more = more.chain(other.texts).chain(other.pairs);
+        for (count, more) in counts.zip(more) {
             *count += more;
         }
     }

@@ -1,26 +1,9 @@
 //! The cases of rules in text that a comparison must have met.
 
-/// An enum of cases with the names they have in a tally.
-macro_rules! cases {
-    ($($case:ident: $name:literal,)*) => {
-        #[derive(Clone, Copy, PartialEq, Eq, Debug)]
-        pub enum TextCase {
-            $($case,)*
-        }
-
-        impl TextCase {
-            pub const ALL: [TextCase; [$($name),*].len()] = [$(TextCase::$case),*];
-
-            pub fn name(self) -> &'static str {
-                match self {
-                    $(TextCase::$case => $name,)*
-                }
-            }
-        }
-    };
-}
+use super::named::cases;
 
 cases! {
+    TextCase:
     Fields: "a text line without its text, or with a field more",
     OpenSentence: "over 64 open in a sentence",
     OpenElse: "over 64 open in what is no sentence",

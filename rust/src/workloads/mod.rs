@@ -13,7 +13,8 @@ use areas::areas;
 use cap::cap;
 use densities::densities;
 use sheets::{
-    bags, collected, iterations, nodes, nodes_of, quantifiers, real_iterations, sets, types, values,
+    bags, collected, iterations, nodes, nodes_of, quantifiers, real_iterations, rows, sets, types,
+    values,
 };
 
 /// What a workload's time is divided by.
@@ -112,6 +113,7 @@ pub fn workloads() -> Vec<Workload> {
             )
         },
         workload("typing", Unit::Node, Call::Read, one(types(10), types(96))),
+        workload("rows", Unit::Line, Call::Rows, one(rows(6), rows(60))),
         workload(
             "a day of 400 cap sheets",
             Unit::Line,

@@ -3,6 +3,7 @@
 use super::sheet;
 use crate::generate::full::{collections, joined};
 use crate::generate::limits::sequence;
+use crate::generate::rows::missing;
 
 /// Objects with a Sequence of 60 Integers each, and with single Integers.
 pub fn values(objects: usize, integers: usize) -> Vec<u8> {
@@ -59,6 +60,23 @@ pub fn types(pairs: usize) -> Vec<u8> {
         node += 1;
     }
     text += &joined("and", node, tops);
+    sheet(text)
+}
+
+/// This many rules that see 64 rows through five definitions, all but the first of
+/// which call the one before them twice.
+pub fn rows(rules: usize) -> Vec<u8> {
+    let names: Vec<usize> = (0..64).collect();
+    let declared = names.iter().map(|name| format!("A {name} 0 {name} Int|"));
+    let mut text = "C 0 -|".to_string() + &declared.collect::<String>();
+    text += &format!("D 0 0 Bool|{}", missing(&names));
+    for called in 0..4 {
+        text += &format!("D {} 0 Bool|N 0 self|N 1 call 0 {called}|", called + 1);
+        text += &format!("N 2 self|N 3 call 2 {called}|N 4 or 1 3|");
+    }
+    for rule in 0..rules {
+        text += &format!("R {rule} 0|N 0 self|N 1 call 0 4|");
+    }
     sheet(text)
 }
 

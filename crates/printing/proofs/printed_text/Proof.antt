@@ -1,8 +1,8 @@
 -- `printed_text` meets its contract: what the report call answers is printed. Assumes nothing.
-use native.Mathlib.Omega.{arith}
 use borrow.Author.Needs.{needs}
 use mathlib.Core.Path.{refl}
-use Rattle.printing.proofs.Verdicts.{puts-front, report-printed, refusal-is}
+use native.Mathlib.Omega.{arith}
+use Rattle.printing.proofs.Verdicts.{report-printed}
 use Rattle.printing.proofs.printed_text.Statement.{statement}
 use Rattle.printing.proofs.printed_text.Tie as tie
 
@@ -18,14 +18,11 @@ slice-aggregate-ocl-report-3 c = search needs
 ocl-report-requires : tie.Need-ocl-report-requires
 ocl-report-requires c κs = search needs
 
+put-answer-requires : tie.Need-put-answer-requires
+put-answer-requires c κs = search needs
+
 returns : tie.Need-returns
-returns c = report-printed (c .before .before .before .before .before .before .before .before .before .before .args .text .now) _ _ _ _ refl refl refl (omega arith) (c .before .before .before .before .ocl-report .ensures) (c .if1 .taken)
-
-put-refusal-requires : tie.Need-put-refusal-requires
-put-refusal-requires c κs = search needs
-
-returns-2 : tie.Need-returns-2
-returns-2 c = rw (← refusal-is (c .before .before .before .before .before .before .before .before .before .before .before .before .args .text .now) _ _ _ _ refl refl refl (omega arith) (c .before .before .before .before .before .before .ocl-report .ensures) (c .before .before .if1 .left)) (puts-front (c .put-refusal .ensures))
+returns c = report-printed (c .before .before .before .before .before .before .before .before .before .before .before .args .text .now) _ _ _ _ refl refl refl (omega arith) (c .put-answer .ensures) (c .before .before .before .before .before .ocl-report .ensures)
 
 pub printed-text-spec : {M : Type 1} → statement M
 printed-text-spec =
@@ -35,6 +32,5 @@ printed-text-spec =
     slice-aggregate-ocl-report-2
     slice-aggregate-ocl-report-3
     ocl-report-requires
-    returns
-    put-refusal-requires
-    returns-2)
+    put-answer-requires
+    returns)

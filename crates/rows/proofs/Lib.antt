@@ -1,0 +1,5 @@
+pub mod BitLaws
+pub mod SeenLaws
+pub mod LineLaws
+pub mod RuleLaws
+pub mod SheetLaws
