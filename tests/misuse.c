@@ -13,8 +13,8 @@
 #define WORD UINT64_C(0x7e7e7e7e7e7e7e7e)
 #define BYTE 0x7e
 
-enum call { READ, EVALUATE, REPORT, ROWS };
-static const char *const names[] = {"read", "evaluate", "report", "rows"};
+enum call { READ, PROFILE, EVALUATE, REPORT, ROWS };
+static const char *const names[] = {"read", "profile", "evaluate", "report", "rows"};
 
 static uint64_t words[3][OCL_LEAST_WORDS + MARGIN];
 static uint8_t output[OCL_LEAST_OUTPUT + MARGIN];
@@ -35,6 +35,9 @@ static ocl_answer call(enum call which, const void *text, size_t text_length)
     switch (which) {
     case READ:
         return ocl_read_sheet(text, text_length, w[0], lengths[0], w[1], lengths[1], w[2], lengths[2], out, room);
+    case PROFILE:
+        return ocl_read_free_numbering(
+            text, text_length, w[0], lengths[0], w[1], lengths[1], w[2], lengths[2], out, room);
     case EVALUATE:
         return ocl_evaluate_rule(
             text, text_length, 0, 0, w[0], lengths[0], w[1], lengths[1], w[2], lengths[2], out, room);
@@ -104,6 +107,7 @@ int main(void)
                               "D\t0\t0\tInt\nN\t0\tself\nN\t1\tattr\t0\t5\n"
                               "R\t0\t0\nX\t8 < self.a6 or true\n"
                               "R\t1\t0\nX\tif self.a6 = 0 then self.d0() else 7 endif\n";
+    static const char sequence[] = "C\t0\t-\nO\t0\t0\nR\t0\t0\nX\t#0.allInstances()->asSequence()\n";
     static const uint8_t longer[OCL_LONGEST_TEXT + 1];
     static const size_t little[] = {0, 1, OCL_LEAST_WORDS - 1};
     const size_t most = OCL_LEAST_WORDS, sheet_length = sizeof sheet - 1;
@@ -131,11 +135,14 @@ int main(void)
         expect(which, sheet, sheet_length, OCL_SHORT_SLICE, "");
     }
     for (enum call which = READ; which <= ROWS; which++) {
-        static const char *const written[] = {"Bool\n", "t", "0 0 t 1\n", "0\n"};
-        static const char *const of_call[] = {"Bool\n", "t", "0 0 t 3\n", "0\n"};
-        static const char *const of_text[] = {"Bool\n", "t", "0 0 t 4\n", "0\n"};
-        static const char *const of_real[] = {"Real\n", "r3ff8000000000000", "0 0 r3ff8000000000000 3\n", "0\n"};
-        static const char *const of_row[] = {"Bool\nInt\n", "t", "0 0 t 5\n1 0 7 6\n", "0 1\n1 0 1\n"};
+        static const char *const written[] = {"Bool\n", "Bool\n", "t", "0 0 t 1\n", "0\n"};
+        static const char *const of_call[] = {"Bool\n", "Bool\n", "t", "0 0 t 3\n", "0\n"};
+        static const char *const of_text[] = {"Bool\n", "Bool\n", "t", "0 0 t 4\n", "0\n"};
+        static const char *const of_real[] = {
+            "Real\n", "Real\n", "r3ff8000000000000", "0 0 r3ff8000000000000 3\n", "0\n"};
+        static const char *const of_row[] = {
+            "Bool\nInt\n", "Bool\nInt\n", "t", "0 0 t 5\n1 0 7 6\n", "0 1\n1 0 1\n"};
+        static const char *const of_sequence[] = {"Q(#0)\n", "", "Q(@0)", "0 0 Q(@0) 2\n", "0\n"};
         lend(most, most, most, OCL_LEAST_OUTPUT);
         expect(which, sheet, sheet_length, OCL_ANSWERED, written[which]);
         expect(which, bad, sizeof bad - 1, OCL_UNKNOWN_REFERENCE, "");
@@ -151,6 +158,8 @@ int main(void)
         expect(which, infinity, sizeof infinity - 1, OCL_OUT_OF_LIMITS, "");
         expect(which, text, sizeof text - 1, OCL_ANSWERED, of_text[which]);
         expect(which, row, sizeof row - 1, OCL_ANSWERED, of_row[which]);
+        /* what is outside the profile is so to one call alone */
+        expect(which, sequence, sizeof sequence - 1, which == PROFILE ? OCL_OUTSIDE_PROFILE : OCL_ANSWERED, of_sequence[which]);
         expect(which, no_sentence, sizeof no_sentence - 1, OCL_NOT_A_SENTENCE, "");
         expect(which, behind, sizeof behind - 1, OCL_OUT_OF_ORDER, "");
         expect(which, longer, sizeof longer, OCL_SHEET_TOO_LONG, "");

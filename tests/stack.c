@@ -13,8 +13,8 @@
 #define STACK_WORDS (512 * 1024 / 8)
 #define PAINT UINT64_C(0xa5c3a5c3a5c3a5c3)
 
-enum call { READ, EVALUATE, REPORT, ROWS };
-static const char *const names[] = {"read", "evaluate", "report", "rows"};
+enum call { READ, PROFILE, EVALUATE, REPORT, ROWS };
+static const char *const names[] = {"read_sheet", "read_free_numbering", "evaluate_rule", "report", "rows"};
 
 static uint64_t stack[STACK_WORDS];
 static uint8_t text[OCL_LONGEST_TEXT + 1];
@@ -28,8 +28,8 @@ static uint64_t rule, object;
 static ocl_answer answer;
 static uintptr_t frame;
 
-static size_t most[4];
-static const char *most_in[4];
+static size_t most[5];
+static const char *most_in[5];
 static uint64_t runs;
 
 #define TEXT text, text_length
@@ -42,6 +42,9 @@ static void run(void)
     switch (which) {
     case READ:
         answer = ocl_read_sheet(TEXT, WORDS, OUTPUT);
+        break;
+    case PROFILE:
+        answer = ocl_read_free_numbering(TEXT, WORDS, OUTPUT);
         break;
     case EVALUATE:
         answer = ocl_evaluate_rule(TEXT, rule, object, WORDS, OUTPUT);
@@ -88,6 +91,7 @@ static void measure_sheet(const char *sheet)
         printf("refused %s\n", sheet);
     }
     measure(ROWS, sheet);
+    measure(PROFILE, sheet);
     rule = 0;
     object = 0;
     measure(EVALUATE, sheet);

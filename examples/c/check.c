@@ -1,7 +1,7 @@
 /*
  * check SHEET: reads a job sheet from a file and prints each rule's type, what the rule comes to for each of its objects, the
- * rows that each rule sees, and the report; or why the sheet is refused, in words. It shows the calls of include/ocl_checker.h. All
- * memory is static.
+ * rows that each rule sees, whether the sheet is in the free-numbering profile, and the report; or why it is refused, in words. It
+ * shows the calls of include/ocl_checker.h. All memory is static.
  *
  *     cc -std=c11 -Wall -Wextra -Werror -Iinclude examples/c/check.c target/staticlib/libchecker.a -o target/check
  *     target/check examples/cap.sheet
@@ -48,6 +48,7 @@ static const char *const meanings[][2] = {
     [OCL_REPORT_TOO_LONG] = {"slip too long", "what is to be written is longer than the output"},
     [OCL_OVER_RANGE] = {"over the range", "a result of Integers leaves their range, or one of Reals is infinite"},
     [OCL_NOT_A_SENTENCE] = {"not a sentence", "the text of the rule is no sentence"},
+    [OCL_OUTSIDE_PROFILE] = {"outside the profile", "what the rule says may follow the objects' numbers"},
     [OCL_CALL_UPWARD] = {"call upward", "the definition calls itself or a larger one"},
     [OCL_UNKNOWN_DEFINITION] = {"unknown definition", "the sheet has no such definition"},
 };
@@ -140,6 +141,13 @@ int main(int argc, char **argv)
     print_rules(answer.length);
     if (!print_lines("rows", ocl_rows(TEXT, WORDS, OUTPUT))) {
         return 1;
+    }
+    answer = ocl_read_free_numbering(TEXT, WORDS, OUTPUT);
+    printf("free numbering: ");
+    if (answer.number == OCL_ANSWERED) {
+        printf("yes\n");
+    } else {
+        print_refusal(answer);
     }
     return print_lines("report", ocl_report(TEXT, WORDS, OUTPUT)) ? 0 : 1;
 }

@@ -3,6 +3,7 @@
 
 use crate::eval::evaluate;
 use crate::model::Sheet;
+use crate::profile::lowest_line;
 use crate::read::read;
 use crate::refusal::{Refusal, Refused};
 use crate::report;
@@ -35,12 +36,18 @@ type Work = Result<(Vec<u8>, u64), (Refused, u64)>;
 pub fn read_types(text: &[u8], words: Words, out: &mut [u8]) -> Answer {
     lent(words, out, |_| {
         let (_, types) = accepted(text)?;
-        let mut lines = Vec::new();
-        for ty in types {
-            ty.spell(&mut lines);
-            lines.push(b'\n');
+        Ok((type_lines(&types), 0))
+    })
+}
+
+/// The same, for a sheet that is held to the free-numbering profile.
+pub fn read_free_numbering(text: &[u8], words: Words, out: &mut [u8]) -> Answer {
+    lent(words, out, |_| {
+        let (sheet, types) = accepted(text)?;
+        match lowest_line(&sheet) {
+            Some(line) => Err((Refusal::OutsideProfile.at(line), 0)),
+            None => Ok((type_lines(&types), 0)),
         }
-        Ok((lines, 0))
     })
 }
 
@@ -88,6 +95,11 @@ pub fn rows_program(text: &[u8]) -> Vec<u8> {
     printed(text, rows)
 }
 
+/// What the gate's program prints that holds a sheet to the profile.
+pub fn profile_program(text: &[u8]) -> Vec<u8> {
+    printed(text, read_free_numbering)
+}
+
 /// What a program prints that makes the call.
 fn printed(text: &[u8], call: impl Fn(&[u8], Words, &mut [u8]) -> Answer) -> Vec<u8> {
     let mut words = vec![0; 3 * LEAST_WORDS];
@@ -111,6 +123,15 @@ pub fn accepted(text: &[u8]) -> Result<(Sheet, Vec<Type>), (Refused, u64)> {
     let mut sheet = read(text).map_err(without_steps)?;
     let types = type_rules(&mut sheet).map_err(without_steps)?;
     Ok((sheet, types))
+}
+
+fn type_lines(types: &[Type]) -> Vec<u8> {
+    let mut lines = Vec::new();
+    for ty in types {
+        ty.spell(&mut lines);
+        lines.push(b'\n');
+    }
+    lines
 }
 
 /// The number of a rule or an object, of which there are so many.

@@ -22,7 +22,8 @@ pub enum Refusal {
     ReportTooLong,
     OverRange,
     NoSentence,
-    CallUpward = 23,
+    OutsideProfile = 22,
+    CallUpward,
     UnknownDefinition,
 }
 

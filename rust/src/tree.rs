@@ -137,6 +137,14 @@ impl Form {
         }
     }
 
+    /// The definition that it calls.
+    pub fn called(&self) -> Option<u8> {
+        match self {
+            Form::Call(number) => Some(*number),
+            _ => None,
+        }
+    }
+
     /// What it does with Reals, if it computes with them.
     pub fn operation(&self) -> Option<Operation> {
         match self {
@@ -154,6 +162,8 @@ pub struct Node {
     pub operands: Vec<Node>,
     /// The line the node stands on.
     pub line: usize,
+    /// Typing notes it.
+    pub ty: Option<Type>,
 }
 
 impl Node {

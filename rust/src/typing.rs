@@ -69,8 +69,15 @@ impl<'m> Typing<'m> {
         }
     }
 
-    /// The node's type: what an operand refuses goes before what the node does.
+    /// The node's type, noted in it.
     fn node(&mut self, node: &mut Node) -> Result<Type, Refused> {
+        let ty = self.judged(node)?;
+        node.ty = Some(ty.clone());
+        Ok(ty)
+    }
+
+    /// What an operand refuses goes before what the node does.
+    fn judged(&mut self, node: &mut Node) -> Result<Type, Refused> {
         let here = |refusal: Refusal| refusal.at(node.line);
         let operands = &mut node.operands;
         match &mut node.form {

@@ -18,13 +18,13 @@ use std::sync::Mutex;
 fn no_fault_is_no_difference_and_everything_is_reached() {
     let standin = StandIn { fault: Fault::None };
     let mut tally = Tally::default();
-    let mut vectors = run::vectors().unwrap();
-    vectors.extend(run::row_vectors().unwrap());
-    for (seed, vector) in (0..).zip(&vectors) {
+    for (seed, vector) in (0..).zip(&run::all_vectors().unwrap()) {
         let asks = generate::vector_asks(seed, &vector.text);
         let result = run::sheet(&standin, &vector.text, seed, &asks, &mut tally);
         assert!(result.is_ok(), "{}", vector.name);
         let result = run::paired(&standin, &vector.text, seed, &mut tally);
+        assert!(result.is_ok(), "{}", vector.name);
+        let result = run::renumbered(&standin, &vector.text, seed, &mut tally);
         assert!(result.is_ok(), "{}", vector.name);
     }
     for seed in 0..1_500 {
@@ -33,6 +33,8 @@ fn no_fault_is_no_difference_and_everything_is_reached() {
         let result = run::sheet(&standin, &text, seed, &asks, &mut tally);
         assert!(result.is_ok(), "{seed}");
         let result = run::paired(&standin, &text, seed, &mut tally);
+        assert!(result.is_ok(), "{seed}");
+        let result = run::renumbered(&standin, &text, seed, &mut tally);
         assert!(result.is_ok(), "{seed}");
     }
     assert!(tally.missing().is_empty(), "{tally}");

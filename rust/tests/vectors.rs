@@ -1,7 +1,7 @@
 //! The second evaluator prints what each vector says.
 
-use second_evaluator::calls::{program, rows_program};
-use second_evaluator::harness::run::{row_vectors, vectors, Vector};
+use second_evaluator::calls::{profile_program, program, rows_program};
+use second_evaluator::harness::run::{profile_vectors, row_vectors, vectors, Vector};
 
 /// The names of those for which something else is printed.
 fn wrong(vectors: Vec<Vector>, printed: fn(&[u8]) -> Vec<u8>) -> Vec<String> {
@@ -21,5 +21,11 @@ fn every_vector_prints_what_it_says() {
 #[test]
 fn every_vector_prints_the_rows_that_it_says() {
     let wrong = wrong(row_vectors().unwrap(), rows_program);
+    assert!(wrong.is_empty(), "{wrong:#?}");
+}
+
+#[test]
+fn every_vector_is_held_to_the_profile_as_it_says() {
+    let wrong = wrong(profile_vectors().unwrap(), profile_program);
     assert!(wrong.is_empty(), "{wrong:#?}");
 }

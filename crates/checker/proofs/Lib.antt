@@ -1,6 +1,7 @@
 pub mod Answers
 pub mod Readings
 pub mod ReadCalls
+pub mod ProfileCalls
 pub mod OutcomeLaws
 pub mod EvaluateCalls
 pub mod ReportCalls

@@ -134,7 +134,7 @@ types-count none-typed = refl
 types-count (one-typed e h) = ap suc (types-count h)
 
 -- one for each of its rules
-rule-count : {st : Counts} {w0 w1 : List ℕ} {s : Sheet} {ts : List Ty} {n : ℕ} → Accepted st w0 w1 s ts → n ≡ st .rules → length ts ≡ n
+pub rule-count : {st : Counts} {w0 w1 : List ℕ} {s : Sheet} {ts : List Ty} {n : ℕ} → Accepted st w0 w1 s ts → n ≡ st .rules → length ts ≡ n
 rule-count h e = omega (arith, types-count (h .typed), h .lies .holds .counted .rules)
 
 module _ {text : Bytes} {w0 w1 w2 v0 v1 v2 : List ℕ} {z : SheetRead} {st : Counts} {n : ℕ} (t : OpensText text z w0 w1 w2 v0 v1 v2) (e : z ≡ sheet.Sheet st) (c : n ≡ st .rules) where

@@ -101,9 +101,14 @@ module _ {text : Bytes} {w0 w1 w2 v0 v1 v2 : List ℕ} {r : SheetRead} (t : Open
   pub known-on : {st : Counts} → r ≡ sheet.Sheet st → KnownTyped st v0 v1 v2
   known-on e = known-as (rw e at (t .is))
 
+  -- what follows may write to w1 and w2
+  pub leaves-with : {st : Counts} {a : Answer} {x1 x2 : List ℕ} {out after : Bytes} (f : Sheet → List Ty → Verdict) → r ≡ sheet.Sheet st
+      → GivesFor st v0 v1 v2 f a out after → Kept v1 x1 → Kept v2 x2 → Leaves (onAccepted text f) a w0 w1 w2 out v0 x1 x2 after
+  leaves-with f e d j k = record { gives = gives-as f (rw e at (t .is)) d; kept0 = t .kept0; kept1 = kept-then (t .kept1) j; kept2 = kept-then (t .kept2) k }
+
   pub leaves-on : {st : Counts} {a : Answer} {x2 : List ℕ} {out after : Bytes} (f : Sheet → List Ty → Verdict) → r ≡ sheet.Sheet st
       → GivesFor st v0 v1 v2 f a out after → Kept v2 x2 → Leaves (onAccepted text f) a w0 w1 w2 out v0 v1 x2 after
-  leaves-on f e d k = record { gives = gives-as f (rw e at (t .is)) d; kept0 = t .kept0; kept1 = t .kept1; kept2 = kept-then (t .kept2) k }
+  leaves-on f e d k = leaves-with f e d (kept-refl v1) k
 
   pub leaves-stop : {n k : ℕ} {a : Answer} (f : Sheet → List Ty → Verdict) (out : Bytes) → r ≡ sheet.Refused n k → a ≡ answerOf (refusalAt n k)
       → Leaves (onAccepted text f) a w0 w1 w2 out v0 v1 v2 out

@@ -5,7 +5,9 @@ use Prim.Native.Nat.{ℕ, _≤_}
 use lib.ListN.{length}
 use Rattle.ocl.specs.Types.{Ty}
 use Rattle.sheet.specs.Text.{Bytes}
-use Rattle.sheet.specs.Calls.{typeLines}
+use Rattle.sheet.specs.Sheet.{Sheet}
+use Rattle.sheet.specs.Calls.{Verdict, answer, typeLines}
+use Rattle.sheet.specs.Profile.{firstOutside, onProfile}
 use Rattle.text.specs.Written.{Puts}
 use Rattle.rules.specs.Accepted.{TypesIn}
 
@@ -20,3 +22,7 @@ pub record Waiting (w2 : List ℕ) (n : ℕ) : Type 0 where
 -- whichever n types do, their lines are put at the front of the output, and end at r
 pub record PutsTypes (w2 : List ℕ) (n : ℕ) (before after : Bytes) (r : ℕ) : Type 0 where
   pub is : (ts : List Ty) → TypesIn w2 ts → length ts ≡ n → Puts 0 (typeLines ts) before after r
+
+-- the lines, for a sheet that is held to the free-numbering profile; else 22
+abbrev pub profiled : Sheet → List Ty → Verdict
+profiled s ts = onProfile (firstOutside s) (answer (typeLines ts))

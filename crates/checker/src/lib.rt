@@ -1,6 +1,6 @@
 // The public calls. Each reads the text anew, uses the lent words as working memory and leaves their first 8,192 words zero.
-// Document 01, Calls; document 02, F-9. It depends on `reader` for the sheet, on `rules` for a rule of it, on `report` for the report and on
-// `rows` for the rows.
+// Document 01, Calls; document 02, F-9 and F-12. It depends on `reader` for the sheet, on `rules` for a rule of it, on `report` for the
+// report, on `rows` for the rows and on `numbering` for the profile.
 ghost use mathlib.Core.Bool.{_||_};
 ghost use mathlib.Core.Path.{_≡_};
 ghost use Prim.Native.Nat.{_≤_};
@@ -18,6 +18,7 @@ use rules::all::accept;
 use tables::Counts;
 
 pub mod evaluate_call; // ocl_evaluate_rule
+pub mod profile_call; // ocl_read_free_numbering
 pub mod read_call; // ocl_read_sheet
 pub mod report_call; // ocl_report
 pub mod rows_call; // ocl_rows

@@ -19,7 +19,7 @@ use types::spelling::put_type;
 use types::word::unpack;
 
 // Puts the types that wait in w2 into out, one a line, and answers where the last line ends.
-fn put_types(w2: &[u64], rules: usize, out: &mut [u8]) -> usize
+pub fn put_types(w2: &[u64], rules: usize, out: &mut [u8]) -> usize
     requires { ⌜ (8192 ≤ length (now w2)) × (2560 ≤ length (now out)) × Waiting (now w2) rules ⌝ }
     ensures { λ r. ⌜ PutsTypes (now (w2 .entry)) rules (now (out .entry)) (now (out .exit)) r ⌝ }
 {

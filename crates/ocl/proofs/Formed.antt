@@ -20,10 +20,10 @@ all-formed : {vs : Values} → Every Formed vs → FormedAll vs
 all-formed every-nil = formed-nil
 all-formed (every-cons p h) = formed-cons p (all-formed h)
 
-formed-of : {k : Kind} {vs : Values} → Sorted k vs → Every Formed vs → Formed (coll k vs)
+pub formed-of : {k : Kind} {vs : Values} → Sorted k vs → Every Formed vs → Formed (coll k vs)
 formed-of h e = formed-coll h (all-formed e)
 
-members-sorted : {k : Kind} {vs : Values} → Formed (coll k vs) → Sorted k vs
+pub members-sorted : {k : Kind} {vs : Values} → Formed (coll k vs) → Sorted k vs
 members-sorted (formed-coll h e) = h
 
 members-formed : {k : Kind} {vs : Values} → Formed (coll k vs) → Every Formed vs

@@ -28,3 +28,5 @@ pub mod Mistakes
 pub mod Collect
 pub mod Definitions
 pub mod RealCases
+pub mod Profile
+pub mod OwnType

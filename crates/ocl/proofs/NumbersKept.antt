@@ -22,7 +22,7 @@ use Rattle.ocl.specs.Soundness.{AcceptedModel, KeptEnds}
 use Rattle.ocl.proofs.Values.{Every, every-nil, every-cons, append-every, add-every, count-sizes}
 use Rattle.ocl.proofs.Kept.{Keeps, Bound, kept-ends, kept-rule}
 
-AllKept : Value → Type 0
+unfoldable pub AllKept : Value → Type 0
 AllKept v = T (numbersKept v)
 
 record Allowed (v : Value) : Type 0 where
@@ -31,12 +31,12 @@ record Allowed (v : Value) : Type 0 where
 
 -- ---- members
 
-each-kept : (vs : Values) → T (everyParts numberKept vs) → Every AllKept vs
+pub each-kept : (vs : Values) → T (everyParts numberKept vs) → Every AllKept vs
 unfolding everyPart numbersKept AllKept
 each-kept nil h = every-nil
 each-kept (cons v vs) h = every-cons (and-l (everyPart numberKept v) _ h) (each-kept vs (and-r (everyPart numberKept v) _ h))
 
-all-members : {vs : Values} → Every AllKept vs → T (everyParts numberKept vs)
+pub all-members : {vs : Values} → Every AllKept vs → T (everyParts numberKept vs)
 unfolding everyPart numbersKept AllKept
 all-members every-nil = tt
 all-members (every-cons {v} {vs} p h) = and-i (everyPart numberKept v) (everyParts numberKept vs) p (all-members h)
@@ -60,7 +60,7 @@ unfolding numbersKept everyPart numberKept kept inRange size AllKept
 of-count {vs} h =
     let l : count vs < 2147483648 = omega (arith, count-sizes vs, h .small) in record { kept-all = rw (lt-ltb (count vs) 2147483648 l) tt; small = omega arith }
 
-instances-kept : (s : Model) (c n : ℕ) → Every AllKept (instances s c n)
+pub instances-kept : (s : Model) (c n : ℕ) → Every AllKept (instances s c n)
 unfolding instances numbersKept everyPart numberKept AllKept
 instances-kept s c zero = every-nil
 instances-kept s c (suc n) = by-if (Every AllKept) (isA s n (class c)) _ _ (λ t. append-every (obj n) tt (instances-kept s c n)) (λ t. instances-kept s c n)

@@ -129,12 +129,12 @@ chained-more u us p q nil ws m n = absurd (omega arith)
 chained-more u us p q (cons v vs) nil m n = absurd (omega arith)
 chained-more u us p q (cons v vs) (cons w ws) m n = then-chain _ _ _ (p v w) (λ e f. q vs ws (omega arith) (omega arith))
 
-order-chain : (u v w : Value) → Chain (order u v) (order v w) (order u w)
+pub order-chain : (u v w : Value) → Chain (order u v) (order v w) (order u w)
 order-chain u = by-members Chained ChainedAll chained-whole chained-none chained-more u
 
 -- ---- one and the same
 
-eq-test : (o : Ordering) → T (isEq o) → o ≡ Ordering·eq
+pub eq-test : (o : Ordering) → T (isEq o) → o ≡ Ordering·eq
 eq-test Ordering·lt h = absurd h
 eq-test Ordering·eq h = refl
 eq-test Ordering·gt h = absurd h
@@ -149,18 +149,18 @@ same-is v w k l =
 
 -- ---- members
 
-has-member : (v : Value) (vs : Values) → T (numbersKept v) → T (allKept vs) → T (has v vs) → Member v vs
+pub has-member : (v : Value) (vs : Values) → T (numbersKept v) → T (allKept vs) → T (has v vs) → Member v vs
 unfolding has
 has-member v nil k l h = absurd h
 has-member v (cons w ws) k l h =
     or-e (same v w) (has v ws) h (λ t. subst (λ x. Member v (cons x ws)) (same-is v w k (kept-first w ws l) .0 t) first)
     (λ t. later (has-member v ws k (kept-others w ws l) t))
 
-same-self : (v : Value) → T (same v v)
+pub same-self : (v : Value) → T (same v v)
 unfolding same
 same-self v = subst (λ o. T (isEq o)) (sym (order-self v)) tt
 
-member-has : {v : Value} {vs : Values} → Member v vs → T (has v vs)
+pub member-has : {v : Value} {vs : Values} → Member v vs → T (has v vs)
 unfolding has
 member-has {v} (first {vs}) = or-l (same v v) (has v vs) (same-self v)
 member-has {v} (later {w} {vs} h) = or-r (same v w) (has v vs) (member-has h)

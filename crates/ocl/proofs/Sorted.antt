@@ -19,7 +19,7 @@ use Rattle.ocl.proofs.Order.{order-turned}
 sorted-head : {k : Kind} {v w : Value} {ws : Values} → Sorted k (cons v (cons w ws)) → InOrder k (order v w)
 sorted-head (sorted-cons p h) = p
 
-sorted-tail : {k : Kind} {v : Value} {vs : Values} → Sorted k (cons v vs) → Sorted k vs
+pub sorted-tail : {k : Kind} {v : Value} {vs : Values} → Sorted k (cons v vs) → Sorted k vs
 sorted-tail sorted-one = sorted-nil
 sorted-tail (sorted-cons p h) = h
 

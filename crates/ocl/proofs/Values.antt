@@ -25,7 +25,7 @@ pub every-imp : {P Q : Value → Type 0} {vs : Values} → ((v : Value) → P v 
 every-imp f every-nil = every-nil
 every-imp f (every-cons {v} p h) = every-cons (f v p) (every-imp f h)
 
-every-by : {P : Value → Type 0} (f : Value → Bool) (vs : Values) → ((v : Value) → T (f v) → P v) → T (every f vs) → Every P vs
+pub every-by : {P : Value → Type 0} (f : Value → Bool) (vs : Values) → ((v : Value) → T (f v) → P v) → T (every f vs) → Every P vs
 unfolding every
 every-by f nil g h = every-nil
 every-by f (cons v vs) g h = every-cons (g v (and-l (f v) _ h)) (every-by f vs g (and-r (f v) _ h))

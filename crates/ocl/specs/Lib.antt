@@ -17,3 +17,5 @@ pub mod Mistakes
 pub mod Collect
 pub mod Definitions
 pub mod RealCases
+pub mod Profile
+pub mod OwnType

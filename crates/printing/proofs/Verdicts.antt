@@ -11,6 +11,7 @@ use Rattle.sheet.specs.Text.{Bytes}
 use Rattle.sheet.specs.Calls.{Verdict, refusalAt, outputAfter, shortWords, shortOutput}
 use Rattle.sheet.specs.Report.{reportOf, reportCall, printed, program}
 use Rattle.sheet.specs.Rows.{rowsInto, rowsCall, rowsProgram}
+use Rattle.sheet.specs.Profile.{profileOf, profileCall}
 use Rattle.checker.specs.Answers.{AnswersWith}
 use Rattle.checker.specs.declared.Answer.{Answer}
 use Rattle.text.specs.Written.{Puts}
@@ -59,6 +60,10 @@ module _ (text : Bytes) (w0 w1 w2 : List ℕ) (out : Bytes) (long0 : length w0 �
   unfolding rowsCall shortWords shortOutput
   rows-lent = rw (long0, long1, long2, room)
 
+  profile-lent : profileCall text w0 w1 w2 out ≡ profileOf text
+  unfolding profileCall shortWords shortOutput
+  profile-lent = rw (long0, long1, long2, room)
+
   module _ {a : Answer} {v0 v1 v2 : List ℕ} {left after : Bytes} {r : ℕ} (p : Prints a left after r) where
     pub report-printed : AnswersWith (reportCall text w0 w1 w2 out) a w0 w1 w2 out v0 v1 v2 left → Front (program text) after r
     unfolding program
@@ -67,3 +72,6 @@ module _ (text : Bytes) (w0 w1 w2 : List ℕ) (out : Bytes) (long0 : length w0 �
     pub rows-printed : AnswersWith (rowsCall text w0 w1 w2 out) a w0 w1 w2 out v0 v1 v2 left → Front (rowsProgram text) after r
     unfolding rowsProgram
     rows-printed told = rw rows-lent at (p .is (rowsCall text w0 w1 w2 out) out (told .is) (told .output))
+
+    pub profile-printed : AnswersWith (profileCall text w0 w1 w2 out) a w0 w1 w2 out v0 v1 v2 left → Front (printed (profileOf text)) after r
+    profile-printed told = rw profile-lent at (p .is (profileCall text w0 w1 w2 out) out (told .is) (told .output))

@@ -1,11 +1,13 @@
-// What the programs print for a text. It depends on `checker` for the report and the rows and on `text` for writing a refusal.
+// What the programs print for a text. It depends on `checker` for the calls and on `text` for writing a refusal.
 ghost use mathlib.Core.Path.{_≡_};
 ghost use lib.ListN.{length};
-ghost use Rattle.sheet.specs.Report.{program};
+ghost use Rattle.sheet.specs.Report.{printed, program};
+ghost use Rattle.sheet.specs.Profile.{profileOf};
 ghost use Rattle.sheet.specs.Rows.{rowsProgram};
 ghost use Rattle.printing.specs.Answered.{Prints};
 ghost use Rattle.printing.specs.Printed.{Front};
 use checker::Answer;
+use checker::profile_call::ocl_read_free_numbering;
 use checker::report_call::ocl_report;
 use checker::rows_call::ocl_rows;
 use text::printed::put_refusal;
@@ -41,5 +43,16 @@ pub fn printed_rows(text: &[u8], out: &mut [u8; 65536]) -> usize
     let mut w1: [u64; 8192] = [0; 8192];
     let mut w2: [u64; 8192] = [0; 8192];
     let answer = ocl_rows(text, &mut w0, &mut w1, &mut w2, out);
+    put_answer(answer, out)
+}
+
+// The same for the gate's program that holds a sheet to the profile.
+pub fn printed_profile(text: &[u8], out: &mut [u8; 65536]) -> usize
+    ensures { λ r. ⌜ Front (printed (profileOf (now (text .entry)))) (now (out .exit)) r ⌝ }
+{
+    let mut w0: [u64; 8192] = [0; 8192];
+    let mut w1: [u64; 8192] = [0; 8192];
+    let mut w2: [u64; 8192] = [0; 8192];
+    let answer = ocl_read_free_numbering(text, &mut w0, &mut w1, &mut w2, out);
     put_answer(answer, out)
 }

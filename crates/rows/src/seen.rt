@@ -12,7 +12,7 @@ use nodes::node_word;
 use types::classes::wide;
 
 // How many members `coll` has; more than four, which no accepted sheet has, count as none.
-fn member_count(nodes: &[u64], n: usize) -> usize
+pub fn member_count(nodes: &[u64], n: usize) -> usize
     requires { ⌜ (n < 768) × (6144 ≤ length (now nodes)) ⌝ }
     ensures { λ r. ⌜ r ≡ (if ltb 4 (word (now (nodes .entry)) n 5) then 0 else word (now (nodes .entry)) n 5) ⌝ }
 {

@@ -2,7 +2,7 @@
 -- formed, definitions and rules whose trees share no node and have at most 19 levels, Integers and types within their limits. The induction over the
 -- lines, over the laws of proofs/Good.antt. Assumes nothing.
 use mathlib.Core.Path.{_≡_, refl, sym, ap, _∙_, subst}
-use mathlib.Core.Bool.{Bool, true, false, _&&_}
+use mathlib.Core.Bool.{_&&_}
 use mathlib.Core.Option.{Option, none, some}
 use mathlib.Core.List.{List, [], _∷_, _++_, map, append-nil, append-assoc}
 use Prim.Native.Nat.{ℕ, suc, _+_, _-_, _<_, _≤_}
@@ -21,15 +21,13 @@ use Rattle.ocl.specs.Laws.{numbersKept, Formed, numbers, literals}
 use Rattle.ocl.specs.Soundness.{AcceptedModel}
 use Rattle.sheet.specs.Text.{Bytes, fieldsOf, linesOf}
 use Rattle.sheet.specs.Lines.{Line, lineOf, inBody}
-use Rattle.sheet.specs.Texts.{bracketsWithin, isSentence, onText}
 use Rattle.sheet.specs.Sheet.{Slot, Rule, Current, Sheet, empty, lookup, noRow, modelOf, treeOf, lastTree, allUsed, withBody, mostLevels, endOf, endFor, endRule}
-use Rattle.sheet.specs.Limits.{withinLimits}
-use Rattle.sheet.specs.Refusals.{inOrder, partsKnown, callsSmaller, callsKnown, suits, treeHolds}
-use Rattle.sheet.specs.Reading.{Step, taken, refuse, must, stepLine, stepSpelled, step, Reading, accepted, rejected, onStep, onEnd, closing, readLast, readLines, readText}
+use Rattle.sheet.specs.Reading.{Step, taken, refuse, stepSpelled, step, Reading, accepted, rejected, onStep, onEnd, closing, readLast, readLines, readText}
 use Rattle.sheet.proofs.Belonging.{belongs-same}
 use Rattle.sheet.proofs.TypeFits.{Fits, NamesFit, tree-names}
 use Rattle.sheet.proofs.Bodies.{bodyNumbers, bodies-more, Among, among-more, tree-called}
 use Rattle.sheet.proofs.Good.{plain, SlotOk, BodyOk, DefinitionOk, CurrentOk, OpenOk, none-open, one-open, blocks-none, sheetNumbers, Good, good-empty}
+use Rattle.sheet.proofs.Steps.{Steps, not-taken, takes, spelled-steps}
 use Rattle.sheet.proofs.GoodTexts.{good-added}
 use Rattle.sheet.proofs.NumbersKept.{AllKept, tree-kept}
 
@@ -162,23 +160,12 @@ pub data GoodStep : Step → Type 0 where
   no-step : {n : ℕ} → GoodStep (refuse n)
   good-step : {s : Sheet} → Good s → GoodStep (taken s)
 
-must-good : (b : Bool) (n : ℕ) (x : Step) → (T b → GoodStep x) → GoodStep (must b n x)
-unfolding must
-must-good true n x h = h tt
-must-good false n x h = no-step
-
-good-line : (s : Sheet) (k : ℕ) (l : Line) → T (onText l bracketsWithin) → T (onText l isSentence) → Good s → GoodStep (stepLine s k l)
-unfolding stepLine
-good-line s k l p q g =
-    must-good (withinLimits s l) 4 _ (λ a. must-good (inOrder s l) 5 _ (λ b. must-good (partsKnown s l) 6 _ (λ c.
-    must-good (callsSmaller s l) 23 _ (λ x. must-good (callsKnown s l) 24 _ (λ y.
-    must-good (suits s l) 7 _ (λ d. must-good (treeHolds s l) 8 _ (λ e.
-    good-step (good-added s k l g (record { brackets = p; sentence = q; limits = a; order = b; parts = c; smaller = x; known = y; suit = d; tree = e })))))))))
-
 good-spelled : (s : Sheet) (k : ℕ) (o : Option Line) → Good s → GoodStep (stepSpelled s k o)
-unfolding stepSpelled
-good-spelled s k none g = no-step
-good-spelled s k (some l) g = must-good (onText l bracketsWithin) 4 _ (λ p. must-good (onText l isSentence) 20 _ (λ q. good-line s k l p q g))
+good-spelled s k o g = of (spelled-steps s k o)
+  where
+    of : {x : Step} → Steps s k o x → GoodStep x
+    of not-taken = no-step
+    of (takes l e m) = good-step (good-added s k l g m)
 
 pub good-fields : (s : Sheet) (k : ℕ) (fs : List Bytes) → Good s → GoodStep (step s k fs)
 unfolding step

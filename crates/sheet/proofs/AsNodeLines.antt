@@ -18,7 +18,7 @@ use Rattle.sheet.specs.Lines.{Shape, Line, classLine, rowLine, objectLin
 use Rattle.sheet.specs.Texts.{bracketsWithin, isSentence, onText, nodesIn, nodesOf}
 use Rattle.sheet.specs.Sheet.{Current, Sheet, empty, withNodes, asText, added, endOf, endFor, endRule}
 use Rattle.sheet.specs.Limits.{formWithin, withinLimits}
-use Rattle.sheet.specs.Refusals.{twoVariables, hasType, nextNode, mayBeText, blockOf, numbered, inOrder, partsKnown, callsSmaller, callsKnown, suits, treeHolds}
+use Rattle.sheet.specs.Refusals.{twoVariables, hasType, nextNode, mayBeText, blockOf, numbered, inOrder, partsKnown, callsKnown}
 use Rattle.sheet.specs.Reading.{Step, stepLine, stepSpelled, step, Reading, accepted, onStep, onEnd, closing, readLast, readLines}
 use Rattle.sheet.specs.Grammar.Trees.{Tree, shapes}
 use Rattle.sheet.specs.Grammar.Parser.{readingOf}
@@ -27,10 +27,11 @@ use Rattle.sheet.proofs.Stays.{ofBody, line-stays as stays}
 use Rattle.sheet.proofs.TextNodes.{shapes-size, some-node}
 use Rattle.sheet.proofs.Good.{CurrentOk, OpenOk, none-open, one-open, Good, good-empty}
 use Rattle.sheet.proofs.GoodLines.{Met}
+use Rattle.sheet.proofs.Steps.{Steps, not-taken, takes, spelled-steps}
 use Rattle.sheet.proofs.GoodTexts.{nodes-fresh}
 use Rattle.sheet.proofs.Acceptance.{GoodStep, no-step, good-step, good-fields, good-endRule}
 use Rattle.sheet.proofs.Alike.{Alike, alike, LikeReading, both-accepted, both-rejected, LikeEnd, end-alike, on-end, going, read-by, going-alike}
-use Rattle.sheet.proofs.NodesRead.{Refuses, refuses, must-refuses, must-not, not-accepted, on-refusal, through, withOpen, is-open, Ready, read-line, read-last, nodes-read}
+use Rattle.sheet.proofs.NodesRead.{Refuses, refuses, must-refuses, must-not, not-accepted, on-refusal, withOpen, is-open, Ready, read-line, read-last, nodes-read}
 
 -- ---- readings that follow
 
@@ -137,19 +138,12 @@ record TakenText (s : Sheet) (k : ℕ) (x : Bytes) (f : Sheet → Reading) (u : 
   goes : f (added s k (textLine x)) ≡ accepted u
 
 taken-text : (s : Sheet) (k : ℕ) (x : Bytes) (f : Sheet → Reading) (u : Sheet) → onStep (stepSpelled s k (some (textLine x))) k f ≡ accepted u → TakenText s k x f u
-unfolding stepSpelled stepLine
-taken-text s k x f u e =
-    let l = textLine x in
-    let a = through (onText l bracketsWithin) 4 _ k f e in
-    let b = through (onText l isSentence) 20 _ k f (a .1) in
-    let c = through (withinLimits s l) 4 _ k f (b .1) in
-    let d = through (inOrder s l) 5 _ k f (c .1) in
-    let p = through (partsKnown s l) 6 _ k f (d .1) in
-    let q = through (callsSmaller s l) 23 _ k f (p .1) in
-    let r = through (callsKnown s l) 24 _ k f (q .1) in
-    let v = through (suits s l) 7 _ k f (r .1) in
-    let w = through (treeHolds s l) 8 _ k f (v .1) in
-    record { met = record { brackets = a .0; sentence = b .0; limits = c .0; order = d .0; parts = p .0; smaller = q .0; known = r .0; suit = v .0; tree = w .0 }; goes = unfold onStep in w .1 }
+unfolding onStep
+taken-text s k x f u e = of (spelled-steps s k (some (textLine x))) e
+  where
+    of : {y : Step} → Steps s k (some (textLine x)) y → onStep y k f ≡ accepted u → TakenText s k x f u
+    of not-taken q = absurd (not-accepted q)
+    of (takes l z m) q = let i : l ≡ textLine x = sym (Option·some-injective _ _ z) in record { met = subst (Met s) i m; goes = subst (λ y. f (added s k y) ≡ accepted u) i q }
 
 -- the rule that it stands in
 pub record InRule (o : Option Current) : Type 0 where

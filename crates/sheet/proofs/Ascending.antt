@@ -21,21 +21,23 @@ pub data Ascending : List Slot → Type 0 where
   ascending-nil : Ascending []
   ascending-cons : {x : Slot} {xs : List Slot} → Each (Before x) xs → Ascending xs → Ascending (x ∷ xs)
 
-before-then : {x y z : Slot} → Before x y → Before y z → Before x z
+pub before-then : {x y z : Slot} → Before x y → Before y z → Before x z
 before-then (smaller-object a) (smaller-object b) = smaller-object (omega arith)
 before-then (smaller-object a) (smaller-row b c) = smaller-object (omega arith)
 before-then (smaller-row a b) (smaller-object c) = smaller-object (omega arith)
 before-then (smaller-row a b) (smaller-row c d) = smaller-row (omega arith) (omega arith)
 
+pub before-by : (x y : Slot) → T (afterSlots (x ∷ []) (y .object) (y .row)) → Before x y
+unfolding afterSlots
+before-by x y t =
+    or-e (ltb (x .object) (y .object)) (eqb (x .object) (y .object) && ltb (x .row) (y .row)) t
+    (λ l. smaller-object (ltb→lt (x .object) (y .object) l))
+    (λ l. smaller-row (eqb→eq (x .object) (y .object) (and-l (eqb (x .object) (y .object)) _ l)) (ltb→lt (x .row) (y .row) (and-r (eqb (x .object) (y .object)) _ l)))
+
 after-each : (xs : List Slot) (y : Slot) → Ascending xs → T (afterSlots xs (y .object) (y .row)) → Each (λ x. Before x y) xs
 unfolding afterSlots
 after-each [] y a t = each-nil
-after-each (x ∷ []) y a t =
-    each-cons
-    (or-e (ltb (x .object) (y .object)) (eqb (x .object) (y .object) && ltb (x .row) (y .row)) t
-    (λ l. smaller-object (ltb→lt (x .object) (y .object) l))
-    (λ l. smaller-row (eqb→eq (x .object) (y .object) (and-l (eqb (x .object) (y .object)) _ l)) (ltb→lt (x .row) (y .row) (and-r (eqb (x .object) (y .object)) _ l))))
-    each-nil
+after-each (x ∷ []) y a t = each-cons (before-by x y t) each-nil
 after-each (x ∷ z ∷ xs) y (ascending-cons h a) t =
     let k = after-each (z ∷ xs) y a t in each-cons (before-then (each-head h) (each-head k)) k
 

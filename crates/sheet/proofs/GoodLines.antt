@@ -41,7 +41,7 @@ pub record Met (s : Sheet) (l : Line) : Type 0 where
   pub suit : T (suits s l)
   pub tree : T (treeHolds s l)
 
-block-le : (s : Sheet) (l : Line) → Met s l → s .block ≤ blockOf l
+pub block-le : (s : Sheet) (l : Line) → Met s l → s .block ≤ blockOf l
 unfolding inOrder
 block-le s l m = leb→le (s .block) (blockOf l) (and-l (leb (s .block) (blockOf l)) _ (m .order))
 

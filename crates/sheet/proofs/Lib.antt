@@ -10,6 +10,7 @@ pub mod Bodies
 pub mod Stays
 pub mod Good
 pub mod GoodLines
+pub mod Steps
 pub mod GoodNodes
 pub mod TextNodes
 pub mod GoodTexts
@@ -36,6 +37,7 @@ pub mod Spelling
 pub mod Split
 pub mod Lengths
 pub mod ReadLength
+pub mod Profile
 pub mod NodeBack
 pub mod NodeFields
 pub mod NodeSpelling
@@ -45,3 +47,4 @@ pub mod Edited
 pub mod Unseen
 pub mod RowLines
 pub mod TextExamples
+pub mod ProfileExamples

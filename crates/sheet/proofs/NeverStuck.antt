@@ -25,6 +25,7 @@ use Rattle.sheet.specs.Sheet.{Rule, Sheet, schemaIn, modelOf}
 use Rattle.sheet.specs.Reading.{Reading, accepted, rejected, readText}
 use Rattle.sheet.specs.Calls.{Verdict, answer, refusalAt, refusal, shortWords, shortOutput, onSheet, typingOf, onType, onTypes, onDefinitions, onAccepted, typeLines, readCall, onRule, onObject, outcomeOf, ended, evaluateOn, evaluateCall}
 use Rattle.sheet.specs.Report.{spellOutcome, reportLine, objectLines, ruleLines, fitting, reportOf, reportCall, printed, program}
+use Rattle.sheet.specs.Profile.{firstOutside, onProfile, profileOf, profileCall}
 use Rattle.sheet.specs.Laws.{ReadRefusal, over-length, at-line, AllTyped, none-typed, one-typed, Defined}
 use Rattle.sheet.specs.Soundness.{NeverStuckLaw}
 use Rattle.sheet.proofs.Listed.{listed-within, read-refusals}
@@ -154,6 +155,11 @@ low-answer : (b : Bytes) → Low (answer b)
 unfolding answer
 low-answer b = omega arith
 
+low-profile : (o : Option ℕ) (v : Verdict) → Low v → Low (onProfile o v)
+unfolding onProfile
+low-profile none v h = h
+low-profile (some k) v h = low 22 k (omega arith)
+
 -- 1 for a short slice
 lent-by : (P : Verdict → Type 0) (b : Bool) (v : Verdict) → P (refusalAt 1 0) → P v → P (if b then refusal 1 else v)
 unfolding refusal
@@ -187,13 +193,14 @@ clean-printed v h =
     (λ t. clean-space clean-end next clean-number (v .number) next space next clean-number (v .place) next feed)
 
 pub never-stuck : NeverStuckLaw
-unfolding readCall evaluateCall reportCall program bytes
+unfolding readCall evaluateCall profileCall profileOf reportCall program bytes
 never-stuck text w0 w1 w2 out =
     let short = shortWords w0 w1 w2 || shortOutput out in
     let reported = lent-by Listed short _ (listed 1 0 (omega arith)) (report-listed text (length out)) in
     record {
       read-number = lent-by Low short _ (low 1 0 (omega arith)) (on-text Low low text _ (λ s ts h. low-answer (typeLines ts)));
       evaluate-number = λ r o. lent-by Low short _ (low 1 0 (omega arith)) (on-text Low low text _ (λ s ts h. evaluate-low s h r o));
+      profile-number = lent-by Low short _ (low 1 0 (omega arith)) (on-text Low low text _ (λ s ts h. low-profile (firstOutside s) _ (low-answer (typeLines ts))));
       report-number = reported .number;
       report-bytes = λ a b. clean-free a b (reported .clean);
       program-bytes = λ a b. clean-free a b (clean-printed (reportOf text 65536) (report-listed text 65536));

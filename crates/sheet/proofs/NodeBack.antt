@@ -21,7 +21,7 @@ use Rattle.sheet.proofs.Spelling.{spelling-laws}
 
 -- ---- fields read back
 
-number-back : (n : ℕ) → aNumber (spellNumber n) ≡ some n
+pub number-back : (n : ℕ) → aNumber (spellNumber n) ≡ some n
 unfolding aNumber
 number-back n = spelling-laws .numbers .back n
 

@@ -101,7 +101,7 @@ pub node-fields : (n : ℕ) (x : Shape) → Fields (nodeFields n x)
 unfolding nodeFields bytes allOf
 node-fields n x = each-cons (high (bytes "N") tt) (each-cons (number-high n) (form-fields x))
 
-parted : (sep : ℕ) → sep ≤ 10 → {ps : List Bytes} → Fields ps → Parted sep ps
+pub parted : (sep : ℕ) → sep ≤ 10 → {ps : List Bytes} → Fields ps → Parted sep ps
 parted sep l each-nil = parted-nil
 parted sep l (each-cons p h) = parted-cons (apart-from sep l p) (parted sep l h)
 

@@ -52,12 +52,6 @@ pub on-refusal : {x : Step} (k : ℕ) (f : Sheet → Reading) {u : Sheet} → Re
 unfolding onStep
 on-refusal k f refuses e = not-accepted e
 
--- what was accepted has met the test
-pub through : (b : Bool) (n : ℕ) (x : Step) (k : ℕ) (f : Sheet → Reading) {u : Sheet} → onStep (must b n x) k f ≡ accepted u → T b × (onStep x k f ≡ accepted u)
-unfolding must onStep
-through true n x k f e = (tt, e)
-through false n x k f e = absurd (not-accepted e)
-
 -- ---- a sheet with an open body
 
 abbrev pub withOpen : Sheet → List ℕ → Current → Sheet

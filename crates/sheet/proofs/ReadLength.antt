@@ -73,17 +73,20 @@ definitions-short n s (d ∷ ds) v h = by (typeDefinition (schemaIn s) d .answer
     by (typed t) g = g
     by (refused m p) g = omega arith
 
-accepted-short : (text : Bytes) → length (onAccepted text (λ s ts. answer (typeLines ts)) .output) ≤ 896
-unfolding onAccepted onSheet answer refusalAt
-accepted-short text = by (readText text) refl
+-- and no more than these
+pub accepted-short : (text : Bytes) (f : Sheet → List Ty → Verdict) → ((s : Sheet) (ts : List Ty) → length (f s ts .output) ≤ length (typeLines ts))
+    → length (onAccepted text f .output) ≤ 896
+unfolding onAccepted onSheet refusalAt
+accepted-short text f w = by (readText text) refl
   where
-    by : (x : Reading) → readText text ≡ x → length (onSheet x (λ s. onDefinitions s (s .definitions) (onTypes s (s .rules) (λ ts. answer (typeLines ts)))) .output) ≤ 896
+    by : (x : Reading) → readText text ≡ x → length (onSheet x (λ s. onDefinitions s (s .definitions) (onTypes s (s .rules) (f s))) .output) ≤ 896
     by (accepted s) q =
         let g = accepted-good text s q in
-        definitions-short 896 s (s .definitions) _ (types-short 896 s (s .rules) (λ ts. answer (typeLines ts)) (λ ts a. let l = lines-short a (λ r x t e h. rule-fits s g r x t e h) in omega (arith, g .few)))
+        definitions-short 896 s (s .definitions) _ (types-short 896 s (s .rules) (f s) (λ ts a. let l = lines-short a (λ r x t e h. rule-fits s g r x t e h) in omega (arith, g .few, w s ts)))
     by (rejected n k) q = omega arith
 
 pub read-length : ReadLength
 unfolding readCall refusal refusalAt
 read-length text w0 w1 w2 out =
-    by-if (λ (v : Verdict). length (v .output) ≤ 896) (shortWords w0 w1 w2 || shortOutput out) (refusal 1) _ (λ t. omega arith) (λ t. accepted-short text)
+    by-if (λ (v : Verdict). length (v .output) ≤ 896) (shortWords w0 w1 w2 || shortOutput out) (refusal 1) _ (λ t. omega arith)
+    (λ t. accepted-short text (λ s ts. answer (typeLines ts)) (λ s ts. unfold answer in omega arith))

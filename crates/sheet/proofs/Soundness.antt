@@ -29,6 +29,7 @@ use Rattle.sheet.specs.Spelling.{readType, spellType}
 use Rattle.sheet.specs.Sheet.{Rule, Sheet, schemaIn, modelOf}
 use Rattle.sheet.specs.Reading.{accepted, readText}
 use Rattle.sheet.specs.Calls.{Verdict, answer, refusalAt, refusal, shortWords, shortOutput, typingOf, onAccepted, typeLines, readCall, onRule, onObject, marksOf, outcomeOf, ended, evaluateOn, evaluateCall}
+use Rattle.sheet.specs.Profile.{firstOutside, onProfile, profileOf, profileCall}
 use Rattle.sheet.specs.Soundness.{Lent, sheetFrom, sheetIn, ruleReach, reachOf, contextHas, ofContext, Ending, undefined-end, value-end, stop-end, Demand3}
 use Rattle.sheet.specs.Laws.{TypeRefusal, TypeRefusals, DefinitionRefusals, AllTyped, none-typed, one-typed, Defined}
 use Rattle.sheet.proofs.Spelling.{type-back}
@@ -94,6 +95,10 @@ module _ (text : Bytes) (w0 w1 w2 : List ℕ) (out : Bytes) (l : Lent w0 w1 w2 o
   pub read-lent : readCall text w0 w1 w2 out ≡ onAccepted text (λ s ts. answer (typeLines ts))
   unfolding readCall
   read-lent = rw (lent-words l, lent-output l)
+
+  pub profile-lent : profileCall text w0 w1 w2 out ≡ onAccepted text (λ s ts. onProfile (firstOutside s) (answer (typeLines ts)))
+  unfolding profileCall profileOf
+  profile-lent = rw (lent-words l, lent-output l)
 
   pub evaluate-lent : (r o : ℕ) → evaluateCall text r o w0 w1 w2 out ≡ onAccepted text (λ s ts. evaluateOn s r o)
   unfolding evaluateCall

@@ -123,7 +123,7 @@ pub lines-read : (text : Bytes) (s : Sheet) → readText text ≡ accepted s →
 unfolding readText
 lines-read text s e = by-if (λ r. r ≡ accepted s → readLines empty 0 (linesOf text) ≡ accepted s) (ltb 49152 (length text)) _ _ (λ t q. absurd (not-accepted q)) (λ t q. q) e
 
-text-read : (text : Bytes) (s : Sheet) → length text ≤ 49152 → readLines empty 0 (linesOf text) ≡ accepted s → readText text ≡ accepted s
+pub text-read : (text : Bytes) (s : Sheet) → length text ≤ 49152 → readLines empty 0 (linesOf text) ≡ accepted s → readText text ≡ accepted s
 unfolding readText
 text-read text s l e = by-if (λ r. r ≡ accepted s) (ltb 49152 (length text)) _ _ (λ t. absurd (let k = ltb→lt 49152 (length text) t in omega arith)) (λ t. e)
 

@@ -12,10 +12,13 @@ pub mod Reading
 pub mod Calls
 pub mod Report
 pub mod Rows
+pub mod Profile
 pub mod Examples
 pub mod RealExamples
 pub mod Soundness
 pub mod Unseen
 pub mod Laws
+pub mod ProfileLaws
 pub mod TextLaws
 pub mod TextExamples
+pub mod ProfileExamples

@@ -19,6 +19,7 @@ use Rattle.sheet.specs.Sheet.{Rule, Sheet, empty, modelOf}
 use Rattle.sheet.specs.Reading.{Reading, accepted, rejected, readText}
 use Rattle.sheet.specs.Calls.{Verdict, readCall, outcomeOf, evaluateCall}
 use Rattle.sheet.specs.Report.{reportCall, program}
+use Rattle.sheet.specs.Profile.{profileCall}
 
 -- every lent slice (document 01's word for the words and the output that a caller hands over) is at its minimum or above
 pub record Lent (w0 w1 w2 : List ℕ) (out : Bytes) : Type 0 where
@@ -83,6 +84,7 @@ Demand3 =
 pub record NeverStuck (text : Bytes) (w0 w1 w2 : List ℕ) (out : Bytes) : Type 0 where
   pub read-number : readCall text w0 w1 w2 out .number ≤ 24
   pub evaluate-number : (r o : ℕ) → evaluateCall text r o w0 w1 w2 out .number ≤ 24
+  pub profile-number : profileCall text w0 w1 w2 out .number ≤ 24
   pub report-number : reportCall text w0 w1 w2 out .number ≤ 24
   pub report-bytes : (a b : Bytes) → reportCall text w0 w1 w2 out .output ≢ a ++ (bytes "!100" ++ b)
   pub program-bytes : (a b : Bytes) → program text ≢ a ++ (bytes "!100" ++ b)

@@ -22,7 +22,7 @@ use types::parts::outer_code;
 use types::word::unpack;
 
 // The variable that word k of node n names.
-fn variable(nodes: &[u64], n: usize, k: usize) -> usize
+pub fn variable(nodes: &[u64], n: usize, k: usize) -> usize
     requires { ⌜ (n < 768) × (k < 8) × (6144 ≤ length (now nodes)) ⌝ }
     ensures { λ r. ⌜ (r < 16) × (r ≡ variableIn (word (now (nodes .entry)) n k)) ⌝ }
 {

@@ -37,6 +37,19 @@ extern "C" {
         output_length: usize,
     ) -> Answer;
 
+    fn ocl_read_free_numbering(
+        text: *const u8,
+        text_length: usize,
+        words0: *mut u64,
+        words0_length: usize,
+        words1: *mut u64,
+        words1_length: usize,
+        words2: *mut u64,
+        words2_length: usize,
+        output: *mut u8,
+        output_length: usize,
+    ) -> Answer;
+
     fn ocl_evaluate_rule(
         text: *const u8,
         text_length: usize,
@@ -107,6 +120,11 @@ macro_rules! call {
 /// Reads a sheet, types all its rules and writes the types, one a line.
 pub fn read_types(text: &[u8], words: Words, output: &mut [u8]) -> Answer {
     call!(ocl_read_sheet, text, [], words, output)
+}
+
+/// Reads and types likewise, and holds the sheet to the free-numbering profile.
+pub fn read_free_numbering(text: &[u8], words: Words, output: &mut [u8]) -> Answer {
+    call!(ocl_read_free_numbering, text, [], words, output)
 }
 
 /// Reads and types, evaluates a rule for an object and writes its value.

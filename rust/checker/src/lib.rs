@@ -1,6 +1,7 @@
 //! The rule checker of job sheets: reads a sheet, types its rules, evaluates
-//! them, writes the report, and tells which rows a rule sees. What the functions answer is proved; this crate
-//! only lends them memory and turns their answers into [`Result`]s.
+//! them, writes the report, tells which rows a rule sees, and holds a sheet to the
+//! free-numbering profile. What the functions answer is proved; this crate only lends
+//! them memory and turns their answers into [`Result`]s.
 //!
 //! Numbers that are not whole are binary64. Floating point has to be in the state in
 //! which a program starts: it rounds to nearest and keeps subnormal numbers.
@@ -110,6 +111,37 @@ pub fn read_types<'o>(
     output: &'o mut [u8],
 ) -> Result<Lines<'o>, Refused> {
     let answer = calls::read_types(text, memory.lend(), output);
+    checked(answer).map(|answer| written(output, answer).lines())
+}
+
+/// Does what [`read_types`] does, and holds the sheet to the free-numbering profile: no
+/// rule, and no definition that a rule reaches, may have an `iter`, an `asSequence`, or a
+/// `union`, `including` or `collect` on a type `Q(..)`, run or not. What such rules
+/// answer does not follow from how the objects are numbered.
+///
+/// # Errors
+///
+/// What [`read_types`] refuses; then [`Refusal::OutsideProfile`], at the lowest line of
+/// such a node.
+///
+/// ```
+/// use ocl_checker::{read_free_numbering, Memory, Refusal, LEAST_OUTPUT};
+///
+/// let mut memory = Box::new(Memory::new());
+/// let mut output = [0; LEAST_OUTPUT];
+/// let sheet = b"C\t0\t-\nR\t0\t0\nX\t#0.allInstances()->size()\n";
+/// let types = read_free_numbering(sheet, &mut memory, &mut output).unwrap();
+/// assert_eq!(types.collect::<Vec<_>>(), ["Int"]);
+/// let sheet = b"C\t0\t-\nR\t0\t0\nX\t#0.allInstances()->asSequence()\n";
+/// let refused = read_free_numbering(sheet, &mut memory, &mut output).unwrap_err();
+/// assert_eq!((refused.refusal(), refused.place), (Some(Refusal::OutsideProfile), 3));
+/// ```
+pub fn read_free_numbering<'o>(
+    text: &[u8],
+    memory: &mut Memory,
+    output: &'o mut [u8],
+) -> Result<Lines<'o>, Refused> {
+    let answer = calls::read_free_numbering(text, memory.lend(), output);
     checked(answer).map(|answer| written(output, answer).lines())
 }
 

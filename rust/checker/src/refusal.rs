@@ -48,15 +48,17 @@ pub enum Refusal {
     OverRange,
     /// The text of a rule is no sentence.
     NotASentence,
+    /// A rule is outside the free-numbering profile.
+    OutsideProfile = 22,
     /// A definition calls itself or a larger one.
-    CallUpward = 23,
+    CallUpward,
     /// A rule calls a definition that the sheet does not have.
     UnknownDefinition,
 }
 
 impl Refusal {
     /// All of them, in the order of their numbers.
-    pub const ALL: [Refusal; 22] = [
+    pub const ALL: [Refusal; 23] = [
         Refusal::ShortSlice,
         Refusal::SheetTooLong,
         Refusal::BadLine,
@@ -77,11 +79,12 @@ impl Refusal {
         Refusal::ReportTooLong,
         Refusal::OverRange,
         Refusal::NotASentence,
+        Refusal::OutsideProfile,
         Refusal::CallUpward,
         Refusal::UnknownDefinition,
     ];
 
-    /// The refusal of a number from 1 to 20, of 23 or of 24.
+    /// The refusal of a number from 1 to 20, or from 22 to 24.
     pub fn of(number: u64) -> Option<Refusal> {
         Refusal::ALL
             .into_iter()
@@ -116,6 +119,7 @@ impl Refusal {
             Refusal::ReportTooLong => "slip too long",
             Refusal::OverRange => "over the range",
             Refusal::NotASentence => "not a sentence",
+            Refusal::OutsideProfile => "outside the profile",
             Refusal::CallUpward => "call upward",
             Refusal::UnknownDefinition => "unknown definition",
         }
@@ -148,6 +152,7 @@ impl Refusal {
                 "a result of Integers leaves their range, or one of Reals is infinite"
             }
             Refusal::NotASentence => "the text of the rule is no sentence",
+            Refusal::OutsideProfile => "what the rule says may follow the objects' numbers",
             Refusal::CallUpward => "the definition calls itself or a larger one",
             Refusal::UnknownDefinition => "the sheet has no such definition",
         }
@@ -157,7 +162,7 @@ impl Refusal {
 /// A call's refusal, or a stop of its evaluation.
 #[derive(Clone, Copy, PartialEq, Eq, Debug)]
 pub struct Refused {
-    /// The refusal's number. The calls give no other than 1 to 20, 23 and 24.
+    /// The refusal's number. The calls give no other than 1 to 20 and 22 to 24.
     pub number: u64,
     /// The steps begun where an evaluation was stopped, else 0.
     pub steps: u64,

@@ -1,8 +1,9 @@
 //! `compare FIRST COUNT`: compares the linked calls, and the programs that
 //! CHECKER_PROGRAM and ROWS_PROGRAM name, with the second evaluator over the vectors
-//! and the sheets of COUNT seeds from FIRST on, on all processors; and a rule of each
-//! with itself, on two sheets that differ in what it does not see. `--stand-in`
-//! compares the second evaluator with itself in place of the linked calls.
+//! and the sheets of COUNT seeds from FIRST on, on all processors; a rule of each with
+//! itself, on two sheets that differ in what it does not see; and those in the profile
+//! on the sheet with its objects numbered anew. `--stand-in` compares the second
+//! evaluator with itself in place of the linked calls.
 
 use second_evaluator::generate::{asks, sheet, vector_asks, Ask};
 use second_evaluator::harness::faults::Fault;
@@ -87,6 +88,7 @@ impl Comparison {
         if let Some(calls) = &self.calls {
             run::sheet(&**calls, &case.text, case.seed, &case.asks, tally)?;
             run::paired(&**calls, &case.text, case.seed, tally)?;
+            run::renumbered(&**calls, &case.text, case.seed, tally)?;
         }
         let mut programs = self.programs.iter();
         programs.try_for_each(|program| {
@@ -132,10 +134,11 @@ fn print_difference(case: &Case, difference: &Difference) {
         Differs::Call(ask) => println!("{name} differs in {ask:?}, garbage of seed {seed}:"),
         Differs::Program => println!("{name} differs in what a program prints:"),
         Differs::Rule { .. } => println!("{name} and a sheet like it to a rule differ:"),
+        Differs::Numbering { .. } => println!("{name} and the same with other numbers differ:"),
     }
     println!("{}", difference.how);
     write_sheet(DIFFERENCE, &difference.text);
-    if let Differs::Rule { other } = &difference.differs {
+    if let Differs::Rule { other } | Differs::Numbering { other } = &difference.differs {
         write_sheet(OTHER, other);
     }
 }
@@ -184,10 +187,8 @@ fn main() -> ExitCode {
         eprintln!("The calls are not linked and no program is named: nothing to compare.");
         return ExitCode::from(2);
     }
-    let mut vectors = run::vectors().expect("the vectors can be read");
-    vectors.extend(run::row_vectors().expect("the vectors can be read"));
     let cases = Cases {
-        vectors,
+        vectors: run::all_vectors().expect("the vectors can be read"),
         long: long_texts(),
         seeds,
     };

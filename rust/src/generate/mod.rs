@@ -9,8 +9,10 @@ pub mod forms;
 pub mod full;
 pub mod large;
 pub mod limits;
+pub mod numberings;
 pub mod operands;
 pub mod pairs;
+pub mod profile;
 pub mod random;
 pub mod reals;
 pub mod rows;
@@ -26,13 +28,12 @@ use crate::calls::{program, rows_program, LEAST_OUTPUT, LEAST_WORDS, PROGRAM_OUT
 use crate::read::read;
 use definitions::defined;
 use random::Random;
-use std::iter;
 use trees::grown;
 
 /// A sheet for a seed: most type, some are damaged, some stand at a limit.
 pub fn sheet(seed: u64) -> Vec<u8> {
     let mut random = Random::new(seed);
-    match random.below(40) {
+    match random.below(43) {
         0..=7 => grown(&mut random),
         8 => with_definitions(&mut random),
         9 => large::large(&mut random),
@@ -55,6 +56,7 @@ pub fn sheet(seed: u64) -> Vec<u8> {
         }
         29..=37 => sentences::about(&mut random).into_bytes(),
         38 | 39 => rows::about(&mut random).into_bytes(),
+        40..=42 => profile::about(&mut random).into_bytes(),
         _ => {
             let kind = random.below(limits::KINDS);
             let text = limits::limit(&mut random, kind);
@@ -69,7 +71,7 @@ pub fn sheet(seed: u64) -> Vec<u8> {
 
 /// Another sheet with its rules in text.
 fn told(random: &mut Random) -> Vec<u8> {
-    let text = match random.below(7) {
+    let text = match random.below(8) {
         0 => large::large(random),
         1 => {
             let kind = *random.pick(&limits::OF_RULES);
@@ -77,6 +79,7 @@ fn told(random: &mut Random) -> Vec<u8> {
         }
         2 => with_definitions(random),
         3 => rows::about(random).into_bytes(),
+        4 => profile::about(random).into_bytes(),
         _ => grown(random),
     };
     texts::retold(random, &text).unwrap_or(text)
@@ -105,6 +108,7 @@ pub enum Call {
     Evaluate { rule: u64, object: u64 },
     Report,
     Rows,
+    FreeNumbering,
 }
 
 /// A call and the lengths of what is lent to it.
@@ -122,7 +126,14 @@ pub fn asks(seed: u64, text: &[u8]) -> Vec<Ask> {
         Ok(sheet) => (sheet.rules.len(), sheet.model.objects.len()),
         Err(_) => (1, 1),
     };
-    let mut calls = vec![Call::Read, Call::Read, Call::Report, Call::Rows];
+    let mut calls = vec![
+        Call::Read,
+        Call::Read,
+        Call::FreeNumbering,
+        Call::FreeNumbering,
+        Call::Report,
+        Call::Rows,
+    ];
     for _ in 0..5 {
         let rule = number(&mut random, rules);
         let object = number(&mut random, objects);
@@ -145,8 +156,8 @@ pub fn asks(seed: u64, text: &[u8]) -> Vec<Ask> {
     asks
 }
 
-/// What is asked about a vector: as well, its types with the least that can be
-/// lent and, within reason, each rule's value for each object.
+/// What is asked about a vector: as well, its types and the profile with the least that
+/// can be lent and, within reason, each rule's value for each object.
 pub fn vector_asks(seed: u64, text: &[u8]) -> Vec<Ask> {
     const MOST_PAIRS: usize = 64;
     let mut asks = asks(seed, text);
@@ -157,7 +168,8 @@ pub fn vector_asks(seed: u64, text: &[u8]) -> Vec<Ask> {
     let objects = sheet.model.objects.len() as u64;
     let pairs = rules.flat_map(|rule| (0..objects).map(move |object| (rule, object)));
     let values = (pairs.take(MOST_PAIRS)).map(|(rule, object)| Call::Evaluate { rule, object });
-    asks.extend(iter::once(Call::Read).chain(values).map(|call| Ask {
+    let calls = [Call::Read, Call::FreeNumbering].into_iter().chain(values);
+    asks.extend(calls.map(|call| Ask {
         call,
         words: [LEAST_WORDS; 3],
         out: LEAST_OUTPUT,

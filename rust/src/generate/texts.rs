@@ -88,11 +88,13 @@ fn without_minus(node: &mut Node) {
             form: Form::Int(number),
             operands: Vec::new(),
             line,
+            ty: None,
         };
         let minus = |left, right| Node {
             form: Form::Minus(None),
             operands: vec![left, right],
             line,
+            ty: None,
         };
         // The least Integer has no opposite one.
         *node = match number.checked_neg() {

@@ -23,6 +23,7 @@ impl Calls for Linked {
             }
             Call::Report => product::report(text, words, out),
             Call::Rows => product::rows(text, words, out),
+            Call::FreeNumbering => product::read_free_numbering(text, words, out),
         };
         Answer {
             number: answer.number,

@@ -9,15 +9,18 @@ pub mod faults;
 pub mod linked;
 pub mod misreadings;
 mod named;
+pub mod numberings;
 pub mod numbers;
 pub mod operations;
 pub mod oversights;
 pub mod pairs;
+pub mod profiles;
 pub mod program;
 pub mod reals;
 pub mod run;
 pub mod runs;
 pub mod shrink;
+pub mod slack;
 pub mod slips;
 pub mod standin;
 pub mod tally;
@@ -43,6 +46,7 @@ pub fn second(call: Call, text: &[u8], words: Words, out: &mut [u8]) -> Answer {
         Call::Evaluate { rule, object } => calls::evaluate_rule(text, rule, object, words, out),
         Call::Report => calls::report(text, words, out),
         Call::Rows => calls::rows(text, words, out),
+        Call::FreeNumbering => calls::read_free_numbering(text, words, out),
     }
 }
 

@@ -2,16 +2,19 @@
 
 use super::cases::Cases;
 use super::compare::compare;
+use super::numberings::{self, Asked, NumberingCase};
 use super::pairs;
+use super::profiles;
 use super::program::{self, Program};
 use super::shrink::shrink;
 use super::tally::Tally;
 use super::texts::Texts;
 use super::Calls;
 use crate::calls::accepted;
+use crate::generate::numberings::{numbering, Numbering};
 use crate::generate::pairs::{pair, Pair};
 use crate::generate::random::Random;
-use crate::generate::Ask;
+use crate::generate::{Ask, Call};
 use std::fs;
 use std::io;
 use std::path::Path;
@@ -23,12 +26,13 @@ pub struct Difference {
     pub how: String,
 }
 
-/// What differs: a call or a program from the second evaluator's, or a rule's answers
-/// on a sheet from those on another one.
+/// What differs: a call or a program from the second evaluator's, a rule's answers on a
+/// sheet from those on another one, or answers from those with other numbers.
 pub enum Differs {
     Call(Ask),
     Program,
     Rule { other: Vec<u8> },
+    Numbering { other: Vec<u8> },
 }
 
 /// What is asked about one sheet. The garbage, another one for each call, follows
@@ -49,6 +53,9 @@ pub fn sheet(
         tally.add(ask.call, compared.answer);
         for case in cases.met(ask.call, compared.answer) {
             tally.add_case(case);
+        }
+        for case in profiles::met(text, ask.call, compared.answer) {
+            tally.add_profile(case);
         }
         for case in texts
             .iter()
@@ -124,6 +131,83 @@ fn shortened(calls: &dyn Calls, mut pair: Pair, object: u64, seed: u64) -> Diffe
     }
 }
 
+/// The rules in the profile, and the objects, that are tried with other numbers.
+const MOST_RULES: usize = 3;
+const MOST_OBJECTS: usize = 8;
+
+/// A sheet's types, and the answers of some rules in the profile for some objects and
+/// for one that is not there, and the same with the objects numbered anew. The
+/// numbers follow from the seed.
+pub fn renumbered(
+    calls: &dyn Calls,
+    text: &[u8],
+    seed: u64,
+    tally: &mut Tally,
+) -> Result<(), Difference> {
+    let mut random = Random::new(seed.rotate_left(32));
+    let Some(numbering) = numbering(&mut random, text) else {
+        return Ok(());
+    };
+    let objects = accepted(text).map_or(0, |(sheet, _)| sheet.model.objects.len());
+    let mut rules = numberings::rules(text);
+    random.shuffle(&mut rules);
+    rules.truncate(MOST_RULES);
+    let types = [Call::Read, Call::FreeNumbering].map(Asked::Types);
+    let mut asked = types.to_vec();
+    for rule in rules {
+        let mut some: Vec<u64> = (0..objects as u64).collect();
+        random.shuffle(&mut some);
+        some.truncate(MOST_OBJECTS);
+        some.push(objects as u64);
+        asked.extend(some.into_iter().map(|object| Asked::Value { rule, object }));
+    }
+    for asked in asked {
+        let seed = random.word();
+        let Some(compared) = numberings::compared(calls, &numbering, asked, seed) else {
+            continue;
+        };
+        if compared.difference.is_some() {
+            return Err(numbered_short(calls, numbering, asked, seed));
+        }
+        for case in numberings::met(&compared) {
+            tally.add_numbering(case);
+        }
+    }
+    if numberings::is_told_apart(&numbering) {
+        tally.add_numbering(NumberingCase::Outside);
+    }
+    Ok(())
+}
+
+/// The difference with other numbers, the sheet shortened; a rule stays in the profile.
+fn numbered_short(
+    calls: &dyn Calls,
+    mut numbering: Numbering,
+    asked: Asked,
+    seed: u64,
+) -> Difference {
+    let text = numbering.text.clone();
+    let text = shrink(&text, |text| {
+        numbering.text = text.to_vec();
+        let is_meant = match asked {
+            Asked::Types(_) => true,
+            Asked::Value { rule, .. } => numberings::rules(text).contains(&rule),
+        };
+        let compared = numberings::compared(calls, &numbering, asked, seed);
+        is_meant && compared.is_some_and(|compared| compared.difference.is_some())
+    });
+    numbering.text = text;
+    let compared = numberings::compared(calls, &numbering, asked, seed);
+    let other = numbering.other().map_or(Vec::new(), |(other, _)| other);
+    Difference {
+        how: compared
+            .and_then(|compared| compared.difference)
+            .unwrap_or_default(),
+        differs: Differs::Numbering { other },
+        text: numbering.text,
+    }
+}
+
 /// What a program of the product's prints for one sheet.
 pub fn program_sheet(product: &Program, text: &[u8]) -> io::Result<Result<(), Difference>> {
     let Program { path, printed } = product;
@@ -157,6 +241,19 @@ pub fn vectors() -> io::Result<Vec<Vector>> {
 /// Those with the rows that their rules see.
 pub fn row_vectors() -> io::Result<Vec<Vector>> {
     vectors_of("row_vectors", "sheet")
+}
+
+/// Those that are held to the profile.
+pub fn profile_vectors() -> io::Result<Vec<Vector>> {
+    vectors_of("profile_vectors", "sheet")
+}
+
+/// All sheets among the vectors.
+pub fn all_vectors() -> io::Result<Vec<Vector>> {
+    let mut all = vectors()?;
+    all.extend(row_vectors()?);
+    all.extend(profile_vectors()?);
+    Ok(all)
 }
 
 /// The vectors of a crate in the order of their names.

@@ -1,42 +1,48 @@
 //! Which answers each call was compared in, and which cases.
 
 use super::cases::Case;
+use super::numberings::NumberingCase;
 use super::pairs::PairCase;
+use super::profiles::ProfileCase;
 use super::text_cases::TextCase;
 use crate::calls::Answer;
 use crate::generate::Call;
 use std::fmt;
 
-const NAMES: [&str; 4] = ["read", "evaluate", "report", "rows"];
-/// The numbers from 0 on; 21 and 22 are given to no call yet.
+const NAMES: [&str; 5] = ["read", "evaluate", "report", "rows", "profile"];
+/// The numbers from 0 on; 21 is given to no call yet.
 pub const NUMBERS: usize = 25;
 
-/// Answers by call and number, and cases in the order of `Case::ALL`, `TextCase::ALL`
-/// and `PairCase::ALL`.
+/// Answers by call and number, and cases in the order of each kind's `ALL`.
 pub struct Tally {
-    answers: [[u64; NUMBERS]; 4],
+    answers: [[u64; NUMBERS]; NAMES.len()],
     cases: [u64; Case::ALL.len()],
     texts: [u64; TextCase::ALL.len()],
     pairs: [u64; PairCase::ALL.len()],
+    profiles: [u64; ProfileCase::ALL.len()],
+    numberings: [u64; NumberingCase::ALL.len()],
 }
 
 impl Default for Tally {
     fn default() -> Tally {
         Tally {
-            answers: [[0; NUMBERS]; 4],
+            answers: [[0; NUMBERS]; NAMES.len()],
             cases: [0; Case::ALL.len()],
             texts: [0; TextCase::ALL.len()],
             pairs: [0; PairCase::ALL.len()],
+            profiles: [0; ProfileCase::ALL.len()],
+            numberings: [0; NumberingCase::ALL.len()],
         }
     }
 }
 
 /// The calls in the order of `NAMES`, whatever their numbers.
-const CALLS: [Call; 4] = [
+const CALLS: [Call; NAMES.len()] = [
     Call::Read,
     Call::Evaluate { rule: 0, object: 0 },
     Call::Report,
     Call::Rows,
+    Call::FreeNumbering,
 ];
 
 fn position(call: Call) -> usize {
@@ -45,6 +51,7 @@ fn position(call: Call) -> usize {
         Call::Evaluate { .. } => 1,
         Call::Report => 2,
         Call::Rows => 3,
+        Call::FreeNumbering => 4,
     }
 }
 
@@ -54,6 +61,7 @@ fn relevant(call: Call, number: usize) -> bool {
         Call::Read => matches!(number, 0..=13 | 20 | 23 | 24),
         Call::Evaluate { .. } => matches!(number, 0..=17 | 19 | 20 | 23 | 24),
         Call::Report | Call::Rows => matches!(number, 0..=13 | 18 | 20 | 23 | 24),
+        Call::FreeNumbering => matches!(number, 0..=13 | 20 | 22 | 23 | 24),
     }
 }
 
@@ -74,21 +82,36 @@ impl Tally {
         self.pairs[case as usize] += 1;
     }
 
+    pub fn add_profile(&mut self, case: ProfileCase) {
+        self.profiles[case as usize] += 1;
+    }
+
+    pub fn add_numbering(&mut self, case: NumberingCase) {
+        self.numberings[case as usize] += 1;
+    }
+
     /// The names of all cases, with how often each was met.
     fn cases(&self) -> impl Iterator<Item = (&'static str, u64)> + '_ {
         let cases = Case::ALL.iter().map(|case| case.name());
         let texts = TextCase::ALL.iter().map(|case| case.name());
         let pairs = PairCase::ALL.iter().map(|case| case.name());
+        let profiles = ProfileCase::ALL.iter().map(|case| case.name());
+        let numberings = NumberingCase::ALL.iter().map(|case| case.name());
         let counts = cases.zip(self.cases).chain(texts.zip(self.texts));
-        counts.chain(pairs.zip(self.pairs))
+        let counts = counts.chain(pairs.zip(self.pairs));
+        let counts = counts.chain(profiles.zip(self.profiles));
+        counts.chain(numberings.zip(self.numberings))
     }
 
     /// Adds what another one has counted.
     pub fn join(&mut self, other: Tally) {
         let counts = self.answers.iter_mut().flatten().chain(&mut self.cases);
         let counts = counts.chain(&mut self.texts).chain(&mut self.pairs);
+        let counts = counts.chain(&mut self.profiles);
+        let counts = counts.chain(&mut self.numberings);
         let more = other.answers.into_iter().flatten().chain(other.cases);
         let more = more.chain(other.texts).chain(other.pairs);
+        let more = more.chain(other.profiles).chain(other.numberings);
         for (count, more) in counts.zip(more) {
             *count += more;
         }

@@ -156,6 +156,7 @@ impl Reader {
             form,
             operands,
             line: place,
+            ty: None,
         }));
         tree.last_line = place;
         self.nodes += 1;

@@ -40,6 +40,7 @@ impl Reader {
                 form: shape.form,
                 operands,
                 line: place,
+                ty: None,
             }));
         }
         tree.is_text = true;

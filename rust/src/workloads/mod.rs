@@ -115,6 +115,18 @@ pub fn workloads() -> Vec<Workload> {
         workload("typing", Unit::Node, Call::Read, one(types(10), types(96))),
         workload("rows", Unit::Line, Call::Rows, one(rows(6), rows(60))),
         workload(
+            "the profile, quantifiers",
+            Unit::Byte,
+            Call::FreeNumbering,
+            one(texts::quantified(24), texts::quantified(128)),
+        ),
+        workload(
+            "the profile, attributes",
+            Unit::Node,
+            Call::FreeNumbering,
+            one(types(10), types(96)),
+        ),
+        workload(
             "a day of 400 cap sheets",
             Unit::Line,
             Call::Report,

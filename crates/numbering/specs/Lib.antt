@@ -1,0 +1,4 @@
+pub mod Lowest
+pub mod Forms
+pub mod Walk
+pub mod Sheets

@@ -1,0 +1,4 @@
+pub mod Renumbering
+pub mod RenumberedLines
+pub mod FreeNumbering
+pub mod RenumberedExample
