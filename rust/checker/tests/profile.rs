@@ -1,8 +1,7 @@
 //! Sheets held to the free-numbering profile, and other numbers for their objects.
 
-use ocl_checker::calls::{self, Answer};
 use ocl_checker::{evaluate_rule, read_free_numbering, read_types};
-use ocl_checker::{Memory, Refusal, Refused, LEAST_OUTPUT, LEAST_WORDS};
+use ocl_checker::{Memory, Refusal, Refused, LEAST_OUTPUT};
 
 fn sheet(lines: &str) -> Vec<u8> {
     let lines = lines.split('|').map(|line| line.replace(' ', "\t") + "\n");
@@ -101,21 +100,5 @@ fn values_follow_other_numbers() {
     ] {
         assert_eq!(value(&first, object), old);
         assert_eq!(value(&second, image), new);
-    }
-}
-
-#[test]
-fn short_slices_are_left_alone() {
-    for slice in 0..3 {
-        let mut lengths = [LEAST_WORDS; 3];
-        lengths[slice] -= 1;
-        let mut slices = lengths.map(|length| vec![7; length]);
-        let mut output = [b'~'; LEAST_OUTPUT];
-        let words = slices.each_mut().map(Vec::as_mut_slice);
-        let answer = calls::read_free_numbering(b"", words, &mut output);
-        let Answer { number, length, .. } = answer;
-        assert_eq!((number, length), (1, 0));
-        assert!(slices.iter().flatten().all(|word| *word == 7));
-        assert!(output.iter().all(|byte| *byte == b'~'));
     }
 }

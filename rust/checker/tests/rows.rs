@@ -132,15 +132,17 @@ fn lines_may_be_too_long() {
 
 #[test]
 fn short_slices_are_left_alone() {
-    for slice in 0..3 {
-        let mut lengths = [LEAST_WORDS; 3];
-        lengths[slice] -= 1;
-        let mut slices = lengths.map(|length| vec![7; length]);
-        let mut output = [b'~'; LEAST_OUTPUT];
-        let words = slices.each_mut().map(Vec::as_mut_slice);
-        let Answer { number, length, .. } = calls::rows(b"", words, &mut output);
-        assert_eq!((number, length), (1, 0));
-        assert!(slices.iter().flatten().all(|word| *word == 7));
-        assert!(output.iter().all(|byte| *byte == b'~'));
+    for call in [calls::rows, calls::read_free_numbering] {
+        for slice in 0..3 {
+            let mut lengths = [LEAST_WORDS; 3];
+            lengths[slice] -= 1;
+            let mut slices = lengths.map(|length| vec![7; length]);
+            let mut output = [b'~'; LEAST_OUTPUT];
+            let words = slices.each_mut().map(Vec::as_mut_slice);
+            let Answer { number, length, .. } = call(b"", words, &mut output);
+            assert_eq!((number, length), (1, 0));
+            assert!(slices.iter().flatten().all(|word| *word == 7));
+            assert!(output.iter().all(|byte| *byte == b'~'));
+        }
     }
 }
