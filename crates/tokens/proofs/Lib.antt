@@ -5,3 +5,4 @@ pub mod TokenLaws
 pub mod LabelLaws
 pub mod BracketLaws
 pub mod ByteLaws
+pub mod ScanLaws

@@ -4,7 +4,7 @@ use Prim.Native.Nat.{_-_}
 use native.Mathlib.Omega.{arith}
 use lib.ListN.{length}
 use borrow.Author.Needs.{needs}
-use Rattle.tokens.proofs.ByteLaws.{BytesLeft, bytes-begin, bytes-over, bytes-next, bytes-end}
+use Rattle.tokens.proofs.ScanLaws.{BytesLeft, bytes-begin, bytes-over, bytes-next, bytes-end}
 use Rattle.tokens.proofs.few_by_bytes.Statement.{statement}
 use Rattle.tokens.proofs.few_by_bytes.Tie as tie
 

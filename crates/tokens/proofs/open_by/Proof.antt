@@ -1,6 +1,6 @@
 -- `open_by` meets its contract.
 use borrow.Author.Needs.{needs}
-use Rattle.tokens.proofs.ByteLaws.{opening, closing-none, closing, of-if, of-f, of-other}
+use Rattle.tokens.proofs.ScanLaws.{opening, closing-none, closing, of-if, of-f, of-other}
 use Rattle.tokens.proofs.open_by.Statement.{statement}
 use Rattle.tokens.proofs.open_by.Tie as tie
 
