@@ -1,8 +1,8 @@
--- `operations::answers::pack` meets its contract. Assumes nothing.
+-- `evaluation::answers::pack` meets its contract. Assumes nothing.
 use borrow.Author.Needs.{needs}
-use Rattle.operations.proofs.Packing.{packs-value, packs-undefined, packs-stuck, packs-stop}
-use Rattle.operations.proofs.answers.pack.Statement.{statement}
-use Rattle.operations.proofs.answers.pack.Tie as tie
+use Rattle.evaluation.proofs.Packing.{packs-value, packs-undefined, packs-stuck, packs-stop}
+use Rattle.evaluation.proofs.answers.pack.Statement.{statement}
+use Rattle.evaluation.proofs.answers.pack.Tie as tie
 
 enum-known-e : tie.Need-enum-known-e
 enum-known-e c = search needs
@@ -29,7 +29,7 @@ returns : tie.Need-returns
 returns c = rw (c .before .before .e .given .1) (packs-value _ _ (c .word-of .ensures))
 
 returns-2 : tie.Need-returns-2
-returns-2 c = rw (c .before .before .e2 .given .1) (packs-undefined _ (c .word-of2 .ensures))
+returns-2 c = rw (c .before .before .e2 .given .1) (packs-undefined _ _ (c .word-of2 .ensures))
 
 returns-3 : tie.Need-returns-3
 returns-3 c = packs-stuck (search needs)

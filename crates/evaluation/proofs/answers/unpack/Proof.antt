@@ -1,8 +1,8 @@
--- `operations::answers::unpack` meets its contract. Assumes nothing.
+-- `evaluation::answers::unpack` meets its contract. Assumes nothing.
 use borrow.Author.Needs.{needs}
-use Rattle.operations.proofs.Packing.{in-value, in-undefined, in-stuck, in-stop}
-use Rattle.operations.proofs.answers.unpack.Statement.{statement}
-use Rattle.operations.proofs.answers.unpack.Tie as tie
+use Rattle.evaluation.proofs.Packing.{in-value, in-undefined, in-stuck, in-stop}
+use Rattle.evaluation.proofs.answers.unpack.Statement.{statement}
+use Rattle.evaluation.proofs.answers.unpack.Tie as tie
 
 wide-requires : tie.Need-wide-requires
 wide-requires c κs = search needs
