@@ -14,8 +14,8 @@ use Rattle.reader.specs.declared.SheetRead.{SheetRead}
 use Rattle.reader.specs.declared.SheetRead.the-variants as code
 use Rattle.reader.specs.Contracts.{EndsAs}
 use Rattle.rules.specs.Accepted.{InWords, Accepted, TypesIn}
-use Rattle.checker.specs.declared.Answer.{Answer}
-use Rattle.checker.specs.Answers.{answerOf}
+use Rattle.opening.specs.declared.Answer.{Answer}
+use Rattle.opening.specs.Answers.{answerOf}
 
 -- a text of any length: its sheet lies in the words, or it is refused
 pub record ReadsText (text : Bytes) (r : SheetRead) (w0 w1 w2 v0 v1 v2 : List ℕ) : Type 0 where

@@ -5,7 +5,7 @@ use Prim.Native.Nat.{ℕ}
 use lib.ListN.{length}
 use Rattle.sheet.specs.Text.{Bytes}
 use Rattle.sheet.specs.Calls.{Verdict, wordsAfter, outputAfter}
-use Rattle.checker.specs.declared.Answer.{Answer}
+use Rattle.opening.specs.declared.Answer.{Answer}
 
 -- number, steps and place as the definition gives them; the length is that of what is written
 abbrev pub answerOf : Verdict → Answer

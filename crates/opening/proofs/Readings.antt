@@ -31,10 +31,10 @@ use Rattle.rules.specs.declared.all.RulesTyped.{RulesTyped}
 use Rattle.rules.specs.declared.all.RulesTyped.the-variants as rules
 use Rattle.rules.specs.Accepted.{Known, KnownTyped}
 use Rattle.rules.specs.All.{AcceptsAs, refused as not-all, accepted as all-rules, Accepts}
-use Rattle.checker.specs.declared.Answer.{Answer}
-use Rattle.checker.specs.Answers.{answerOf}
-use Rattle.checker.specs.Parts.{ReadsText, OpensAs, opened, refused, AcceptsSheet, OpensText, GivesAnswer, GivesFor, Leaves}
-use Rattle.checker.proofs.Answers.{gives-refusal}
+use Rattle.opening.specs.declared.Answer.{Answer}
+use Rattle.opening.specs.Answers.{answerOf}
+use Rattle.opening.specs.Parts.{ReadsText, OpensAs, opened, refused, AcceptsSheet, OpensText, GivesAnswer, GivesFor, Leaves}
+use Rattle.opening.proofs.Answers.{gives-refusal}
 
 -- ---- the text's length
 

@@ -1,7 +1,7 @@
 -- `short` meets its contract.
-use Rattle.checker.proofs.Answers.{short0, short1, short2}
-use Rattle.checker.proofs.short.Statement.{statement}
-use Rattle.checker.proofs.short.Tie as tie
+use Rattle.opening.proofs.Answers.{short0, short1, short2}
+use Rattle.opening.proofs.short.Statement.{statement}
+use Rattle.opening.proofs.short.Tie as tie
 
 returns : tie.Need-returns
 returns c = short0 _ _ _ (c .if1 .taken)

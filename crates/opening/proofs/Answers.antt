@@ -15,10 +15,10 @@ use Rattle.sheet.specs.Calls.{Verdict, refusalAt, refusal, wiped, wordsAfter, o
 use Rattle.sheet.specs.Soundness.{Lent}
 use Rattle.tables.specs.Layout.{Kept}
 use Rattle.text.specs.Written.{Puts}
-use Rattle.checker.specs.declared.Answer.{Answer}
+use Rattle.opening.specs.declared.Answer.{Answer}
 use Rattle.reader.specs.declared.SheetRead.{SheetRead}
-use Rattle.checker.specs.Answers.{answerOf, AnswersWith}
-use Rattle.checker.specs.Parts.{OpensText, GivesAnswer, Leaves, Wipes, writtenTo}
+use Rattle.opening.specs.Answers.{answerOf, AnswersWith}
+use Rattle.opening.specs.Parts.{OpensText, GivesAnswer, Leaves, Wipes, writtenTo}
 
 -- ---- lengths
 

@@ -2,8 +2,8 @@
 use borrow.Author.Needs.{needs}
 use mathlib.Core.Path.{sym, _∙_}
 use Rattle.sheet.specs.Calls.{shortOutput}
-use Rattle.checker.proofs.short_lent.Statement.{statement}
-use Rattle.checker.proofs.short_lent.Tie as tie
+use Rattle.opening.proofs.short_lent.Statement.{statement}
+use Rattle.opening.proofs.short_lent.Tie as tie
 
 short-requires : tie.Need-short-requires
 short-requires c κs = search needs

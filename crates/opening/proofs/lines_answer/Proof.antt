@@ -1,8 +1,8 @@
 -- `lines_answer` meets its contract. Assumes nothing.
 use borrow.Author.Needs.{needs}
-use Rattle.checker.proofs.ReportCalls.{lines-written, lines-short}
-use Rattle.checker.proofs.lines_answer.Statement.{statement}
-use Rattle.checker.proofs.lines_answer.Tie as tie
+use Rattle.opening.proofs.Lines.{lines-written, lines-short}
+use Rattle.opening.proofs.lines_answer.Statement.{statement}
+use Rattle.opening.proofs.lines_answer.Tie as tie
 
 enum-known-r : tie.Need-enum-known-r
 enum-known-r c = search needs

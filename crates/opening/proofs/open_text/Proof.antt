@@ -1,8 +1,8 @@
 -- `open_text` meets its contract. Assumes nothing.
 use borrow.Author.Needs.{needs}
-use Rattle.checker.proofs.Readings.{known-read, opens-sheet, opens-none}
-use Rattle.checker.proofs.open_text.Statement.{statement}
-use Rattle.checker.proofs.open_text.Tie as tie
+use Rattle.opening.proofs.Readings.{known-read, opens-sheet, opens-none}
+use Rattle.opening.proofs.open_text.Statement.{statement}
+use Rattle.opening.proofs.open_text.Tie as tie
 
 read-text-requires : tie.Need-read-text-requires
 read-text-requires c κs = search needs

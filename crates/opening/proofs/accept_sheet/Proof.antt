@@ -1,8 +1,8 @@
 -- `accept_sheet` meets its contract. Assumes nothing.
 use borrow.Author.Needs.{needs}
-use Rattle.checker.proofs.Readings.{accepts-sheet, accepts-none}
-use Rattle.checker.proofs.accept_sheet.Statement.{statement}
-use Rattle.checker.proofs.accept_sheet.Tie as tie
+use Rattle.opening.proofs.Readings.{accepts-sheet, accepts-none}
+use Rattle.opening.proofs.accept_sheet.Statement.{statement}
+use Rattle.opening.proofs.accept_sheet.Tie as tie
 
 accept-requires : tie.Need-accept-requires
 accept-requires c κs = search needs

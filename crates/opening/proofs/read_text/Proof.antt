@@ -1,8 +1,8 @@
 -- `read_text` meets its contract.
 use borrow.Author.Needs.{needs}
-use Rattle.checker.proofs.Readings.{long-text, within-text}
-use Rattle.checker.proofs.read_text.Statement.{statement}
-use Rattle.checker.proofs.read_text.Tie as tie
+use Rattle.opening.proofs.Readings.{long-text, within-text}
+use Rattle.opening.proofs.read_text.Statement.{statement}
+use Rattle.opening.proofs.read_text.Tie as tie
 
 returns : tie.Need-returns
 returns c = long-text _ _ _ _ (c .if1 .taken)
