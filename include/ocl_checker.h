@@ -53,34 +53,34 @@ typedef struct ocl_answer {
 } ocl_answer;
 
 /*
- * The numbers; 21 is not given. In brackets: who gives it, R read, F read held to the profile, E evaluate, P report, W rows;
- * whether with a place.
+ * The numbers; 21 is not given. In brackets: who gives it, R read, F read held to the profile, E evaluate, P report, W rows,
+ * U undefined; whether with a place.
  */
 enum ocl_number {
-    OCL_ANSWERED = 0,            /* an answer (RFEPW) */
-    OCL_SHORT_SLICE = 1,         /* a word slice or the output is too short; nothing was touched (RFEPW) */
-    OCL_SHEET_TOO_LONG = 2,      /* the text is longer than a sheet may be (RFEPW) */
-    OCL_BAD_LINE = 3,            /* a line is misspelled: fields, letter, form, number, line feed (RFEPW, place) */
-    OCL_OUT_OF_LIMITS = 4,       /* a number, count, size or nesting is outside its limits (RFEPW, place) */
-    OCL_OUT_OF_ORDER = 5,        /* lines, numbers or members out of order; a name or variable twice (RFEPW, place) */
-    OCL_UNKNOWN_REFERENCE = 6,   /* a class, row or object that the sheet does not have by then (RFEPW, place) */
-    OCL_VALUE_MISMATCH = 7,      /* a value that its row, or a row that its object, does not take (RFEPW, place) */
-    OCL_MALFORMED_TREE = 8,      /* the nodes of a rule or a definition make no tree, or one too deep (RFEPW, place) */
-    OCL_UNBOUND_VARIABLE = 9,    /* a variable that nothing binds (RFEPW, place) */
-    OCL_NO_COMMON_TYPE = 10,     /* two types without a common one; a cast between unrelated classes (RFEPW, place) */
-    OCL_WRONG_OPERAND_TYPE = 11, /* a form does not take an operand of this type (RFEPW, place) */
-    OCL_NO_ATTRIBUTE = 12,       /* the class has no attribute of this name (RFEPW, place) */
-    OCL_TYPE_TOO_DEEP = 13,      /* a type would be over three deep (RFEPW, place) */
+    OCL_ANSWERED = 0,            /* an answer (RFEPWU) */
+    OCL_SHORT_SLICE = 1,         /* a word slice or the output is too short; nothing was touched (RFEPWU) */
+    OCL_SHEET_TOO_LONG = 2,      /* the text is longer than a sheet may be (RFEPWU) */
+    OCL_BAD_LINE = 3,            /* a line is misspelled: fields, letter, form, number, line feed (RFEPWU, place) */
+    OCL_OUT_OF_LIMITS = 4,       /* a number, count, size or nesting is outside its limits (RFEPWU, place) */
+    OCL_OUT_OF_ORDER = 5,        /* lines, numbers or members out of order; a name or variable twice (RFEPWU, place) */
+    OCL_UNKNOWN_REFERENCE = 6,   /* a class, row or object that the sheet does not have by then (RFEPWU, place) */
+    OCL_VALUE_MISMATCH = 7,      /* a value that its row, or a row that its object, does not take (RFEPWU, place) */
+    OCL_MALFORMED_TREE = 8,      /* the nodes of a rule or a definition make no tree, or one too deep (RFEPWU, place) */
+    OCL_UNBOUND_VARIABLE = 9,    /* a variable that nothing binds (RFEPWU, place) */
+    OCL_NO_COMMON_TYPE = 10,     /* two types without a common one; a cast between unrelated classes (RFEPWU, place) */
+    OCL_WRONG_OPERAND_TYPE = 11, /* a form does not take an operand of this type (RFEPWU, place) */
+    OCL_NO_ATTRIBUTE = 12,       /* the class has no attribute of this name (RFEPWU, place) */
+    OCL_TYPE_TOO_DEEP = 13,      /* a type would be over three deep (RFEPWU, place) */
     OCL_NOT_FOUND = 14,          /* the sheet has no such rule, or no such object (E) */
     OCL_OTHER_CLASS = 15,        /* the rule does not apply to objects of this class (E) */
     OCL_STEP_STOP = 16,          /* stopped: over OCL_MOST_STEPS steps are due (E, with the steps) */
     OCL_SIZE_STOP = 17,          /* stopped: a value of a size over 128 would be formed (E, with the steps) */
-    OCL_REPORT_TOO_LONG = 18,    /* the output is too short for the report, or for the rows (PW) */
+    OCL_REPORT_TOO_LONG = 18,    /* the output is too short for the report, the rows or the lines (PWU) */
     OCL_OVER_RANGE = 19,         /* stopped: a result of Integers leaves their range, or one of Reals is infinite (E, with the steps) */
-    OCL_NOT_A_SENTENCE = 20,     /* the text of a rule is no sentence (RFEPW, place) */
+    OCL_NOT_A_SENTENCE = 20,     /* the text of a rule is no sentence (RFEPWU, place) */
     OCL_OUTSIDE_PROFILE = 22,    /* a rule is outside the free-numbering profile (F, place) */
-    OCL_CALL_UPWARD = 23,        /* a definition calls itself or a larger one (RFEPW, place) */
-    OCL_UNKNOWN_DEFINITION = 24  /* a rule calls a definition that the sheet does not have (RFEPW, place) */
+    OCL_CALL_UPWARD = 23,        /* a definition calls itself or a larger one (RFEPWU, place) */
+    OCL_UNKNOWN_DEFINITION = 24  /* a rule calls a definition that the sheet does not have (RFEPWU, place) */
 };
 
 /*
@@ -138,6 +138,18 @@ ocl_answer ocl_report(
  * node is ever run or not. The values of all other rows can change nothing in what the rule answers (docs/ROWS.md).
  */
 ocl_answer ocl_rows(
+    const uint8_t *text, size_t text_length,
+    uint64_t *words0, size_t words0_length,
+    uint64_t *words1, size_t words1_length,
+    uint64_t *words2, size_t words2_length,
+    uint8_t *output, size_t output_length);
+
+/*
+ * Writes where undefined came from: for each undefined verdict of the report, in the report's order, a line with the rule, the object,
+ * the line of the sheet and the step at which undefined arose, with single spaces between them and a line feed at the end. Other
+ * verdicts have no line. The step is counted as ocl_evaluate_rule counts: the rule's root begins at step 1 (docs/UNDEFINED.md).
+ */
+ocl_answer ocl_undefined(
     const uint8_t *text, size_t text_length,
     uint64_t *words0, size_t words0_length,
     uint64_t *words1, size_t words1_length,

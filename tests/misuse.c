@@ -13,8 +13,8 @@
 #define WORD UINT64_C(0x7e7e7e7e7e7e7e7e)
 #define BYTE 0x7e
 
-enum call { READ, PROFILE, EVALUATE, REPORT, ROWS };
-static const char *const names[] = {"read", "profile", "evaluate", "report", "rows"};
+enum call { READ, PROFILE, EVALUATE, REPORT, ROWS, UNDEFINED };
+static const char *const names[] = {"read", "profile", "evaluate", "report", "rows", "undefined"};
 
 static uint64_t words[3][OCL_LEAST_WORDS + MARGIN];
 static uint8_t output[OCL_LEAST_OUTPUT + MARGIN];
@@ -43,8 +43,10 @@ static ocl_answer call(enum call which, const void *text, size_t text_length)
             text, text_length, 0, 0, w[0], lengths[0], w[1], lengths[1], w[2], lengths[2], out, room);
     case REPORT:
         return ocl_report(text, text_length, w[0], lengths[0], w[1], lengths[1], w[2], lengths[2], out, room);
-    default:
+    case ROWS:
         return ocl_rows(text, text_length, w[0], lengths[0], w[1], lengths[1], w[2], lengths[2], out, room);
+    default:
+        return ocl_undefined(text, text_length, w[0], lengths[0], w[1], lengths[1], w[2], lengths[2], out, room);
     }
 }
 
@@ -108,11 +110,17 @@ int main(void)
                               "R\t0\t0\nX\t8 < self.a6 or true\n"
                               "R\t1\t0\nX\tif self.a6 = 0 then self.d0() else 7 endif\n";
     static const char sequence[] = "C\t0\t-\nO\t0\t0\nR\t0\t0\nX\t#0.allInstances()->asSequence()\n";
+    /* undefined on the left of two sides, on line 9; in a called body, on line 7; and a stop, which has no line */
+    static const char blank[] = "C\t0\t-\nA\t0\t0\t5\tInt\nO\t0\t0\n"
+                                "D\t0\t0\tInt\nN\t0\tint\t1\nN\t1\tint\t0\nN\t2\tdiv\t0\t1\n"
+                                "R\t0\t0\nX\tself.a5 = 1 or self.d0() = 1\n"
+                                "R\t1\t0\nX\t1 + self.d0()\n"
+                                "R\t2\t0\nX\t2147483647 + 1\n";
     static const uint8_t longer[OCL_LONGEST_TEXT + 1];
     static const size_t little[] = {0, 1, OCL_LEAST_WORDS - 1};
     const size_t most = OCL_LEAST_WORDS, sheet_length = sizeof sheet - 1;
 
-    for (enum call which = READ; which <= ROWS; which++) {
+    for (enum call which = READ; which <= UNDEFINED; which++) {
         for (size_t i = 0; i < 3; i++) {
             lend(little[i], most, most, OCL_LEAST_OUTPUT);
             expect(which, sheet, sheet_length, OCL_SHORT_SLICE, "");
@@ -134,15 +142,17 @@ int main(void)
         lend(most, most, most, 2288);
         expect(which, sheet, sheet_length, OCL_SHORT_SLICE, "");
     }
-    for (enum call which = READ; which <= ROWS; which++) {
-        static const char *const written[] = {"Bool\n", "Bool\n", "t", "0 0 t 1\n", "0\n"};
-        static const char *const of_call[] = {"Bool\n", "Bool\n", "t", "0 0 t 3\n", "0\n"};
-        static const char *const of_text[] = {"Bool\n", "Bool\n", "t", "0 0 t 4\n", "0\n"};
+    for (enum call which = READ; which <= UNDEFINED; which++) {
+        static const char *const written[] = {"Bool\n", "Bool\n", "t", "0 0 t 1\n", "0\n", ""};
+        static const char *const of_call[] = {"Bool\n", "Bool\n", "t", "0 0 t 3\n", "0\n", ""};
+        static const char *const of_text[] = {"Bool\n", "Bool\n", "t", "0 0 t 4\n", "0\n", ""};
         static const char *const of_real[] = {
-            "Real\n", "Real\n", "r3ff8000000000000", "0 0 r3ff8000000000000 3\n", "0\n"};
+            "Real\n", "Real\n", "r3ff8000000000000", "0 0 r3ff8000000000000 3\n", "0\n", ""};
         static const char *const of_row[] = {
-            "Bool\nInt\n", "Bool\nInt\n", "t", "0 0 t 5\n1 0 7 6\n", "0 1\n1 0 1\n"};
-        static const char *const of_sequence[] = {"Q(#0)\n", "", "Q(@0)", "0 0 Q(@0) 2\n", "0\n"};
+            "Bool\nInt\n", "Bool\nInt\n", "t", "0 0 t 5\n1 0 7 6\n", "0 1\n1 0 1\n", ""};
+        static const char *const of_sequence[] = {"Q(#0)\n", "", "Q(@0)", "0 0 Q(@0) 2\n", "0\n", ""};
+        static const char *const of_blank[] = {
+            "Bool\nInt\nInt\n", "Bool\nInt\nInt\n", "u", "0 0 u 10\n1 0 u 7\n2 0 !19 3\n", "0 0\n1\n2\n", "0 0 9 3\n1 0 7 5\n"};
         lend(most, most, most, OCL_LEAST_OUTPUT);
         expect(which, sheet, sheet_length, OCL_ANSWERED, written[which]);
         expect(which, bad, sizeof bad - 1, OCL_UNKNOWN_REFERENCE, "");
@@ -160,6 +170,7 @@ int main(void)
         expect(which, row, sizeof row - 1, OCL_ANSWERED, of_row[which]);
         /* what is outside the profile is so to one call alone */
         expect(which, sequence, sizeof sequence - 1, which == PROFILE ? OCL_OUTSIDE_PROFILE : OCL_ANSWERED, of_sequence[which]);
+        expect(which, blank, sizeof blank - 1, OCL_ANSWERED, of_blank[which]);
         expect(which, no_sentence, sizeof no_sentence - 1, OCL_NOT_A_SENTENCE, "");
         expect(which, behind, sizeof behind - 1, OCL_OUT_OF_ORDER, "");
         expect(which, longer, sizeof longer, OCL_SHEET_TOO_LONG, "");

@@ -13,8 +13,8 @@
 #define STACK_WORDS (512 * 1024 / 8)
 #define PAINT UINT64_C(0xa5c3a5c3a5c3a5c3)
 
-enum call { READ, PROFILE, EVALUATE, REPORT, ROWS };
-static const char *const names[] = {"read_sheet", "read_free_numbering", "evaluate_rule", "report", "rows"};
+enum call { READ, PROFILE, EVALUATE, REPORT, ROWS, UNDEFINED };
+static const char *const names[] = {"read_sheet", "read_free_numbering", "evaluate_rule", "report", "rows", "undefined"};
 
 static uint64_t stack[STACK_WORDS];
 static uint8_t text[OCL_LONGEST_TEXT + 1];
@@ -28,8 +28,8 @@ static uint64_t rule, object;
 static ocl_answer answer;
 static uintptr_t frame;
 
-static size_t most[5];
-static const char *most_in[5];
+static size_t most[6];
+static const char *most_in[6];
 static uint64_t runs;
 
 #define TEXT text, text_length
@@ -54,6 +54,9 @@ static void run(void)
         break;
     case ROWS:
         answer = ocl_rows(TEXT, WORDS, OUTPUT);
+        break;
+    case UNDEFINED:
+        answer = ocl_undefined(TEXT, WORDS, OUTPUT);
         break;
     }
 }
@@ -92,6 +95,7 @@ static void measure_sheet(const char *sheet)
     }
     measure(ROWS, sheet);
     measure(PROFILE, sheet);
+    measure(UNDEFINED, sheet);
     rule = 0;
     object = 0;
     measure(EVALUATE, sheet);
@@ -120,7 +124,7 @@ int main(int argc, char **argv)
         fclose(file);
         measure_sheet(argv[i]);
     }
-    for (int i = READ; i <= ROWS; i++) {
+    for (int i = READ; i <= UNDEFINED; i++) {
         printf("%s %zu %s\n", names[i], most[i], most_in[i] == NULL ? "-" : most_in[i]);
     }
     printf("runs %" PRIu64 "\n", runs);

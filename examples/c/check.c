@@ -1,7 +1,7 @@
 /*
  * check SHEET: reads a job sheet from a file and prints each rule's type, what the rule comes to for each of its objects, the
- * rows that each rule sees, whether the sheet is in the free-numbering profile, and the report; or why it is refused, in words. It
- * shows the calls of include/ocl_checker.h. All memory is static.
+ * rows that each rule sees, whether the sheet is in the free-numbering profile, where undefined came from, and the report; or why
+ * the sheet is refused, in words. It shows the calls of include/ocl_checker.h. All memory is static.
  *
  *     cc -std=c11 -Wall -Wextra -Werror -Iinclude examples/c/check.c target/staticlib/libchecker.a -o target/check
  *     target/check examples/cap.sheet
@@ -148,6 +148,9 @@ int main(int argc, char **argv)
         printf("yes\n");
     } else {
         print_refusal(answer);
+    }
+    if (!print_lines("undefined", ocl_undefined(TEXT, WORDS, OUTPUT))) {
+        return 1;
     }
     return print_lines("report", ocl_report(TEXT, WORDS, OUTPUT)) ? 0 : 1;
 }

@@ -3,6 +3,7 @@
 
 use crate::eval::evaluate;
 use crate::model::Sheet;
+use crate::origins;
 use crate::profile::lowest_line;
 use crate::read::read;
 use crate::refusal::{Refusal, Refused};
@@ -85,6 +86,15 @@ pub fn rows(text: &[u8], words: Words, out: &mut [u8]) -> Answer {
     })
 }
 
+/// Reads and types the sheet and writes where each undefined verdict came from.
+pub fn undefined(text: &[u8], words: Words, out: &mut [u8]) -> Answer {
+    lent(words, out, |room| {
+        let (sheet, _) = accepted(text)?;
+        let written = origins::lines(&sheet, room).map_err(without_steps)?;
+        Ok((written, 0))
+    })
+}
+
 /// What the program prints for a text: the report.
 pub fn program(text: &[u8]) -> Vec<u8> {
     printed(text, report)
@@ -98,6 +108,11 @@ pub fn rows_program(text: &[u8]) -> Vec<u8> {
 /// What the gate's program prints that holds a sheet to the profile.
 pub fn profile_program(text: &[u8]) -> Vec<u8> {
     printed(text, read_free_numbering)
+}
+
+/// What the program prints that tells where undefined came from.
+pub fn undefined_program(text: &[u8]) -> Vec<u8> {
+    printed(text, undefined)
 }
 
 /// What a program prints that makes the call.

@@ -1,22 +1,32 @@
 //! The evaluation of a rule. It reads no types, only what typing marked.
 
 mod arithmetic;
+mod logic;
+mod runs;
 
 use crate::model::{Definition, Model, Rule, Sheet};
 use crate::numbers::Number;
 use crate::tree::{Form, Node};
 use crate::types::Kind;
 use crate::values::{Collection, Value};
+pub use runs::{runs, Ended, Run};
 use std::mem;
 use std::rc::Rc;
 
 pub const MOST_STEPS: u64 = 1_000_000;
 
+/// Where undefined arose (F-11): the line of the node, and the step at which it began.
+#[derive(Clone, Copy, PartialEq, Eq, Debug)]
+pub struct Origin {
+    pub line: usize,
+    pub step: u64,
+}
+
 /// How a node can end without a value. `?` hands Undefined on, which is what
-/// makes a form strict.
+/// makes a form strict; where it arose goes along.
 #[derive(Clone, Copy, PartialEq, Eq, Debug)]
 enum End {
-    Undefined,
+    Undefined(Origin),
     Stop(Stop),
 }
 
@@ -42,6 +52,8 @@ struct Evaluation<'m> {
     steps: u64,
     /// The rows of `attr`s and `collect`s that began, as bits.
     rows: u64,
+    /// All that ran, if it is to be kept.
+    kept: Option<runs::Kept<'m>>,
     /// The values of the variables, by number.
     environment: [Option<Value>; 16],
 }
@@ -56,10 +68,18 @@ pub fn evaluate_node(sheet: &Sheet, root: &Node, object: u8) -> (Result<Option<V
     let mut evaluation = Evaluation::new(sheet, object);
     let outcome = match evaluation.node(root) {
         Ok(value) => Ok(Some(value)),
-        Err(End::Undefined) => Ok(None),
+        Err(End::Undefined(_)) => Ok(None),
         Err(End::Stop(stop)) => Err(stop),
     };
     (outcome, evaluation.steps)
+}
+
+/// Where undefined arose, if that is what a rule ends with for an object.
+pub fn origin(sheet: &Sheet, rule: &Rule, object: u8) -> Option<Origin> {
+    match Evaluation::new(sheet, object).node(&rule.root) {
+        Err(End::Undefined(origin)) => Some(origin),
+        _ => None,
+    }
 }
 
 /// The rows, as bits, of the nodes that a rule runs for an object.
@@ -70,28 +90,43 @@ pub fn rows_run(sheet: &Sheet, rule: &Rule, object: u8) -> u64 {
     evaluation.rows
 }
 
-impl Evaluation<'_> {
-    fn new(sheet: &Sheet, object: u8) -> Evaluation<'_> {
+impl<'m> Evaluation<'m> {
+    fn new(sheet: &'m Sheet, object: u8) -> Evaluation<'m> {
         Evaluation {
             model: &sheet.model,
             definitions: &sheet.definitions,
             object,
             steps: 0,
             rows: 0,
+            kept: None,
             environment: Default::default(),
         }
     }
 
-    fn node(&mut self, node: &Node) -> Outcome {
+    fn node(&mut self, node: &'m Node) -> Outcome {
         if self.steps == MOST_STEPS {
             return Err(End::Stop(Stop::Steps));
         }
         self.steps += 1;
+        let here = End::Undefined(Origin {
+            line: node.line,
+            step: self.steps,
+        });
+        let above = self.kept.as_mut().map(|kept| kept.begin(node));
+        let outcome = self.form(node, here);
+        if let (Some(kept), Some(above)) = (&mut self.kept, above) {
+            kept.end(above, &outcome);
+        }
+        outcome
+    }
+
+    /// What a node's form comes to; `here` is the undefined that arises at the node.
+    fn form(&mut self, node: &'m Node, here: End) -> Outcome {
         let operands = &node.operands;
         match &node.form {
             Form::True => Ok(Value::Bool(true)),
             Form::False => Ok(Value::Bool(false)),
-            Form::Undef => Err(End::Undefined),
+            Form::Undef => Err(here),
             Form::Int(number) => Ok(integer(*number)),
             Form::Real(number) => Ok(Value::Number(*number)),
             Form::SelfObject => Ok(Value::Object(self.object)),
@@ -117,7 +152,7 @@ impl Evaluation<'_> {
             Form::Not => Ok(Value::Bool(!self.truth(&operands[0])?)),
             Form::IsUndef => match self.node(&operands[0]) {
                 Ok(_) => Ok(Value::Bool(false)),
-                Err(End::Undefined) => Ok(Value::Bool(true)),
+                Err(End::Undefined(_)) => Ok(Value::Bool(true)),
                 stop => stop,
             },
             Form::Eq => {
@@ -131,12 +166,12 @@ impl Evaluation<'_> {
             | Form::Times(_)
             | Form::Div
             | Form::Mod
-            | Form::Over => self.arithmetic(&node.form, operands),
+            | Form::Over => self.arithmetic(&node.form, operands, here),
             Form::Attr { row, .. } => {
                 let row = row.expect("typing marks the row of every attr");
                 self.rows |= 1 << row;
                 let value = self.node(&operands[0])?;
-                self.in_row(row, &value)?.ok_or(End::Undefined)
+                self.in_row(row, &value)?.ok_or(here)
             }
             Form::Collect { mark, .. } => {
                 let (row, kind) = mark.expect("typing marks every collect");
@@ -149,7 +184,7 @@ impl Evaluation<'_> {
                     .map(|member| self.in_row(row, member))
                     .collect();
                 let values: Option<Vec<Value>> = values?.into_iter().collect();
-                formed(Collection::formed(kind, values.ok_or(End::Undefined)?))
+                formed(Collection::formed(kind, values.ok_or(here)?))
             }
             Form::All(class) => {
                 let objects = self.model.objects_of(*class).map(Value::Object);
@@ -160,7 +195,7 @@ impl Evaluation<'_> {
                 Value::Object(object) if self.model.is_of(object, *class) => {
                     Ok(Value::Object(object))
                 }
-                _ => Err(End::Undefined),
+                _ => Err(here),
             },
             Form::Size => {
                 let source = self.collection(&operands[0])?;
@@ -212,7 +247,7 @@ impl Evaluation<'_> {
 
     /// A definition's body, in which `self` is the operand and no variable is
     /// bound; the caller's are put back.
-    fn call(&mut self, number: u8, operand: &Node) -> Outcome {
+    fn call(&mut self, number: u8, operand: &'m Node) -> Outcome {
         let called = &self.definitions[usize::from(number)];
         let object = match self.node(operand)? {
             Value::Object(object) if self.model.is_of(object, called.class) => object,
@@ -227,48 +262,12 @@ impl Evaluation<'_> {
     }
 
     /// A body's outcome with the variable bound; the outer binding is put back.
-    fn with(&mut self, variable: u8, value: Value, body: &Node) -> Outcome {
+    fn with(&mut self, variable: u8, value: Value, body: &'m Node) -> Outcome {
         let slot = usize::from(variable);
         let outer = self.environment[slot].replace(value);
         let outcome = self.node(body);
         self.environment[slot] = outer;
         outcome
-    }
-
-    /// `and` and `or`: the deciding truth decides on either side. On the left, it
-    /// keeps the right side from running; on neither side, undefined is passed on.
-    fn connective(&mut self, operands: &[Node], deciding: bool) -> Outcome {
-        let left = self.truth(&operands[0]);
-        match left {
-            Ok(left) if left == deciding => return Ok(Value::Bool(deciding)),
-            Ok(_) | Err(End::Undefined) => {}
-            Err(stop) => return Err(stop),
-        }
-        let right = self.truth(&operands[1])?;
-        if right == deciding {
-            return Ok(Value::Bool(deciding));
-        }
-        left.map(Value::Bool)
-    }
-
-    /// `forAll` and `exists`: the first body that gives the deciding truth
-    /// decides. With none, one undefined body makes the whole undefined.
-    fn quantifier(&mut self, operands: &[Node], variable: u8, deciding: bool) -> Outcome {
-        let source = self.collection(&operands[0])?;
-        let mut some_undefined = false;
-        for element in &source.members {
-            let body = self.with(variable, element.clone(), &operands[1]);
-            match body.and_then(truth) {
-                Ok(truth) if truth == deciding => return Ok(Value::Bool(deciding)),
-                Ok(_) => {}
-                Err(End::Undefined) => some_undefined = true,
-                Err(stop) => return Err(stop),
-            }
-        }
-        if some_undefined {
-            return Err(End::Undefined);
-        }
-        Ok(Value::Bool(!deciding))
     }
 
     /// The value of a row for an object of the row's class or below.
@@ -282,11 +281,11 @@ impl Evaluation<'_> {
         }
     }
 
-    fn truth(&mut self, node: &Node) -> Result<bool, End> {
+    fn truth(&mut self, node: &'m Node) -> Result<bool, End> {
         truth(self.node(node)?)
     }
 
-    fn collection(&mut self, node: &Node) -> Result<Rc<Collection>, End> {
+    fn collection(&mut self, node: &'m Node) -> Result<Rc<Collection>, End> {
         match self.node(node)? {
             Value::Collection(collection) => Ok(collection),
             _ => Err(STUCK),

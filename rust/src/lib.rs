@@ -4,11 +4,13 @@
 pub mod binary64;
 pub mod calls;
 pub mod eval;
+pub mod explain;
 pub mod generate;
 pub mod harness;
 pub mod load;
 pub mod model;
 pub mod numbers;
+pub mod origins;
 pub mod profile;
 pub mod read;
 pub mod refusal;

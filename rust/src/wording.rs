@@ -50,14 +50,23 @@ struct Wording<'w> {
     tokens: Vec<String>,
     /// How many brackets more to put around an expression.
     more: &'w mut dyn FnMut() -> usize,
+    /// Whether Integers below zero are written with their minus, which no text has.
+    with_minus: bool,
 }
 
 /// The words and signs of a rule, in the brackets that it needs and as many more
 /// around each expression as are asked for. None where no text says what the nodes
 /// say: an Integer in a text has no minus.
 pub fn worded(root: &Node, more: &mut dyn FnMut() -> usize) -> Option<Vec<String>> {
-    let tokens = Vec::new();
-    let mut wording = Wording { tokens, more };
+    wording(root, more, false)
+}
+
+fn wording(root: &Node, more: &mut dyn FnMut() -> usize, with_minus: bool) -> Option<Vec<String>> {
+    let mut wording = Wording {
+        tokens: Vec::new(),
+        more,
+        with_minus,
+    };
     wording.expression(root, Level::Whole)?;
     Some(wording.tokens)
 }
@@ -65,6 +74,13 @@ pub fn worded(root: &Node, more: &mut dyn FnMut() -> usize) -> Option<Vec<String
 /// The text of a rule with the fewest brackets and the usual spaces.
 pub fn text(root: &Node) -> Option<String> {
     worded(root, &mut || 0).map(|tokens| spaced(&tokens))
+}
+
+/// The same for a person to read, of any part of a rule or a definition: an Integer below
+/// zero has its minus.
+pub fn shown(root: &Node) -> String {
+    let tokens = wording(root, &mut || 0, true);
+    spaced(&tokens.expect("all else can be written"))
 }
 
 impl Wording<'_> {
@@ -126,7 +142,8 @@ impl Wording<'_> {
 
     fn leaf(&mut self, form: &Form) -> Option<()> {
         let word = match form {
-            Form::Int(number) => u32::try_from(*number).ok()?.to_string(),
+            Form::Int(number) if *number < 0 && !self.with_minus => return None,
+            Form::Int(number) => number.to_string(),
             Form::Real(number) => spelt(|out| number.spell(out)),
             Form::Var(variable) => format!("v{variable}"),
             Form::All(class) => format!("#{class} . allInstances ( )"),

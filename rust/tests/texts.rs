@@ -19,6 +19,7 @@ use second_evaluator::read::tokens::tokens;
 use second_evaluator::tree::Node;
 use second_evaluator::wording::{in_text, spaced, text, worded};
 use second_evaluator::{generate, harness};
+use std::ffi::OsStr;
 use std::fs;
 use std::path::Path;
 
@@ -132,12 +133,25 @@ fn no_bracket_can_be_left_out() {
     assert!(tried > 1_000, "{tried}");
 }
 
+/// Where undefined came from, but for the line: rule, object and step.
+fn steps_of(sheet: &[u8]) -> Vec<[String; 3]> {
+    let lines = String::from_utf8(calls::undefined_program(sheet)).unwrap();
+    let fields = lines.lines().map(|line| {
+        let fields: Vec<String> = line.split(' ').map(str::to_string).collect();
+        [0, 1, 3].map(|field| fields[field].clone())
+    });
+    fields.collect()
+}
+
 #[test]
 fn the_examples_stand_in_both_forms() {
     let examples = Path::new(env!("CARGO_MANIFEST_DIR")).join("../examples");
     let mut count = 0;
     for entry in fs::read_dir(examples.join("nodes")).unwrap() {
         let path = entry.unwrap().path();
+        if path.extension() != Some(OsStr::new("sheet")) {
+            continue;
+        }
         let name = path.file_name().unwrap();
         let nodes = fs::read(&path).unwrap();
         let told = fs::read(examples.join(name)).unwrap();
@@ -146,6 +160,7 @@ fn the_examples_stand_in_both_forms() {
         let report = fs::read(report).unwrap();
         assert_eq!(calls::program(&nodes), report, "{name:?}");
         assert_eq!(calls::program(&told), report, "{name:?}");
+        assert_eq!(steps_of(&nodes), steps_of(&told), "{name:?}");
         count += 1;
     }
     assert_eq!(count, 9);

@@ -1,7 +1,9 @@
 //! The second evaluator prints what each vector says.
 
-use second_evaluator::calls::{profile_program, program, rows_program};
-use second_evaluator::harness::run::{profile_vectors, row_vectors, vectors, Vector};
+use second_evaluator::calls::{profile_program, program, rows_program, undefined_program};
+use second_evaluator::harness::run::{
+    origin_vectors, profile_vectors, row_vectors, vectors, Vector,
+};
 
 /// The names of those for which something else is printed.
 fn wrong(vectors: Vec<Vector>, printed: fn(&[u8]) -> Vec<u8>) -> Vec<String> {
@@ -27,5 +29,11 @@ fn every_vector_prints_the_rows_that_it_says() {
 #[test]
 fn every_vector_is_held_to_the_profile_as_it_says() {
     let wrong = wrong(profile_vectors().unwrap(), profile_program);
+    assert!(wrong.is_empty(), "{wrong:#?}");
+}
+
+#[test]
+fn every_vector_prints_the_origins_that_it_says() {
+    let wrong = wrong(origin_vectors().unwrap(), undefined_program);
     assert!(wrong.is_empty(), "{wrong:#?}");
 }

@@ -32,12 +32,12 @@ use Rattle.rules.specs.Accepted.{Accepted, KnownTyped}
 use Rattle.rules.specs.Numbered.{EvaluatesNumbered}
 use Rattle.rules.proofs.Ready.{ready}
 use Rattle.rules.proofs.Lengths.{value-length}
-use Rattle.checker.specs.declared.Answer.{Answer}
-use Rattle.checker.specs.Answers.{answerOf}
-use Rattle.checker.specs.Parts.{GivesAnswer, GivesFor}
+use Rattle.opening.specs.declared.Answer.{Answer}
+use Rattle.opening.specs.Answers.{answerOf}
+use Rattle.opening.specs.Parts.{GivesAnswer, GivesFor}
 use Rattle.checker.specs.Outcomes.{Fitting, GivesEnded}
-use Rattle.checker.proofs.Answers.{gives-refusal}
-use Rattle.checker.proofs.Readings.{accepted-number}
+use Rattle.opening.proofs.Answers.{gives-refusal}
+use Rattle.opening.proofs.Readings.{accepted-number}
 
 -- what evaluate does for a rule
 abbrev forObject : ℕ → Sheet → Rule → Verdict

@@ -1,5 +1,3 @@
-pub mod Answers
-pub mod Readings
 pub mod ReadCalls
 pub mod ProfileCalls
 pub mod OutcomeLaws

@@ -17,11 +17,11 @@ use Rattle.spelling.specs.Contracts.{ValueFits}
 use Rattle.operations.specs.declared.Ended.{Ended}
 use Rattle.operations.specs.declared.Ended.the-variants as end
 use Rattle.operations.specs.Answers.{Ends, ends-value, ends-undefined, ends-stuck, ends-stop}
-use Rattle.checker.specs.declared.Answer.{Answer}
-use Rattle.checker.specs.Answers.{answerOf}
-use Rattle.checker.specs.Parts.{GivesAnswer, writtenTo}
+use Rattle.opening.specs.declared.Answer.{Answer}
+use Rattle.opening.specs.Answers.{answerOf}
+use Rattle.opening.specs.Parts.{GivesAnswer, writtenTo}
 use Rattle.checker.specs.Outcomes.{Fitting, GivesEnded}
-use Rattle.checker.proofs.Answers.{gives-refusal, gives-written}
+use Rattle.opening.proofs.Answers.{gives-refusal, gives-written}
 
 module _ {w2 : List ℕ} {e : Ended} {len steps : ℕ} (f : Fitting w2 e) (q : e ≡ end.Value len steps) where
   value-room : (o : Outcome) → Ends 1 w2 o (end.Value len steps) → ((v : Value) (n : ℕ) → o ≡ value v n → length (spellValue v) ≤ 2560)

@@ -21,12 +21,12 @@ use Rattle.reader.specs.declared.SheetRead.the-variants as sheet
 use Rattle.rules.specs.Accepted.{TypesIn}
 use Rattle.numbering.specs.Sheets.{KeepsTypes, FindsOutside}
 use Rattle.numbering.proofs.Lowest.{line-there, line-none}
-use Rattle.checker.specs.declared.Answer.{Answer}
-use Rattle.checker.specs.Answers.{answerOf}
-use Rattle.checker.specs.Parts.{OpensText, GivesFor, Leaves, writtenTo}
+use Rattle.opening.specs.declared.Answer.{Answer}
+use Rattle.opening.specs.Answers.{answerOf}
+use Rattle.opening.specs.Parts.{OpensText, GivesFor, Leaves, writtenTo}
 use Rattle.checker.specs.TypeLines.{Waiting, PutsTypes, profiled}
-use Rattle.checker.proofs.Answers.{gives-refusal, gives-written}
-use Rattle.checker.proofs.Readings.{leaves-with, leaves-stop, accepted-number}
+use Rattle.opening.proofs.Answers.{gives-refusal, gives-written}
+use Rattle.opening.proofs.Readings.{leaves-with, leaves-stop, accepted-number}
 use Rattle.checker.proofs.ReadCalls.{rule-count}
 
 -- ---- the types wait on

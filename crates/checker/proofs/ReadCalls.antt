@@ -30,11 +30,11 @@ use Rattle.reader.specs.declared.SheetRead.{SheetRead}
 use Rattle.reader.specs.declared.SheetRead.the-variants as sheet
 use Rattle.rules.specs.Accepted.{Accepted, TypesIn}
 use Rattle.rules.proofs.RuleByRule.{take-elem}
-use Rattle.checker.specs.declared.Answer.{Answer}
-use Rattle.checker.specs.Parts.{OpensAs, opened, OpensText, Leaves, writtenTo}
+use Rattle.opening.specs.declared.Answer.{Answer}
+use Rattle.opening.specs.Parts.{OpensAs, opened, OpensText, Leaves, writtenTo}
 use Rattle.checker.specs.TypeLines.{Waiting, PutsTypes}
-use Rattle.checker.proofs.Answers.{gives-written}
-use Rattle.checker.proofs.Readings.{leaves-on, accepted-number}
+use Rattle.opening.proofs.Answers.{gives-written}
+use Rattle.opening.proofs.Readings.{leaves-on, accepted-number}
 
 -- ---- lines
 

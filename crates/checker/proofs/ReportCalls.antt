@@ -1,4 +1,4 @@
--- The call that writes the report, and what the lines of a call come to. Assumes nothing.
+-- The calls that write the report and where undefined came from. Assumes nothing.
 use mathlib.Core.Path.{_≡_}
 use mathlib.Core.Logic.{_≢_}
 use mathlib.Core.Bool.{Bool, true, false}
@@ -10,41 +10,34 @@ use lib.ListN.{length}
 use Rattle.laws.specs.Choice.{if_then_else_}
 use Rattle.sheet.specs.Text.{Bytes}
 use Rattle.sheet.specs.Calls.{Verdict, answer, refusalAt, refusal}
+use Rattle.sheet.specs.Sheet.{Sheet}
 use Rattle.sheet.specs.Report.{ruleLines, fitting, reportOf}
+use Rattle.sheet.specs.Origin.{ruleOrigins, originsOf}
 use Rattle.tables.specs.declared.Counts.{Counts}
 use Rattle.tables.specs.Layout.{Kept}
 use Rattle.reader.specs.declared.SheetRead.{SheetRead}
 use Rattle.reader.specs.declared.SheetRead.the-variants as sheet
 use Rattle.report.specs.declared.Reported.{Reported}
-use Rattle.report.specs.declared.Reported.the-variants as reported
-use Rattle.report.specs.Reports.{reportOn, SaysReport, written, too-long, Reports}
-use Rattle.checker.specs.declared.Answer.{Answer}
-use Rattle.checker.specs.Answers.{answerOf}
-use Rattle.checker.specs.Parts.{OpensText, GivesFor, Leaves, writtenTo}
-use Rattle.checker.proofs.Readings.{leaves-on, leaves-stop, accepted-number}
-
--- ---- what lines come to
-
-module _ {a : Answer} {r : Reported} where
-  pub lines-written : {n : ℕ} → r ≡ reported.Written n → a ≡ writtenTo n 0 → (v : Verdict) → SaysReport r v → a ≡ answerOf v
-  unfolding answer
-  lines-written {n} q e v z = by v (rw q at z)
-    where
-      by : (v : Verdict) → SaysReport (reported.Written n) v → a ≡ answerOf v
-      by _ (written b l) = rw l at e
-
-  pub lines-short : r ≡ reported.Short → a ≡ answerOf (refusalAt 18 0) → (v : Verdict) → SaysReport r v → a ≡ answerOf v
-  unfolding refusal
-  lines-short q e v z = by v (rw q at z)
-    where
-      by : (v : Verdict) → SaysReport reported.Short v → a ≡ answerOf v
-      by _ too-long = e
+use Rattle.report.specs.Reports.{reportOn, originsOn, SaysReport, Reports}
+use Rattle.opening.specs.declared.Answer.{Answer}
+use Rattle.opening.specs.Answers.{answerOf}
+use Rattle.opening.specs.Parts.{OpensText, GivesFor, Leaves}
+use Rattle.opening.proofs.Readings.{leaves-on, leaves-stop, accepted-number}
 
 -- ---- on an accepted sheet
 
-pub report-gives : {st : Counts} {w0 w1 w2 v2 : List ℕ} {out now : Bytes} {a : Answer} {r : Reported} → Reports st w0 w1 w2 v2 out now r
-    → ((v : Verdict) → SaysReport r v → a ≡ answerOf v) → GivesFor st w0 w1 w2 (λ s ts. reportOn s (length out)) a out now
-report-gives {out = out} d e = record { for = λ s ts g i. record { is = e (reportOn s (length out)) (d .is s ts g i); output = d .output s ts g i } }
+module _ {st : Counts} {w0 w1 w2 v2 : List ℕ} {out now : Bytes} {a : Answer} {r : Reported} where
+  lines-give : (f : Sheet → ℕ → Verdict) → Reports f st w0 w1 w2 v2 out now r → ((v : Verdict) → SaysReport r v → a ≡ answerOf v)
+      → GivesFor st w0 w1 w2 (λ s ts. f s (length out)) a out now
+  lines-give f d e = record { for = λ s ts g i. record { is = e (f s (length out)) (d .is s ts g i); output = d .output s ts g i } }
+
+  pub report-gives : Reports reportOn st w0 w1 w2 v2 out now r → ((v : Verdict) → SaysReport r v → a ≡ answerOf v)
+      → GivesFor st w0 w1 w2 (λ s ts. reportOn s (length out)) a out now
+  report-gives = lines-give reportOn
+
+  pub origins-give : Reports originsOn st w0 w1 w2 v2 out now r → ((v : Verdict) → SaysReport r v → a ≡ answerOf v)
+      → GivesFor st w0 w1 w2 (λ s ts. originsOn s (length out)) a out now
+  origins-give = lines-give originsOn
 
 -- ---- after a text is opened
 
@@ -58,7 +51,16 @@ module _ {text : Bytes} {w0 w1 w2 v0 v1 v2 : List ℕ} {z : SheetRead} {a : Answ
   unfolding reportOf
   report-stopped out e q = leaves-stop t (λ s ts. reportOn s (length out)) out e q
 
--- ---- the call does not refuse with 1 once nothing is short
+  pub origins-given : {st : Counts} {x2 : List ℕ} {out after : Bytes} → z ≡ sheet.Sheet st → GivesFor st v0 v1 v2 (λ s ts. originsOn s (length out)) a out after → Kept v2 x2
+      → Leaves (originsOf text (length out)) a w0 w1 w2 out v0 v1 x2 after
+  unfolding originsOf
+  origins-given {out = out} e g k = leaves-on t (λ s ts. originsOn s (length out)) e g k
+
+  pub origins-stopped : {n k : ℕ} (out : Bytes) → z ≡ sheet.Refused n k → a ≡ answerOf (refusalAt n k) → Leaves (originsOf text (length out)) a w0 w1 w2 out v0 v1 v2 out
+  unfolding originsOf
+  origins-stopped out e q = leaves-stop t (λ s ts. originsOn s (length out)) out e q
+
+-- ---- the calls do not refuse with 1 once nothing is short
 
 pub fitting-number : (room : ℕ) (b : Bytes) → fitting room b .number ≢ 1
 unfolding fitting refusal refusalAt answer
@@ -71,3 +73,7 @@ fitting-number room b = by (ltb room (length b))
 pub report-number : (text : Bytes) (room : ℕ) → reportOf text room .number ≢ 1
 unfolding reportOf
 report-number text room = accepted-number text (λ s ts. reportOn s room) (λ s ts e d h. fitting-number room (ruleLines s 0 (s .rules)))
+
+pub origins-number : (text : Bytes) (room : ℕ) → originsOf text room .number ≢ 1
+unfolding originsOf
+origins-number text room = accepted-number text (λ s ts. originsOn s room) (λ s ts e d h. fitting-number room (ruleOrigins s 0 (s .rules)))

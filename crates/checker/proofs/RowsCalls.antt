@@ -14,10 +14,10 @@ use Rattle.reader.specs.declared.SheetRead.the-variants as sheet
 use Rattle.report.specs.declared.Reported.{Reported}
 use Rattle.report.specs.Reports.{SaysReport}
 use Rattle.rows.specs.Lines.{rowsOn, TellsRows}
-use Rattle.checker.specs.declared.Answer.{Answer}
-use Rattle.checker.specs.Answers.{answerOf}
-use Rattle.checker.specs.Parts.{OpensText, GivesFor, Leaves}
-use Rattle.checker.proofs.Readings.{leaves-on, leaves-stop, accepted-number}
+use Rattle.opening.specs.declared.Answer.{Answer}
+use Rattle.opening.specs.Answers.{answerOf}
+use Rattle.opening.specs.Parts.{OpensText, GivesFor, Leaves}
+use Rattle.opening.proofs.Readings.{leaves-on, leaves-stop, accepted-number}
 use Rattle.checker.proofs.ReportCalls.{fitting-number}
 
 -- ---- on an accepted sheet

@@ -14,8 +14,8 @@ use Rattle.sheet.specs.Report.{reportCall}
 use Rattle.sheet.specs.Soundness.{Ending, undefined-end, value-end, stop-end}
 use Rattle.sheet.proofs.Soundness.{read-lent, demand3}
 use Rattle.sheet.proofs.NeverStuck.{never-stuck}
-use Rattle.checker.specs.declared.Answer.{Answer}
-use Rattle.checker.specs.Answers.{answerOf, AnswersWith}
+use Rattle.opening.specs.declared.Answer.{Answer}
+use Rattle.opening.specs.Answers.{answerOf, AnswersWith}
 use Rattle.checker.specs.Soundness.{Says, AnswerEnding, undefined-said, value-said, stop-said, Demand3OfCall, NeverStuckOfCall}
 
 -- what is written is what the definition says

@@ -7,8 +7,8 @@ use Rattle.sheet.specs.Calls.{Verdict, wordsAfter, outputAfter, readCall, evalu
 use Rattle.sheet.specs.Soundness.{Lent}
 use Rattle.sheet.proofs.Soundness.{read-lent}
 use Rattle.sheet.proofs.Unseen.{unseen-law}
-use Rattle.checker.specs.declared.Answer.{Answer}
-use Rattle.checker.specs.Answers.{answerOf}
+use Rattle.opening.specs.declared.Answer.{Answer}
+use Rattle.opening.specs.Answers.{answerOf}
 use Rattle.checker.specs.Unseen.{AcceptedBy, UnseenOfCall}
 use Rattle.checker.proofs.Soundness.{written}
 

@@ -1,5 +1,3 @@
-pub mod Answers
-pub mod Parts
 pub mod TypeLines
 pub mod Outcomes
 pub mod Soundness

@@ -10,8 +10,8 @@ use Rattle.sheet.specs.Spelling.{spellValue}
 use Rattle.sheet.specs.Calls.{ended}
 use Rattle.operations.specs.declared.Ended.{Ended}
 use Rattle.operations.specs.Answers.{Ends}
-use Rattle.checker.specs.declared.Answer.{Answer}
-use Rattle.checker.specs.Parts.{GivesAnswer}
+use Rattle.opening.specs.declared.Answer.{Answer}
+use Rattle.opening.specs.Parts.{GivesAnswer}
 
 -- it is the end of an outcome whose value, if it has one, is spelled in at most 2,560 bytes
 pub record Fitting (w2 : List ℕ) (e : Ended) : Type 0 where

@@ -18,8 +18,8 @@ use Rattle.sheet.specs.Sheet.{modelOf}
 use Rattle.sheet.specs.Calls.{readCall, evaluateCall}
 use Rattle.sheet.specs.Report.{reportCall}
 use Rattle.sheet.specs.Soundness.{Lent, sheetIn, reachOf, ofContext}
-use Rattle.checker.specs.declared.Answer.{Answer}
-use Rattle.checker.specs.Answers.{AnswersWith}
+use Rattle.opening.specs.declared.Answer.{Answer}
+use Rattle.opening.specs.Answers.{AnswersWith}
 
 -- the output begins with w, and the answer says how long that is
 pub record Says (w : Bytes) (a : Answer) (out : Bytes) : Type 0 where

@@ -7,8 +7,8 @@ use Rattle.sheet.specs.Text.{Bytes}
 use Rattle.sheet.specs.Calls.{readCall, evaluateCall}
 use Rattle.sheet.specs.Soundness.{Lent}
 use Rattle.sheet.specs.Unseen.{rowsSeenIn, DifferOnly}
-use Rattle.checker.specs.declared.Answer.{Answer}
-use Rattle.checker.specs.Answers.{AnswersWith}
+use Rattle.opening.specs.declared.Answer.{Answer}
+use Rattle.opening.specs.Answers.{AnswersWith}
 
 -- the text is accepted: the call that reads it, with every slice at its minimum or above, answers 0
 pub record AcceptedBy (text : Bytes) : Type 0 where

@@ -13,20 +13,23 @@ use Rattle.laws.proofs.Slices.{under-top, slice-join}
 use Rattle.ocl.specs.Types.{Kind, set, sequence, bag, kindCode}
 use Rattle.ocl.specs.Values.{Value, coll, Values, nil, cons, append, add, addAll}
 use Rattle.ocl.specs.Environment.{Env}
-use Rattle.ocl.specs.Operations.{Outcome, form}
-use Rattle.ocl.specs.Evaluation.{bind, leafRun, noOperandRun, operandRun, assembleRun, operandsRun}
+use Rattle.ocl.specs.Operations.{form}
+use Rattle.ocl.specs.Evaluation.{leafRun}
+use Rattle.ocl.specs.Trace.{Traced, at, bindT, leafTrace, noOperandTrace, operandTrace, assembleTrace, operandsTrace}
 use Rattle.values.specs.Cells.{enc, encs, Fits, AllFit, fit-nil, fit-cons}
 use Rattle.values.specs.Contracts.{Assembles}
 use Rattle.values.specs.declared.Formed.{Formed}
 use Rattle.values.proofs.Growing.{append-cells}
 use Rattle.nodes.specs.Nodes.{word, kindOf, operandsIn, treesBelow}
 use Rattle.operations.specs.declared.Ended.{Ended}
-use Rattle.operations.specs.declared.Ended.the-variants as ended
-use Rattle.operations.specs.Answers.{Under, Ran, SmallAnswer, formedAs}
-use Rattle.operations.specs.Runs.{World, Rel, Evals}
-use Rattle.evaluation.specs.Evaluating.{operandFor, membersRun, assembleNode}
+use Rattle.operations.specs.Answers.{Under, formedAs}
+use Rattle.operations.specs.Runs.{World, Rel}
+use Rattle.evaluation.specs.declared.Traced.{Traced as Answer}
+use Rattle.evaluation.specs.declared.Traced.the-variants as traced
+use Rattle.evaluation.specs.Traces.{placeOf, RanT, SmallTraced, arisen, EvalsT}
+use Rattle.evaluation.specs.Evaluating.{operandFor, membersTrace, assembleNode}
 use Rattle.operations.proofs.Words.{under-refl, under-then, under-down, formed-small, formed-ran}
-use Rattle.evaluation.proofs.Composition.{rel-kept, Other, valued, falls, bounds, ran-from, ran-undefined-at}
+use Rattle.evaluation.proofs.Composition.{rel-kept, Other, bounds, valued, falls, arisen-small, arisen-ran, named, placed, ran-from, ran-undefined-at}
 
 -- ---- one more value at the end
 
@@ -51,25 +54,25 @@ kind-number k l h = by (eqb k 27) (eqb k 28) refl refl
 
 -- ---- the loop
 
--- c operands from word j on, to the members vs
-unfoldable pub gatherRun : List ℕ → ℕ → World → ℕ → ℕ → Kind → Values → Env Value → ℕ → Outcome
-gatherRun t n w c j k vs ρ s = operandsRun (w .model) (w .mark) (operandsIn (treesBelow t n) (word t n) c j) k vs ρ s
+-- c operands from word j on, to the members vs; the node began at step b
+unfoldable pub gatherRun : List ℕ → ℕ → ℕ → World → ℕ → ℕ → Kind → Values → Env Value → ℕ → Traced
+gatherRun t n b w c j k vs ρ s = operandsTrace (w .model) (w .mark) (operandsIn (treesBelow t n) (word t n) c j) n b k vs ρ s
 
-gather-step : (t : List ℕ) (n : ℕ) (w : World) (c j : ℕ) (k : Kind) (vs : Values) (ρ : Env Value) (s : ℕ)
-    → gatherRun t n w (suc c) j k vs ρ s ≡ bind (operandFor t n j w ρ s) (λ v m. gatherRun t n w c (j + 1) k (add k v vs) ρ m)
-unfolding gatherRun operandsIn operandsRun operandRun operandFor
-gather-step t n w c j k vs ρ s = refl
+gather-step : (t : List ℕ) (n b : ℕ) (w : World) (c j : ℕ) (k : Kind) (vs : Values) (ρ : Env Value) (s : ℕ)
+    → gatherRun t n b w (suc c) j k vs ρ s ≡ bindT (operandFor t n j w ρ s) (λ v m. gatherRun t n b w c (j + 1) k (add k v vs) ρ m)
+unfolding gatherRun operandsIn operandsTrace operandTrace operandFor
+gather-step t n b w c j k vs ρ s = refl
 
-gather-end : (t : List ℕ) (n : ℕ) (w : World) (j : ℕ) (k : Kind) (vs : Values) (ρ : Env Value) (s : ℕ) → gatherRun t n w 0 j k vs ρ s ≡ form (coll k vs) s
-unfolding gatherRun operandsIn operandsRun noOperandRun
-gather-end t n w j k vs ρ s = refl
+gather-end : (t : List ℕ) (n b : ℕ) (w : World) (j : ℕ) (k : Kind) (vs : Values) (ρ : Env Value) (s : ℕ) → gatherRun t n b w 0 j k vs ρ s ≡ at n b (form (coll k vs) s)
+unfolding gatherRun operandsIn operandsTrace noOperandTrace
+gather-end t n b w j k vs ρ s = refl
 
 -- the values so far lie from sp to end
-pub record GatherAt (t : List ℕ) (n : ℕ) (kind : Kind) (w : World) (ρ : Env Value) (sp end count : ℕ) (S₀ S : List ℕ) (s j : ℕ) (whole : Outcome) : Type 0 where
+pub record GatherAt (t : List ℕ) (n : ℕ) (kind : Kind) (w : World) (ρ : Env Value) (sp end count : ℕ) (S₀ S : List ℕ) (s₀ s j : ℕ) (whole : Traced) : Type 0 where
   pub done : Values
   pub fits : AllFit done
   pub lies : slice sp end S ≡ encs done
-  pub same : whole ≡ gatherRun t n w (count - j) (j + 1) kind (addAll kind done nil) ρ s
+  pub same : whole ≡ gatherRun t n s₀ w (count - j) (j + 1) kind (addAll kind done nil) ρ s
   pub kept : Under sp S S₀
 
 -- S₀ is the stack where the loop begins; an operand is there only where a level is left for it
@@ -79,7 +82,7 @@ pub record Gathering (Ok : World → Type 0) (t : List ℕ) (n : ℕ) (kind : Ki
   pub near : end ≤ sp + 128 * j
   pub room : end ≤ sp + 384 + 128 * left
   pub within : j ≤ count
-  pub at : (w : World) → Ok w → (ρ : Env Value) → Rel env S₀ sp ρ → GatherAt t n kind w ρ sp end count S₀ S s j (gatherRun t n w count 1 kind nil ρ s₀)
+  pub at : (w : World) → Ok w → (ρ : Env Value) → Rel env S₀ sp ρ → GatherAt t n kind w ρ sp end count S₀ S s₀ s j (gatherRun t n s₀ w count 1 kind nil ρ s₀)
 
 pub gather-starts : {Ok : World → Type 0} {t : List ℕ} {n : ℕ} {kind : Kind} {env S : List ℕ} {sp left count s : ℕ} → Gathering Ok t n kind env sp left count S S s s sp 0
 unfolding encs addAll
@@ -89,37 +92,38 @@ gather-starts {t = t} {n = n} {kind = kind} {S = S} {sp = sp} {count = count} {s
   near = omega arith;
   room = omega arith;
   within = omega arith;
-  at = λ w ok ρ rel. record { done = nil; fits = fit-nil; lies = slice-empty sp S; same = (let e : count ≡ count - 0 = omega arith in ap (λ (m : ℕ). gatherRun t n w m 1 kind nil ρ s) e); kept = under-refl };
+  at = λ w ok ρ rel. record { done = nil; fits = fit-nil; lies = slice-empty sp S; same = (let e : count ≡ count - 0 = omega arith in ap (λ (m : ℕ). gatherRun t n s w m 1 kind nil ρ s) e); kept = under-refl };
 }
 
 module _ {Ok : World → Type 0} (t : List ℕ) (n k : ℕ) {env : List ℕ} {sp left count : ℕ} {S₀ S : List ℕ} {s₀ s end j : ℕ} (c : count ≡ word t n 5) (few : count ≤ 4)
     (G : Gathering Ok t n (kindOf k) env sp left count S₀ S s₀ s end j) where
-  assembles : {A : List ℕ} {r : Ended} → SmallAnswer r → ((w : World) → Ok w → (ρ : Env Value) → Rel env S₀ sp ρ → Ran (gatherRun t n w count 1 (kindOf k) nil ρ s₀) sp S₀ A r) → Evals Ok (assembleNode t n k) env sp s₀ S₀ A r
-  unfolding assembleNode membersRun assembleRun gatherRun
+  assembles : {A : List ℕ} {r : Answer} → SmallTraced r → ((w : World) → Ok w → (ρ : Env Value) → Rel env S₀ sp ρ → RanT (gatherRun t n s₀ w count 1 (kindOf k) nil ρ s₀) sp S₀ A r) → EvalsT Ok (assembleNode t n k) env sp s₀ S₀ A r
+  unfolding assembleNode membersTrace assembleTrace gatherRun
   assembles m x = record { small = m; ran = λ w ok ρ rel. rw (← c, le-ltb 4 count few) (x w ok ρ rel) }
 
-  pub assemble-done : {D : List ℕ} (f : Formed) {r : Ended} {kind : ℕ} → count ≤ j → kind ≡ kindCode (kindOf k) → sp ≤ length S → Assembles kind sp sp end S D f → r ≡ formedAs f s → Evals Ok (assembleNode t n k) env sp s₀ S₀ D r
-  assemble-done f h e room x q = rw q (assembles (formed-small f s (x .small)) (λ w ok ρ rel.
+  pub assemble-done : {D : List ℕ} (f : Formed) {r : Ended} {a : Answer} {kind place : ℕ} → count ≤ j → kind ≡ kindCode (kindOf k) → sp ≤ length S → Assembles kind sp sp end S D f → r ≡ formedAs f s
+      → n < 768 → 1 ≤ s₀ → s₀ ≤ 1000000 → place ≡ placeOf n s₀ → a ≡ arisen r place → EvalsT Ok (assembleNode t n k) env sp s₀ S₀ D a
+  assemble-done f h e room x q node low high at i = rw (i, q) (assembles (arisen-small (formedAs f s) (formed-small f s (x .small)) (placed at node low high)) (λ w ok ρ rel.
       let a = G .at w ok ρ rel in
       let z : count - j ≡ 0 = omega arith in
-      rw (a .same, z, gather-end t n w (j + 1) (kindOf k) (addAll (kindOf k) (a .done) nil) ρ s)
-      (ran-from (a .kept) (formed-ran S s room (x .is (kindOf k) (a .done) e (a .fits) (a .lies))))))
+      rw (a .same, z, gather-end t n s₀ w (j + 1) (kindOf k) (addAll (kindOf k) (a .done) nil) ρ s)
+      (ran-from (a .kept) (arisen-ran (formed-ran S s room (x .is (kindOf k) (a .done) e (a .fits) (a .lies))) (named at node)))))
 
-  module _ {S' : List ℕ} {r : Ended} (more : j < count) (x : Evals Ok (operandFor t n (j + 1)) env end s S S' r) where
-    step : {w : World} {ρ : Env Value} → (a : GatherAt t n (kindOf k) w ρ sp end count S₀ S s j (gatherRun t n w count 1 (kindOf k) nil ρ s₀))
-        → gatherRun t n w count 1 (kindOf k) nil ρ s₀ ≡ bind (operandFor t n (j + 1) w ρ s) (λ v m. gatherRun t n w (count - (j + 1)) (j + 1 + 1) (kindOf k) (add (kindOf k) v (addAll (kindOf k) (a .done) nil)) ρ m)
+  module _ {S' : List ℕ} {r : Answer} (more : j < count) (x : EvalsT Ok (operandFor t n (j + 1)) env end s S S' r) where
+    step : {w : World} {ρ : Env Value} → (a : GatherAt t n (kindOf k) w ρ sp end count S₀ S s₀ s j (gatherRun t n s₀ w count 1 (kindOf k) nil ρ s₀))
+        → gatherRun t n s₀ w count 1 (kindOf k) nil ρ s₀ ≡ bindT (operandFor t n (j + 1) w ρ s) (λ v m. gatherRun t n s₀ w (count - (j + 1)) (j + 1 + 1) (kindOf k) (add (kindOf k) v (addAll (kindOf k) (a .done) nil)) ρ m)
     step {w} {ρ} a =
         let z : count - j ≡ suc (count - (j + 1)) = omega arith in
-        a .same ∙ ap (λ (m : ℕ). gatherRun t n w m (j + 1) (kindOf k) (addAll (kindOf k) (a .done) nil) ρ s) z
-        ∙ gather-step t n w (count - (j + 1)) (j + 1) (kindOf k) (addAll (kindOf k) (a .done) nil) ρ s
+        a .same ∙ ap (λ (m : ℕ). gatherRun t n s₀ w m (j + 1) (kindOf k) (addAll (kindOf k) (a .done) nil) ρ s) z
+        ∙ gather-step t n s₀ w (count - (j + 1)) (j + 1) (kindOf k) (addAll (kindOf k) (a .done) nil) ρ s
 
-    pub assemble-early : Other r → Evals Ok (assembleNode t n k) env sp s₀ S₀ S' r
+    pub assemble-early : Other r → EvalsT Ok (assembleNode t n k) env sp s₀ S₀ S' r
     assemble-early o = assembles (x .small) (λ w ok ρ rel.
         let a = G .at w ok ρ rel in
-        rw (step a) (falls (operandFor t n (j + 1) w ρ s) (λ v m. gatherRun t n w (count - (j + 1)) (j + 1 + 1) (kindOf k) (add (kindOf k) v (addAll (kindOf k) (a .done) nil)) ρ m)
+        rw (step a) (falls (operandFor t n (j + 1) w ρ s) (λ v m. gatherRun t n s₀ w (count - (j + 1)) (j + 1 + 1) (kindOf k) (add (kindOf k) v (addAll (kindOf k) (a .done) nil)) ρ m)
         (G .up) (a .kept) (x .ran w ok ρ (rel-kept (G .up) (a .kept) rel)) o))
 
-    pub assemble-again : {len sb : ℕ} → r ≡ ended.Value len sb → length S' ≡ length S → 1 ≤ left → end ≤ length S' → Gathering Ok t n (kindOf k) env sp left count S₀ S' s₀ sb (end + len) (j + 1)
+    pub assemble-again : {len sb : ℕ} → r ≡ traced.Value len sb → length S' ≡ length S → 1 ≤ left → end ≤ length S' → Gathering Ok t n (kindOf k) env sp left count S₀ S' s₀ sb (end + len) (j + 1)
     assemble-again {len} {sb} q l h room = record {
       long = l ∙ G .long;
       up = (let u = G .up in omega arith);
@@ -136,13 +140,14 @@ module _ {Ok : World → Type 0} (t : List ℕ) (n k : ℕ) {env : List ℕ} {sp
                 ∙ ap (λ (y : List ℕ). y ++ slice end (end + len) S') (under-top S' S end sp end (omega arith) (d .kept .same) ∙ a .lies)
                 ∙ ap (λ (y : List ℕ). encs (a .done) ++ y) (d .lies .cells ∙ sym (append-nil (enc (d .v)))) ∙ sym (append-cells (d .v) (a .done));
             same = step a
-                ∙ ap (λ (o : Outcome). bind o (λ v m. gatherRun t n w (count - (j + 1)) (j + 1 + 1) (kindOf k) (add (kindOf k) v (addAll (kindOf k) (a .done) nil)) ρ m)) (d .is)
-                ∙ ap (λ (vs : Values). gatherRun t n w (count - (j + 1)) (j + 1 + 1) (kindOf k) vs ρ sb) (sym (add-last (kindOf k) (d .v) (a .done) nil));
+                ∙ ap (λ (o : Traced). bindT o (λ v m. gatherRun t n s₀ w (count - (j + 1)) (j + 1 + 1) (kindOf k) (add (kindOf k) v (addAll (kindOf k) (a .done) nil)) ρ m)) (d .is)
+                ∙ ap (λ (vs : Values). gatherRun t n s₀ w (count - (j + 1)) (j + 1 + 1) (kindOf k) vs ρ sb) (sym (add-last (kindOf k) (d .v) (a .done) nil));
             kept = under-then (under-down (G .up) (d .kept)) (a .kept);
           };
     }
 
 -- more than four count as `undef`
-pub assemble-over : {Ok : World → Type 0} (t : List ℕ) (n k : ℕ) {env B : List ℕ} {sp s count : ℕ} → count ≡ word t n 5 → 4 < count → Evals Ok (assembleNode t n k) env sp s B B (ended.Undef s)
-unfolding assembleNode leafRun
-assemble-over t n k {count = count} e h = record { small = tt; ran = λ w ok ρ rel. rw (← e, lt-ltb 4 count h) (ran-undefined-at under-refl) }
+pub assemble-over : {Ok : World → Type 0} (t : List ℕ) (n k : ℕ) {env B : List ℕ} {sp s count place : ℕ} → count ≡ word t n 5 → 4 < count
+    → n < 768 → 1 ≤ s → s ≤ 1000000 → place ≡ placeOf n s → EvalsT Ok (assembleNode t n k) env sp s B B (traced.Undef s place)
+unfolding assembleNode leafTrace leafRun
+assemble-over t n k {count = count} e h node low high at = record { small = placed at node low high; ran = λ w ok ρ rel. rw (← e, lt-ltb 4 count h) (ran-undefined-at under-refl (named at node)) }

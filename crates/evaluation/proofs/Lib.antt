@@ -1,4 +1,5 @@
 pub mod Composition
+pub mod Packing
 pub mod ConnectiveLaws
 pub mod FormLaws
 pub mod CallLaws

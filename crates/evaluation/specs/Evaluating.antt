@@ -1,28 +1,30 @@
 -- What the recursion's contracts say: for every model and marks that the words hold, and every environment whose values lie
--- below sp, the answer is the definition's outcome.
+-- below sp, the answer is the definition's outcome, with where its undefined arose.
 use mathlib.Core.Path.{_≡_}
-use mathlib.Core.Bool.{Bool, false, _||_, Bool·beq}
+use mathlib.Core.Bool.{Bool·beq}
+use mathlib.Core.Option.{none}
 use mathlib.Core.List.{List}
-use Prim.Native.Nat.{ℕ, _+_, _*_, _≤_, _<_}
+use Prim.Native.Nat.{ℕ, _+_, _*_, _/_, _%_, _≤_, _<_}
 use lib.Seq.{slice}
-use lib.Dec.{ltb}
+use lib.Dec.{eqb, ltb}
 use Rattle.laws.specs.Choice.{if_then_else_}
 use Rattle.ocl.specs.Values.{Value, bool, Values}
 use Rattle.ocl.specs.Environment.{Env, extend}
 use Rattle.ocl.specs.Forms.{Expr, levels, Connective, Quantifier, undef}
-use Rattle.ocl.specs.Operations.{value, undefined, onBool}
-use Rattle.ocl.specs.Evaluation.{resume, bind, leafRun, binaryRun, decides, connectiveRun, conditionalRun, letRun, callRun, quantifiedRun, iterateRun, assembleRun, evaluation, evaluateRule, operandsRun, seek, fold}
+use Rattle.ocl.specs.Evaluation.{decides}
+use Rattle.ocl.specs.Trace.{valueT, undefinedT, at, resumeT, bindT, onBoolT, leafTrace, binaryTrace, connectiveTrace, conditionalTrace, letTrace, callTrace, quantifiedTrace, iterateTrace, assembleTrace, trace, traceRule, operandsTrace, seekT, foldT}
 use Rattle.values.specs.Cells.{encs, AllFit}
 use Rattle.nodes.specs.Nodes.{word, variable, classIn, binaryOf, connectiveOf, quantifierOf, kindOf, operandsIn, treesBelow, treeAt}
 use Rattle.nodes.specs.Marks.{Marked}
 use Rattle.tables.specs.declared.Counts.{Counts}
 use Rattle.tables.specs.Layout.{Fine}
 use Rattle.tables.specs.Stored.{HoldsModel}
-use Rattle.operations.specs.declared.Ended.{Ended}
-use Rattle.operations.specs.Answers.{Lies, Ends, Ran, SmallAnswer}
+use Rattle.operations.specs.Answers.{Lies}
 use Rattle.operations.specs.Tables.{Plain}
-use Rattle.operations.specs.Runs.{World, Rel, Meaning}
+use Rattle.operations.specs.Runs.{World, Rel}
 use Rattle.operations.specs.Operand.{markIn, ofValue, ofUndefined}
+use Rattle.evaluation.specs.declared.Traced.{Traced as Answer}
+use Rattle.evaluation.specs.Traces.{EndsT, RanT, SmallTraced, MeaningT}
 
 -- ---- what is evaluated over
 
@@ -32,10 +34,10 @@ pub record ReadsWorld (st : Counts) (w0 w1 : List ℕ) (w : World) : Type 0 wher
   pub plain : Plain st (w .model)
   pub mark : (p : ℕ) → p < 768 → Marked (markIn w1 p) (w .mark p)
 
--- a rule's outcome, its value at 1
-pub record Rules (Ok : World → Type 0) (e : Expr) (o : ℕ) (A : List ℕ) (r : Ended) : Type 0 where
-  pub small : SmallAnswer r
-  pub ends : (w : World) → Ok w → Ends 1 A (evaluateRule (w .model) (w .mark) e o) r
+-- a rule's outcome with where its undefined arose, its value at 1
+pub record TracesRule (Ok : World → Type 0) (e : Expr) (o : ℕ) (A : List ℕ) (r : Answer) : Type 0 where
+  pub small : SmallTraced r
+  pub ends : (w : World) → Ok w → EndsT 1 A (traceRule (w .model) (w .mark) e o) r
 
 -- ---- nodes and operands
 
@@ -43,11 +45,11 @@ pub record Rules (Ok : World → Type 0) (e : Expr) (o : ℕ) (A : List ℕ) (r 
 abbrev pub operandTree : List ℕ → ℕ → ℕ → Expr
 operandTree t n k = treesBelow t n (word t n k)
 
-unfoldable pub nodeFor : List ℕ → ℕ → Meaning
-nodeFor t n w = evaluation (w .model) (w .mark) (treeAt t n)
+unfoldable pub nodeFor : List ℕ → ℕ → MeaningT
+nodeFor t n w = trace (w .model) (w .mark) (treeAt t n)
 
-unfoldable pub operandFor : List ℕ → ℕ → ℕ → Meaning
-operandFor t n k w = evaluation (w .model) (w .mark) (operandTree t n k)
+unfoldable pub operandFor : List ℕ → ℕ → ℕ → MeaningT
+operandFor t n k w = trace (w .model) (w .mark) (operandTree t n k)
 
 -- the counts are within the limits, the words are as many as are lent, n is a node, and the stack has room for left levels
 -- above sp: a level keeps at most 384 words below an operand, and 256 are for what is formed above
@@ -62,40 +64,48 @@ pub record StackRoom (st : Counts) (w0 w1 w2 n sp left : ℕ) : Type 0 where
 -- ---- the forms of node n over its operands
 
 -- one operand: codes 7 to 12, `isUndef`, `attr`
-unfoldable pub unaryNode : List ℕ → ℕ → ℕ → Meaning
-unaryNode t n k w ρ s = resume (operandFor t n 1 w ρ s) (ofValue (w .model) k (word t n) (w .mark n)) (ofUndefined k)
+unfoldable pub unaryNode : List ℕ → ℕ → ℕ → MeaningT
+unaryNode t n k w ρ s = resumeT (operandFor t n 1 w ρ s) (λ v m. at n s (ofValue (w .model) k (word t n) (w .mark n) v m)) (λ m q j. at q j (ofUndefined k m))
 
-unfoldable pub binaryNode : List ℕ → ℕ → ℕ → Meaning
-binaryNode t n k w = binaryRun (w .mark n) (binaryOf k) (operandFor t n 1 w) (operandFor t n 2 w)
+unfoldable pub binaryNode : List ℕ → ℕ → ℕ → MeaningT
+binaryNode t n k w = binaryTrace n (w .mark n) (binaryOf k) (operandFor t n 1 w) (operandFor t n 2 w)
 
-unfoldable pub connectiveNode : List ℕ → ℕ → ℕ → Meaning
-connectiveNode t n k w = connectiveRun (connectiveOf k) (operandFor t n 1 w) (operandFor t n 2 w)
+unfoldable pub connectiveNode : List ℕ → ℕ → ℕ → MeaningT
+connectiveNode t n k w = connectiveTrace (connectiveOf k) (operandFor t n 1 w) (operandFor t n 2 w)
 
--- the right side, after a left side that does not decide, known or undefined
-unfoldable pub rightSide : Bool → Connective → Meaning → Meaning
-rightSide known c g w ρ n = bind (g w ρ n) (λ v n. onBool v (λ b. if known || Bool·beq b (decides c) then value (bool b) n else undefined n))
+-- the right side, after a left side that does not decide: a known one, or one whose undefined arose at this place
+unfoldable pub knownLeft : MeaningT → MeaningT
+knownLeft g w ρ n = bindT (g w ρ n) (λ v n. onBoolT v (λ b. valueT (bool b) n))
 
-unfoldable pub conditionalNode : List ℕ → ℕ → Meaning
-conditionalNode t n w = conditionalRun (operandFor t n 1 w) (operandFor t n 2 w) (operandFor t n 3 w)
+unfoldable pub undefinedLeft : ℕ → Connective → MeaningT → MeaningT
+undefinedLeft place c g w ρ n = resumeT (g w ρ n)
+    (λ v n. onBoolT v (λ b. if Bool·beq b (decides c) then valueT (bool b) n else undefinedT n (place % 1024) (place / 1024)))
+    (λ n q j. undefinedT n (place % 1024) (place / 1024))
 
-unfoldable pub letNode : List ℕ → ℕ → Meaning
-letNode t n w = letRun (variable (word t n 3)) (operandFor t n 1 w) (operandFor t n 2 w)
+unfoldable pub rightSide : ℕ → Connective → MeaningT → MeaningT
+rightSide place c g = if eqb place 0 then knownLeft g else undefinedLeft place c g
 
-unfoldable pub callNode : List ℕ → ℕ → Meaning
-callNode t n w = callRun (w .model) (classIn (word t n 3)) (operandFor t n 1 w) (operandFor t n 2 w)
+unfoldable pub conditionalNode : List ℕ → ℕ → MeaningT
+conditionalNode t n w = conditionalTrace (operandFor t n 1 w) (operandFor t n 2 w) (operandFor t n 3 w)
 
-unfoldable pub quantifiedNode : List ℕ → ℕ → ℕ → Meaning
-quantifiedNode t n k w = quantifiedRun (quantifierOf k) (variable (word t n 3)) (operandFor t n 1 w) (operandFor t n 2 w)
+unfoldable pub letNode : List ℕ → ℕ → MeaningT
+letNode t n w = letTrace (variable (word t n 3)) (operandFor t n 1 w) (operandFor t n 2 w)
 
-unfoldable pub iterateNode : List ℕ → ℕ → Meaning
-iterateNode t n w = iterateRun (variable (word t n 4)) (variable (word t n 5)) (operandFor t n 1 w) (operandFor t n 2 w) (operandFor t n 3 w)
+unfoldable pub callNode : List ℕ → ℕ → MeaningT
+callNode t n w = callTrace (w .model) (classIn (word t n 3)) (operandFor t n 1 w) (operandFor t n 2 w)
+
+unfoldable pub quantifiedNode : List ℕ → ℕ → ℕ → MeaningT
+quantifiedNode t n k w = quantifiedTrace (quantifierOf k) (variable (word t n 3)) (operandFor t n 1 w) (operandFor t n 2 w)
+
+unfoldable pub iterateNode : List ℕ → ℕ → MeaningT
+iterateNode t n w = iterateTrace (variable (word t n 4)) (variable (word t n 5)) (operandFor t n 1 w) (operandFor t n 2 w) (operandFor t n 3 w)
 
 -- the members of `coll`, by their nodes; more than four count as `undef`
-unfoldable pub membersRun : List ℕ → ℕ → ℕ → Meaning
-membersRun t n k w = assembleRun (kindOf k) (operandsRun (w .model) (w .mark) (operandsIn (treesBelow t n) (word t n) (word t n 5) 1))
+unfoldable pub membersTrace : List ℕ → ℕ → ℕ → MeaningT
+membersTrace t n k w = assembleTrace n (kindOf k) (operandsTrace (w .model) (w .mark) (operandsIn (treesBelow t n) (word t n) (word t n 5) 1))
 
-unfoldable pub assembleNode : List ℕ → ℕ → ℕ → Meaning
-assembleNode t n k w = if ltb 4 (word t n 5) then leafRun (w .model) undef else membersRun t n k w
+unfoldable pub assembleNode : List ℕ → ℕ → ℕ → MeaningT
+assembleNode t n k w = if ltb 4 (word t n 5) then leafTrace (w .model) n undef else membersTrace t n k w
 
 -- each operand of `coll` has few enough levels
 pub record Shallow (t : List ℕ) (n left : ℕ) : Type 0 where
@@ -103,13 +113,13 @@ pub record Shallow (t : List ℕ) (n left : ℕ) : Type 0 where
 
 -- ---- loops over the members of the collection of la cells at sp
 
-pub record Seeks (Ok : World → Type 0) (q : Quantifier) (i : ℕ) (g : Meaning) (env : List ℕ) (sp la s : ℕ) (B A : List ℕ) (r : Ended) : Type 0 where
-  pub small : SmallAnswer r
+pub record Seeks (Ok : World → Type 0) (q : Quantifier) (i : ℕ) (g : MeaningT) (env : List ℕ) (sp la s : ℕ) (B A : List ℕ) (r : Answer) : Type 0 where
+  pub small : SmallTraced r
   pub ran : (w : World) → Ok w → (ρ : Env Value) → Rel env B sp ρ → (vs : Values) → AllFit vs → slice (sp + 1) (sp + la) B ≡ encs vs
-      → Ran (seek q (λ x. g w (extend ρ i x)) false vs s) sp B A r
+      → RanT (seekT q (λ x. g w (extend ρ i x)) none vs s) sp B A r
 
 -- the accumulator is the lb cells after the collection
-pub record Folds (Ok : World → Type 0) (i j : ℕ) (h : Meaning) (env : List ℕ) (sp la lb s : ℕ) (B A : List ℕ) (r : Ended) : Type 0 where
-  pub small : SmallAnswer r
+pub record Folds (Ok : World → Type 0) (i j : ℕ) (h : MeaningT) (env : List ℕ) (sp la lb s : ℕ) (B A : List ℕ) (r : Answer) : Type 0 where
+  pub small : SmallTraced r
   pub ran : (w : World) → Ok w → (ρ : Env Value) → Rel env B sp ρ → (vs : Values) → AllFit vs → slice (sp + 1) (sp + la) B ≡ encs vs
-      → (a : Value) → Lies a (sp + la) lb B → Ran (fold (λ x y. h w (extend (extend ρ i x) j y)) vs a s) sp B A r
+      → (a : Value) → Lies a (sp + la) lb B → RanT (foldT (λ x y. h w (extend (extend ρ i x) j y)) vs a s) sp B A r

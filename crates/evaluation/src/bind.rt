@@ -1,14 +1,15 @@
 // Forms that bind variables in a body: `let`, `call`, `forAll`, `exists`, `iter`.
+use crate::Traced;
+use crate::answers::earlier;
 use crate::walk::below;
 use nodes::node_word;
-use operations::Ended;
-use operations::answers::put;
 use operations::answers::truth;
 use operations::lookup::is_object;
 use tables::Counts;
 use types::classes::wide;
 use values::Simple;
 use values::cells::SET;
+use values::cells::push;
 use values::cells::skip;
 use values::cells::slide;
 use values::cells::sort_of;
@@ -17,7 +18,7 @@ ghost use Prim.Native.Nat.{_+_, _≤_, _<_};
 ghost use lib.ListN.{length};
 ghost use Rattle.ocl.specs.Forms.{levels};
 ghost use Rattle.nodes.specs.Nodes.{word, variable, quantifierOf};
-ghost use Rattle.operations.specs.Runs.{Evals};
+ghost use Rattle.evaluation.specs.Traces.{EvalsT};
 ghost use Rattle.evaluation.specs.Evaluating.{ReadsWorld, StackRoom, operandTree, operandFor, letNode, callNode, quantifiedNode, iterateNode, Seeks, Folds};
 
 // `let`: the body's value is moved down over the bound one.
@@ -31,25 +32,25 @@ pub fn let_in(
     sp: usize,
     left: usize,
     steps: u64,
-) -> Ended
+) -> Traced
     requires { ⌜ StackRoom st (length (now tables)) (length (now nodes)) (length (now stack)) n sp (left + 1) ⌝ }
     requires { ⌜ (levels (operandTree (now nodes) n 1) ≤ left) × (levels (operandTree (now nodes) n 2) ≤ left) ⌝ }
-    ensures { λ r. ⌜ Evals (ReadsWorld st (now (tables .entry)) (now (nodes .entry))) (letNode (now (nodes .entry)) n) env sp steps (now (stack .entry)) (now (stack .exit)) r ⌝ }
+    ensures { λ r. ⌜ EvalsT (ReadsWorld st (now (tables .entry)) (now (nodes .entry))) (letNode (now (nodes .entry)) n) env sp steps (now (stack .entry)) (now (stack .exit)) r ⌝ }
 {
     let i = wide(node_word(nodes, n, 3) % 16);
     let bound = below(tables, st, nodes, n, 1, env, stack, sp, left, steps);
-    let Ended::Value { len: la, steps: sa } = bound else {
+    let Traced::Value { len: la, steps: sa } = bound else {
         return bound;
     };
     let mid = sp + la;
     let mut inner = env;
     inner[i] = sp + 1;
     let second = below(tables, st, nodes, n, 2, inner, stack, mid, left, sa);
-    let Ended::Value { len: lb, steps: sb } = second else {
+    let Traced::Value { len: lb, steps: sb } = second else {
         return second;
     };
     slide(stack, mid, sp, lb);
-    Ended::Value { len: lb, steps: sb }
+    Traced::Value { len: lb, steps: sb }
 }
 
 // `call`: an object of the definition's class or below is `self` in the body, where nothing else is bound.
@@ -63,13 +64,13 @@ pub fn call(
     sp: usize,
     left: usize,
     steps: u64,
-) -> Ended
+) -> Traced
     requires { ⌜ StackRoom st (length (now tables)) (length (now nodes)) (length (now stack)) n sp (left + 1) ⌝ }
     requires { ⌜ (levels (operandTree (now nodes) n 1) ≤ left) × (levels (operandTree (now nodes) n 2) ≤ left) ⌝ }
-    ensures { λ r. ⌜ Evals (ReadsWorld st (now (tables .entry)) (now (nodes .entry))) (callNode (now (nodes .entry)) n) env sp steps (now (stack .entry)) (now (stack .exit)) r ⌝ }
+    ensures { λ r. ⌜ EvalsT (ReadsWorld st (now (tables .entry)) (now (nodes .entry))) (callNode (now (nodes .entry)) n) env sp steps (now (stack .entry)) (now (stack .exit)) r ⌝ }
 {
     let first = below(tables, st, nodes, n, 1, env, stack, sp, left, steps);
-    let Ended::Value { len: la, steps: sa } = first else {
+    let Traced::Value { len: la, steps: sa } = first else {
         return first;
     };
     let c = node_word(nodes, n, 3) % 256;
@@ -78,13 +79,13 @@ pub fn call(
         let mut inner = [0usize; 16];
         inner[0] = sp + 1;
         let body = below(tables, st, nodes, n, 2, inner, stack, top, left, sa);
-        let Ended::Value { len: lb, steps: sb } = body else {
+        let Traced::Value { len: lb, steps: sb } = body else {
             return body;
         };
         slide(stack, top, sp, lb);
-        Ended::Value { len: lb, steps: sb }
+        Traced::Value { len: lb, steps: sb }
     } else {
-        Ended::Stuck
+        Traced::Stuck
     }
 }
 
@@ -101,24 +102,24 @@ pub fn quantified(
     sp: usize,
     left: usize,
     steps: u64,
-) -> Ended
+) -> Traced
     requires { ⌜ StackRoom st (length (now tables)) (length (now nodes)) (length (now stack)) n sp (left + 1) ⌝ }
     requires { ⌜ (25 ≤ form) × (form < 27) × (levels (operandTree (now nodes) n 1) ≤ left) × (levels (operandTree (now nodes) n 2) ≤ left) ⌝ }
     requires { ⌜ i ≡ variable (word (now nodes) n 3) ⌝ }
-    ensures { λ r. ⌜ Evals (ReadsWorld st (now (tables .entry)) (now (nodes .entry))) (quantifiedNode (now (nodes .entry)) n form) env sp steps (now (stack .entry)) (now (stack .exit)) r ⌝ }
+    ensures { λ r. ⌜ EvalsT (ReadsWorld st (now (tables .entry)) (now (nodes .entry))) (quantifiedNode (now (nodes .entry)) n form) env sp steps (now (stack .entry)) (now (stack .exit)) r ⌝ }
 {
     let first = below(tables, st, nodes, n, 1, env, stack, sp, left, steps);
-    let Ended::Value { len: la, steps: sa } = first else {
+    let Traced::Value { len: la, steps: sa } = first else {
         return first;
     };
     if sort_of(stack[sp]) < SET {
-        return Ended::Stuck;
+        return Traced::Stuck;
     }
     seek(tables, st, nodes, n, form, i, env, stack, sp, la, left, sa)
 }
 
 // Members in their order, up to the first whose body ends it: `forAll` (25) at 0, `exists` (26) at 1. Where none does, it is
-// undefined if a body was.
+// undefined if a body was, at the place of the first one.
 fn seek(
     tables: &[u64],
     st: Counts,
@@ -132,14 +133,14 @@ fn seek(
     la: usize,
     left: usize,
     steps: u64,
-) -> Ended
+) -> Traced
     requires { ⌜ StackRoom st (length (now tables)) (length (now nodes)) (length (now stack)) n sp (left + 1) ⌝ }
     requires { ⌜ (25 ≤ form) × (form < 27) × (levels (operandTree (now nodes) n 2) ≤ left) × (1 ≤ la) × (la ≤ 128) ⌝ }
     requires { ⌜ i ≡ variable (word (now nodes) n 3) ⌝ }
     ensures { λ r. ⌜ Seeks (ReadsWorld st (now (tables .entry)) (now (nodes .entry))) (quantifierOf form) (variable (word (now (nodes .entry)) n 3)) (operandFor (now (nodes .entry)) n 2) env sp la steps (now (stack .entry)) (now (stack .exit)) r ⌝ }
 {
     let end = sp + la;
-    let mut blank = false;
+    let mut blank: u64 = 0;
     let mut s = steps;
     let mut p = sp + 1;
     while p < end {
@@ -147,27 +148,32 @@ fn seek(
         inner[i] = p + 1;
         let turn = below(tables, st, nodes, n, 2, inner, stack, end, left, s);
         p = skip(stack, p, end);
-        if let Ended::Undef { steps: su } = turn {
-            blank = true;
+        if let Traced::Undef { steps: su, place } = turn {
+            blank = earlier(blank, place);
             s = su;
             continue;
         }
-        let Ended::Value { len: _, steps: sb } = turn else {
+        let Traced::Value { len: _, steps: sb } = turn else {
             return turn;
         };
         let t = truth(stack[end]);
         if 1 < t {
-            return Ended::Stuck;
+            return Traced::Stuck;
         }
         if t == form - 25 {
-            return put(stack, sp, Simple::Bool { b: t == 1 }, sb);
+            push(stack, sp, Simple::Bool { b: t == 1 });
+            return Traced::Value { len: 1, steps: sb };
         }
         s = sb;
     }
-    if blank {
-        return Ended::Undef { steps: s };
+    if 0 < blank {
+        return Traced::Undef {
+            steps: s,
+            place: blank,
+        };
     }
-    put(stack, sp, Simple::Bool { b: form == 25 }, s)
+    push(stack, sp, Simple::Bool { b: form == 25 });
+    Traced::Value { len: 1, steps: s }
 }
 
 // `iter`: the source, the accumulator's first value after it, then the members.
@@ -181,20 +187,20 @@ pub fn iter(
     sp: usize,
     left: usize,
     steps: u64,
-) -> Ended
+) -> Traced
     requires { ⌜ StackRoom st (length (now tables)) (length (now nodes)) (length (now stack)) n sp (left + 1) ⌝ }
     requires { ⌜ (levels (operandTree (now nodes) n 1) ≤ left) × (levels (operandTree (now nodes) n 2) ≤ left) × (levels (operandTree (now nodes) n 3) ≤ left) ⌝ }
-    ensures { λ r. ⌜ Evals (ReadsWorld st (now (tables .entry)) (now (nodes .entry))) (iterateNode (now (nodes .entry)) n) env sp steps (now (stack .entry)) (now (stack .exit)) r ⌝ }
+    ensures { λ r. ⌜ EvalsT (ReadsWorld st (now (tables .entry)) (now (nodes .entry))) (iterateNode (now (nodes .entry)) n) env sp steps (now (stack .entry)) (now (stack .exit)) r ⌝ }
 {
     let first = below(tables, st, nodes, n, 1, env, stack, sp, left, steps);
-    let Ended::Value { len: la, steps: sa } = first else {
+    let Traced::Value { len: la, steps: sa } = first else {
         return first;
     };
     if sort_of(stack[sp]) < SET {
-        return Ended::Stuck;
+        return Traced::Stuck;
     }
     let second = below(tables, st, nodes, n, 2, env, stack, sp + la, left, sa);
-    let Ended::Value { len: lb, steps: sb } = second else {
+    let Traced::Value { len: lb, steps: sb } = second else {
         return second;
     };
     let i = wide(node_word(nodes, n, 4) % 16);
@@ -217,7 +223,7 @@ fn fold(
     lb: usize,
     left: usize,
     steps: u64,
-) -> Ended
+) -> Traced
     requires { ⌜ StackRoom st (length (now tables)) (length (now nodes)) (length (now stack)) n sp (left + 1) ⌝ }
     requires { ⌜ (levels (operandTree (now nodes) n 3) ≤ left) × (1 ≤ la) × (la ≤ 128) × (1 ≤ lb) × (lb ≤ 128) ⌝ }
     requires { ⌜ (i ≡ variable (word (now nodes) n 4)) × (j ≡ variable (word (now nodes) n 5)) ⌝ }
@@ -232,7 +238,7 @@ fn fold(
         inner[i] = p + 1;
         inner[j] = mid + 1;
         let turn = below(tables, st, nodes, n, 3, inner, stack, mid + len, left, s);
-        let Ended::Value { len: lt, steps: sb } = turn else {
+        let Traced::Value { len: lt, steps: sb } = turn else {
             return turn;
         };
         slide(stack, mid + len, mid, lt);
@@ -241,5 +247,5 @@ fn fold(
         p = skip(stack, p, mid);
     }
     slide(stack, mid, sp, len);
-    Ended::Value { len, steps: s }
+    Traced::Value { len, steps: s }
 }

@@ -1,13 +1,14 @@
 // Forms that may leave an operand unrun: `and`, `or`, `if`.
+use crate::Traced;
+use crate::answers::earlier;
 use crate::walk::below;
-use operations::Ended;
 use operations::answers::truth;
 use tables::Counts;
 ghost use Prim.Native.Nat.{_+_, _≤_, _<_};
 ghost use lib.ListN.{length};
 ghost use Rattle.ocl.specs.Forms.{levels};
 ghost use Rattle.nodes.specs.Nodes.{connectiveOf};
-ghost use Rattle.operations.specs.Runs.{Evals};
+ghost use Rattle.evaluation.specs.Traces.{Perhaps, EvalsT};
 ghost use Rattle.evaluation.specs.Evaluating.{ReadsWorld, StackRoom, operandTree, operandFor, connectiveNode, rightSide, conditionalNode};
 
 // `and` (23) and `or` (24): if the left side decides, the right one does not run. False decides `and`, true decides `or`.
@@ -22,74 +23,86 @@ pub fn connective(
     sp: usize,
     left: usize,
     steps: u64,
-) -> Ended
+) -> Traced
     requires { ⌜ StackRoom st (length (now tables)) (length (now nodes)) (length (now stack)) n sp (left + 1) ⌝ }
     requires { ⌜ (23 ≤ form) × (form < 25) × (levels (operandTree (now nodes) n 1) ≤ left) × (levels (operandTree (now nodes) n 2) ≤ left) ⌝ }
-    ensures { λ r. ⌜ Evals (ReadsWorld st (now (tables .entry)) (now (nodes .entry))) (connectiveNode (now (nodes .entry)) n form) env sp steps (now (stack .entry)) (now (stack .exit)) r ⌝ }
+    ensures { λ r. ⌜ EvalsT (ReadsWorld st (now (tables .entry)) (now (nodes .entry))) (connectiveNode (now (nodes .entry)) n form) env sp steps (now (stack .entry)) (now (stack .exit)) r ⌝ }
 {
     let first = below(tables, st, nodes, n, 1, env, stack, sp, left, steps);
     match first {
-        Ended::Value { len, steps: s } => {
+        Traced::Value { len, steps: s } => {
             let t = truth(stack[sp]);
             if 1 < t {
-                return Ended::Stuck;
+                return Traced::Stuck;
             }
             if t == form - 23 {
-                return Ended::Value { len, steps: s };
+                return Traced::Value { len, steps: s };
             }
-            right(tables, st, nodes, n, form, true, env, stack, sp, left, s)
+            right(tables, st, nodes, n, form, 0, env, stack, sp, left, s)
         }
-        Ended::Undef { steps: s } => right(
+        Traced::Undef { steps: s, place } => right(
             tables,
             st,
             nodes,
             n,
             form,
-            false,
+            place,
             env,
             stack,
             sp,
             left,
             s,
         ),
-        Ended::Stuck => Ended::Stuck,
-        Ended::Stop { number, steps: s } => Ended::Stop { number, steps: s },
+        Traced::Stuck => Traced::Stuck,
+        Traced::Stop { number, steps: s } => Traced::Stop { number, steps: s },
     }
 }
 
-// The right side of `and` or `or`; if the left side was undefined, the right one counts only if it decides.
+// The right side of `and` or `or`; if the left side was undefined, at this place, the right one counts only if it decides. 0 is no
+// place: the left side was known.
 fn right(
     tables: &[u64],
     st: Counts,
     nodes: &[u64],
     n: usize,
     form: u64,
-    known: bool,
+    place: u64,
     env: [usize; 16],
     stack: &mut [u64],
     sp: usize,
     left: usize,
     steps: u64,
-) -> Ended
+) -> Traced
     requires { ⌜ StackRoom st (length (now tables)) (length (now nodes)) (length (now stack)) n sp (left + 1) ⌝ }
     requires { ⌜ (23 ≤ form) × (form < 25) × (levels (operandTree (now nodes) n 2) ≤ left) ⌝ }
-    ensures { λ r. ⌜ Evals (ReadsWorld st (now (tables .entry)) (now (nodes .entry))) (rightSide known (connectiveOf form) (operandFor (now (nodes .entry)) n 2)) env sp steps (now (stack .entry)) (now (stack .exit)) r ⌝ }
+    requires { ⌜ Perhaps place ⌝ }
+    ensures { λ r. ⌜ EvalsT (ReadsWorld st (now (tables .entry)) (now (nodes .entry))) (rightSide place (connectiveOf form) (operandFor (now (nodes .entry)) n 2)) env sp steps (now (stack .entry)) (now (stack .exit)) r ⌝ }
 {
     let second = below(tables, st, nodes, n, 2, env, stack, sp, left, steps);
-    let Ended::Value { len, steps: s } = second else {
-        return second;
-    };
-    let t = truth(stack[sp]);
-    if 1 < t {
-        return Ended::Stuck;
+    match second {
+        Traced::Value { len, steps: s } => {
+            let t = truth(stack[sp]);
+            if 1 < t {
+                return Traced::Stuck;
+            }
+            if place == 0 {
+                return Traced::Value { len, steps: s };
+            }
+            if t == form - 23 {
+                return Traced::Value { len, steps: s };
+            }
+            Traced::Undef { steps: s, place }
+        }
+        Traced::Undef {
+            steps: s,
+            place: own,
+        } => Traced::Undef {
+            steps: s,
+            place: earlier(place, own),
+        },
+        Traced::Stuck => Traced::Stuck,
+        Traced::Stop { number, steps: s } => Traced::Stop { number, steps: s },
     }
-    if known {
-        return Ended::Value { len, steps: s };
-    }
-    if t == form - 23 {
-        return Ended::Value { len, steps: s };
-    }
-    Ended::Undef { steps: s }
 }
 
 // `if`: only one branch runs.
@@ -103,13 +116,13 @@ pub fn conditional(
     sp: usize,
     left: usize,
     steps: u64,
-) -> Ended
+) -> Traced
     requires { ⌜ StackRoom st (length (now tables)) (length (now nodes)) (length (now stack)) n sp (left + 1) ⌝ }
     requires { ⌜ (levels (operandTree (now nodes) n 1) ≤ left) × (levels (operandTree (now nodes) n 2) ≤ left) × (levels (operandTree (now nodes) n 3) ≤ left) ⌝ }
-    ensures { λ r. ⌜ Evals (ReadsWorld st (now (tables .entry)) (now (nodes .entry))) (conditionalNode (now (nodes .entry)) n) env sp steps (now (stack .entry)) (now (stack .exit)) r ⌝ }
+    ensures { λ r. ⌜ EvalsT (ReadsWorld st (now (tables .entry)) (now (nodes .entry))) (conditionalNode (now (nodes .entry)) n) env sp steps (now (stack .entry)) (now (stack .exit)) r ⌝ }
 {
     let first = below(tables, st, nodes, n, 1, env, stack, sp, left, steps);
-    let Ended::Value { len: _, steps: s } = first else {
+    let Traced::Value { len: _, steps: s } = first else {
         return first;
     };
     let t = truth(stack[sp]);
@@ -119,5 +132,5 @@ pub fn conditional(
     if t == 0 {
         return below(tables, st, nodes, n, 3, env, stack, sp, left, s);
     }
-    Ended::Stuck
+    Traced::Stuck
 }

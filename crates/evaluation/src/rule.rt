@@ -1,7 +1,7 @@
 // A rule for an object: the recursion from the rule's root, with nothing bound but `self`.
+use crate::Traced;
+use crate::answers::unpack;
 use crate::walk::word;
-use operations::Ended;
-use operations::answers::unpack;
 use tables::Counts;
 use values::Simple;
 use values::cells::push;
@@ -9,20 +9,20 @@ ghost use Prim.Native.Nat.{_≤_, _<_};
 ghost use lib.ListN.{length};
 ghost use Rattle.ocl.specs.Forms.{levels};
 ghost use Rattle.nodes.specs.Nodes.{treeAt};
-ghost use Rattle.evaluation.specs.Evaluating.{ReadsWorld, StackRoom, Rules};
+ghost use Rattle.evaluation.specs.Evaluating.{ReadsWorld, StackRoom, TracesRule};
 
 // The rule with this root, for an object, which is `self`: its cell is put at 0, and the value is formed at 1.
-pub fn evaluate_rule(
+pub fn trace_rule(
     tables: &[u64],
     st: Counts,
     nodes: &[u64],
     stack: &mut [u64],
     root: usize,
     object: u64,
-) -> Ended
+) -> Traced
     requires { ⌜ StackRoom st (length (now tables)) (length (now nodes)) (length (now stack)) root 1 19 ⌝ }
     requires { ⌜ (levels (treeAt (now nodes) root) ≤ 19) × (object < 4294967296) ⌝ }
-    ensures { λ r. ⌜ Rules (ReadsWorld st (now (tables .entry)) (now (nodes .entry))) (treeAt (now (nodes .entry)) root) object (now (stack .exit)) r ⌝ }
+    ensures { λ r. ⌜ TracesRule (ReadsWorld st (now (tables .entry)) (now (nodes .entry))) (treeAt (now (nodes .entry)) root) object (now (stack .exit)) r ⌝ }
 {
     push(stack, 0, Simple::Object { number: object });
     let mut env = [0usize; 16];

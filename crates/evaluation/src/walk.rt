@@ -2,6 +2,11 @@
 // recursion takes the tables and their counts; the nodes, with their marks behind them; a node; for each variable,
 // 1 + the index of its first cell, or 0 if it is unbound; the stack and its top sp; how many levels may still follow; and the steps
 // begun so far.
+use crate::Traced;
+use crate::answers::arose;
+use crate::answers::pack;
+use crate::answers::place_of;
+use crate::answers::unpack;
 use crate::bind::call;
 use crate::bind::iter;
 use crate::bind::let_in;
@@ -9,10 +14,7 @@ use crate::bind::quantified;
 use crate::lazy::conditional;
 use crate::lazy::connective;
 use nodes::node_word;
-use operations::Ended;
 use operations::answers::formed;
-use operations::answers::pack;
-use operations::answers::unpack;
 use operations::apply::binary_apply;
 use operations::apply::left_fits;
 use operations::leaves::leaf;
@@ -26,14 +28,13 @@ ghost use Prim.Native.Nat.{_+_, _≤_, _<_};
 ghost use lib.ListN.{length};
 ghost use Rattle.ocl.specs.Forms.{levels};
 ghost use Rattle.nodes.specs.Nodes.{treeAt};
-ghost use Rattle.operations.specs.Answers.{answerIn};
-ghost use Rattle.operations.specs.Runs.{Evals};
+ghost use Rattle.evaluation.specs.Traces.{answerIn, EvalsT};
 ghost use Rattle.evaluation.specs.Evaluating.{ReadsWorld, StackRoom, operandTree, nodeFor, operandFor, unaryNode, binaryNode, assembleNode, Shallow};
 
 // Once this many steps have begun, the next one is the step stop.
 const LIMIT: u64 = 1_000_000;
 
-// Operand k of node n. On an accepted sheet it is a smaller node; any other would count as `undef`.
+// Operand k of node n. On an accepted sheet it is a smaller node; any other would count as `undef` at node 0.
 pub fn below(
     tables: &[u64],
     st: Counts,
@@ -45,19 +46,23 @@ pub fn below(
     sp: usize,
     left: usize,
     steps: u64,
-) -> Ended
+) -> Traced
     requires { ⌜ StackRoom st (length (now tables)) (length (now nodes)) (length (now stack)) n sp left ⌝ }
     requires { ⌜ (k < 8) × (levels (operandTree (now nodes) n k) ≤ left) ⌝ }
-    ensures { λ r. ⌜ Evals (ReadsWorld st (now (tables .entry)) (now (nodes .entry))) (operandFor (now (nodes .entry)) n k) env sp steps (now (stack .entry)) (now (stack .exit)) r ⌝ }
+    ensures { λ r. ⌜ EvalsT (ReadsWorld st (now (tables .entry)) (now (nodes .entry))) (operandFor (now (nodes .entry)) n k) env sp steps (now (stack .entry)) (now (stack .exit)) r ⌝ }
 {
     if LIMIT <= steps {
-        return Ended::Stop { number: 16, steps };
+        return Traced::Stop { number: 16, steps };
     }
     let a = wide(node_word(nodes, n, k));
     if a < n {
         return unpack(word(tables, st, nodes, a, env, stack, sp, left, steps));
     }
-    Ended::Undef { steps: steps + 1 }
+    let began = steps + 1;
+    Traced::Undef {
+        steps: began,
+        place: place_of(0, began),
+    }
 }
 
 // Node n's answer as one word, which comes back in a register: reading an enum from memory right after it was written there makes
@@ -75,7 +80,7 @@ pub fn word(
 ) -> u64
     requires { ⌜ StackRoom st (length (now tables)) (length (now nodes)) (length (now stack)) n sp left ⌝ }
     requires { ⌜ (levels (treeAt (now nodes) n) ≤ left) × (steps < 1000000) ⌝ }
-    ensures { λ r. ⌜ Evals (ReadsWorld st (now (tables .entry)) (now (nodes .entry))) (nodeFor (now (nodes .entry)) n) env sp steps (now (stack .entry)) (now (stack .exit)) (answerIn r) ⌝ }
+    ensures { λ r. ⌜ EvalsT (ReadsWorld st (now (tables .entry)) (now (nodes .entry))) (nodeFor (now (nodes .entry)) n) env sp steps (now (stack .entry)) (now (stack .exit)) (answerIn r) ⌝ }
 {
     pack(node(tables, st, nodes, n, env, stack, sp, left, steps))
 }
@@ -91,16 +96,19 @@ fn node(
     sp: usize,
     left: usize,
     steps: u64,
-) -> Ended
+) -> Traced
     requires { ⌜ StackRoom st (length (now tables)) (length (now nodes)) (length (now stack)) n sp left ⌝ }
     requires { ⌜ (levels (treeAt (now nodes) n) ≤ left) × (steps < 1000000) ⌝ }
-    ensures { λ r. ⌜ Evals (ReadsWorld st (now (tables .entry)) (now (nodes .entry))) (nodeFor (now (nodes .entry)) n) env sp steps (now (stack .entry)) (now (stack .exit)) r ⌝ }
+    ensures { λ r. ⌜ EvalsT (ReadsWorld st (now (tables .entry)) (now (nodes .entry))) (nodeFor (now (nodes .entry)) n) env sp steps (now (stack .entry)) (now (stack .exit)) r ⌝ }
 {
     let s = steps + 1;
     let deeper = left - 1;
     let form = node_word(nodes, n, 0);
     match form {
-        0..=6 => leaf(tables, st, form, node_word(nodes, n, 1), env, stack, sp, s),
+        0..=6 => {
+            let value = leaf(tables, st, form, node_word(nodes, n, 1), env, stack, sp, s);
+            arose(value, place_of(n, s))
+        }
         7..=12 | 30 | 33..=34 => unary(tables, st, nodes, n, form, env, stack, sp, deeper, s),
         13..=22 | 37 => binary(tables, st, nodes, n, form, env, stack, sp, deeper, s),
         23..=24 => connective(tables, st, nodes, n, form, env, stack, sp, deeper, s),
@@ -113,7 +121,10 @@ fn node(
         32 => let_in(tables, st, nodes, n, env, stack, sp, deeper, s),
         35 => iter(tables, st, nodes, n, env, stack, sp, deeper, s),
         36 => call(tables, st, nodes, n, env, stack, sp, deeper, s),
-        _ => Ended::Undef { steps: s },
+        _ => Traced::Undef {
+            steps: s,
+            place: place_of(n, s),
+        },
     }
 }
 
@@ -129,19 +140,20 @@ fn unary(
     sp: usize,
     left: usize,
     steps: u64,
-) -> Ended
+) -> Traced
     requires { ⌜ StackRoom st (length (now tables)) (length (now nodes)) (length (now stack)) n sp (left + 1) ⌝ }
-    requires { ⌜ (7 ≤ form) × (levels (operandTree (now nodes) n 1) ≤ left) ⌝ }
-    ensures { λ r. ⌜ Evals (ReadsWorld st (now (tables .entry)) (now (nodes .entry))) (unaryNode (now (nodes .entry)) n form) env sp steps (now (stack .entry)) (now (stack .exit)) r ⌝ }
+    requires { ⌜ (7 ≤ form) × (1 ≤ steps) × (steps ≤ 1000000) × (levels (operandTree (now nodes) n 1) ≤ left) ⌝ }
+    ensures { λ r. ⌜ EvalsT (ReadsWorld st (now (tables .entry)) (now (nodes .entry))) (unaryNode (now (nodes .entry)) n form) env sp steps (now (stack .entry)) (now (stack .exit)) r ⌝ }
 {
     let first = below(tables, st, nodes, n, 1, env, stack, sp, left, steps);
     match first {
-        Ended::Value { len, steps: s } => {
-            of_value(tables, st, nodes, n, form, stack, sp, len, s)
+        Traced::Value { len, steps: s } => {
+            let value = of_value(tables, st, nodes, n, form, stack, sp, len, s);
+            arose(value, place_of(n, steps))
         }
-        Ended::Undef { steps: s } => of_undefined(form, stack, sp, s),
-        Ended::Stuck => Ended::Stuck,
-        Ended::Stop { number, steps: s } => Ended::Stop { number, steps: s },
+        Traced::Undef { steps: s, place } => arose(of_undefined(form, stack, sp, s), place),
+        Traced::Stuck => Traced::Stuck,
+        Traced::Stop { number, steps: s } => Traced::Stop { number, steps: s },
     }
 }
 
@@ -157,24 +169,25 @@ fn binary(
     sp: usize,
     left: usize,
     steps: u64,
-) -> Ended
+) -> Traced
     requires { ⌜ StackRoom st (length (now tables)) (length (now nodes)) (length (now stack)) n sp (left + 1) ⌝ }
-    requires { ⌜ (13 ≤ form) × (levels (operandTree (now nodes) n 1) ≤ left) × (levels (operandTree (now nodes) n 2) ≤ left) ⌝ }
-    ensures { λ r. ⌜ Evals (ReadsWorld st (now (tables .entry)) (now (nodes .entry))) (binaryNode (now (nodes .entry)) n form) env sp steps (now (stack .entry)) (now (stack .exit)) r ⌝ }
+    requires { ⌜ (13 ≤ form) × (1 ≤ steps) × (steps ≤ 1000000) × (levels (operandTree (now nodes) n 1) ≤ left) × (levels (operandTree (now nodes) n 2) ≤ left) ⌝ }
+    ensures { λ r. ⌜ EvalsT (ReadsWorld st (now (tables .entry)) (now (nodes .entry))) (binaryNode (now (nodes .entry)) n form) env sp steps (now (stack .entry)) (now (stack .exit)) r ⌝ }
 {
     let mark = nodes[MARKS + n];
     let first = below(tables, st, nodes, n, 1, env, stack, sp, left, steps);
-    let Ended::Value { len: la, steps: sa } = first else {
+    let Traced::Value { len: la, steps: sa } = first else {
         return first;
     };
     if left_fits(form, mark, stack[sp]) {
         let second = below(tables, st, nodes, n, 2, env, stack, sp + la, left, sa);
-        let Ended::Value { len: lb, steps: sb } = second else {
+        let Traced::Value { len: lb, steps: sb } = second else {
             return second;
         };
-        binary_apply(form, mark, stack, sp, la, lb, sb)
+        let value = binary_apply(form, mark, stack, sp, la, lb, sb);
+        arose(value, place_of(n, steps))
     } else {
-        Ended::Stuck
+        Traced::Stuck
     }
 }
 
@@ -190,26 +203,30 @@ fn coll(
     sp: usize,
     left: usize,
     steps: u64,
-) -> Ended
+) -> Traced
     requires { ⌜ StackRoom st (length (now tables)) (length (now nodes)) (length (now stack)) n sp (left + 1) ⌝ }
-    requires { ⌜ (27 ≤ form) × (form < 30) × Shallow (now nodes) n left ⌝ }
-    ensures { λ r. ⌜ Evals (ReadsWorld st (now (tables .entry)) (now (nodes .entry))) (assembleNode (now (nodes .entry)) n form) env sp steps (now (stack .entry)) (now (stack .exit)) r ⌝ }
+    requires { ⌜ (27 ≤ form) × (form < 30) × (1 ≤ steps) × (steps ≤ 1000000) × Shallow (now nodes) n left ⌝ }
+    ensures { λ r. ⌜ EvalsT (ReadsWorld st (now (tables .entry)) (now (nodes .entry))) (assembleNode (now (nodes .entry)) n form) env sp steps (now (stack .entry)) (now (stack .exit)) r ⌝ }
 {
     let count = wide(node_word(nodes, n, 5));
     if 4 < count {
-        return Ended::Undef { steps };
+        return Traced::Undef {
+            steps,
+            place: place_of(n, steps),
+        };
     }
     let mut end = sp;
     let mut s = steps;
     let mut k: usize = 0;
     while k < count {
         let member = below(tables, st, nodes, n, k + 1, env, stack, end, left, s);
-        let Ended::Value { len, steps: sb } = member else {
+        let Traced::Value { len, steps: sb } = member else {
             return member;
         };
         end += len;
         s = sb;
         k += 1;
     }
-    formed(assemble(stack, sp, sp, end, form - 27), s)
+    let value = formed(assemble(stack, sp, sp, end, form - 27), s);
+    arose(value, place_of(n, steps))
 }

@@ -1,6 +1,6 @@
 pub mod Nodes
 pub mod Typing
-pub mod Evaluation
+pub mod Trace
 pub mod Levels
 pub mod Keep
 pub mod Shapes

@@ -28,7 +28,7 @@ below-law t zero a h = absurd (omega arith)
 below-law t (suc n) a h = below-step t n a h (below-law t n a) (eqb a n) refl
 
 -- and one that is not counts as `undef`
-pub late-law : (t : List ℕ) (n a : ℕ) → n ≤ a → treesBelow t n a ≡ node a (leaf undef)
+pub late-law : (t : List ℕ) (n a : ℕ) → n ≤ a → treesBelow t n a ≡ node 0 (leaf undef)
 unfolding treesBelow
 late-law t zero a h = refl
 late-law t (suc n) a h = let q : a ≡ n → ⊥ = (λ e. omega arith) in rw (ne-eqb a n q) (late-law t n a (omega arith))

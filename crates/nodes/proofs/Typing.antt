@@ -82,6 +82,6 @@ module _ (s : Schema) (t : List ℕ) (n : ℕ) where
   operand-typing k a e h = rw (← e, below-law t n a h)
 
   -- one that is not smaller, which no accepted sheet has
-  pub late-typing : (k a : ℕ) → a ≡ word t n k → n ≤ a → operandTyping s t n k ≡ leafTyping a undef
+  pub late-typing : (k a : ℕ) → a ≡ word t n k → n ≤ a → operandTyping s t n k ≡ leafTyping 0 undef
   unfolding operandTyping typing
   late-typing k a e h = rw (← e, late-law t n a h)

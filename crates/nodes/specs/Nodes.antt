@@ -107,9 +107,9 @@ formOf f w k =
     else if eqb k 36 then call (classIn (w 3)) (typeIn (w 4)) (f (w 1)) (f (w 2))
     else binary (binaryOf k) (f (w 1)) (f (w 2))
 
--- the trees of the nodes below n; an operand that is not smaller, which no accepted sheet has, counts as `undef`
+-- the trees of the nodes below n; an operand that is not smaller, which no accepted sheet has, counts as `undef` at node 0
 unfoldable pub treesBelow : List ℕ → ℕ → ℕ → Expr
-treesBelow t zero a = node a (leaf undef)
+treesBelow t zero a = node 0 (leaf undef)
 treesBelow t (suc n) a = if eqb a n then node n (formOf (treesBelow t n) (word t n) (word t n 0)) else treesBelow t n a
 
 -- the tree of node n

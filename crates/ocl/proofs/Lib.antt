@@ -22,6 +22,11 @@ pub mod Answered
 pub mod ByType
 pub mod StrictForms
 pub mod Soundness
+pub mod Sources
+pub mod Says
+pub mod Trace
+pub mod Origin
+pub mod InTurn
 pub mod Stops
 pub mod Worked
 pub mod Mistakes

@@ -8,6 +8,8 @@ pub mod Typing
 pub mod Rows
 pub mod Operations
 pub mod Evaluation
+pub mod Trace
+pub mod Origin
 pub mod Stops
 pub mod Laws
 pub mod Soundness

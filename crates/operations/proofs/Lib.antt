@@ -9,4 +9,3 @@ pub mod OperandLaws
 pub mod BinaryLaws
 pub mod NumberLaws
 pub mod LeafLaws
-pub mod Packing

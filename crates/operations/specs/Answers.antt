@@ -1,11 +1,9 @@
 -- An outcome of the definition and the code's answer for it: a value's cells lie at sp, above words that are as they were.
 use mathlib.Core.Path.{_≡_}
 use mathlib.Core.List.{List}
-use Prim.Native.Nat.{ℕ, _+_, _*_, _/_, _%_, _≤_, _<_}
+use Prim.Native.Nat.{ℕ, _+_, _≤_, _<_}
 use lib.ListN.{take}
 use lib.Seq.{slice}
-use lib.Dec.{eqb}
-use Rattle.laws.specs.Choice.{if_then_else_}
 use Rattle.ocl.specs.Values.{Value, bool, num, obj, coll, size, sort}
 use Rattle.ocl.specs.Operations.{Outcome, value, undefined, stuck, stop}
 use Rattle.values.specs.Cells.{bit, head, enc, Fits}
@@ -44,41 +42,6 @@ SmallAnswer (ended.Value len s) = (1 ≤ len) × (len ≤ 128)
 SmallAnswer (ended.Undef s) = Unit {0}
 SmallAnswer ended.Stuck = Unit {0}
 SmallAnswer (ended.Stop c s) = Unit {0}
-
--- ---- an answer as one word
-
--- two bits for the variant, eight for the length or the number, twenty for the steps
-unfoldable pub wordOf : ℕ → ℕ → ℕ → ℕ
-wordOf variant small s = variant + 4 * (small % 256) + 1024 * (s % 1048576)
-
-unfoldable pub endedOf : ℕ → ℕ → ℕ → Ended
-endedOf variant small s =
-    if eqb variant 0 then ended.Value small s
-    else if eqb variant 1 then ended.Undef s
-    else if eqb variant 2 then ended.Stuck
-    else ended.Stop small s
-
-unfoldable pub answerIn : ℕ → Ended
-answerIn w = endedOf (w % 4) (w / 4 % 256) (w / 1024)
-
--- what the word has room for
-abbrev pub Slim : Ended → Type 0
-Slim (ended.Value len s) = (len < 256) × (s < 1048576)
-Slim (ended.Undef s) = s < 1048576
-Slim ended.Stuck = Unit {0}
-Slim (ended.Stop c s) = (c < 256) × (s < 1048576)
-
--- every answer's word; one without room is cut to the bits there are
-unfoldable pub wordFor : Ended → ℕ
-wordFor (ended.Value len s) = wordOf 0 len s
-wordFor (ended.Undef s) = wordOf 1 0 s
-wordFor ended.Stuck = 2
-wordFor (ended.Stop c s) = wordOf 3 c s
-
-pub record Packs (e : Ended) (w : ℕ) : Type 0 where
-  pub is : w ≡ wordFor e
-  pub small : SmallAnswer e → SmallAnswer (answerIn w)
-  pub same : Slim e → answerIn w ≡ e
 
 -- the cell of a simple value is put down
 pub record GivesCell (c sp s : ℕ) (B A : List ℕ) (r : Ended) : Type 0 where

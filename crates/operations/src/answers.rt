@@ -1,6 +1,5 @@
-// Answers: with a value that was just formed on the stack; as one word; and a truth value read from a cell.
+// Answers with a value that was just formed on the stack, and a truth value read from a cell.
 use crate::Ended;
-use types::classes::wide;
 use values::Formed;
 use values::Simple;
 use values::cells::cell_of;
@@ -10,7 +9,7 @@ ghost use mathlib.Core.Path.{_≡_};
 ghost use Prim.Native.Nat.{_<_};
 ghost use lib.ListN.{length};
 ghost use Rattle.values.specs.Contracts.{Narrow};
-ghost use Rattle.operations.specs.Answers.{formedAs, GivesCell, Gives, wordOf, answerIn, Packs, Truth};
+ghost use Rattle.operations.specs.Answers.{formedAs, GivesCell, Gives, Truth};
 
 // Puts the cell of a simple value at sp, which is then the answer.
 pub fn put_cell(stack: &mut [u64], sp: usize, cell: u64, steps: u64) -> Ended
@@ -36,46 +35,6 @@ pub fn formed(f: Formed, steps: u64) -> Ended
     match f {
         Formed::Done { len } => Ended::Value { len, steps },
         Formed::Over => Ended::Stop { number: 17, steps },
-    }
-}
-
-// Two bits for the variant, eight for the length or the number, and twenty for the steps, which never pass 1,000,000.
-fn word_of(variant: u64, small: u64, steps: u64) -> u64
-    requires { ⌜ variant < 4 ⌝ }
-    ensures { λ r. ⌜ r ≡ wordOf variant small steps ⌝ }
-{
-    variant + 4 * (small % 256) + 1024 * (steps % 1_048_576)
-}
-
-// The answer as one word.
-pub fn pack(e: Ended) -> u64
-    ensures { λ r. ⌜ Packs e r ⌝ }
-{
-    match e {
-        Ended::Value { len, steps } => word_of(0, len as u64, steps),
-        Ended::Undef { steps } => word_of(1, 0, steps),
-        Ended::Stuck => 2,
-        Ended::Stop { number, steps } => word_of(3, number, steps),
-    }
-}
-
-// The answer that a word stands for.
-pub fn unpack(w: u64) -> Ended
-    ensures { λ r. ⌜ r ≡ answerIn w ⌝ }
-{
-    let steps = w / 1024;
-    let small = w / 4 % 256;
-    match w % 4 {
-        0 => Ended::Value {
-            len: wide(small),
-            steps,
-        },
-        1 => Ended::Undef { steps },
-        2 => Ended::Stuck,
-        _ => Ended::Stop {
-            number: small,
-            steps,
-        },
     }
 }
 

@@ -1,6 +1,6 @@
 // What each form does once its operands have run, on a stack of lent words: forms without operands, strict forms, and look-ups
 // in the tables. Document 01, Evaluation. It depends on `values` for cells and on `tables`; the recursion is in `evaluation`.
-pub mod answers; // answers with a value that was formed, and an answer as one word
+pub mod answers; // answers with a value that was formed, and truth values
 pub mod leaves; // forms without operands
 pub mod lookup; // objects, rows and values in the tables
 pub mod integers; // arithmetic on Integers

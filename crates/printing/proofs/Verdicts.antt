@@ -11,9 +11,10 @@ use Rattle.sheet.specs.Text.{Bytes}
 use Rattle.sheet.specs.Calls.{Verdict, refusalAt, outputAfter, shortWords, shortOutput}
 use Rattle.sheet.specs.Report.{reportOf, reportCall, printed, program}
 use Rattle.sheet.specs.Rows.{rowsInto, rowsCall, rowsProgram}
+use Rattle.sheet.specs.Origin.{originsOf, originCall, originProgram}
 use Rattle.sheet.specs.Profile.{profileOf, profileCall}
-use Rattle.checker.specs.Answers.{AnswersWith}
-use Rattle.checker.specs.declared.Answer.{Answer}
+use Rattle.opening.specs.Answers.{AnswersWith}
+use Rattle.opening.specs.declared.Answer.{Answer}
 use Rattle.text.specs.Written.{Puts}
 use Rattle.printing.specs.Printed.{Front}
 use Rattle.printing.specs.Answered.{Prints}
@@ -60,6 +61,10 @@ module _ (text : Bytes) (w0 w1 w2 : List ℕ) (out : Bytes) (long0 : length w0 �
   unfolding rowsCall shortWords shortOutput
   rows-lent = rw (long0, long1, long2, room)
 
+  origins-lent : originCall text w0 w1 w2 out ≡ originsOf text 65536
+  unfolding originCall shortWords shortOutput
+  origins-lent = rw (long0, long1, long2, room)
+
   profile-lent : profileCall text w0 w1 w2 out ≡ profileOf text
   unfolding profileCall shortWords shortOutput
   profile-lent = rw (long0, long1, long2, room)
@@ -72,6 +77,10 @@ module _ (text : Bytes) (w0 w1 w2 : List ℕ) (out : Bytes) (long0 : length w0 �
     pub rows-printed : AnswersWith (rowsCall text w0 w1 w2 out) a w0 w1 w2 out v0 v1 v2 left → Front (rowsProgram text) after r
     unfolding rowsProgram
     rows-printed told = rw rows-lent at (p .is (rowsCall text w0 w1 w2 out) out (told .is) (told .output))
+
+    pub origins-printed : AnswersWith (originCall text w0 w1 w2 out) a w0 w1 w2 out v0 v1 v2 left → Front (originProgram text) after r
+    unfolding originProgram
+    origins-printed told = rw origins-lent at (p .is (originCall text w0 w1 w2 out) out (told .is) (told .output))
 
     pub profile-printed : AnswersWith (profileCall text w0 w1 w2 out) a w0 w1 w2 out v0 v1 v2 left → Front (printed (profileOf text)) after r
     profile-printed told = rw profile-lent at (p .is (profileCall text w0 w1 w2 out) out (told .is) (told .output))

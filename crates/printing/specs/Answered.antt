@@ -4,8 +4,8 @@ use mathlib.Core.Path.{_≡_}
 use Rattle.sheet.specs.Text.{Bytes}
 use Rattle.sheet.specs.Calls.{Verdict, outputAfter}
 use Rattle.sheet.specs.Report.{printed}
-use Rattle.checker.specs.declared.Answer.{Answer}
-use Rattle.checker.specs.Answers.{answerOf}
+use Rattle.opening.specs.declared.Answer.{Answer}
+use Rattle.opening.specs.Answers.{answerOf}
 use Rattle.printing.specs.Printed.{Front}
 
 -- for every verdict that the answer gives, whose call left the output so

@@ -4,12 +4,14 @@ ghost use lib.ListN.{length};
 ghost use Rattle.sheet.specs.Report.{printed, program};
 ghost use Rattle.sheet.specs.Profile.{profileOf};
 ghost use Rattle.sheet.specs.Rows.{rowsProgram};
+ghost use Rattle.sheet.specs.Origin.{originProgram};
 ghost use Rattle.printing.specs.Answered.{Prints};
 ghost use Rattle.printing.specs.Printed.{Front};
-use checker::Answer;
 use checker::profile_call::ocl_read_free_numbering;
 use checker::report_call::ocl_report;
 use checker::rows_call::ocl_rows;
+use checker::undefined_call::ocl_undefined;
+use opening::Answer;
 use text::printed::put_refusal;
 
 // What is printed for a call's answer: the output that it left, or the refusal.
@@ -43,6 +45,17 @@ pub fn printed_rows(text: &[u8], out: &mut [u8; 65536]) -> usize
     let mut w1: [u64; 8192] = [0; 8192];
     let mut w2: [u64; 8192] = [0; 8192];
     let answer = ocl_rows(text, &mut w0, &mut w1, &mut w2, out);
+    put_answer(answer, out)
+}
+
+// The same for the program that prints where undefined came from.
+pub fn printed_origins(text: &[u8], out: &mut [u8; 65536]) -> usize
+    ensures { λ r. ⌜ Front (originProgram (now (text .entry))) (now (out .exit)) r ⌝ }
+{
+    let mut w0: [u64; 8192] = [0; 8192];
+    let mut w1: [u64; 8192] = [0; 8192];
+    let mut w2: [u64; 8192] = [0; 8192];
+    let answer = ocl_undefined(text, &mut w0, &mut w1, &mut w2, out);
     put_answer(answer, out)
 }
 

@@ -23,7 +23,7 @@ use Rattle.rules.specs.Accepted.{Accepted, TypesIn}
 use Rattle.rules.specs.Width.{width}
 use Rattle.rules.proofs.Lengths.{width-within}
 use Rattle.rules.proofs.Ready.{ready}
-use Rattle.report.specs.Bound.{objectsOf, CountsObjects, lineWidth, BoundsLines, linesBound, rulesBound, BoundsReport}
+use Rattle.report.specs.Bound.{objectsOf, CountsObjects, lineWidth, BoundsLines, linesBound, rulesBound, BoundsAll}
 use Rattle.report.specs.Passes.{TypedRule}
 use Rattle.report.proofs.ReportLaws.{rule-of, boundTo, bound-rule, bound-all}
 
@@ -35,6 +35,21 @@ width-on t h = sym (ap width (goes-on t h))
 
 pub width-ends : (t : FlatType) (a : Base) → t .outer ≡ 0 → t .base ≡ a → width (baseType a) ≡ width (tyOf t)
 width-ends t a e q = ap (λ (x : Base). width (baseType x)) (sym q) ∙ ap width (sym (ends t e))
+
+-- ---- a line
+
+pub width-within-line : (origins : Bool) (t : Ty) → lineWidth origins t ≤ 2319
+unfolding lineWidth
+width-within-line true t = omega arith
+width-within-line false t = omega (arith, width-within t .1)
+
+pub origin-width : {origins : Bool} (t : Ty) → origins ≡ true → 20 ≡ lineWidth origins t
+unfolding lineWidth
+origin-width t e = rw e
+
+pub report-width : {origins : Bool} {n : ℕ} (t : Ty) → origins ≡ false → n ≡ width t → 15 + n ≡ lineWidth origins t
+unfolding lineWidth
+report-width t e q = rw (e, q)
 
 -- ---- counting objects: n of the first o are of the class or below
 
@@ -66,50 +81,49 @@ module _ {st : Counts} {w0 : List ℕ} {c : ℕ} where
 
 -- ---- a rule's lines
 
-module _ {st : Counts} {w0 : List ℕ} {c n w : ℕ} (t : Ty) (count : CountsObjects st w0 c n) (wide : w ≡ width t) where
-  pub bound-few : n * (15 + w) ≤ 222624
+module _ (origins : Bool) {st : Counts} {w0 : List ℕ} {c n w : ℕ} (t : Ty) (count : CountsObjects st w0 c n) (wide : w ≡ lineWidth origins t) where
+  pub bound-few : n * w ≤ 222624
   bound-few =
-      let h : 15 + w ≤ 2319 = omega (arith, width-within t .1, wide) in
+      let h : w ≤ 2319 = omega (arith, width-within-line origins t, wide) in
       omega (arith, mul-le-mul (count .few) h)
 
-  pub bounds-lines : BoundsLines st w0 c t (n * (15 + w))
-  unfolding lineWidth
+  pub bounds-lines : BoundsLines origins st w0 c t (n * w)
   bounds-lines = record { is = λ m h. rw (wide, count .is m h); few = bound-few }
 
 -- a rule of an accepted sheet, by its words
-lines-bound-is : {st : Counts} {w0 w1 : List ℕ} {r n : ℕ} {s : Sheet} {x : Rule} {t : Ty} → TypedRule st w0 w1 r s x t
-    → BoundsLines st w0 (getD w0 (4448 + r) 0) t n → n ≡ linesBound s x t (length (s .objects))
+lines-bound-is : {origins : Bool} {st : Counts} {w0 w1 : List ℕ} {r n : ℕ} {s : Sheet} {x : Rule} {t : Ty} → TypedRule st w0 w1 r s x t
+    → BoundsLines origins st w0 (getD w0 (4448 + r) 0) t n → n ≡ linesBound origins s x t (length (s .objects))
 unfolding linesBound
-lines-bound-is {r} {s} {x} m b =
+lines-bound-is {r = r} {s = s} {x = x} m b =
     let all = ready (m .lies) in
     b .is (modelOf s) (all .model) ∙ rw (all .rule r x (m .rule) .context, m .lies .holds .counted .objects)
 
 -- ---- all rules: the bound of the first r
 
-pub record BoundedTo (st : Counts) (w0 w2 : List ℕ) (bound r : ℕ) : Type 0 where
-  pub is : (w1 : List ℕ) (s : Sheet) (ts : List Ty) → Accepted st w0 w1 s ts → TypesIn w2 ts → bound ≡ boundTo s ts r
+pub record BoundedTo (origins : Bool) (st : Counts) (w0 w2 : List ℕ) (bound r : ℕ) : Type 0 where
+  pub is : (w1 : List ℕ) (s : Sheet) (ts : List Ty) → Accepted st w0 w1 s ts → TypesIn w2 ts → bound ≡ boundTo origins s ts r
   pub few : bound ≤ r * 222624
   pub within : r ≤ st .rules
 
-module _ {st : Counts} {w0 w2 : List ℕ} where
-  pub bounded-none : BoundedTo st w0 w2 0 0
+module _ {origins : Bool} {st : Counts} {w0 w2 : List ℕ} where
+  pub bounded-none : BoundedTo origins st w0 w2 0 0
   unfolding rulesBound
   bounded-none = record { is = λ w1 s ts a w. refl; few = omega arith; within = omega arith }
 
-  pub bounded-next : {rules bound r n : ℕ} {t : Ty} → rules ≡ st .rules → BoundedTo st w0 w2 bound r → r < rules → t ≡ typeIn (getD w2 (768 + r) 0)
-      → BoundsLines st w0 (getD w0 (4448 + r) 0) t n → BoundedTo st w0 w2 (bound + n) (r + 1)
+  pub bounded-next : {rules bound r n : ℕ} {t : Ty} → rules ≡ st .rules → BoundedTo origins st w0 w2 bound r → r < rules → t ≡ typeIn (getD w2 (768 + r) 0)
+      → BoundsLines origins st w0 (getD w0 (4448 + r) 0) t n → BoundedTo origins st w0 w2 (bound + n) (r + 1)
   bounded-next {rules} {bound} {r} {n} {t} count so h e b = record {
     is = λ w1 s ts a w.
         let there : r < st .rules = omega arith in
         let y = rule-of a there in
         let q : t ≡ y .type = e ∙ w .at r (y .type) (y .listed) in
-        rw (add-one r, bound-rule y, so .is w1 s ts a w, lines-bound-is (y .is) (rw q at b));
+        rw (add-one r, bound-rule origins y, so .is w1 s ts a w, lines-bound-is (y .is) (rw q at b));
     few = omega (arith, so .few, b .few);
     within = omega arith;
   }
 
-  pub bounded-all : {rules bound r words : ℕ} → Bounds st words → rules ≡ st .rules → BoundedTo st w0 w2 bound r → rules ≤ r → BoundsReport st w0 w2 bound
+  pub bounded-all : {rules bound r words : ℕ} → Bounds st words → rules ≡ st .rules → BoundedTo origins st w0 w2 bound r → rules ≤ r → BoundsAll origins st w0 w2 bound
   bounded-all {r = r} lent count so h = let e : r ≡ st .rules = omega (arith, so .within) in record {
-    is = λ w1 s ts a w. so .is w1 s ts a w ∙ bound-all s ts r (e ∙ a .lies .holds .counted .rules);
+    is = λ w1 s ts a w. so .is w1 s ts a w ∙ bound-all origins s ts r (e ∙ a .lies .holds .counted .rules);
     few = omega (arith, so .few, lent .fine .rules);
   }

@@ -1,5 +1,5 @@
--- An outcome by the answer that stands for it, and a line in the parts in which it is written. Assumes nothing.
-use Prim.Native.Nat.{ℕ, _+_, _≤_}
+-- An outcome by the answer that stands for it, and lines in the parts in which they are written. Assumes nothing.
+use Prim.Native.Nat.{ℕ, _+_, _/_, _%_, _≤_, _<_}
 use mathlib.Core.Path.{_≡_, refl, ap, _∙_}
 use mathlib.Core.List.{List, [], _∷_, _++_, append-assoc}
 use native.Mathlib.Omega.{arith}
@@ -10,15 +10,21 @@ use Rattle.ocl.specs.Operations.{Outcome, value, undefined, stuck, stop, stepsO
 use Rattle.sheet.specs.Text.{Bytes, bytes, spellNumber}
 use Rattle.sheet.specs.Spelling.{spellValue}
 use Rattle.sheet.specs.Report.{spellOutcome, reportLine}
+use Rattle.sheet.specs.Origin.{placeLine}
 use Rattle.text.specs.Written.{Puts}
+use Rattle.text.proofs.WrittenLaws.{puts-nothing}
 use Rattle.values.specs.Cells.{enc, Fits}
 use Rattle.values.proofs.Encoding.{some-cells, size-law}
 use Rattle.spelling.specs.Contracts.{ValueFits}
 use Rattle.spelling.proofs.PutLaws.{puts-behind}
+use Rattle.nodes.specs.Nodes.{word}
 use Rattle.operations.specs.declared.Ended.{Ended}
 use Rattle.operations.specs.declared.Ended.the-variants as ended
 use Rattle.operations.specs.Answers.{Lies, Ends, ends-value, ends-undefined, ends-stuck, ends-stop}
-use Rattle.report.specs.Lines.{OutcomeFits, LineFits}
+use Rattle.evaluation.specs.declared.Traced.{Traced}
+use Rattle.evaluation.specs.declared.Traced.the-variants as traced
+use Rattle.evaluation.specs.Traces.{SmallTraced}
+use Rattle.report.specs.Lines.{OutcomeFits, LineFits, PlaceFits, originBy, OriginFits}
 
 -- ---- an outcome
 
@@ -82,52 +88,141 @@ module _ {at len s : ℕ} {S : List ℕ} {e : Ended} (h : e ≡ ended.Value len 
 
 -- ---- a line
 
--- a number and a blank; a blank, the steps and a line feed
+-- a number and a blank; a blank, a number and a line feed
 abbrev column : ℕ → Bytes
 column n = spellNumber n ++ (32 ∷ [])
 
 abbrev ending : ℕ → Bytes
 ending n = 32 ∷ spellNumber n ++ (10 ∷ [])
 
-line-parts : (r o : ℕ) (x : Outcome) → reportLine r o x ≡ column r ++ (column o ++ (spellOutcome x ++ ending (stepsOf x)))
+-- a line in the parts in which it is written
+abbrev parted : ℕ → ℕ → Bytes → ℕ → Bytes
+parted r o b n = column r ++ (column o ++ (b ++ ending n))
+
+parted-length : (r o : ℕ) (b : Bytes) (n : ℕ) → length (parted r o b n) ≡ length (spellNumber r) + length (spellNumber o) + length b + length (spellNumber n) + 4
+parted-length r o b n = simp length-append (omega arith)
+
+line-parts : (r o : ℕ) (x : Outcome) → reportLine r o x ≡ parted r o (spellOutcome x) (stepsOf x)
 unfolding reportLine bytes
 line-parts r o x = simp append-assoc
 
-line-length : (r o : ℕ) (x : Outcome)
-    → length (reportLine r o x) ≡ length (spellNumber r) + length (spellNumber o) + length (spellOutcome x) + length (spellNumber (stepsOf x)) + 4
-line-length r o x = ap length (line-parts r o x) ∙ simp length-append (omega arith)
+place-parts : (r o k j : ℕ) → placeLine r o k j ≡ parted r o (spellNumber k) j
+unfolding placeLine bytes
+place-parts r o k j = simp append-assoc
 
-module _ {at rule object room : ℕ} {S : List ℕ} {e : Ended} (f : LineFits at rule object S e room) where
-  long : length (reportLine rule object (f .outcome)) ≡ length (spellNumber rule) + length (spellNumber object) + length (spellOutcome (f .outcome)) + length (spellNumber (stepsOf (f .outcome))) + 4
-  long = line-length rule object (f .outcome)
+pub place-length : (r o k j : ℕ)
+    → length (placeLine r o k j) ≡ length (spellNumber r) + length (spellNumber o) + length (spellNumber k) + length (spellNumber j) + 4
+place-length r o k j = ap length (place-parts r o k j) ∙ parted-length r o (spellNumber k) j
 
-  pub rule-room : at + length (spellNumber rule) + 1 ≤ room
-  rule-room = omega (arith, f .enough, long)
+-- room for each part
+record PartsFit (at rule object : ℕ) (mid : Bytes) (n room : ℕ) : Type 0 where
+  enough : at + length (parted rule object mid n) ≤ room
+
+module _ {at rule object n room : ℕ} {mid : Bytes} (f : PartsFit at rule object mid n room) where
+  first-room : at + length (spellNumber rule) + 1 ≤ room
+  first-room = omega (arith, f .enough, parted-length rule object mid n)
 
   module _ {a b : Bytes} {second : ℕ} (p : Puts at (column rule) a b second) where
     second-at : second ≡ at + length (spellNumber rule) + 1
     second-at = p .end ∙ simp length-append (omega arith)
 
-    pub object-room : second + length (spellNumber object) + 1 ≤ room
-    object-room = omega (arith, f .enough, long, second-at)
+    second-room : second + length (spellNumber object) + 1 ≤ room
+    second-room = omega (arith, f .enough, parted-length rule object mid n, second-at)
 
     module _ {c : Bytes} {third : ℕ} (q : Puts second (column object) b c third) where
       third-at : third ≡ second + length (spellNumber object) + 1
       third-at = q .end ∙ simp length-append (omega arith)
 
+      third-room : third + length mid ≤ room
+      third-room = omega (arith, f .enough, parted-length rule object mid n, second-at, third-at)
+
+      last-room : {d : Bytes} {last : ℕ} → Puts third mid c d last → last + length (spellNumber n) + 2 ≤ room
+      last-room m = omega (arith, f .enough, parted-length rule object mid n, second-at, third-at, m .end)
+
+-- each part behind the one before it
+puts-parted : (rule object n : ℕ) {at second third last r : ℕ} {mid a b c d g : Bytes} → Puts at (column rule) a b second → length b ≡ length a
+    → Puts second (column object) b c third → length c ≡ length b → Puts third mid c d last → length d ≡ length c → Puts last (ending n) d g r
+    → length g ≡ length d → Puts at (parted rule object mid n) a g r
+puts-parted rule object n p kb q kc m kd e kg =
+    let tail = puts-behind m kd e kg (omega arith) in
+    let more = puts-behind q kc tail (kg ∙ kd) (simp length-append (omega arith)) in
+    puts-behind p kb more (kg ∙ kd ∙ kc) (simp length-append (omega arith))
+
+-- ---- a line of the report
+
+module _ {at rule object room : ℕ} {S : List ℕ} {e : Ended} (f : LineFits at rule object S e room) where
+  fits-parted : PartsFit at rule object (spellOutcome (f .outcome)) (stepsOf (f .outcome)) room
+  fits-parted = record { enough = rw (line-parts rule object (f .outcome)) at (f .enough) }
+
+  pub rule-room : at + length (spellNumber rule) + 1 ≤ room
+  rule-room = first-room fits-parted
+
+  module _ {a b : Bytes} {second : ℕ} (p : Puts at (column rule) a b second) where
+    pub object-room : second + length (spellNumber object) + 1 ≤ room
+    object-room = second-room fits-parted p
+
+    module _ {c : Bytes} {third : ℕ} (q : Puts second (column object) b c third) where
       pub outcome-fits : length c ≡ room → OutcomeFits third S e (length c)
-      outcome-fits same = record { outcome = f .outcome; ends = f .ends; enough = omega (arith, f .enough, long, second-at, third-at) }
+      outcome-fits same = record { outcome = f .outcome; ends = f .ends; enough = omega (arith, third-room fits-parted p q) }
 
       pub steps-room : {d : Bytes} {last n : ℕ} → ((x : Outcome) → Ends 1 S x e → Puts third (spellOutcome x) c d last)
           → ((A : List ℕ) (x : Outcome) → Ends 1 A x e → n ≡ stepsOf x) → last + length (spellNumber n) + 2 ≤ room
       steps-room put steps =
-          omega (arith, f .enough, long, second-at, third-at, put (f .outcome) (f .ends) .end, ap (λ (k : ℕ). length (spellNumber k)) (steps S (f .outcome) (f .ends)))
+          omega (arith, last-room fits-parted p q (put (f .outcome) (f .ends)), ap (λ (k : ℕ). length (spellNumber k)) (steps S (f .outcome) (f .ends)))
 
       pub puts-line : {d g : Bytes} {last n r : ℕ} → length b ≡ length a → length c ≡ length b
           → ((x : Outcome) → Ends 1 S x e → Puts third (spellOutcome x) c d last) → length d ≡ length c
           → ((A : List ℕ) (x : Outcome) → Ends 1 A x e → n ≡ stepsOf x) → Puts last (ending n) d g r → length g ≡ length d
           → (x : Outcome) → Ends 1 S x e → Puts at (reportLine rule object x) a g r
-      puts-line kb kc put kd steps s kg x i =
-          let tail = puts-behind (put x i) kd (rw (steps S x i) at s) kg (omega arith) in
-          let more = puts-behind q kc tail (kg ∙ kd) (simp length-append (omega arith)) in
-          rw (line-parts rule object x) (puts-behind p kb more (kg ∙ kd ∙ kc) (simp length-append (omega arith)))
+      puts-line kb kc put kd steps s kg x i = rw (line-parts rule object x) (puts-parted rule object (stepsOf x) p kb q kc (put x i) kd (rw (steps S x i) at s) kg)
+
+-- ---- a line that says where undefined came from
+
+module _ {at rule object line step room : ℕ} (f : PlaceFits at rule object line step room) where
+  place-parted : PartsFit at rule object (spellNumber line) step room
+  place-parted = record { enough = rw (place-parts rule object line step) at (f .enough) }
+
+  pub place-rule-room : at + length (spellNumber rule) + 1 ≤ room
+  place-rule-room = first-room place-parted
+
+  module _ {a b : Bytes} {second : ℕ} (p : Puts at (column rule) a b second) where
+    pub place-object-room : second + length (spellNumber object) + 1 ≤ room
+    place-object-room = second-room place-parted p
+
+    module _ {c : Bytes} {third : ℕ} (q : Puts second (column object) b c third) where
+      pub place-line-room : third + length (spellNumber line) ≤ room
+      place-line-room = third-room place-parted p q
+
+      pub place-step-room : {d : Bytes} {last : ℕ} → Puts third (spellNumber line) c d last → last + length (spellNumber step) + 2 ≤ room
+      place-step-room m = last-room place-parted p q m
+
+      pub puts-place : {d g : Bytes} {last r : ℕ} → length b ≡ length a → length c ≡ length b → Puts third (spellNumber line) c d last → length d ≡ length c
+          → Puts last (ending step) d g r → length g ≡ length d → Puts at (placeLine rule object line step) a g r
+      puts-place kb kc m kd e kg = rw (place-parts rule object line step) (puts-parted rule object step p kb q kc m kd e kg)
+
+-- by the answer: a place of undefined, or nothing
+module _ {t : Traced} where
+  pub origin-node : {n place : ℕ} → t ≡ traced.Undef n place → SmallTraced t → place % 1024 < 768
+  origin-node e k = let p = rw e at k in p .node
+
+  pub origin-place-fits : {at rule object n place line step room : ℕ} {w1 : List ℕ} → t ≡ traced.Undef n place → OriginFits at rule object w1 t room
+      → line ≡ word w1 (place % 1024) 7 → step ≡ place / 1024 → PlaceFits at rule object line step room
+  unfolding originBy
+  origin-place-fits e f q p = record { enough = rw (q, p) (let h = rw e at f in h .enough) }
+
+  pub puts-origin-place : {at n place line step r : ℕ} {a b : Bytes} (rule object : ℕ) (w1 : List ℕ) → t ≡ traced.Undef n place
+      → line ≡ word w1 (place % 1024) 7 → step ≡ place / 1024 → Puts at (placeLine rule object line step) a b r → Puts at (originBy rule object w1 t) a b r
+  unfolding originBy
+  puts-origin-place rule object w1 e q k p = rw e (rw (q, k) at p)
+
+pub no-origin-value : {t : Traced} {len n : ℕ} (at rule object : ℕ) (w1 : List ℕ) (out : Bytes) → t ≡ traced.Value len n → Puts at (originBy rule object w1 t) out out at
+unfolding originBy
+no-origin-value at rule object w1 out e = rw e (puts-nothing at out)
+
+pub no-origin-stuck : {t : Traced} (at rule object : ℕ) (w1 : List ℕ) (out : Bytes) → t ≡ traced.Stuck → Puts at (originBy rule object w1 t) out out at
+unfolding originBy
+no-origin-stuck at rule object w1 out e = rw e (puts-nothing at out)
+
+pub no-origin-stop : {t : Traced} {c n : ℕ} (at rule object : ℕ) (w1 : List ℕ) (out : Bytes) → t ≡ traced.Stop c n → Puts at (originBy rule object w1 t) out out at
+unfolding originBy
+no-origin-stop at rule object w1 out e = rw e (puts-nothing at out)

@@ -1,5 +1,7 @@
--- How long the report of an accepted sheet can be, by its rules' types and the objects of their classes.
+-- How long the lines of an accepted sheet can be, by its rules' types and the objects of their classes: the report's, or those that say where
+-- undefined came from.
 use mathlib.Core.Path.{_≡_}
+use mathlib.Core.Bool.{Bool}
 use mathlib.Core.List.{List, [], _∷_}
 use Prim.Native.Nat.{ℕ, zero, suc, _+_, _*_, _≤_}
 use lib.ListN.{length}
@@ -25,26 +27,26 @@ pub record CountsObjects (st : Counts) (w0 : List ℕ) (c n : ℕ) : Type 0 wher
 
 -- ---- how many bytes lines can take (proofs/PassLaws.antt: they take no more)
 
--- two for the rule, two for the object, seven for the steps, four between and after them, and the outcome
-unfoldable pub lineWidth : Ty → ℕ
-lineWidth t = 15 + width t
+-- two for the rule, two for the object, seven for the steps, four between and after them, and the outcome; or five for a line of the sheet
+unfoldable pub lineWidth : Bool → Ty → ℕ
+lineWidth origins t = if origins then 20 else 15 + width t
 
 -- n is the bound of the lines of a rule with context c and type t
-pub record BoundsLines (st : Counts) (w0 : List ℕ) (c : ℕ) (t : Ty) (n : ℕ) : Type 0 where
-  pub is : (m : Model) → HoldsModel st w0 m → n ≡ objectsOf m c (st .objects) * lineWidth t
+pub record BoundsLines (origins : Bool) (st : Counts) (w0 : List ℕ) (c : ℕ) (t : Ty) (n : ℕ) : Type 0 where
+  pub is : (m : Model) → HoldsModel st w0 m → n ≡ objectsOf m c (st .objects) * lineWidth origins t
   pub few : n ≤ 222624
 
 -- the lines of a rule of type t for the first n objects
-unfoldable pub linesBound : Sheet → Rule → Ty → ℕ → ℕ
-linesBound s x t n = objectsOf (modelOf s) (x .context) n * lineWidth t
+unfoldable pub linesBound : Bool → Sheet → Rule → Ty → ℕ → ℕ
+linesBound origins s x t n = objectsOf (modelOf s) (x .context) n * lineWidth origins t
 
 -- the lines of these rules, of these types
-unfoldable pub rulesBound : Sheet → List Rule → List Ty → ℕ
-rulesBound s [] ts = 0
-rulesBound s (x ∷ xs) [] = 0
-rulesBound s (x ∷ xs) (t ∷ ts) = linesBound s x t (length (s .objects)) + rulesBound s xs ts
+unfoldable pub rulesBound : Bool → Sheet → List Rule → List Ty → ℕ
+rulesBound origins s [] ts = 0
+rulesBound origins s (x ∷ xs) [] = 0
+rulesBound origins s (x ∷ xs) (t ∷ ts) = linesBound origins s x t (length (s .objects)) + rulesBound origins s xs ts
 
 -- n is that bound of an accepted sheet: at most 64 rules for 96 objects with lines of 2,319 bytes
-pub record BoundsReport (st : Counts) (w0 w2 : List ℕ) (n : ℕ) : Type 0 where
-  pub is : (w1 : List ℕ) (s : Sheet) (ts : List Ty) → Accepted st w0 w1 s ts → TypesIn w2 ts → n ≡ rulesBound s (s .rules) ts
+pub record BoundsAll (origins : Bool) (st : Counts) (w0 w2 : List ℕ) (n : ℕ) : Type 0 where
+  pub is : (w1 : List ℕ) (s : Sheet) (ts : List Ty) → Accepted st w0 w1 s ts → TypesIn w2 ts → n ≡ rulesBound origins s (s .rules) ts
   pub few : n ≤ 14247936

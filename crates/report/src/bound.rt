@@ -1,11 +1,12 @@
-// How long the report can be, by the rules' types, which wait in w2, and the objects of their classes.
+// How long the lines can be, by the rules' types, which wait in w2, and the objects of their classes: the report's, or those that say where
+// undefined came from.
 ghost use mathlib.Core.Path.{_≡_};
 ghost use Prim.Native.Nat.{_≤_};
 ghost use lib.ListN.{length};
 ghost use Rattle.types.specs.Flat.{tyOf};
 ghost use Rattle.operations.specs.Tables.{Bounds};
 ghost use Rattle.rules.specs.Width.{width as widthOf};
-ghost use Rattle.report.specs.Bound.{CountsObjects, BoundsLines, BoundsReport};
+ghost use Rattle.report.specs.Bound.{CountsObjects, lineWidth, BoundsLines, BoundsAll};
 use operations::lookup::is_a;
 use tables::Counts;
 use types::Base;
@@ -31,6 +32,16 @@ fn width(t: FlatType) -> usize
     }
 }
 
+// How many bytes a line can take, for a rule of the type.
+fn line_width(t: FlatType, origins: bool) -> usize
+    ensures { λ n. ⌜ n ≡ lineWidth origins (tyOf t) ⌝ }
+{
+    if origins {
+        return 20;
+    }
+    15 + width(t)
+}
+
 // How many objects are of class c or below.
 fn count_objects(w0: &[u64], st: Counts, c: u64) -> usize
     requires { ⌜ Bounds st (length (now w0)) ⌝ }
@@ -48,24 +59,24 @@ fn count_objects(w0: &[u64], st: Counts, c: u64) -> usize
 }
 
 // How many bytes the lines of a rule with context c and type t can take.
-fn lines_bound(w0: &[u64], st: Counts, c: u64, t: FlatType) -> usize
+fn lines_bound(w0: &[u64], st: Counts, c: u64, t: FlatType, origins: bool) -> usize
     requires { ⌜ Bounds st (length (now w0)) ⌝ }
-    ensures { λ n. ⌜ BoundsLines st (now (w0 .entry)) c (tyOf t) n ⌝ }
+    ensures { λ n. ⌜ BoundsLines origins st (now (w0 .entry)) c (tyOf t) n ⌝ }
 {
     let n = count_objects(w0, st, c);
-    n * (15 + width(t))
+    n * line_width(t, origins)
 }
 
-// How many bytes the report can take.
-pub fn report_bound(w0: &[u64], st: Counts, w2: &[u64]) -> usize
+// How many bytes the lines of all rules can take.
+pub fn all_bound(w0: &[u64], st: Counts, w2: &[u64], origins: bool) -> usize
     requires { ⌜ Bounds st (length (now w0)) × (8192 ≤ length (now w2)) ⌝ }
-    ensures { λ n. ⌜ BoundsReport st (now (w0 .entry)) (now (w2 .entry)) n ⌝ }
+    ensures { λ n. ⌜ BoundsAll origins st (now (w0 .entry)) (now (w2 .entry)) n ⌝ }
 {
     let rules = wide(st.rules);
     let mut bound: usize = 0;
     let mut r: usize = 0;
     while r < rules {
-        bound += lines_bound(w0, st, w0[4448 + r], unpack(w2[768 + r]));
+        bound += lines_bound(w0, st, w0[4448 + r], unpack(w2[768 + r]), origins);
         r += 1;
     }
     bound

@@ -1,62 +1,98 @@
-// The report of an accepted sheet: for each rule and each object of its class or below, a line into the lent output. Document
-// 01, Calls. It depends on `rules` for a rule's evaluation by its number and on `spelling` for values.
-pub mod bound; // how long the report can be
-pub mod lines; // one line
-pub mod passes; // the report's lines, written or counted
+// The lines of an accepted sheet into the lent output, for each rule and each object of its class or below: the report (document 01,
+// Calls), or where each undefined verdict came from (document 02, F-11). It depends on `rules` for a rule's evaluation by its number and on
+// `spelling` for values.
+pub mod bound; // how long the lines can be
+pub mod lines; // one line of the report
+pub mod origins; // one line that says where undefined came from
+pub mod passes; // the lines of all rules, written or counted
+pub mod places; // what a place names
 
 ghost use Prim.Native.Nat.{_≤_};
 ghost use lib.ListN.{length};
 ghost use Rattle.rules.specs.Accepted.{KnownTyped};
-ghost use Rattle.report.specs.Reports.{Bounded, Measures, TellsFit, Reports};
-use bound::report_bound;
+ghost use Rattle.report.specs.Reports.{linesOn, reportOn, originsOn, Bounded, Measures, TellsFit, Reports};
+use bound::all_bound;
 use passes::rule_lines;
 use tables::Counts;
 
-// What the report comes to: so many bytes are written; or it is longer than the output.
+// What the lines come to: so many bytes are written; or they are longer than the output.
 pub enum Reported {
     Written(usize),
     Short,
 }
 
-// The length of the report. Each line is formed in separate bytes, so the output stays as it is.
-fn measured(w0: &[u64], st: Counts, w1: &[u64], w2: &mut [u64], bound: usize) -> usize
+// The length of the lines. Each is formed in separate bytes, so the output stays as it is.
+fn measured(
+    w0: &[u64],
+    st: Counts,
+    w1: &[u64],
+    w2: &mut [u64],
+    bound: usize,
+    origins: bool,
+) -> usize
     requires { ⌜ (8192 ≤ length (now w0)) × (8192 ≤ length (now w1)) × (8192 ≤ length (now w2)) ⌝ }
-    requires { ⌜ Bounded st (now w0) (now w1) bound ⌝ }
-    ensures { λ n. ⌜ Measures st (now (w0 .entry)) (now (w1 .entry)) (now (w2 .entry)) (now (w2 .exit)) n ⌝ }
+    requires { ⌜ Bounded origins st (now w0) (now w1) bound ⌝ }
+    ensures { λ n. ⌜ Measures origins st (now (w0 .entry)) (now (w1 .entry)) (now (w2 .entry)) (now (w2 .exit)) n ⌝ }
 {
     let mut line = [0u8; 2560];
-    rule_lines(w0, st, w1, w2, &mut line, false)
+    rule_lines(w0, st, w1, w2, &mut line, false, origins)
 }
 
-// Whether the report fits into so many bytes. It is measured only if the bound cannot tell.
-fn report_fits(
+// Whether the lines fit into so many bytes. They are measured only if the bound cannot tell.
+fn lines_fit(
     w0: &[u64],
     st: Counts,
     w1: &[u64],
     w2: &mut [u64],
     bound: usize,
     room: usize,
+    origins: bool,
 ) -> bool
     requires { ⌜ (8192 ≤ length (now w0)) × (8192 ≤ length (now w1)) × (8192 ≤ length (now w2)) ⌝ }
-    requires { ⌜ Bounded st (now w0) (now w1) bound ⌝ }
-    ensures { λ r. ⌜ TellsFit st (now (w0 .entry)) (now (w1 .entry)) (now (w2 .entry)) (now (w2 .exit)) bound room r ⌝ }
+    requires { ⌜ Bounded origins st (now w0) (now w1) bound ⌝ }
+    ensures { λ r. ⌜ TellsFit origins st (now (w0 .entry)) (now (w1 .entry)) (now (w2 .entry)) (now (w2 .exit)) bound room r ⌝ }
 {
     if bound <= room {
         return true;
     }
-    measured(w0, st, w1, w2, bound) <= room
+    measured(w0, st, w1, w2, bound, origins) <= room
 }
 
-// The report of the accepted sheet in the words. An output that is too short is left as it is.
-pub fn report_sheet(w0: &[u64], st: Counts, w1: &[u64], w2: &mut [u64], out: &mut [u8]) -> Reported
+// The lines of the accepted sheet in the words. An output that is too short is left as it is.
+fn sheet_lines(
+    w0: &[u64],
+    st: Counts,
+    w1: &[u64],
+    w2: &mut [u64],
+    out: &mut [u8],
+    origins: bool,
+) -> Reported
     requires { ⌜ (8192 ≤ length (now w0)) × (8192 ≤ length (now w1)) × (8192 ≤ length (now w2)) ⌝ }
     requires { ⌜ KnownTyped st (now w0) (now w1) (now w2) × (2560 ≤ length (now out)) ⌝ }
-    ensures { λ r. ⌜ Reports st (now (w0 .entry)) (now (w1 .entry)) (now (w2 .entry)) (now (w2 .exit)) (now (out .entry)) (now (out .exit)) r ⌝ }
+    ensures { λ r. ⌜ Reports (linesOn origins) st (now (w0 .entry)) (now (w1 .entry)) (now (w2 .entry)) (now (w2 .exit)) (now (out .entry)) (now (out .exit)) r ⌝ }
 {
-    let bound = report_bound(w0, st, w2);
-    if report_fits(w0, st, w1, w2, bound, out.len()) {
-        Reported::Written(rule_lines(w0, st, w1, w2, out, true))
+    let bound = all_bound(w0, st, w2, origins);
+    if lines_fit(w0, st, w1, w2, bound, out.len(), origins) {
+        Reported::Written(rule_lines(w0, st, w1, w2, out, true, origins))
     } else {
         Reported::Short
     }
+}
+
+// The report.
+pub fn report_sheet(w0: &[u64], st: Counts, w1: &[u64], w2: &mut [u64], out: &mut [u8]) -> Reported
+    requires { ⌜ (8192 ≤ length (now w0)) × (8192 ≤ length (now w1)) × (8192 ≤ length (now w2)) ⌝ }
+    requires { ⌜ KnownTyped st (now w0) (now w1) (now w2) × (2560 ≤ length (now out)) ⌝ }
+    ensures { λ r. ⌜ Reports reportOn st (now (w0 .entry)) (now (w1 .entry)) (now (w2 .entry)) (now (w2 .exit)) (now (out .entry)) (now (out .exit)) r ⌝ }
+{
+    sheet_lines(w0, st, w1, w2, out, false)
+}
+
+// Where each undefined verdict came from.
+pub fn origins_sheet(w0: &[u64], st: Counts, w1: &[u64], w2: &mut [u64], out: &mut [u8]) -> Reported
+    requires { ⌜ (8192 ≤ length (now w0)) × (8192 ≤ length (now w1)) × (8192 ≤ length (now w2)) ⌝ }
+    requires { ⌜ KnownTyped st (now w0) (now w1) (now w2) × (2560 ≤ length (now out)) ⌝ }
+    ensures { λ r. ⌜ Reports originsOn st (now (w0 .entry)) (now (w1 .entry)) (now (w2 .entry)) (now (w2 .exit)) (now (out .entry)) (now (out .exit)) r ⌝ }
+{
+    sheet_lines(w0, st, w1, w2, out, true)
 }

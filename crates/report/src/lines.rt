@@ -43,7 +43,7 @@ fn steps_of(e: Ended) -> u64
 }
 
 // A number and a blank.
-fn put_column(out: &mut [u8], at: usize, n: u64) -> usize
+pub fn put_column(out: &mut [u8], at: usize, n: u64) -> usize
     requires { ⌜ at + length (spellNumber n) + 1 ≤ length (now out) ⌝ }
     ensures { λ r. ⌜ Puts at (spellNumber n ++ (32 ∷ [])) (now (out .entry)) (now (out .exit)) r ⌝ }
 {
@@ -52,7 +52,7 @@ fn put_column(out: &mut [u8], at: usize, n: u64) -> usize
 }
 
 // A blank, the steps, and the line feed.
-fn put_steps(out: &mut [u8], at: usize, steps: u64) -> usize
+pub fn put_steps(out: &mut [u8], at: usize, steps: u64) -> usize
     requires { ⌜ at + length (spellNumber steps) + 2 ≤ length (now out) ⌝ }
     ensures { λ r. ⌜ Puts at (32 ∷ spellNumber steps ++ (10 ∷ [])) (now (out .entry)) (now (out .exit)) r ⌝ }
 {

@@ -2,13 +2,34 @@
 ghost use Prim.Native.Nat.{_≤_, _<_};
 ghost use lib.ListN.{length};
 ghost use Rattle.rules.specs.Accepted.{Known};
-ghost use Rattle.rules.specs.Numbered.{EvaluatesNumbered};
-use evaluation::rule::evaluate_rule;
+ghost use Rattle.rules.specs.Numbered.{EvaluatesNumbered, TracesNumbered};
+use evaluation::Traced;
+use evaluation::answers::untraced;
+use evaluation::rule::trace_rule;
 use operations::Ended;
 use tables::Counts;
 use types::classes::wide;
 
-// Rule r for object o: a value's cells lie in w2 from 1 on.
+// Rule r for object o: a value's cells lie in w2 from 1 on. Where it is undefined, that arose at node place % 1024, which began at step
+// place / 1024.
+pub fn trace_numbered(
+    w0: &[u64],
+    st: Counts,
+    w1: &[u64],
+    w2: &mut [u64],
+    r: usize,
+    o: u64,
+) -> Traced
+    requires { ⌜ (8192 ≤ length (now w0)) × (8192 ≤ length (now w1)) × (8192 ≤ length (now w2)) ⌝ }
+    requires { ⌜ Known st (now w0) (now w1) × (r < st .rules) × (o < 4294967296) ⌝ }
+    ensures { λ e. ⌜ TracesNumbered st (now (w0 .entry)) (now (w1 .entry)) r o (now (w2 .entry)) (now (w2 .exit)) e ⌝ }
+{
+    let root = wide(w0[4512 + r]);
+    let stack = &mut w2[..8192];
+    trace_rule(w0, st, w1, stack, root, o)
+}
+
+// The same without where undefined arose.
 pub fn evaluate_numbered(
     w0: &[u64],
     st: Counts,
@@ -21,7 +42,5 @@ pub fn evaluate_numbered(
     requires { ⌜ Known st (now w0) (now w1) × (r < st .rules) × (o < 4294967296) ⌝ }
     ensures { λ e. ⌜ EvaluatesNumbered st (now (w0 .entry)) (now (w1 .entry)) r o (now (w2 .entry)) (now (w2 .exit)) e ⌝ }
 {
-    let root = wide(w0[4512 + r]);
-    let stack = &mut w2[..8192];
-    evaluate_rule(w0, st, w1, stack, root, o)
+    untraced(trace_numbered(w0, st, w1, w2, r, o))
 }

@@ -153,15 +153,20 @@ module _ (rows : List ℕ) where
       on-closing s k (fieldsOf l) e (λ u c g. on-step (λ w. readLines w (suc k) (m ∷ ls)) (spelled-takes u (suc k) (lineOf (fieldsOf l))) (λ y q i.
       line-comes s u (suc k) y (m ∷ ls) l (λ w. readLines w (suc k) (m ∷ ls)) q c g i (λ v z. lines-come v (suc k) (m ∷ ls) z)))
 
-  text-comes : (text : Bytes) (s : Sheet) → readText text ≡ accepted s → bare rows s ≡ built (bare rows empty) (linesBut rows (linesOf text))
+  read-comes : (ls : List Bytes) (s : Sheet) → readLines empty 0 ls ≡ accepted s → bare rows s ≡ built (bare rows empty) (linesBut rows ls)
   unfolding empty
-  text-comes text s q = of (lines-come empty 0 (linesOf text) (λ l. refl)) (lines-read text s q)
+  read-comes ls s q = of (lines-come empty 0 ls (λ l. refl)) q
     where
       of : {b : Sheet} {r : Reading} → Comes b r → r ≡ accepted s → bare rows s ≡ b
       of refusing e = absurd (not-accepted e)
       of (comes {u} a) e = let z : u ≡ s = cc in sym (ap (bare rows) z) ∙ a
 
+  -- lines that are the same but for V lines of other rows, whatever their texts' lengths
+  pub lines-bare : (ls ms : List Bytes) (s t : Sheet) → readLines empty 0 ls ≡ accepted s → readLines empty 0 ms ≡ accepted t
+      → linesBut rows ls ≡ linesBut rows ms → bare rows s ≡ bare rows t
+  lines-bare ls ms s t p q e = read-comes ls s p ∙ ap (built (bare rows empty)) e ∙ sym (read-comes ms t q)
+
   -- two texts that differ only in V lines of other rows
   pub same-bare : (text other : Bytes) (s t : Sheet) → readText text ≡ accepted s → readText other ≡ accepted t
       → linesBut rows (linesOf text) ≡ linesBut rows (linesOf other) → bare rows s ≡ bare rows t
-  same-bare text other s t p q e = text-comes text s p ∙ ap (built (bare rows empty)) e ∙ sym (text-comes other t q)
+  same-bare text other s t p q e = lines-bare (linesOf text) (linesOf other) s t (lines-read text s p) (lines-read other t q) e

@@ -119,7 +119,7 @@ good-object s k n c g m = let e = no-slot s (objectLine n c) g m (omega arith) i
 }
 
 -- the value of a V line belongs to its row's type, is small and is formed
-slot-ok : (s : Sheet) (o a : ℕ) (v : Value) → Met s (valueLine o a v) → SlotOk (plain s) (record { object = o; row = a; value = v })
+pub slot-ok : (s : Sheet) (o a : ℕ) (v : Value) → Met s (valueLine o a v) → SlotOk (plain s) (record { object = o; row = a; value = v })
 unfolding plain modelOf suits withinLimits valueWithin numbered
 slot-ok s o a v m =
     let x = and-l (ltb o 96 && ltb a 64 && valueWithin v) _ (and-l (ltb o 96 && ltb a 64 && valueWithin v && ltb (length (s .slots)) 1024) _ (m .limits)) in

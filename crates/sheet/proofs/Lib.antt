@@ -48,3 +48,5 @@ pub mod Unseen
 pub mod RowLines
 pub mod TextExamples
 pub mod ProfileExamples
+pub mod Origin
+pub mod OriginExamples

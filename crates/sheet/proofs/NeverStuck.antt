@@ -63,10 +63,10 @@ module _ (m : Model) (t : Ty) (k : ℕ) where
 -- ---- the lines of a report, on a sheet whose rules have types
 
 -- a rule has a type, and its outcomes are sound for it
-abbrev SoundRule : Sheet → Rule → Type 0
+abbrev pub SoundRule : Sheet → Rule → Type 0
 SoundRule s x = (t : Ty) × ((o : ℕ) → T (isA (modelOf s) o (class (x .context))) → Sound (modelOf s) t (reach (x .body)) (outcomeOf s x o))
 
-abbrev SoundRules : Sheet → List Rule → Type 0
+abbrev pub SoundRules : Sheet → List Rule → Type 0
 SoundRules s xs = (i : ℕ) (x : Rule) → getElem? xs i ≡ some x → SoundRule s x
 
 clean-objects : (s : Sheet) (r : ℕ) (x : Rule) → SoundRule s x → (n : ℕ) → Clean (objectLines s r x n)
@@ -77,7 +77,7 @@ clean-objects s r x h (suc n) =
     next (by-if Clean (isA (modelOf s) n (class (x .context))) (reportLine r n (outcomeOf s x n)) []
     (λ a. clean-line (modelOf s) (h .0) (reach (x .body)) r n (outcomeOf s x n) (h .1 n a)) (λ a. clean-end))
 
-clean-rules : (s : Sheet) (r : ℕ) (xs : List Rule) → SoundRules s xs → Clean (ruleLines s r xs)
+pub clean-rules : (s : Sheet) (r : ℕ) (xs : List Rule) → SoundRules s xs → Clean (ruleLines s r xs)
 unfolding ruleLines
 clean-rules s r [] h = clean-end
 clean-rules s r (x ∷ xs) h = clean-objects s r x (h 0 x refl) (length (s .objects)) next clean-rules s (suc r) xs (λ i. h (suc i))
@@ -89,7 +89,7 @@ type-of none-typed r x e = absurd (Option·none-ne-some _ e)
 type-of {s} (one-typed {t} a h) zero x e = (t, subst (λ y. typingOf s y .answer ≡ typed t) (Option·some-injective _ _ e) a)
 type-of (one-typed a h) (suc r) x e = type-of h r x e
 
-sound-rules : (s : Sheet) → Good s → Each (Defined s) (s .definitions) → {ts : List Ty} → AllTyped s (s .rules) ts → SoundRules s (s .rules)
+pub sound-rules : (s : Sheet) → Good s → Each (Defined s) (s .definitions) → {ts : List Ty} → AllTyped s (s .rules) ts → SoundRules s (s .rules)
 sound-rules s g d k r x e = let h = type-of k r x e in (h .0, λ o a. sound-rule s g d r o x (h .0) e (h .1) a)
 
 module _ (P : Verdict → Type 0) (p : (n k : ℕ) → n ≤ 24 → P (refusalAt n k)) where

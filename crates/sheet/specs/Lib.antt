@@ -13,6 +13,7 @@ pub mod Calls
 pub mod Report
 pub mod Rows
 pub mod Profile
+pub mod Origin
 pub mod Examples
 pub mod RealExamples
 pub mod Soundness
@@ -22,3 +23,5 @@ pub mod ProfileLaws
 pub mod TextLaws
 pub mod TextExamples
 pub mod ProfileExamples
+pub mod OriginLaws
+pub mod OriginExamples

@@ -115,7 +115,7 @@ module _ (m : Schema) (t : List ℕ) (n k a : ℕ) (e : a ≡ word t n k) where
   unfolding operandAt operandTyping
   operand-node h = operand-typing m t n k a e h
 
-  pub late-node : n ≤ a → operandAt t n k m ≡ leafTyping a undef
+  pub late-node : n ≤ a → operandAt t n k m ≡ leafTyping 0 undef
   unfolding operandAt operandTyping
   late-node h = late-typing m t n k a e h
 

@@ -1,11 +1,12 @@
 //! `check SHEET`: reads a job sheet from a file and prints each rule's type, what
 //! the rule comes to for each of its objects, the rows that each rule sees, whether the
-//! sheet is in the free-numbering profile, and the report; or why it is refused, in words. It does what `examples/c/check.c` does.
+//! sheet is in the free-numbering profile, where undefined came from, and the report; or
+//! why the sheet is refused, in words. It does what `examples/c/check.c` does.
 //!
 //! Its exit status is 0 after a report, 1 after a refusal and 2 if the file
 //! could not be read.
 
-use ocl_checker::{evaluate_rule, read_free_numbering, read_types, report, rows};
+use ocl_checker::{evaluate_rule, read_free_numbering, read_types, report, rows, undefined};
 use ocl_checker::{Evaluated, Memory, Refusal, Refused, LEAST_OUTPUT, REPORT_OUTPUT};
 use std::path::PathBuf;
 use std::process::ExitCode;
@@ -25,7 +26,8 @@ fn evaluate_for_all(text: &[u8], rule: u64, memory: &mut Memory, output: &mut [u
     }
 }
 
-/// Prints what each rule is and comes to, then the rows, the profile and the report.
+/// Prints what each rule is and comes to, then the rows, the profile, where undefined came
+/// from, and the report.
 fn check(text: &[u8]) -> Result<(), Refused> {
     let mut memory = Box::new(Memory::new());
     let mut output = vec![0; REPORT_OUTPUT];
@@ -42,6 +44,8 @@ fn check(text: &[u8]) -> Result<(), Refused> {
         Ok(_) => println!("free numbering: yes"),
         Err(refused) => println!("free numbering: {refused}"),
     }
+    let lines = undefined(text, &mut memory, &mut output)?;
+    print!("undefined:\n{lines}");
     let lines = report(text, &mut memory, &mut output)?;
     print!("report:\n{lines}");
     Ok(())

@@ -90,6 +90,19 @@ extern "C" {
         output: *mut u8,
         output_length: usize,
     ) -> Answer;
+
+    fn ocl_undefined(
+        text: *const u8,
+        text_length: usize,
+        words0: *mut u64,
+        words0_length: usize,
+        words1: *mut u64,
+        words1_length: usize,
+        words2: *mut u64,
+        words2_length: usize,
+        output: *mut u8,
+        output_length: usize,
+    ) -> Answer;
 }
 
 /// A call: its text, its numbers, the words and the output.
@@ -146,4 +159,10 @@ pub fn report(text: &[u8], words: Words, output: &mut [u8]) -> Answer {
 /// Reads and types, and writes the rows that each rule sees, a line for each rule.
 pub fn rows(text: &[u8], words: Words, output: &mut [u8]) -> Answer {
     call!(ocl_rows, text, [], words, output)
+}
+
+/// Reads and types, evaluates all rules and writes where undefined came from, a line for
+/// each undefined verdict.
+pub fn undefined(text: &[u8], words: Words, output: &mut [u8]) -> Answer {
+    call!(ocl_undefined, text, [], words, output)
 }

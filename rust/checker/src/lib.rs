@@ -1,7 +1,7 @@
 //! The rule checker of job sheets: reads a sheet, types its rules, evaluates
-//! them, writes the report, tells which rows a rule sees, and holds a sheet to the
-//! free-numbering profile. What the functions answer is proved; this crate only lends
-//! them memory and turns their answers into [`Result`]s.
+//! them, writes the report, tells which rows a rule sees and where undefined came from,
+//! and holds a sheet to the free-numbering profile. What the functions answer is proved;
+//! this crate only lends them memory and turns their answers into [`Result`]s.
 //!
 //! Numbers that are not whole are binary64. Floating point has to be in the state in
 //! which a program starts: it rounds to nearest and keeps subnormal numbers.
@@ -224,6 +224,35 @@ pub fn rows<'o>(
     output: &'o mut [u8],
 ) -> Result<&'o str, Refused> {
     let answer = calls::rows(text, memory.lend(), output);
+    checked(answer).map(|answer| written(output, answer))
+}
+
+/// Where undefined came from: a line for each undefined verdict of the [`report`], in its
+/// order, with the rule, the object, the line of the sheet and the step at which undefined
+/// arose. Steps are counted as [`evaluate_rule`] counts them: the rule's root begins at
+/// step 1. Other verdicts have no line.
+///
+/// # Errors
+///
+/// What [`read_types`] refuses; [`Refusal::ReportTooLong`] where the lines are longer
+/// than the output.
+///
+/// ```
+/// use ocl_checker::{report, undefined, Memory, LEAST_OUTPUT};
+///
+/// // Object 1 has no value in row 0, which is asked for on line 7, at step 2.
+/// let sheet = b"C\t0\t-\nA\t0\t0\t5\tInt\nO\t0\t0\nO\t1\t0\nV\t0\t0\t9\nR\t0\t0\nX\tself.a5 < 12\n";
+/// let mut memory = Box::new(Memory::new());
+/// let mut output = [0; LEAST_OUTPUT];
+/// assert_eq!(report(sheet, &mut memory, &mut output), Ok("0 0 t 4\n0 1 u 3\n"));
+/// assert_eq!(undefined(sheet, &mut memory, &mut output), Ok("0 1 7 2\n"));
+/// ```
+pub fn undefined<'o>(
+    text: &[u8],
+    memory: &mut Memory,
+    output: &'o mut [u8],
+) -> Result<&'o str, Refused> {
+    let answer = calls::undefined(text, memory.lend(), output);
     checked(answer).map(|answer| written(output, answer))
 }
 

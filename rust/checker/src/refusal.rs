@@ -42,7 +42,7 @@ pub enum Refusal {
     StepStop,
     /// A value of a size over 128 would be formed.
     SizeStop,
-    /// The report, or the rows, are longer than the output.
+    /// The report, the rows or the lines about undefined are longer than the output.
     ReportTooLong,
     /// A result of Integers leaves their range, or one of Reals is infinite.
     OverRange,

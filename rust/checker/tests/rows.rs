@@ -132,7 +132,7 @@ fn lines_may_be_too_long() {
 
 #[test]
 fn short_slices_are_left_alone() {
-    for call in [calls::rows, calls::read_free_numbering] {
+    for call in [calls::rows, calls::read_free_numbering, calls::undefined] {
         for slice in 0..3 {
             let mut lengths = [LEAST_WORDS; 3];
             lengths[slice] -= 1;

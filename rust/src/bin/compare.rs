@@ -1,9 +1,9 @@
 //! `compare FIRST COUNT`: compares the linked calls, and the programs that
-//! CHECKER_PROGRAM and ROWS_PROGRAM name, with the second evaluator over the vectors
-//! and the sheets of COUNT seeds from FIRST on, on all processors; a rule of each with
-//! itself, on two sheets that differ in what it does not see; and those in the profile
-//! on the sheet with its objects numbered anew. `--stand-in` compares the second
-//! evaluator with itself in place of the linked calls.
+//! CHECKER_PROGRAM, ROWS_PROGRAM and UNDEFINED_PROGRAM name, with the second evaluator
+//! over the vectors and the sheets of COUNT seeds from FIRST on, on all processors; a
+//! rule of each with itself, on two sheets that differ in what it does not see; and
+//! those in the profile on the sheet with its objects numbered anew. `--stand-in`
+//! compares the second evaluator with itself in place of the linked calls.
 
 use second_evaluator::generate::{asks, sheet, vector_asks, Ask};
 use second_evaluator::harness::faults::Fault;

@@ -74,8 +74,8 @@ impl Growth<'_> {
     }
 }
 
-/// A sheet that is read, its rules as definitions behind those it has, and rules
-/// that call them; none where something does not type.
+/// A sheet that is read, its rules as definitions behind those it has, some of another
+/// type than their body's, and rules that call them; none where something does not type.
 pub fn defined(random: &mut Random, text: &[u8]) -> Option<Vec<u8>> {
     let mut sheet = read(text).ok()?;
     let types = type_rules(&mut sheet).ok()?;
@@ -91,6 +91,12 @@ pub fn defined(random: &mut Random, text: &[u8]) -> Option<Vec<u8>> {
         let simple = matches!(ty, Type::Bool | Type::Int | Type::Class(_));
         let given = if simple && random.one_in(3) {
             &Type::Any
+        } else if random.one_in(16) {
+            if *ty == Type::Bool {
+                &Type::Int
+            } else {
+                &Type::Bool
+            }
         } else {
             ty
         };

@@ -1,5 +1,7 @@
 //! Sheets by seed, and what is asked of the calls about them.
 
+pub mod blank_forms;
+pub mod blanks;
 pub mod chains;
 pub mod damage;
 pub mod definitions;
@@ -11,6 +13,7 @@ pub mod large;
 pub mod limits;
 pub mod numberings;
 pub mod operands;
+pub mod origins;
 pub mod pairs;
 pub mod profile;
 pub mod random;
@@ -24,7 +27,8 @@ pub mod texts;
 pub mod trees;
 pub mod world;
 
-use crate::calls::{program, rows_program, LEAST_OUTPUT, LEAST_WORDS, PROGRAM_OUTPUT};
+use crate::calls::{program, rows_program, undefined_program};
+use crate::calls::{LEAST_OUTPUT, LEAST_WORDS, PROGRAM_OUTPUT};
 use crate::read::read;
 use definitions::defined;
 use random::Random;
@@ -33,7 +37,7 @@ use trees::grown;
 /// A sheet for a seed: most type, some are damaged, some stand at a limit.
 pub fn sheet(seed: u64) -> Vec<u8> {
     let mut random = Random::new(seed);
-    match random.below(43) {
+    match random.below(46) {
         0..=7 => grown(&mut random),
         8 => with_definitions(&mut random),
         9 => large::large(&mut random),
@@ -57,6 +61,7 @@ pub fn sheet(seed: u64) -> Vec<u8> {
         29..=37 => sentences::about(&mut random).into_bytes(),
         38 | 39 => rows::about(&mut random).into_bytes(),
         40..=42 => profile::about(&mut random).into_bytes(),
+        43..=45 => origins::about(&mut random),
         _ => {
             let kind = random.below(limits::KINDS);
             let text = limits::limit(&mut random, kind);
@@ -71,7 +76,7 @@ pub fn sheet(seed: u64) -> Vec<u8> {
 
 /// Another sheet with its rules in text.
 fn told(random: &mut Random) -> Vec<u8> {
-    let text = match random.below(8) {
+    let text = match random.below(9) {
         0 => large::large(random),
         1 => {
             let kind = *random.pick(&limits::OF_RULES);
@@ -80,6 +85,7 @@ fn told(random: &mut Random) -> Vec<u8> {
         2 => with_definitions(random),
         3 => rows::about(random).into_bytes(),
         4 => profile::about(random).into_bytes(),
+        5 => origins::about(random),
         _ => grown(random),
     };
     texts::retold(random, &text).unwrap_or(text)
@@ -109,6 +115,7 @@ pub enum Call {
     Report,
     Rows,
     FreeNumbering,
+    Undefined,
 }
 
 /// A call and the lengths of what is lent to it.
@@ -133,6 +140,7 @@ pub fn asks(seed: u64, text: &[u8]) -> Vec<Ask> {
         Call::FreeNumbering,
         Call::Report,
         Call::Rows,
+        Call::Undefined,
     ];
     for _ in 0..5 {
         let rule = number(&mut random, rules);
@@ -149,6 +157,7 @@ pub fn asks(seed: u64, text: &[u8]) -> Vec<Ask> {
     // So many lines may be more than the least output.
     if rules * objects > 32 || random.one_in(4) {
         asks.extend(exact(Call::Report, &program(text)));
+        asks.extend(exact(Call::Undefined, &undefined_program(text)));
     }
     if rules > 16 {
         asks.extend(exact(Call::Rows, &rows_program(text)));

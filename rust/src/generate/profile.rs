@@ -31,7 +31,7 @@ const INTEGERS: [&str; 17] = [
 ];
 
 /// Nodes in the profile.
-const INSIDE: [&str; 25] = [
+const INSIDE: [&str; 27] = [
     "self",
     "self|attr 0 2",
     "all 1",
@@ -55,8 +55,10 @@ const INSIDE: [&str; 25] = [
     "self|attr 0 3|self|includes 1 2",
     "self|attr 0 3|self|attr 2 3|eq 1 3",
     "all 0|var 1|call 1 %|isUndef 2|forAll 0 1 3",
-    // A stop or false, whichever comes first.
+    // A stop or what decides, whichever comes first.
     "all 0|var 1|attr 1 1|int 2147483640|plus 2 3|int 0|less 4 5|forAll 0 1 6",
+    "all 0|var 1|attr 1 1|int 2147483640|plus 2 3|int 0|less 5 4|exists 0 1 6",
+    "self|attr 0 4|var 1|attr 2 1|int 2147483640|plus 3 4|int 0|less 5 6|forAll 1 1 7",
     "all 0|self|attr 1 2|includes 0 2",
 ];
 

@@ -57,6 +57,8 @@ impl Lent {
 /// What the second evaluator answers and, where the other differs, how.
 pub struct Compared {
     pub answer: Answer,
+    /// What the second evaluator writes.
+    pub written: Vec<u8>,
     pub difference: Option<String>,
 }
 
@@ -69,6 +71,7 @@ pub fn compare(calls: &dyn Calls, text: &[u8], ask: Ask, seed: u64) -> Compared 
     let copy = text.to_vec();
     let (words, out) = theirs.slices();
     let other = on_stack(calls, ask.call, &copy, words, out);
+    let written = ours.slices().1[..answer.length as usize].to_vec();
     let difference = if answer != other {
         Some(format!("expected {answer:?}\n     got {other:?}"))
     } else if let Some(slice) = (0..3).find(|slice| ours.words[*slice] != theirs.words[*slice]) {
@@ -83,7 +86,11 @@ pub fn compare(calls: &dyn Calls, text: &[u8], ask: Ask, seed: u64) -> Compared 
     } else {
         (copy != text).then(|| "the text was changed".to_string())
     };
-    Compared { answer, difference }
+    Compared {
+        answer,
+        written,
+        difference,
+    }
 }
 
 /// The answer to a call that is lent the least it can be, garbage that follows from

@@ -24,6 +24,7 @@ impl Calls for Linked {
             Call::Report => product::report(text, words, out),
             Call::Rows => product::rows(text, words, out),
             Call::FreeNumbering => product::read_free_numbering(text, words, out),
+            Call::Undefined => product::undefined(text, words, out),
         };
         Answer {
             number: answer.number,

@@ -1,5 +1,6 @@
 //! Compares the product's calls and program with the second evaluator's.
 
+pub mod astray;
 pub mod cases;
 pub mod clock;
 pub mod compare;
@@ -12,6 +13,7 @@ mod named;
 pub mod numberings;
 pub mod numbers;
 pub mod operations;
+pub mod origins;
 pub mod oversights;
 pub mod pairs;
 pub mod profiles;
@@ -47,6 +49,7 @@ pub fn second(call: Call, text: &[u8], words: Words, out: &mut [u8]) -> Answer {
         Call::Report => calls::report(text, words, out),
         Call::Rows => calls::rows(text, words, out),
         Call::FreeNumbering => calls::read_free_numbering(text, words, out),
+        Call::Undefined => calls::undefined(text, words, out),
     }
 }
 

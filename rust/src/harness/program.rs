@@ -16,11 +16,12 @@ pub struct Program {
     pub printed: Printed,
 }
 
-/// Those that CHECKER_PROGRAM and ROWS_PROGRAM name.
+/// Those that CHECKER_PROGRAM, ROWS_PROGRAM and UNDEFINED_PROGRAM name.
 pub fn programs() -> Vec<Program> {
-    let known: [(_, Printed); 2] = [
+    let known: [(_, Printed); 3] = [
         ("CHECKER_PROGRAM", calls::program),
         ("ROWS_PROGRAM", calls::rows_program),
+        ("UNDEFINED_PROGRAM", calls::undefined_program),
     ];
     let named = known.into_iter().filter_map(|(name, printed)| {
         let path = env::var_os(name)?.into();

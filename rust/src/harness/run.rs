@@ -3,6 +3,7 @@
 use super::cases::Cases;
 use super::compare::compare;
 use super::numberings::{self, Asked, NumberingCase};
+use super::origins::Origins;
 use super::pairs;
 use super::profiles;
 use super::program::{self, Program};
@@ -47,6 +48,7 @@ pub fn sheet(
     let mut garbage = Random::new(seed);
     let cases = Cases::of(text);
     let texts = Texts::of(text);
+    let origins = Origins::of(text);
     for ask in asks.iter().copied() {
         let seed = garbage.word();
         let compared = compare(calls, text, ask, seed);
@@ -62,6 +64,12 @@ pub fn sheet(
             .flat_map(|texts| texts.met(ask.call, compared.answer))
         {
             tally.add_text(case);
+        }
+        for name in origins
+            .iter()
+            .flat_map(|origins| origins.met(ask, compared.answer, &compared.written))
+        {
+            tally.add_origin(name);
         }
         if compared.difference.is_some() {
             let how = |text: &[u8]| compare(calls, text, ask, seed).difference;
@@ -248,11 +256,17 @@ pub fn profile_vectors() -> io::Result<Vec<Vector>> {
     vectors_of("profile_vectors", "sheet")
 }
 
+/// Those with where their undefined verdicts came from.
+pub fn origin_vectors() -> io::Result<Vec<Vector>> {
+    vectors_of("origin_vectors", "sheet")
+}
+
 /// All sheets among the vectors.
 pub fn all_vectors() -> io::Result<Vec<Vector>> {
     let mut all = vectors()?;
     all.extend(row_vectors()?);
     all.extend(profile_vectors()?);
+    all.extend(origin_vectors()?);
     Ok(all)
 }
 

@@ -2,6 +2,7 @@
 
 use super::cases::Case;
 use super::numberings::NumberingCase;
+use super::origins;
 use super::pairs::PairCase;
 use super::profiles::ProfileCase;
 use super::text_cases::TextCase;
@@ -9,11 +10,12 @@ use crate::calls::Answer;
 use crate::generate::Call;
 use std::fmt;
 
-const NAMES: [&str; 5] = ["read", "evaluate", "report", "rows", "profile"];
+const NAMES: [&str; 6] = ["read", "evaluate", "report", "rows", "profile", "undefined"];
 /// The numbers from 0 on; 21 is given to no call yet.
 pub const NUMBERS: usize = 25;
 
-/// Answers by call and number, and cases in the order of each kind's `ALL`.
+/// Answers by call and number, and cases in the order of each kind's `ALL`, or of
+/// `origins::NAMES`.
 pub struct Tally {
     answers: [[u64; NUMBERS]; NAMES.len()],
     cases: [u64; Case::ALL.len()],
@@ -21,6 +23,7 @@ pub struct Tally {
     pairs: [u64; PairCase::ALL.len()],
     profiles: [u64; ProfileCase::ALL.len()],
     numberings: [u64; NumberingCase::ALL.len()],
+    origins: [u64; origins::NAMES.len()],
 }
 
 impl Default for Tally {
@@ -32,6 +35,7 @@ impl Default for Tally {
             pairs: [0; PairCase::ALL.len()],
             profiles: [0; ProfileCase::ALL.len()],
             numberings: [0; NumberingCase::ALL.len()],
+            origins: [0; origins::NAMES.len()],
         }
     }
 }
@@ -43,6 +47,7 @@ const CALLS: [Call; NAMES.len()] = [
     Call::Report,
     Call::Rows,
     Call::FreeNumbering,
+    Call::Undefined,
 ];
 
 fn position(call: Call) -> usize {
@@ -52,6 +57,7 @@ fn position(call: Call) -> usize {
         Call::Report => 2,
         Call::Rows => 3,
         Call::FreeNumbering => 4,
+        Call::Undefined => 5,
     }
 }
 
@@ -60,7 +66,9 @@ fn relevant(call: Call, number: usize) -> bool {
     match call {
         Call::Read => matches!(number, 0..=13 | 20 | 23 | 24),
         Call::Evaluate { .. } => matches!(number, 0..=17 | 19 | 20 | 23 | 24),
-        Call::Report | Call::Rows => matches!(number, 0..=13 | 18 | 20 | 23 | 24),
+        Call::Report | Call::Rows | Call::Undefined => {
+            matches!(number, 0..=13 | 18 | 20 | 23 | 24)
+        }
         Call::FreeNumbering => matches!(number, 0..=13 | 20 | 22 | 23 | 24),
     }
 }
@@ -90,6 +98,12 @@ impl Tally {
         self.numberings[case as usize] += 1;
     }
 
+    /// A case by its name.
+    pub fn add_origin(&mut self, name: &str) {
+        let position = origins::NAMES.iter().position(|known| *known == name);
+        self.origins[position.unwrap_or_else(|| panic!("{name} is no case"))] += 1;
+    }
+
     /// The names of all cases, with how often each was met.
     fn cases(&self) -> impl Iterator<Item = (&'static str, u64)> + '_ {
         let cases = Case::ALL.iter().map(|case| case.name());
@@ -100,7 +114,8 @@ impl Tally {
         let counts = cases.zip(self.cases).chain(texts.zip(self.texts));
         let counts = counts.chain(pairs.zip(self.pairs));
         let counts = counts.chain(profiles.zip(self.profiles));
-        counts.chain(numberings.zip(self.numberings))
+        let counts = counts.chain(numberings.zip(self.numberings));
+        counts.chain(origins::NAMES.into_iter().zip(self.origins))
     }
 
     /// Adds what another one has counted.
@@ -108,10 +123,11 @@ impl Tally {
         let counts = self.answers.iter_mut().flatten().chain(&mut self.cases);
         let counts = counts.chain(&mut self.texts).chain(&mut self.pairs);
         let counts = counts.chain(&mut self.profiles);
-        let counts = counts.chain(&mut self.numberings);
+        let counts = counts.chain(&mut self.numberings).chain(&mut self.origins);
         let more = other.answers.into_iter().flatten().chain(other.cases);
         let more = more.chain(other.texts).chain(other.pairs);
         let more = more.chain(other.profiles).chain(other.numberings);
+        let more = more.chain(other.origins);
         for (count, more) in counts.zip(more) {
             *count += more;
         }

@@ -13,8 +13,8 @@ use areas::areas;
 use cap::cap;
 use densities::densities;
 use sheets::{
-    bags, collected, iterations, nodes, nodes_of, quantifiers, real_iterations, rows, sets, types,
-    values,
+    bags, blank, collected, iterations, nodes, nodes_of, quantifiers, real_iterations, rows, sets,
+    types, values,
 };
 
 /// What a workload's time is divided by.
@@ -125,6 +125,18 @@ pub fn workloads() -> Vec<Workload> {
             Unit::Node,
             Call::FreeNumbering,
             one(types(10), types(96)),
+        ),
+        workload(
+            "undefined, a report",
+            Unit::Line,
+            Call::Report,
+            one(blank(6), blank(60)),
+        ),
+        workload(
+            "undefined, its origins",
+            Unit::Line,
+            Call::Undefined,
+            one(blank(6), blank(60)),
         ),
         workload(
             "a day of 400 cap sheets",

@@ -80,6 +80,19 @@ pub fn rows(rules: usize) -> Vec<u8> {
     sheet(text)
 }
 
+/// This many rules that are undefined for each of 50 objects, by the last of them.
+pub fn blank(rules: usize) -> Vec<u8> {
+    let lines = (0..50).map(|object| format!("O {object} 0|"));
+    let values = (0..49).map(|object| format!("V {object} 0 2|"));
+    let mut text = "C 0 -|A 0 0 0 Int|".to_string();
+    text.extend(lines.chain(values));
+    for rule in 0..rules {
+        text += &format!("R {rule} 0|N 0 all 0|N 1 var 1|N 2 attr 1 0|N 3 int 3|");
+        text += "N 4 less 2 3|N 5 forAll 0 1 4|";
+    }
+    sheet(text)
+}
+
 fn objects(count: usize) -> String {
     let lines = (0..count).map(|object| format!("O {object} {}|", usize::from(object > 0)));
     "C 1 0|".to_string() + &lines.collect::<String>()

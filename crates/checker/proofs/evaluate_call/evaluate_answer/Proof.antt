@@ -1,7 +1,7 @@
 -- `evaluate_answer` meets its contract. Assumes nothing.
 use borrow.Author.Needs.{needs}
-use Rattle.checker.proofs.Answers.{still-lent}
-use Rattle.checker.proofs.Readings.{known-on, leaves-on, leaves-stop}
+use Rattle.opening.proofs.Answers.{still-lent}
+use Rattle.opening.proofs.Readings.{known-on, leaves-on, leaves-stop}
 use Rattle.checker.proofs.evaluate_call.evaluate_answer.Statement.{statement}
 use Rattle.checker.proofs.evaluate_call.evaluate_answer.Tie as tie
 

@@ -1,7 +1,7 @@
 -- `ocl_evaluate_rule` meets its contract.
 use borrow.Author.Needs.{needs}
 use Rattle.sheet.specs.Calls.{evaluateCall}
-use Rattle.checker.proofs.Answers.{all-lent, still-long, short-call, long-call}
+use Rattle.opening.proofs.Answers.{all-lent, still-long, short-call, long-call}
 use Rattle.checker.proofs.EvaluateCalls.{evaluate-number}
 use Rattle.checker.proofs.evaluate_call.ocl_evaluate_rule.Statement.{statement}
 use Rattle.checker.proofs.evaluate_call.ocl_evaluate_rule.Tie as tie

@@ -1,7 +1,7 @@
 -- `ocl_read_free_numbering` meets its contract. Assumes nothing.
 use borrow.Author.Needs.{needs}
 use Rattle.sheet.specs.Profile.{profileCall}
-use Rattle.checker.proofs.Answers.{all-lent, still-long, short-call, long-call}
+use Rattle.opening.proofs.Answers.{all-lent, still-long, short-call, long-call}
 use Rattle.checker.proofs.ProfileCalls.{profile-number}
 use Rattle.checker.proofs.profile_call.ocl_read_free_numbering.Statement.{statement}
 use Rattle.checker.proofs.profile_call.ocl_read_free_numbering.Tie as tie

@@ -1,8 +1,8 @@
 -- `profile_answer` meets its contract. Assumes nothing.
 use mathlib.Core.Path.{refl}
 use borrow.Author.Needs.{needs}
-use Rattle.checker.proofs.Answers.{still-lent}
-use Rattle.checker.proofs.Readings.{known-on}
+use Rattle.opening.proofs.Answers.{still-lent}
+use Rattle.opening.proofs.Readings.{known-on}
 use Rattle.checker.proofs.ReadCalls.{types-wait}
 use Rattle.checker.proofs.ProfileCalls.{profile-given, profile-stopped}
 use Rattle.checker.proofs.profile_call.profile_answer.Statement.{statement}

@@ -1,7 +1,7 @@
 -- `ocl_read_sheet` meets its contract. Assumes nothing.
 use borrow.Author.Needs.{needs}
 use Rattle.sheet.specs.Calls.{readCall}
-use Rattle.checker.proofs.Answers.{all-lent, still-long, short-call, long-call}
+use Rattle.opening.proofs.Answers.{all-lent, still-long, short-call, long-call}
 use Rattle.checker.proofs.ReadCalls.{read-number}
 use Rattle.checker.proofs.read_call.ocl_read_sheet.Statement.{statement}
 use Rattle.checker.proofs.read_call.ocl_read_sheet.Tie as tie

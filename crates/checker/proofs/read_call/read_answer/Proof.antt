@@ -1,7 +1,7 @@
 -- `read_answer` meets its contract. Assumes nothing.
 use borrow.Author.Needs.{needs}
-use Rattle.checker.proofs.Answers.{still-lent}
-use Rattle.checker.proofs.Readings.{leaves-stop}
+use Rattle.opening.proofs.Answers.{still-lent}
+use Rattle.opening.proofs.Readings.{leaves-stop}
 use Rattle.checker.proofs.ReadCalls.{types-wait, reads-types}
 use Rattle.checker.proofs.read_call.read_answer.Statement.{statement}
 use Rattle.checker.proofs.read_call.read_answer.Tie as tie

@@ -1,7 +1,7 @@
 -- `ocl_report` meets its contract. Assumes nothing.
 use borrow.Author.Needs.{needs}
 use Rattle.sheet.specs.Report.{reportCall}
-use Rattle.checker.proofs.Answers.{all-lent, still-long, short-call, long-call}
+use Rattle.opening.proofs.Answers.{all-lent, still-long, short-call, long-call}
 use Rattle.checker.proofs.ReportCalls.{report-number}
 use Rattle.checker.proofs.report_call.ocl_report.Statement.{statement}
 use Rattle.checker.proofs.report_call.ocl_report.Tie as tie

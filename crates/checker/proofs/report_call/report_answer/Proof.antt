@@ -1,7 +1,7 @@
 -- `report_answer` meets its contract. Assumes nothing.
 use borrow.Author.Needs.{needs}
-use Rattle.checker.proofs.Answers.{still-lent}
-use Rattle.checker.proofs.Readings.{known-on}
+use Rattle.opening.proofs.Answers.{still-lent}
+use Rattle.opening.proofs.Readings.{known-on}
 use Rattle.checker.proofs.ReportCalls.{report-given, report-stopped}
 use Rattle.checker.proofs.report_call.report_answer.Statement.{statement}
 use Rattle.checker.proofs.report_call.report_answer.Tie as tie

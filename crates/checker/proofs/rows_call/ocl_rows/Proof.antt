@@ -1,7 +1,7 @@
 -- `ocl_rows` meets its contract. Assumes nothing.
 use borrow.Author.Needs.{needs}
 use Rattle.sheet.specs.Rows.{rowsCall}
-use Rattle.checker.proofs.Answers.{all-lent, still-long, short-call, long-call}
+use Rattle.opening.proofs.Answers.{all-lent, still-long, short-call, long-call}
 use Rattle.checker.proofs.RowsCalls.{rows-number}
 use Rattle.checker.proofs.rows_call.ocl_rows.Statement.{statement}
 use Rattle.checker.proofs.rows_call.ocl_rows.Tie as tie

@@ -1,7 +1,7 @@
 -- `rows_answer` meets its contract. Assumes nothing.
 use borrow.Author.Needs.{needs}
-use Rattle.checker.proofs.Answers.{still-lent}
-use Rattle.checker.proofs.Readings.{known-on}
+use Rattle.opening.proofs.Answers.{still-lent}
+use Rattle.opening.proofs.Readings.{known-on}
 use Rattle.checker.proofs.RowsCalls.{rows-given, rows-stopped}
 use Rattle.checker.proofs.rows_call.rows_answer.Statement.{statement}
 use Rattle.checker.proofs.rows_call.rows_answer.Tie as tie

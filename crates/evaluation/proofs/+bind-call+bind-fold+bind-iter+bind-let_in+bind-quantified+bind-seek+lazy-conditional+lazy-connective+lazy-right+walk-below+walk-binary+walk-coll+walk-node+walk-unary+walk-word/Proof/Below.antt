@@ -6,7 +6,8 @@ use borrow.Author.Needs.{needs}
 use native.Mathlib.Omega.{arith}
 use Rattle.evaluation.proofs.walk.below.Reads as below
 use Rattle.evaluation.proofs.walk.word.Reads as word
-use Rattle.operations.proofs.answers.unpack.Reads as unpack-reads
+use Rattle.evaluation.proofs.answers.place_of.Reads as place-of-reads
+use Rattle.evaluation.proofs.answers.unpack.Reads as unpack-reads
 use Rattle.nodes.proofs.node_word.Reads as node-word-reads
 use Rattle.types.proofs.classes.wide.Reads as wide-reads
 use Rattle.evaluation.proofs.+bind-call+bind-fold+bind-iter+bind-let_in+bind-quantified+bind-seek+lazy-conditional+lazy-connective+lazy-right+walk-below+walk-binary+walk-coll+walk-node+walk-unary+walk-word.Lts-walk-below as lts
@@ -14,7 +15,7 @@ use Rattle.evaluation.proofs.+bind-call+bind-fold+bind-iter+bind-let_in
 
 module _ (t : ℕ) where
   abbrev calls : lts.Claims
-  calls = (node-word-reads.Asked, node-word-reads.Learnt, wide-reads.Asked, wide-reads.Learnt, word-below t, word.Post, unpack-reads.Asked, unpack-reads.Learnt)
+  calls = (node-word-reads.Asked, node-word-reads.Learnt, wide-reads.Asked, wide-reads.Learnt, word-below t, word.Post, unpack-reads.Asked, unpack-reads.Learnt, place-of-reads.Asked, place-of-reads.Learnt)
 
   returns : lts.Need-returns calls (below-at t) below.Post
   returns c = below-stop _ _ _ (c .if1 .taken)
@@ -37,11 +38,14 @@ module _ (t : ℕ) where
   returns-2 : lts.Need-returns-2 calls (below-at t) below.Post
   returns-2 c = rw (c .unpack .ensures) (below-done _ _ _ _ (c .before .before .before .before .before .before .wide .ensures ∙ c .before .before .before .before .before .before .before .node-word .ensures) (c .before .before .before .before .before .if2 .taken) (c .before .before .before .word .ensures))
 
-  add-t : lts.Need-add-t13 calls (below-at t) below.Post
-  add-t c = search needs
+  add-began : lts.Need-add-began calls (below-at t) below.Post
+  add-began c = search needs
+
+  place-of-requires : lts.Need-place-of-requires calls (below-at t) below.Post
+  place-of-requires c κs = search needs
 
   returns-3 : lts.Need-returns-3 calls (below-at t) below.Post
-  returns-3 c = below-late _ _ _ _ (c .before .wide .ensures ∙ c .before .before .node-word .ensures) (c .if2 .left) (c .before .before .before .if1 .left)
+  returns-3 c = below-late _ _ _ _ (c .before .before .wide .ensures ∙ c .before .before .before .node-word .ensures) (c .before .if2 .left) (c .before .before .before .before .if1 .left) (c .place-of .ensures)
 
   pub closed : {M : Type 1} → lts.Closed calls (below-at t) below.Post M
-  closed = lts.spec calls (below-at t) below.Post returns node-word-requires wide-requires word-requires unpack-requires same-length returns-2 add-t returns-3
+  closed = lts.spec calls (below-at t) below.Post returns node-word-requires wide-requires word-requires unpack-requires same-length returns-2 add-began place-of-requires returns-3

@@ -6,6 +6,8 @@ use borrow.Author.Needs.{needs}
 use native.Mathlib.Omega.{arith}
 use Rattle.evaluation.proofs.walk.below.Reads as below
 use Rattle.evaluation.proofs.walk.binary.Reads as binary
+use Rattle.evaluation.proofs.answers.arose.Reads as arose-reads
+use Rattle.evaluation.proofs.answers.place_of.Reads as place-of-reads
 use Rattle.operations.proofs.apply.binary_apply.Reads as binary-apply-reads
 use Rattle.operations.proofs.apply.left_fits.Reads as left-fits-reads
 use Rattle.evaluation.proofs.+bind-call+bind-fold+bind-iter+bind-let_in+bind-quantified+bind-seek+lazy-conditional+lazy-connective+lazy-right+walk-below+walk-binary+walk-coll+walk-node+walk-unary+walk-word.Lts-walk-binary as lts
@@ -13,7 +15,7 @@ use Rattle.evaluation.proofs.+bind-call+bind-fold+bind-iter+bind-let_in
 
 module _ (t : ℕ) where
   abbrev calls : lts.Claims
-  calls = (below-below t, below.Post, left-fits-reads.Asked, left-fits-reads.Learnt, binary-apply-reads.Asked, binary-apply-reads.Learnt)
+  calls = (below-below t, below.Post, left-fits-reads.Asked, left-fits-reads.Learnt, binary-apply-reads.Asked, binary-apply-reads.Learnt, place-of-reads.Asked, place-of-reads.Learnt, arose-reads.Asked, arose-reads.Learnt)
 
   add-mark : lts.Need-add-mark calls (binary-at t) binary.Post
   add-mark c = search needs
@@ -63,11 +65,17 @@ module _ (t : ℕ) where
   binary-apply-requires : lts.Need-binary-apply-requires calls (binary-at t) binary.Post
   binary-apply-requires c κs = omega (arith, bounds (c .before .before .before .before .before .before .before .before .before .before .before .before .before .before .before .before .below .ensures .small) (c .before .before .before .before .before .before .before .before .before .before .before .before .first .given .1), bounds (c .before .before .before .before .before .before .below2 .ensures .small) (c .before .before .second .given .1), c .before .before .before .before .before .before .before .before .before .before .before .before .before .before .before .before .before .before .before .before .before .before .pre, c .before .before .before .before .before .before .before .before .before .before .before .before .before .before .before .before .below .kept, c .before .before .before .before .before .before .below2 .kept)
 
+  place-of-requires : lts.Need-place-of-requires calls (binary-at t) binary.Post
+  place-of-requires c κs = omega (arith, c .before .before .before .before .before .before .before .before .before .before .before .before .before .before .before .before .before .before .before .before .before .before .before .before .before .pre)
+
+  arose-requires : lts.Need-arose-requires calls (binary-at t) binary.Post
+  arose-requires c κs = search needs
+
   same-length-3 : lts.Need-same-length-3 calls (binary-at t) binary.Post
   same-length-3 c = search needs
 
   returns-3 : lts.Need-returns-3 calls (binary-at t) binary.Post
-  returns-3 c = binary-done _ _ _ (c .before .before .before .before .before .before .before .before .before .before .before .before .before .before .before .before .before .before .before .below .ensures) (c .before .before .before .before .before .before .before .before .before .before .before .before .before .before .before .before .before .before .before .before .before .before .before .before .before .pre .1 .0 .node) (c .before .before .before .before .before .before .before .before .before .before .before .before .before .before .before .first .given .1) (c .before .before .before .before .before .before .before .before .before .before .before .before .left-fits .ensures) (c .before .before .before .before .before .before .before .before .before .before .before .if1 .taken) (c .before .before .before .before .before .before .before .before .before .below2 .ensures) (c .before .before .before .before .before .second .given .1) (c .before .before .binary-apply .ensures)
+  returns-3 c = binary-done _ _ _ (c .before .before .before .before .before .before .before .before .before .before .before .before .before .before .before .before .before .before .before .before .before .below .ensures) (c .before .before .before .before .before .before .before .before .before .before .before .before .before .before .before .before .before .before .before .before .before .before .before .before .before .before .before .pre .1 .0 .node) (c .before .before .before .before .before .before .before .before .before .before .before .before .before .before .before .before .before .first .given .1) (c .before .before .before .before .before .before .before .before .before .before .before .before .before .before .left-fits .ensures) (c .before .before .before .before .before .before .before .before .before .before .before .before .before .if1 .taken) (c .before .before .before .before .before .before .before .before .before .before .before .below2 .ensures) (c .before .before .before .before .before .before .before .second .given .1) (c .before .before .before .before .before .before .before .before .before .before .before .before .before .before .before .before .before .before .before .before .before .before .before .before .before .before .before .pre .1 .1 .1) (c .before .before .before .before .before .before .before .before .before .before .before .before .before .before .before .before .before .before .before .before .before .before .before .before .before .before .before .pre .1 .1 .2) (c .before .before .before .before .binary-apply .ensures) (c .before .place-of .ensures) (c .arose .ensures)
 
   same-length-4 : lts.Need-same-length-4 calls (binary-at t) binary.Post
   same-length-4 c = search needs
@@ -76,4 +84,4 @@ module _ (t : ℕ) where
   returns-4 c = binary-stuck _ _ _ (c .before .before .before .before .before .before .before .before .below .ensures) (c .before .before .before .before .before .before .before .before .before .before .before .before .before .before .pre .1 .0 .node) (c .before .before .before .before .first .given .1) (c .before .left-fits .ensures) (c .if1 .left)
 
   pub closed : {M : Type 1} → lts.Closed calls (binary-at t) binary.Post M
-  closed = lts.spec calls (binary-at t) binary.Post add-mark mul-mark shared-slice-read-mark below-requires enum-known-first same-length returns mul-left-fits slice-read-left-fits left-fits-requires add-below below-requires-2 enum-known-second same-length-2 returns-2 binary-apply-requires same-length-3 returns-3 same-length-4 returns-4
+  closed = lts.spec calls (binary-at t) binary.Post add-mark mul-mark shared-slice-read-mark below-requires enum-known-first same-length returns mul-left-fits slice-read-left-fits left-fits-requires add-below below-requires-2 enum-known-second same-length-2 returns-2 binary-apply-requires place-of-requires arose-requires same-length-3 returns-3 same-length-4 returns-4

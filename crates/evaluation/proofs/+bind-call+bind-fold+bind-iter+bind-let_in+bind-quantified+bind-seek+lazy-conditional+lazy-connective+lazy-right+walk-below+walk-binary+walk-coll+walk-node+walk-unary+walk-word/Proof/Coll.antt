@@ -11,6 +11,8 @@ use native.Mathlib.Omega.{arith}
 use Rattle.evaluation.proofs.walk.below.Reads as below
 use Rattle.values.proofs.collections.assemble.Reads as assemble-reads
 use Rattle.evaluation.proofs.walk.coll.Reads as coll
+use Rattle.evaluation.proofs.answers.arose.Reads as arose-reads
+use Rattle.evaluation.proofs.answers.place_of.Reads as place-of-reads
 use Rattle.operations.proofs.answers.formed.Reads as formed-reads
 use Rattle.nodes.proofs.node_word.Reads as node-word-reads
 use Rattle.types.proofs.classes.wide.Reads as wide-reads
@@ -19,7 +21,7 @@ use Rattle.evaluation.proofs.+bind-call+bind-fold+bind-iter+bind-let_in
 
 module _ (t : ℕ) where
   abbrev calls : lts.Claims
-  calls = (node-word-reads.Asked, node-word-reads.Learnt, wide-reads.Asked, wide-reads.Learnt, below-below t, below.Post, assemble-reads.Asked, assemble-reads.Learnt, formed-reads.Asked, formed-reads.Learnt)
+  calls = (node-word-reads.Asked, node-word-reads.Learnt, wide-reads.Asked, wide-reads.Learnt, place-of-reads.Asked, place-of-reads.Learnt, below-below t, below.Post, assemble-reads.Asked, assemble-reads.Learnt, formed-reads.Asked, formed-reads.Learnt, arose-reads.Asked, arose-reads.Learnt)
 
   abbrev Inv : lts.InvT-loop
   Inv tables st nodes n form env stack₀ sp left steps count end₀ s₀ k₀ stack end s k = Gathering (ReadsWorld st tables nodes) nodes n (kindOf form) env sp left count stack₀ stack s₀ s end k
@@ -33,8 +35,11 @@ module _ (t : ℕ) where
   wide-requires : lts.Need-wide-requires calls (coll-at t) coll.Post Inv μ
   wide-requires c κs = search needs
 
+  place-of-requires : lts.Need-place-of-requires calls (coll-at t) coll.Post Inv μ
+  place-of-requires c κs = omega (arith, c .before .before .before .before .before .before .pre .1 .0 .node, c .before .before .before .before .before .before .pre .1 .1 .3)
+
   returns : lts.Need-returns calls (coll-at t) coll.Post Inv μ
-  returns c = assemble-over _ _ _ (c .before .wide .ensures ∙ c .before .before .node-word .ensures) (c .if1 .taken)
+  returns c = assemble-over _ _ _ (c .before .before .wide .ensures ∙ c .before .before .before .node-word .ensures) (c .before .if1 .taken) (c .before .before .before .before .before .before .before .pre .1 .0 .node) (c .before .before .before .before .before .before .before .pre .1 .1 .2) (c .before .before .before .before .before .before .before .pre .1 .1 .3) (c .place-of .ensures)
 
   loop-holds : lts.Need-loop-holds calls (coll-at t) coll.Post Inv μ
   loop-holds c = gather-starts
@@ -43,7 +48,7 @@ module _ (t : ℕ) where
   add-below c = search needs
 
   below-requires : lts.Need-below-requires calls (coll-at t) coll.Post Inv μ
-  below-requires c κs = omega (arith, c .before .before .before .before .before .before .before .before .before .pre .0, c .before .before .before .before .before .before .before .before .before .pre .1 .0, c .before .before .loop .inv .long, c .before .before .loop .inv .near, c .before .loop-test .taken, c .before .before .before .if1 .left, c .before .before .before .before .before .before .before .before .before .pre .1 .1 .2 .members (omega (arith, c .before .before .before .before .wide .ensures, c .before .before .before .before .before .node-word .ensures, c .before .before .before .if1 .left)) (c .before .before .loop .k) (omega (arith, c .before .before .before .before .wide .ensures, c .before .before .before .before .before .node-word .ensures, c .before .loop-test .taken)))
+  below-requires c κs = omega (arith, c .before .before .before .before .before .before .before .before .before .pre .0, c .before .before .before .before .before .before .before .before .before .pre .1 .0, c .before .before .loop .inv .long, c .before .before .loop .inv .near, c .before .loop-test .taken, c .before .before .before .if1 .left, c .before .before .before .before .before .before .before .before .before .pre .1 .1 .4 .members (omega (arith, c .before .before .before .before .wide .ensures, c .before .before .before .before .before .node-word .ensures, c .before .before .before .if1 .left)) (c .before .before .loop .k) (omega (arith, c .before .before .before .before .wide .ensures, c .before .before .before .before .before .node-word .ensures, c .before .loop-test .taken)))
 
   enum-known-member : lts.Need-enum-known-member calls (coll-at t) coll.Post Inv μ
   enum-known-member c = search needs
@@ -64,7 +69,7 @@ module _ (t : ℕ) where
   loop-less c = omega (arith, c .before .before .before .before .before .before .before .loop-test .taken)
 
   loop-again : lts.Need-loop-again calls (coll-at t) coll.Post Inv μ
-  loop-again c = assemble-again _ _ _ (c .before .before .before .before .before .before .before .before .before .before .wide .ensures ∙ c .before .before .before .before .before .before .before .before .before .before .before .node-word .ensures) (c .before .before .before .before .before .before .before .before .before .if1 .left) (c .before .before .before .before .before .before .before .before .loop .inv) (c .before .before .before .before .before .before .before .loop-test .taken) (c .before .before .before .before .before .below .ensures) (c .before .member .given .1) (c .before .before .before .before .before .below .kept .1 .1 .1 .1 .1 .1 .0) (omega (arith, some-level (operandTree (c .before .before .before .before .before .before .before .before .before .before .before .before .before .before .before .args .nodes .now) (c .before .before .before .before .before .before .before .before .before .before .before .before .before .before .before .args .n) (c .before .before .before .before .before .before .before .before .loop .k + 1)), c .before .before .before .before .before .before .before .before .before .before .before .before .before .before .before .pre .1 .1 .2 .members (omega (arith, c .before .before .before .before .before .before .before .before .before .before .wide .ensures, c .before .before .before .before .before .before .before .before .before .before .before .node-word .ensures, c .before .before .before .before .before .before .before .before .before .if1 .left)) (c .before .before .before .before .before .before .before .before .loop .k) (omega (arith, c .before .before .before .before .before .before .before .before .before .before .wide .ensures, c .before .before .before .before .before .before .before .before .before .before .before .node-word .ensures, c .before .before .before .before .before .before .before .loop-test .taken)))) (omega (arith, c .before .before .before .before .before .before .before .before .loop .inv .long, c .before .before .before .before .before .before .before .before .loop .inv .room, c .before .before .before .before .before .before .before .before .before .before .before .before .before .before .before .pre .1 .0, (c .before .before .before .before .before .below .kept .1 .1 .1 .1 .1 .1 .0)))
+  loop-again c = assemble-again _ _ _ (c .before .before .before .before .before .before .before .before .before .before .wide .ensures ∙ c .before .before .before .before .before .before .before .before .before .before .before .node-word .ensures) (c .before .before .before .before .before .before .before .before .before .if1 .left) (c .before .before .before .before .before .before .before .before .loop .inv) (c .before .before .before .before .before .before .before .loop-test .taken) (c .before .before .before .before .before .below .ensures) (c .before .member .given .1) (c .before .before .before .before .before .below .kept .1 .1 .1 .1 .1 .1 .0) (omega (arith, some-level (operandTree (c .before .before .before .before .before .before .before .before .before .before .before .before .before .before .before .args .nodes .now) (c .before .before .before .before .before .before .before .before .before .before .before .before .before .before .before .args .n) (c .before .before .before .before .before .before .before .before .loop .k + 1)), c .before .before .before .before .before .before .before .before .before .before .before .before .before .before .before .pre .1 .1 .4 .members (omega (arith, c .before .before .before .before .before .before .before .before .before .before .wide .ensures, c .before .before .before .before .before .before .before .before .before .before .before .node-word .ensures, c .before .before .before .before .before .before .before .before .before .if1 .left)) (c .before .before .before .before .before .before .before .before .loop .k) (omega (arith, c .before .before .before .before .before .before .before .before .before .before .wide .ensures, c .before .before .before .before .before .before .before .before .before .before .before .node-word .ensures, c .before .before .before .before .before .before .before .loop-test .taken)))) (omega (arith, c .before .before .before .before .before .before .before .before .loop .inv .long, c .before .before .before .before .before .before .before .before .loop .inv .room, c .before .before .before .before .before .before .before .before .before .before .before .before .before .before .before .pre .1 .0, (c .before .before .before .before .before .below .kept .1 .1 .1 .1 .1 .1 .0)))
 
   sub-assemble : lts.Need-sub-assemble calls (coll-at t) coll.Post Inv μ
   sub-assemble c = search needs
@@ -75,11 +80,17 @@ module _ (t : ℕ) where
   formed-requires : lts.Need-formed-requires calls (coll-at t) coll.Post Inv μ
   formed-requires c κs = search needs
 
+  place-of-requires-2 : lts.Need-place-of-requires-2 calls (coll-at t) coll.Post Inv μ
+  place-of-requires-2 c κs = omega (arith, c .before .before .before .before .before .before .before .before .before .before .before .before .before .pre .1 .0 .node, c .before .before .before .before .before .before .before .before .before .before .before .before .before .pre .1 .1 .3)
+
+  arose-requires : lts.Need-arose-requires calls (coll-at t) coll.Post Inv μ
+  arose-requires c κs = search needs
+
   same-length-2 : lts.Need-same-length-2 calls (coll-at t) coll.Post Inv μ
-  same-length-2 c = c .before .before .before .assemble .kept .0 ∙ c .before .before .before .before .before .before .loop .inv .long
+  same-length-2 c = c .before .before .before .before .before .assemble .kept .0 ∙ c .before .before .before .before .before .before .before .before .loop .inv .long
 
   returns-3 : lts.Need-returns-3 calls (coll-at t) coll.Post Inv μ
-  returns-3 c = assemble-done _ _ _ (c .before .before .before .before .before .before .before .before .wide .ensures ∙ c .before .before .before .before .before .before .before .before .before .node-word .ensures) (c .before .before .before .before .before .before .before .if1 .left) (c .before .before .before .before .before .before .loop .inv) _ (c .before .before .before .before .before .loop-test .left) (kind-number (c .before .before .before .before .before .before .before .before .before .before .before .before .before .args .form) (c .before .before .before .before .before .before .before .before .before .before .before .before .before .pre .1 .1 .0) (c .before .before .before .before .before .before .before .before .before .before .before .before .before .pre .1 .1 .1)) (omega (arith, c .before .before .before .before .before .before .loop .inv .long, c .before .before .before .before .before .before .before .before .before .before .before .before .before .pre .1 .0)) (c .before .before .before .assemble .ensures) (c .formed .ensures)
+  returns-3 c = assemble-done _ _ _ (c .before .before .before .before .before .before .before .before .before .before .wide .ensures ∙ c .before .before .before .before .before .before .before .before .before .before .before .node-word .ensures) (c .before .before .before .before .before .before .before .before .before .if1 .left) (c .before .before .before .before .before .before .before .before .loop .inv) _ (c .before .before .before .before .before .before .before .loop-test .left) (kind-number (c .before .before .before .before .before .before .before .before .before .before .before .before .before .before .before .args .form) (c .before .before .before .before .before .before .before .before .before .before .before .before .before .before .before .pre .1 .1 .0) (c .before .before .before .before .before .before .before .before .before .before .before .before .before .before .before .pre .1 .1 .1)) (omega (arith, c .before .before .before .before .before .before .before .before .loop .inv .long, c .before .before .before .before .before .before .before .before .before .before .before .before .before .before .before .pre .1 .0)) (c .before .before .before .before .before .assemble .ensures) (c .before .before .formed .ensures) (c .before .before .before .before .before .before .before .before .before .before .before .before .before .before .before .pre .1 .0 .node) (c .before .before .before .before .before .before .before .before .before .before .before .before .before .before .before .pre .1 .1 .2) (c .before .before .before .before .before .before .before .before .before .before .before .before .before .before .before .pre .1 .1 .3) (c .before .place-of2 .ensures) (c .arose .ensures)
 
   pub closed : {M : Type 1} → lts.Closed calls (coll-at t) coll.Post M
-  closed = lts.spec calls (coll-at t) coll.Post Inv μ node-word-requires wide-requires returns loop-holds add-below below-requires enum-known-member same-length returns-2 add-end add-k loop-less loop-again sub-assemble assemble-requires formed-requires same-length-2 returns-3
+  closed = lts.spec calls (coll-at t) coll.Post Inv μ node-word-requires wide-requires place-of-requires returns loop-holds add-below below-requires enum-known-member same-length returns-2 add-end add-k loop-less loop-again sub-assemble assemble-requires formed-requires place-of-requires-2 arose-requires same-length-2 returns-3

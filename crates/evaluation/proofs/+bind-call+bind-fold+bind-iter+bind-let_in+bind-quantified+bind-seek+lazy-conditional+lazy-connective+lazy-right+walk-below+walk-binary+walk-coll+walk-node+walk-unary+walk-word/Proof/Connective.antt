@@ -1,4 +1,6 @@
 -- The needs of `connective`.
+use Rattle.evaluation.specs.Traces.{no-place, a-place}
+use Rattle.evaluation.proofs.Composition.{its-place}
 use Rattle.evaluation.proofs.ConnectiveLaws.{connective-ends, connective-stops, connective-stuck, connective-decided, connective-known, connective-unknown}
 use Prim.Native.Nat.{ℕ}
 use borrow.Author.Needs.{needs}
@@ -45,13 +47,13 @@ module _ (t : ℕ) where
   returns-2 c = connective-decided _ _ _ (c .before .before .before .before .before .before .before .before .before .below .ensures) (c .before .before .before .before .before .first .given .1) (c .before .before .truth .ensures) (c .before .if1 .left) (omega (arith, c .before .before .before .before .before .before .before .before .before .before .before .before .before .before .pre)) (omega (arith, c .before .before .before .before .before .before .before .before .before .before .before .before .before .before .pre)) (c .if2 .taken)
 
   right-requires : lts.Need-right-requires calls (connective-at t) connective.Post
-  right-requires c κs = search needs
+  right-requires c κs = (omega (arith, c .before .before .before .before .before .before .before .before .before .before .before .before .before .before .before .pre), (omega (arith, c .before .before .before .before .before .before .before .before .before .before .before .before .before .before .before .pre, c .before .before .before .before .before .before .before .before .before .before .below .kept), (omega (arith, c .before .before .before .before .before .before .before .before .before .before .before .before .before .before .before .pre), no-place)))
 
   enum-known-first-2 : lts.Need-enum-known-first-2 calls (connective-at t) connective.Post
   enum-known-first-2 c = search needs
 
   right-requires-2 : lts.Need-right-requires-2 calls (connective-at t) connective.Post
-  right-requires-2 c κs = search needs
+  right-requires-2 c κs = (omega (arith, c .before .before .before .before .before .before .before .before .before .before .before .pre), (omega (arith, c .before .before .before .before .before .before .before .before .before .before .before .pre, c .before .before .before .before .before .before .below .kept), (omega (arith, c .before .before .before .before .before .before .before .before .before .before .before .pre), a-place (its-place (c .before .before .before .before .before .before .below .ensures .small) (c .before .before .first2 .given .1)))))
 
   enum-told : lts.Need-enum-told calls (connective-at t) connective.Post
   enum-told c = search needs

@@ -6,6 +6,8 @@ use Rattle.nodes.specs.Nodes.{treeAt}
 use Rattle.nodes.proofs.Levels.{some-level, binary-levels, connective-levels, quantified-levels, conditional-levels, let-levels, iterate-levels, call-levels}
 use borrow.Author.Needs.{needs}
 use native.Mathlib.Omega.{arith}
+use Rattle.evaluation.proofs.answers.arose.Reads as arose-reads
+use Rattle.evaluation.proofs.answers.place_of.Reads as place-of-reads
 use Rattle.evaluation.proofs.walk.binary.Reads as binary
 use Rattle.evaluation.proofs.bind.call.Reads as call
 use Rattle.evaluation.proofs.walk.coll.Reads as coll
@@ -24,7 +26,7 @@ use Rattle.evaluation.proofs.+bind-call+bind-fold+bind-iter+bind-let_in
 
 module _ (t : ℕ) where
   abbrev calls : lts.Claims
-  calls = (node-word-reads.Asked, node-word-reads.Learnt, conditional-below t, conditional.Post, let-in-below t, let-in.Post, iter-below t, iter.Post, call-below t, call.Post, leaf-reads.Asked, leaf-reads.Learnt, connective-below t, connective.Post, wide-reads.Asked, wide-reads.Learnt, quantified-below t, quantified.Post, coll-below t, coll.Post, binary-below t, binary.Post, unary-below t, unary.Post)
+  calls = (node-word-reads.Asked, node-word-reads.Learnt, conditional-below t, conditional.Post, let-in-below t, let-in.Post, iter-below t, iter.Post, call-below t, call.Post, leaf-reads.Asked, leaf-reads.Learnt, place-of-reads.Asked, place-of-reads.Learnt, arose-reads.Asked, arose-reads.Learnt, connective-below t, connective.Post, wide-reads.Asked, wide-reads.Learnt, quantified-below t, quantified.Post, coll-below t, coll.Post, binary-below t, binary.Post, unary-below t, unary.Post)
 
   add-s : lts.Need-add-s calls (node-at t) node.Post
   add-s c = search needs
@@ -53,6 +55,12 @@ module _ (t : ℕ) where
   leaf-requires : lts.Need-leaf-requires calls (node-at t) node.Post
   leaf-requires c κs = search needs
 
+  place-of-requires : lts.Need-place-of-requires calls (node-at t) node.Post
+  place-of-requires c κs = search needs
+
+  arose-requires : lts.Need-arose-requires calls (node-at t) node.Post
+  arose-requires c κs = search needs
+
   connective-requires : lts.Need-connective-requires calls (node-at t) node.Post
   connective-requires c κs = omega (arith, c .before .before .before .before .before .before .before .before .before .before .pre, some-level (treeAt (c .before .before .before .before .before .before .before .before .before .before .args .nodes .now) (c .before .before .before .before .before .before .before .before .before .before .args .n)), c .before .before .if3 .left, c .before .if4 .taken, connective-levels (c .before .before .before .before .before .before .before .before .before .before .args .nodes .now) (c .before .before .before .before .before .before .before .before .before .before .args .n) (c .before .before .before .before .before .before .node-word .result) (c .before .before .before .before .before .before .node-word .ensures) (c .before .before .if3 .left) (omega (arith, c .before .if4 .taken)))
 
@@ -66,7 +74,10 @@ module _ (t : ℕ) where
   quantified-requires c κs = omega (arith, c .before .wide .ensures, c .before .before .node-word3 .ensures, c .before .before .before .before .before .before .before .before .before .before .before .before .before .pre, some-level (treeAt (c .before .before .before .before .before .before .before .before .before .before .before .before .before .args .nodes .now) (c .before .before .before .before .before .before .before .before .before .before .before .before .before .args .n)), c .before .before .before .before .if4 .left, c .before .before .before .if5 .taken, quantified-levels (c .before .before .before .before .before .before .before .before .before .before .before .before .before .args .nodes .now) (c .before .before .before .before .before .before .before .before .before .before .before .before .before .args .n) (c .before .before .before .before .before .before .before .before .before .node-word .result) (c .before .before .before .before .before .before .before .before .before .node-word .ensures) (c .before .before .before .before .if4 .left) (omega (arith, c .before .before .before .if5 .taken)))
 
   coll-requires : lts.Need-coll-requires calls (node-at t) node.Post
-  coll-requires c κs = (omega (arith, c .before .before .before .before .before .before .before .before .before .before .before .before .pre), (omega (arith, c .before .before .before .before .before .before .before .before .before .before .before .before .pre, some-level (treeAt (c .before .before .before .before .before .before .before .before .before .before .before .before .args .nodes .now) (c .before .before .before .before .before .before .before .before .before .before .before .before .args .n))), (c .before .before .if5 .left, omega (arith, c .before .if6 .taken), shallow (c .before .before .before .before .before .before .before .before .before .before .before .before .args .nodes .now) (c .before .before .before .before .before .before .before .before .before .before .before .before .args .n) (c .before .before .before .before .before .before .before .before .node-word .result) (c .before .before .before .before .before .before .before .before .before .before .before .before .args .left - 1) (c .before .before .before .before .before .before .before .before .node-word .ensures) (c .before .before .if5 .left) (omega (arith, c .before .if6 .taken)) (omega (arith, c .before .before .before .before .before .before .before .before .before .before .before .before .pre, some-level (treeAt (c .before .before .before .before .before .before .before .before .before .before .before .before .args .nodes .now) (c .before .before .before .before .before .before .before .before .before .before .before .before .args .n)))))))
+  coll-requires c κs = (omega (arith, c .before .before .before .before .before .before .before .before .before .before .before .before .pre), (omega (arith, c .before .before .before .before .before .before .before .before .before .before .before .before .pre, some-level (treeAt (c .before .before .before .before .before .before .before .before .before .before .before .before .args .nodes .now) (c .before .before .before .before .before .before .before .before .before .before .before .before .args .n))), (c .before .before .if5 .left, omega (arith, c .before .if6 .taken), omega (arith, c .before .before .before .before .before .before .before .before .before .before .before .before .pre), omega (arith, c .before .before .before .before .before .before .before .before .before .before .before .before .pre), shallow (c .before .before .before .before .before .before .before .before .before .before .before .before .args .nodes .now) (c .before .before .before .before .before .before .before .before .before .before .before .before .args .n) (c .before .before .before .before .before .before .before .before .node-word .result) (c .before .before .before .before .before .before .before .before .before .before .before .before .args .left - 1) (c .before .before .before .before .before .before .before .before .node-word .ensures) (c .before .before .if5 .left) (omega (arith, c .before .if6 .taken)) (omega (arith, c .before .before .before .before .before .before .before .before .before .before .before .before .pre, some-level (treeAt (c .before .before .before .before .before .before .before .before .before .before .before .before .args .nodes .now) (c .before .before .before .before .before .before .before .before .before .before .before .before .args .n)))))))
+
+  place-of-requires-2 : lts.Need-place-of-requires-2 calls (node-at t) node.Post
+  place-of-requires-2 c κs = search needs
 
   binary-requires : lts.Need-binary-requires calls (node-at t) node.Post
   binary-requires c κs = omega (arith, c .before .before .before .before .before .before .pre, some-level (treeAt (c .before .before .before .before .before .before .args .nodes .now) (c .before .before .before .before .before .before .args .n)), two-codes (⊎-elim (λ m. inl (m .keys2)) (λ m. inr (m .2 .left, m .3 .taken)) (c .before .match .came)), binary-levels (c .before .before .before .before .before .before .args .nodes .now) (c .before .before .before .before .before .before .args .n) (c .before .before .node-word .result) (c .before .before .node-word .ensures) (⊎-elim (λ m. inl (m .keys2)) (λ m. inr (m .2 .left, m .3 .taken)) (c .before .match .came)))
@@ -123,7 +134,7 @@ module _ (t : ℕ) where
   returns-8 c = search node-assemble
 
   returns-9 : lts.Need-returns-9 calls (node-at t) node.Post
-  returns-9 c = node-none _ _ _ (c .before .before .before .before .before .before .before .before .node-word .ensures) (c .before .before .before .before .before .before .before .before .before .before .before .before .pre .1 .1 .1) (over-37 _ (c .if7 .left) (c .before .before .before .before .before .before .before .match .rest .0 .0 .0 .0 .1) (c .before .before .before .before .before .before .before .match .rest .0 .1) (c .before .before .before .before .before .before .before .match .rest .1))
+  returns-9 c = node-none _ _ _ (c .before .before .before .before .before .before .before .before .before .node-word .ensures) (c .before .before .before .before .before .before .before .before .before .before .before .before .before .pre .1 .1 .1) (over-37 _ (c .before .if7 .left) (c .before .before .before .before .before .before .before .before .match .rest .0 .0 .0 .0 .1) (c .before .before .before .before .before .before .before .before .match .rest .0 .1) (c .before .before .before .before .before .before .before .before .match .rest .1)) (c .before .before .before .before .before .before .before .before .before .before .before .before .before .pre .1 .0 .node) (c .place-of2 .ensures)
 
   same-length-9 : lts.Need-same-length-9 calls (node-at t) node.Post
   same-length-9 c = search needs
@@ -138,4 +149,4 @@ module _ (t : ℕ) where
   returns-11 c = node-unary _ _ _ (c .before .before .before .before .before .node-word .ensures) (c .before .before .before .before .before .before .before .before .before .pre .1 .1 .1) (⊎-elim (λ m. lone-code (m .keys1)) (⊎-elim (λ m. low-code (m .1 .left) (m .2 .taken)) (λ m. high-code (from-33 _ (m .6 .left) (m .0 .rest .0 .0 .0 .0 .0 .1) (m .0 .rest .0 .0 .0 .1) (m .0 .rest .0 .0 .1)) (m .7 .taken))) (c .before .before .before .before .match .came)) (c .before .before .unary .ensures)
 
   pub closed : {M : Type 1} → lts.Closed calls (node-at t) node.Post M
-  closed = lts.spec calls (node-at t) node.Post add-s sub-deeper node-word-requires conditional-requires let-in-requires iter-requires call-requires node-word-requires-2 leaf-requires connective-requires node-word-requires-3 wide-requires quantified-requires coll-requires binary-requires unary-requires same-length returns same-length-2 returns-2 same-length-3 returns-3 same-length-4 returns-4 same-length-5 returns-5 same-length-6 returns-6 same-length-7 returns-7 same-length-8 returns-8 returns-9 same-length-9 returns-10 same-length-10 returns-11
+  closed = lts.spec calls (node-at t) node.Post add-s sub-deeper node-word-requires conditional-requires let-in-requires iter-requires call-requires node-word-requires-2 leaf-requires place-of-requires arose-requires connective-requires node-word-requires-3 wide-requires quantified-requires coll-requires place-of-requires-2 binary-requires unary-requires same-length returns same-length-2 returns-2 same-length-3 returns-3 same-length-4 returns-4 same-length-5 returns-5 same-length-6 returns-6 same-length-7 returns-7 same-length-8 returns-8 returns-9 same-length-9 returns-10 same-length-10 returns-11

@@ -6,8 +6,9 @@ use Rattle.evaluation.specs.Evaluating.{ReadsWorld, operandFor}
 use Rattle.evaluation.proofs.LoopLaws.{Seeking, seek-starts, seek-none, seek-blank, seek-early, seek-past, seek-stuck, seek-ends, seek-again}
 use borrow.Author.Needs.{needs}
 use native.Mathlib.Omega.{arith}
+use Rattle.evaluation.proofs.answers.earlier.Reads as earlier-reads
 use Rattle.evaluation.proofs.walk.below.Reads as below
-use Rattle.operations.proofs.answers.put.Reads as put-reads
+use Rattle.values.proofs.cells.push.Reads as push-reads
 use Rattle.evaluation.proofs.bind.seek.Reads as seeking
 use Rattle.values.proofs.cells.skip.Reads as skip-reads
 use Rattle.operations.proofs.answers.truth.Reads as truth-reads
@@ -16,7 +17,7 @@ use Rattle.evaluation.proofs.+bind-call+bind-fold+bind-iter+bind-let_in
 
 module _ (t : ℕ) where
   abbrev calls : lts.Claims
-  calls = (below-below t, below.Post, skip-reads.Asked, skip-reads.Learnt, truth-reads.Asked, truth-reads.Learnt, put-reads.Asked, put-reads.Learnt)
+  calls = (below-below t, below.Post, skip-reads.Asked, skip-reads.Learnt, earlier-reads.Asked, earlier-reads.Learnt, truth-reads.Asked, truth-reads.Learnt, push-reads.Asked, push-reads.Learnt)
 
   abbrev Inv : lts.InvT-loop
   Inv tables st nodes n form i env stack₀ sp la left steps end blank₀ s₀ p₀ stack blank s p = Seeking (ReadsWorld st tables nodes) (quantifierOf form) (variable (word nodes n 3)) (operandFor nodes n 2) env sp (sp + la) stack₀ stack s₀ blank s p
@@ -51,8 +52,11 @@ module _ (t : ℕ) where
   enum-known-turn : lts.Need-enum-known-turn calls (seek-at t) seeking.Post Inv μ
   enum-known-turn c = search needs
 
+  earlier-requires : lts.Need-earlier-requires calls (seek-at t) seeking.Post Inv μ
+  earlier-requires c κs = search needs
+
   loop-less : lts.Need-loop-less calls (seek-at t) seeking.Post Inv μ
-  loop-less c = omega (arith, c .before .before .before .skip .ensures .up (c .before .before .before .before .before .before .before .before .before .loop-test .taken), c .before .before .before .skip .ensures .within, c .before .before .before .before .before .before .before .before .before .loop-test .taken)
+  loop-less c = omega (arith, c .before .before .before .before .skip .ensures .up (c .before .before .before .before .before .before .before .before .before .before .loop-test .taken), c .before .before .before .before .skip .ensures .within, c .before .before .before .before .before .before .before .before .before .before .loop-test .taken)
 
   loop-again : lts.Need-loop-again calls (seek-at t) seeking.Post Inv μ
   loop-again c = search seek-past
@@ -84,14 +88,14 @@ module _ (t : ℕ) where
   sub-if2 : lts.Need-sub-if2 calls (seek-at t) seeking.Post Inv μ
   sub-if2 c = search needs
 
-  put-requires : lts.Need-put-requires calls (seek-at t) seeking.Post Inv μ
-  put-requires c κs = (tt, omega (arith, c .before .before .before .before .before .before .before .before .before .before .before .before .before .before .before .before .before .before .before .before .pre, c .before .before .before .before .before .before .before .before .before .before .before .before .before .before .before .before .loop .inv .long, c .before .before .before .before .before .before .before .before .before .before .before .before .before .below .kept .1 .1 .1 .1 .1 .1 .0))
+  push-requires : lts.Need-push-requires calls (seek-at t) seeking.Post Inv μ
+  push-requires c κs = (tt, omega (arith, c .before .before .before .before .before .before .before .before .before .before .before .before .before .before .before .before .before .before .before .before .pre, c .before .before .before .before .before .before .before .before .before .before .before .before .before .before .before .before .loop .inv .long, c .before .before .before .before .before .before .before .before .before .before .before .before .before .below .kept .1 .1 .1 .1 .1 .1 .0))
 
   same-length-3 : lts.Need-same-length-3 calls (seek-at t) seeking.Post Inv μ
-  same-length-3 c = c .before .before .put .kept .0 ∙ (c .before .before .before .before .before .before .before .before .before .before .before .before .before .before .before .before .below .kept .1 .1 .1 .1 .1 .1 .0) ∙ c .before .before .before .before .before .before .before .before .before .before .before .before .before .before .before .before .before .before .before .loop .inv .long
+  same-length-3 c = c .before .before .push .kept .0 ∙ (c .before .before .before .before .before .before .before .before .before .before .before .before .before .before .before .before .below .kept .1 .1 .1 .1 .1 .1 .0) ∙ c .before .before .before .before .before .before .before .before .before .before .before .before .before .before .before .before .before .before .before .loop .inv .long
 
   returns-3 : lts.Need-returns-3 calls (seek-at t) seeking.Post Inv μ
-  returns-3 c = seek-ends _ _ (c .before .before .before .before .before .before .before .before .before .before .before .before .before .before .before .before .before .before .before .loop .inv) (c .before .before .before .before .before .before .before .before .before .before .before .before .before .before .before .before .before .before .before .before .before .before .before .pre .1 .0) (c .before .before .before .before .before .before .before .before .before .before .before .before .before .before .before .before .before .before .before .before .before .before .before .pre .1 .1 .0 .4) (c .before .before .before .before .before .before .before .before .before .before .before .before .before .before .before .before .before .before .before .before .before .before .before .pre .1 .1 .1) (c .before .before .before .before .before .before .before .before .before .before .before .before .before .before .before .before .before .before .loop-test .taken) (c .before .before .before .before .before .before .before .before .before .before .before .before .before .before .before .before .below .ensures) (c .before .before .before .before .before .before .before .before .before .turn2 .given .1) (c .before .before .before .before .before .before .truth .ensures) (c .before .before .before .before .before .before .before .before .before .before .before .before .before .before .before .before .before .before .before .before .before .before .before .pre .1 .1 .0 .0) (c .before .before .before .before .before .before .before .before .before .before .before .before .before .before .before .before .before .before .before .before .before .before .before .pre .1 .1 .0 .1) (c .before .before .before .before .before .if1 .left) (c .before .before .before .before .if2 .taken) (c .before .before .put .ensures)
+  returns-3 c = seek-ends _ _ (c .before .before .before .before .before .before .before .before .before .before .before .before .before .before .before .before .before .before .before .loop .inv) (c .before .before .before .before .before .before .before .before .before .before .before .before .before .before .before .before .before .before .before .before .before .before .before .pre .1 .0) (c .before .before .before .before .before .before .before .before .before .before .before .before .before .before .before .before .before .before .before .before .before .before .before .pre .1 .1 .0 .4) (c .before .before .before .before .before .before .before .before .before .before .before .before .before .before .before .before .before .before .before .before .before .before .before .pre .1 .1 .1) (c .before .before .before .before .before .before .before .before .before .before .before .before .before .before .before .before .before .before .loop-test .taken) (c .before .before .before .before .before .before .before .before .before .before .before .before .before .before .before .before .below .ensures) (c .before .before .before .before .before .before .before .before .before .turn2 .given .1) (c .before .before .before .before .before .before .truth .ensures) (c .before .before .before .before .before .before .before .before .before .before .before .before .before .before .before .before .before .before .before .before .before .before .before .pre .1 .1 .0 .0) (c .before .before .before .before .before .before .before .before .before .before .before .before .before .before .before .before .before .before .before .before .before .before .before .pre .1 .1 .0 .1) (c .before .before .before .before .before .if1 .left) (c .before .before .before .before .if2 .taken) (c .before .before .before .before .before .before .before .before .before .before .before .before .before .before .before .before .below .kept .1 .1 .1 .1 .1 .1 .0) (c .before .before .push .ensures)
 
   loop-less-2 : lts.Need-loop-less-2 calls (seek-at t) seeking.Post Inv μ
   loop-less-2 c = omega (arith, c .before .before .before .before .before .before .before .before .skip .ensures .up (c .before .before .before .before .before .before .before .before .before .before .before .before .before .before .loop-test .taken), c .before .before .before .before .before .before .before .before .skip .ensures .within, c .before .before .before .before .before .before .before .before .before .before .before .before .before .before .loop-test .taken)
@@ -105,14 +109,14 @@ module _ (t : ℕ) where
   returns-4 : lts.Need-returns-4 calls (seek-at t) seeking.Post Inv μ
   returns-4 c = search seek-blank
 
-  put-requires-2 : lts.Need-put-requires-2 calls (seek-at t) seeking.Post Inv μ
-  put-requires-2 c κs = (tt, omega (arith, c .before .before .before .before .before .before .before .pre, c .before .before .before .loop .inv .long))
+  push-requires-2 : lts.Need-push-requires-2 calls (seek-at t) seeking.Post Inv μ
+  push-requires-2 c κs = (tt, omega (arith, c .before .before .before .before .before .before .before .pre, c .before .before .before .loop .inv .long))
 
   same-length-5 : lts.Need-same-length-5 calls (seek-at t) seeking.Post Inv μ
-  same-length-5 c = c .before .before .put2 .kept .0 ∙ c .before .before .before .before .before .before .loop .inv .long
+  same-length-5 c = c .before .before .push2 .kept .0 ∙ c .before .before .before .before .before .before .loop .inv .long
 
   returns-5 : lts.Need-returns-5 calls (seek-at t) seeking.Post Inv μ
   returns-5 c = search seek-none
 
   pub closed : {M : Type 1} → lts.Closed calls (seek-at t) seeking.Post M
-  closed = lts.spec calls (seek-at t) seeking.Post Inv μ add-end add-p loop-holds add-inner mul-inner array-write-inner below-requires skip-requires enum-known-turn loop-less loop-again enum-known-turn-2 same-length returns mul-truth slice-read-truth truth-requires same-length-2 returns-2 sub-if2 put-requires same-length-3 returns-3 loop-less-2 loop-again-2 same-length-4 returns-4 put-requires-2 same-length-5 returns-5
+  closed = lts.spec calls (seek-at t) seeking.Post Inv μ add-end add-p loop-holds add-inner mul-inner array-write-inner below-requires skip-requires enum-known-turn earlier-requires loop-less loop-again enum-known-turn-2 same-length returns mul-truth slice-read-truth truth-requires same-length-2 returns-2 sub-if2 push-requires same-length-3 returns-3 loop-less-2 loop-again-2 same-length-4 returns-4 push-requires-2 same-length-5 returns-5

@@ -6,6 +6,8 @@ use borrow.Author.Needs.{needs}
 use native.Mathlib.Omega.{arith}
 use Rattle.evaluation.proofs.walk.below.Reads as below
 use Rattle.evaluation.proofs.walk.unary.Reads as unary
+use Rattle.evaluation.proofs.answers.arose.Reads as arose-reads
+use Rattle.evaluation.proofs.answers.place_of.Reads as place-of-reads
 use Rattle.operations.proofs.operand.of_undefined.Reads as of-undefined-reads
 use Rattle.operations.proofs.operand.of_value.Reads as of-value-reads
 use Rattle.evaluation.proofs.+bind-call+bind-fold+bind-iter+bind-let_in+bind-quantified+bind-seek+lazy-conditional+lazy-connective+lazy-right+walk-below+walk-binary+walk-coll+walk-node+walk-unary+walk-word.Lts-walk-unary as lts
@@ -13,7 +15,7 @@ use Rattle.evaluation.proofs.+bind-call+bind-fold+bind-iter+bind-let_in
 
 module _ (t : ℕ) where
   abbrev calls : lts.Claims
-  calls = (below-below t, below.Post, of-value-reads.Asked, of-value-reads.Learnt, of-undefined-reads.Asked, of-undefined-reads.Learnt)
+  calls = (below-below t, below.Post, of-value-reads.Asked, of-value-reads.Learnt, place-of-reads.Asked, place-of-reads.Learnt, arose-reads.Asked, arose-reads.Learnt, of-undefined-reads.Asked, of-undefined-reads.Learnt)
 
   below-requires : lts.Need-below-requires calls (unary-at t) unary.Post
   below-requires c κs = search needs
@@ -24,11 +26,20 @@ module _ (t : ℕ) where
   of-value-requires : lts.Need-of-value-requires calls (unary-at t) unary.Post
   of-value-requires c κs = omega (arith, bounds (c .before .before .before .before .before .before .below .ensures .small) (c .before .before .first .given .1), c .before .before .before .before .before .before .before .before .before .before .before .pre, c .before .before .before .before .before .before .below .kept)
 
+  place-of-requires : lts.Need-place-of-requires calls (unary-at t) unary.Post
+  place-of-requires c κs = search needs
+
+  arose-requires : lts.Need-arose-requires calls (unary-at t) unary.Post
+  arose-requires c κs = search needs
+
   enum-known-first-2 : lts.Need-enum-known-first-2 calls (unary-at t) unary.Post
   enum-known-first-2 c = search needs
 
   of-undefined-requires : lts.Need-of-undefined-requires calls (unary-at t) unary.Post
   of-undefined-requires c κs = search needs
+
+  arose-requires-2 : lts.Need-arose-requires-2 calls (unary-at t) unary.Post
+  arose-requires-2 c κs = search needs
 
   enum-told : lts.Need-enum-told calls (unary-at t) unary.Post
   enum-told c = search needs
@@ -61,4 +72,4 @@ module _ (t : ℕ) where
   returns-4 c = search unary-stop
 
   pub closed : {M : Type 1} → lts.Closed calls (unary-at t) unary.Post M
-  closed = lts.spec calls (unary-at t) unary.Post below-requires enum-known-first of-value-requires enum-known-first-2 of-undefined-requires enum-told enum-known-first-3 same-length returns same-length-2 returns-2 same-length-3 returns-3 same-length-4 returns-4
+  closed = lts.spec calls (unary-at t) unary.Post below-requires enum-known-first of-value-requires place-of-requires arose-requires enum-known-first-2 of-undefined-requires arose-requires-2 enum-told enum-known-first-3 same-length returns same-length-2 returns-2 same-length-3 returns-3 same-length-4 returns-4

@@ -2,7 +2,7 @@
 use Rattle.evaluation.proofs.NodeLaws.{node-packed}
 use Prim.Native.Nat.{ℕ}
 use borrow.Author.Needs.{needs}
-use Rattle.operations.proofs.answers.pack.Reads as pack-reads
+use Rattle.evaluation.proofs.answers.pack.Reads as pack-reads
 use Rattle.evaluation.proofs.walk.node.Reads as node
 use Rattle.evaluation.proofs.walk.word.Reads as word
 use Rattle.evaluation.proofs.+bind-call+bind-fold+bind-iter+bind-let_in+bind-quantified+bind-seek+lazy-conditional+lazy-connective+lazy-right+walk-below+walk-binary+walk-coll+walk-node+walk-unary+walk-word.Lts-walk-word as lts

@@ -7,10 +7,10 @@ use Rattle.report.proofs.passes.object_lines.Statement.{statement}
 use Rattle.report.proofs.passes.object_lines.Tie as tie
 
 abbrev Inv-loop : tie.InvT-loop
-Inv-loop w0 st w1 w2₀ r out₀ total keep sum₀ o₀ w2 out sum o = LinesTo st w0 w1 r keep total w2₀ w2 out₀ out o sum
+Inv-loop w0 st w1 w2₀ r out₀ total keep origins sum₀ o₀ w2 out sum o = LinesTo origins st w0 w1 r keep total w2₀ w2 out₀ out o sum
 
 abbrev μ-loop : tie.MeasureT-loop
-μ-loop w0 st w1 w2₀ r out₀ total keep sum₀ o₀ w2 out sum o = st .objects - o
+μ-loop w0 st w1 w2₀ r out₀ total keep origins sum₀ o₀ w2 out sum o = st .objects - o
 
 loop-holds : tie.Need-loop-holds Inv-loop μ-loop
 loop-holds c = lines-none _ _

@@ -7,10 +7,10 @@ use Rattle.report.proofs.passes.rule_lines.Statement.{statement}
 use Rattle.report.proofs.passes.rule_lines.Tie as tie
 
 abbrev Inv-loop : tie.InvT-loop
-Inv-loop w0 st w1 w2₀ out₀ keep rules total₀ r₀ w2 out total r = RulesTo st w0 w1 w2₀ w2 keep out₀ out r total
+Inv-loop w0 st w1 w2₀ out₀ keep origins rules total₀ r₀ w2 out total r = RulesTo origins st w0 w1 w2₀ w2 keep out₀ out r total
 
 abbrev μ-loop : tie.MeasureT-loop
-μ-loop w0 st w1 w2₀ out₀ keep rules total₀ r₀ w2 out total r = rules - r
+μ-loop w0 st w1 w2₀ out₀ keep origins rules total₀ r₀ w2 out total r = rules - r
 
 wide-requires : tie.Need-wide-requires Inv-loop μ-loop
 wide-requires c κs = search needs

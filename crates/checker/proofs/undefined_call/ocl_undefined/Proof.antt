@@ -1,0 +1,70 @@
+-- `ocl_undefined` meets its contract. Assumes nothing.
+use borrow.Author.Needs.{needs}
+use Rattle.sheet.specs.Origin.{originCall}
+use Rattle.opening.proofs.Answers.{all-lent, still-long, short-call, long-call}
+use Rattle.checker.proofs.ReportCalls.{origins-number}
+use Rattle.checker.proofs.undefined_call.ocl_undefined.Statement.{statement}
+use Rattle.checker.proofs.undefined_call.ocl_undefined.Tie as tie
+
+short-lent-requires : tie.Need-short-lent-requires
+short-lent-requires c κs = search needs
+
+no-output-requires : tie.Need-no-output-requires
+no-output-requires c κs = search needs
+
+same-length : tie.Need-same-length
+same-length c = search needs
+
+same-length-2 : tie.Need-same-length-2
+same-length-2 c = search needs
+
+same-length-3 : tie.Need-same-length-3
+same-length-3 c = search needs
+
+same-length-4 : tie.Need-same-length-4
+same-length-4 c = search needs
+
+returns : tie.Need-returns
+unfolding originCall
+returns c = search short-call
+
+origins-answer-requires : tie.Need-origins-answer-requires
+origins-answer-requires c κs = all-lent (c .before .before .before .before .before .short-lent .ensures) (c .before .before .before .before .if1 .left)
+
+wipe-all-requires : tie.Need-wipe-all-requires
+wipe-all-requires c κs = still-long (all-lent (c .before .before .before .before .before .before .before .before .before .before .before .before .before .before .before .before .before .short-lent .ensures) (c .before .before .before .before .before .before .before .before .before .before .before .before .before .before .before .before .if1 .left)) (c .before .before .before .before .before .before .before .before .before .before .before .origins-answer .ensures)
+
+same-length-5 : tie.Need-same-length-5
+same-length-5 c = search needs
+
+same-length-6 : tie.Need-same-length-6
+same-length-6 c = search needs
+
+same-length-7 : tie.Need-same-length-7
+same-length-7 c = search needs
+
+same-length-8 : tie.Need-same-length-8
+same-length-8 c = search needs
+
+returns-2 : tie.Need-returns-2
+unfolding originCall
+returns-2 c = search (long-call, origins-number)
+
+pub ocl-undefined-spec : {M : Type 1} → statement M
+ocl-undefined-spec =
+    tie.close
+    (tie.spec
+    short-lent-requires
+    no-output-requires
+    same-length
+    same-length-2
+    same-length-3
+    same-length-4
+    returns
+    origins-answer-requires
+    wipe-all-requires
+    same-length-5
+    same-length-6
+    same-length-7
+    same-length-8
+    returns-2)

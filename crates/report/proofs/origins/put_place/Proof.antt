@@ -1,0 +1,35 @@
+-- `put_place` meets its contract. Assumes nothing.
+use native.Mathlib.Omega.{arith}
+use borrow.Author.Needs.{needs}
+use Rattle.report.proofs.LineLaws.{place-rule-room, place-object-room, place-line-room, place-step-room, puts-place}
+use Rattle.report.proofs.origins.put_place.Statement.{statement}
+use Rattle.report.proofs.origins.put_place.Tie as tie
+
+put-column-requires : tie.Need-put-column-requires
+put-column-requires c κs = search place-rule-room
+
+put-column-requires-2 : tie.Need-put-column-requires-2
+put-column-requires-2 c κs = omega (arith, c .before .before .before .put-column .kept .0, place-object-room (c .before .before .before .before .before .before .pre) (c .before .before .before .put-column .ensures))
+
+put-number-requires : tie.Need-put-number-requires
+put-number-requires c κs = omega (arith, c .before .before .before .before .before .before .before .put-column .kept .0, c .before .before .before .put-column2 .kept .0, place-line-room (c .before .before .before .before .before .before .before .before .before .before .pre) (c .before .before .before .before .before .before .before .put-column .ensures) (c .before .before .before .put-column2 .ensures))
+
+put-steps-requires : tie.Need-put-steps-requires
+put-steps-requires c κs = omega (arith, c .before .before .before .before .before .before .before .before .before .before .before .put-column .kept .0, c .before .before .before .before .before .before .before .put-column2 .kept .0, c .before .before .before .put-number .kept .0, place-step-room (c .before .before .before .before .before .before .before .before .before .before .before .before .before .before .pre) (c .before .before .before .before .before .before .before .before .before .before .before .put-column .ensures) (c .before .before .before .before .before .before .before .put-column2 .ensures) (c .before .before .before .put-number .ensures))
+
+same-length : tie.Need-same-length
+same-length c = search needs
+
+returns : tie.Need-returns
+returns c = search puts-place
+
+pub put-place-spec : {M : Type 1} → statement M
+put-place-spec =
+    tie.close
+    (tie.spec
+    put-column-requires
+    put-column-requires-2
+    put-number-requires
+    put-steps-requires
+    same-length
+    returns)

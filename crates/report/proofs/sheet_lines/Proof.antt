@@ -1,0 +1,42 @@
+-- `sheet_lines` meets its contract. Assumes nothing.
+use borrow.Author.Needs.{needs}
+use Rattle.report.proofs.SheetLaws.{bounded-by, all-room, all-short, all-written}
+use Rattle.report.proofs.sheet_lines.Statement.{statement}
+use Rattle.report.proofs.sheet_lines.Tie as tie
+
+all-bound-requires : tie.Need-all-bound-requires
+all-bound-requires c κs = search needs
+
+lines-fit-requires : tie.Need-lines-fit-requires
+lines-fit-requires c κs = search (bounded-by, needs)
+
+rule-lines-requires : tie.Need-rule-lines-requires
+rule-lines-requires c κs = ((search needs, search needs, search needs), all-room (c .before .before .before .before .before .before .before .all-bound .ensures) (c .before .before .before .before .before .lines-fit .ensures) (c .before .before .if1 .taken) (c .before .before .before .before .before .before .before .before .before .before .before .before .before .pre .1 .0) (c .before .before .before .before .before .before .before .before .before .before .before .before .before .pre .1 .1))
+
+same-length : tie.Need-same-length
+same-length c = search needs
+
+same-length-2 : tie.Need-same-length-2
+same-length-2 c = search needs
+
+returns : tie.Need-returns
+returns c = search all-written
+
+same-length-3 : tie.Need-same-length-3
+same-length-3 c = search needs
+
+returns-2 : tie.Need-returns-2
+returns-2 c = search all-short
+
+pub sheet-lines-spec : {M : Type 1} → statement M
+sheet-lines-spec =
+    tie.close
+    (tie.spec
+    all-bound-requires
+    lines-fit-requires
+    rule-lines-requires
+    same-length
+    same-length-2
+    returns
+    same-length-3
+    returns-2)
