@@ -38,6 +38,12 @@
 extern "C" {
 #endif
 
+/* This header's version, as the file VERSION has it; docs/RELEASE.md says what each part means. */
+#define OCL_CHECKER_VERSION_MAJOR 1
+#define OCL_CHECKER_VERSION_MINOR 0
+#define OCL_CHECKER_VERSION_PATCH 0
+#define OCL_CHECKER_VERSION "1.0.0"
+
 #define OCL_LEAST_WORDS 8192    /* the fewest words of each word slice */
 #define OCL_LEAST_OUTPUT 2560   /* the fewest bytes of an output: every value, and the types of all rules, fit */
 #define OCL_LONGEST_TEXT 49152  /* the most bytes of a sheet */

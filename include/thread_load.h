@@ -23,6 +23,12 @@
 extern "C" {
 #endif
 
+/* This header's version, as the file VERSION has it; docs/RELEASE.md says what each part means. */
+#define THREAD_LOAD_VERSION_MAJOR 1
+#define THREAD_LOAD_VERSION_MINOR 0
+#define THREAD_LOAD_VERSION_PATCH 0
+#define THREAD_LOAD_VERSION "1.0.0"
+
 #define LOAD_WIDEST 64    /* the widest window */
 #define LOAD_LONGEST 1000 /* the longest stitch */
 #define LOAD_MOST 1000000 /* the most lengths of a run */

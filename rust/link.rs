@@ -1,6 +1,7 @@
 // For the build scripts of `checker` and `load`: links a static library of the
-// product, from the folder that CHECKER_LIB_DIR names, else from the one where the
-// repository's `rt staticlib` writes it.
+// product, from the folder that CHECKER_LIB_DIR names, else from the `lib` of the
+// unpacked release that this stands in, else from where the repository's
+// `rt staticlib` writes it.
 
 use std::env;
 use std::path::{Path, PathBuf};
@@ -9,7 +10,9 @@ fn link(name: &str) {
     println!("cargo:rerun-if-changed=build.rs");
     println!("cargo:rerun-if-changed=../link.rs");
     println!("cargo:rerun-if-env-changed=CHECKER_LIB_DIR");
-    let ours = || Path::new(env!("CARGO_MANIFEST_DIR")).join("../../target/staticlib");
+    let top = Path::new(env!("CARGO_MANIFEST_DIR")).join("../..");
+    let released = top.join("MANIFEST").exists();
+    let ours = || top.join(if released { "lib" } else { "target/staticlib" });
     let folder = env::var_os("CHECKER_LIB_DIR").map_or_else(ours, PathBuf::from);
     let library = folder.join(format!("lib{name}.a"));
     let Ok(library) = library.canonicalize() else {

@@ -1,4 +1,5 @@
-"""How the sources are laid out and import one another: for the tests beside this file."""
+"""How the sources are laid out, import one another and what of them is shipped: for the tests beside this file, and for ./release."""
+import collections
 import pathlib
 import re
 
@@ -37,3 +38,46 @@ def file_of(module):
     ours = re.fullmatch(r"Rattle·(\w+?)(?:·(?:specs|proofs))?\.(specs|proofs)\.(.+)", module)
     path = f"{ours[1]}/{ours[2]}/{ours[3].replace('.', '/')}.antt" if ours else None
     return path if ours and (CRATES / path).is_file() else None
+
+
+# ---- what is shipped
+
+# an exported call: its crate and name, its source below crates/, the line of its contract there, and what the contract says
+Call = collections.namedtuple("Call", "crate name source line clause")
+EXPORTED = re.compile(r'^#\[no_mangle\]\npub extern "C" fn (\w+)\(.*?^(?=\{)', re.M | re.S)
+
+
+def exported():
+    """The calls that the listed crates export, in the order of crates.txt."""
+    for crate in listed():
+        for path in sorted((CRATES / crate / "src").rglob("*.rt")):
+            text = path.read_text()
+            for found in EXPORTED.finditer(text):
+                at = text.index(" ensures ", found.start(), found.end())
+                yield Call(crate, found[1], path.relative_to(CRATES), text.count("\n", 0, at) + 1, text[at : found.end()])
+
+
+def programs():
+    """The programs that are shipped. Those with a folder data/ run vectors, and are the gate's own."""
+    return [crate for crate in listed() if (CRATES / crate / "src/main.rt").exists() and not (CRATES / crate / "data").exists()]
+
+
+def line_of(file, name):
+    """The line on which a file of definitions, below crates/, declares a name; None where it does not."""
+    head = re.compile(rf"\s*(?:(?:unfoldable|abbrev|pub) )*(?:record |data )?{re.escape(name)} (?:[({{].*)?:")
+    return next((at for at, line in enumerate((CRATES / file).read_text().splitlines(), 1) if head.match(line)), None)
+
+
+def definitions(call):
+    """What a call's contract cites of our definitions: file below crates/, line and name."""
+    cited = set(re.findall(r"[\w≡≤×]+", call.clause))
+    for module, names, _ in imports((CRATES / call.source).read_text()):
+        for there, here in names:
+            if here in cited and (file := file_of(module)) and (line := line_of(file, there)):
+                yield file, line, there
+
+
+def proof_of(call):
+    """The file of a call's own proof, below crates/."""
+    module = [] if call.source.stem == "lib" else [call.source.stem]
+    return pathlib.Path(call.crate, "proofs", *module, call.name, "Proof.antt")

@@ -6,6 +6,8 @@
  *     cc -std=c11 -Wall -Wextra -Werror -Iinclude examples/c/check.c target/staticlib/libchecker.a -o target/check
  *     target/check examples/cap.sheet
  *
+ * With a release, in place of -Iinclude and the library: $(pkg-config --cflags --libs ocl-checker).
+ *
  * Its exit status is 0 after a report, 1 after a refusal and 2 if the file could not be read.
  */
 #include <inttypes.h>

@@ -5,6 +5,8 @@
  *     cc -std=c11 -Wall -Wextra -Werror -Iinclude examples/c/load.c target/staticlib/libload.a -o target/load
  *     target/load examples/leaves.run
  *
+ * With a release, in place of -Iinclude and the library: $(pkg-config --cflags --libs thread-load).
+ *
  * Its exit status is 0 after a load, 1 after a refusal and 2 where the file could not be read.
  */
 #include <inttypes.h>

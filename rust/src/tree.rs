@@ -167,6 +167,14 @@ pub struct Node {
 }
 
 impl Node {
+    /// Whether its body may run several times.
+    pub fn is_loop(&self) -> bool {
+        matches!(
+            self.form,
+            Form::ForAll(_) | Form::Exists(_) | Form::Iter { .. }
+        )
+    }
+
     /// All nodes below it, itself first.
     pub fn nodes(&self) -> Vec<&Node> {
         let mut found = vec![self];

@@ -1,53 +1,14 @@
-//! What ./explain says: every number, every form at which undefined arises, every sheet.
+//! What ./explain says: every form at which undefined arises, what decides, every sheet.
 
-use second_evaluator::calls::{program, undefined_program};
-use second_evaluator::explain::advice::{advice, NUMBERS};
-use second_evaluator::explain::{explained, Explained, Printed};
+#[path = "common/told.rs"]
+mod told;
+
+use second_evaluator::explain::{explained, Kind, Printed};
 use second_evaluator::generate;
 use second_evaluator::generate::origins::about;
 use second_evaluator::generate::random::Random;
 use second_evaluator::harness::run::{origin_vectors, vectors};
-
-fn sheet(lines: &str) -> Vec<u8> {
-    let lines = lines.split('|').map(|line| match line.strip_prefix("X ") {
-        Some(text) => format!("X\t{text}\n"),
-        None => line.replace(' ', "\t") + "\n",
-    });
-    lines.collect::<String>().into_bytes()
-}
-
-fn printed(text: &[u8]) -> Printed {
-    Printed {
-        report: program(text),
-        undefined: undefined_program(text),
-    }
-}
-
-fn words(lines: &str) -> String {
-    let text = sheet(lines);
-    explained(&text, &printed(&text)).unwrap().words
-}
-
-fn says(lines: &str, expected: &[&str]) {
-    let words = words(lines);
-    for part in expected {
-        assert!(words.contains(part), "{part} is not in\n{words}");
-    }
-}
-
-#[test]
-fn every_number_has_words() {
-    let mut seen = Vec::new();
-    for number in NUMBERS {
-        let advice = advice(number).unwrap();
-        for words in [advice.word, advice.meaning, advice.look] {
-            assert!(!words.is_empty() && !words.ends_with('.'), "{number}");
-            assert!(!seen.contains(&words), "{number}: {words}");
-            seen.push(words);
-        }
-    }
-    assert!(advice(0).is_none() && advice(26).is_none());
-}
+use told::{printed, says, sheet};
 
 const SHEET: &str = "C 0 -|C 1 0|A 0 0 5 Int|A 1 0 6 Any|O 0 0|O 1 0|V 0 0 9|V 0 1 7|R 0 0|";
 
@@ -98,7 +59,7 @@ fn each_form_is_explained() {
         ),
         (
             "X r3ff8000000000000 / 0",
-            &["r3ff8000000000000 is divided by 0"],
+            &["r3ff8000000000000 (1.5) is divided by 0"],
         ),
     ];
     for (rule, expected) in cases {
@@ -118,74 +79,110 @@ fn a_definition_is_named() {
 }
 
 #[test]
+fn false_verdicts_have_their_parts() {
+    let cases: [(&str, &[&str]); 10] = [
+        (
+            "X self.a5 < 9",
+            &[
+                "Rule 0 is false for @0, of class #0.\n",
+                "  parts    that decided, of 4 steps:\n",
+                "    step 1  the rule is f\n",
+                "    step 2    `self.a5` is 9, by line 7: V 0 0 9\n",
+                "  look at  line 7: V 0 0 9.\n",
+            ],
+        ),
+        (
+            "X true and (false and true)",
+            &["step 3    `false and true` is f\n", "the rule itself"],
+        ),
+        (
+            "X 1 = 2 or 1 < 0",
+            &["step 2    `1 = 2` is f\n", "step 5    `1 < 0` is f\n"],
+        ),
+        (
+            "X undef and not (1 = 1)",
+            &[
+                "step 3    `not (1 = 1)` is f\n",
+                "step 4      `1 = 1` is t\n",
+            ],
+        ),
+        (
+            "X Sequence{3, 1, 2}->forAll(v1 ¦ 1 < v1)",
+            &[
+                "the rule is f, by member 2 of 3\n",
+                "`1 < v1` is f, v1 being 1\n",
+            ],
+        ),
+        (
+            "X Sequence{1, 2}->exists(v1 ¦ 5 < v1)",
+            &[
+                "the rule is f, by none of its members (2)\n",
+                "`5 < v1` is f, v1 being 2\n",
+            ],
+        ),
+        (
+            "X let v1 = 2 in if v1 = 2 then false else true endif",
+            &["is f, v1 being 2\n", "`v1 = 2` is t\n"],
+        ),
+        (
+            "X not self.a5.isUndef() and false",
+            &[
+                "Rule 0 is false for @1",
+                "step 4        `self.a5` is u: @1 has no value in row 0, name 5\n",
+            ],
+        ),
+        (
+            "X Sequence{1, 2, 3}->iter(v1; v2 : Int = 0 ¦ v2 + v1) < 6",
+            &[
+                "is 6, in 3 turns\n",
+                "`v2 + v1` is 3, v1 being 2 and v2 1\n",
+            ],
+        ),
+        (
+            "X 2 < r3ff8000000000000 + 0",
+            &["`r3ff8000000000000 + 0` is r3ff8000000000000 (1.5)\n"],
+        ),
+    ];
+    for (rule, expected) in cases {
+        says(&format!("{SHEET}{rule}"), expected);
+    }
+    says(
+        "C 0 -|O 0 0|D 0 0 Bool|N 0 self|N 1 self|N 2 eq 0 1|N 3 not 2|R 0 0|X self.d0()",
+        &[
+            "the rule is f, by definition 0, line 3: D 0 0 Bool\n",
+            "step 3    `not (self = self)` is f, self being @0\n",
+        ],
+    );
+}
+
+#[test]
+fn one_verdict_is_traced() {
+    let text = sheet(&format!("{SHEET}X self.a5 < 12"));
+    let explained = explained(&text, &printed(&text)).unwrap();
+    let (told, mut trace) = (explained.told().unwrap(), Vec::new());
+    told.trace(&explained.verdicts[1], &mut trace).unwrap();
+    let expected = "  trace    all 3 steps:\n    step 1 line 10   `self.a5 < 12` is u\n    \
+        step 2 line 10     `self.a5` is u\n    step 3 line 10       `self` is @1\n";
+    assert_eq!(String::from_utf8_lossy(&trace), expected);
+}
+
+#[test]
 fn stops_are_explained() {
     says(
         "C 0 -|O 0 0|R 0 0|X 2147483647 + 1 = 1",
         &[
             "Rule 0 was stopped, over the range (19), after 4 steps, for @0",
             "  stopped  in `2147483647 + 1`.\n",
+            "  there    `2147483647` is 2147483647.\n",
             "0 undefined, 1 stopped",
         ],
     );
 }
 
-#[test]
-fn refusals_say_what_can_be_seen() {
-    let cases: [(&str, &[&str]); 9] = [
-        (
-            "C 0",
-            &[
-                "Refused: bad line (3) at line 1.",
-                "line 1   C <tab> 0",
-                "it has 2 fields, and should have 3",
-            ],
-        ),
-        ("C 0 -\r", &["carriage return", "C <tab> 0 <tab> -\\r"]),
-        ("Z 1", &["no line begins so"]),
-        ("C 0 -||O 0 0", &["at line 2", "the line is empty"]),
-        (
-            "C 0 -|R 0 0|X (1 + 2",
-            &[
-                "not a sentence (20) at line 3",
-                "`(` stands there 1 times and `)` 0 times",
-                "below    line 2: R 0 0",
-            ],
-        ),
-        (
-            "C 0 -|R 0 0|X if true then 1 else 2",
-            &["`if` stands there 1 times and `endif` 0 times"],
-        ),
-        (
-            "C 0 -|C 1 0|A 0 1 7 Int|R 0 0|X self.a7",
-            &[
-                "no such mark (12)",
-                "rule     self.a7",
-                "the name 7 is declared by #1",
-            ],
-        ),
-        (
-            "C 0 -|R 0 0|N 0 self|N 1 not 0|N 2 not 1",
-            &[
-                "rule     not not self",
-                "part     not self",
-                "line 4   N 1 not 0",
-            ],
-        ),
-        (
-            "C 0 -|D 0 0 Bool|N 0 self|N 1 call 0 0",
-            &["call upward (23) at line 4", "below    line 2: D 0 0 Bool"],
-        ),
-    ];
-    for (lines, expected) in cases {
-        says(lines, expected);
-    }
-    let text = b"C\t0\t-";
-    let Explained { words, refused } = explained(text, &printed(text)).unwrap();
-    assert!(
-        refused && words.contains("the last line has no line feed"),
-        "{words}"
-    );
-}
+/// A verdict of so many steps at most is traced here, and one of so many is told: more take
+/// their time.
+const MOST_TRACED: usize = 300;
+const MOST_TOLD: usize = 100_000;
 
 #[test]
 fn every_sheet_is_explained() {
@@ -194,39 +191,92 @@ fn every_sheet_is_explained() {
         .into_iter()
         .chain(origin_vectors().unwrap());
     let texts = vectors.map(|vector| (vector.name, vector.text));
-    let any = (0..600).map(|seed| (seed.to_string(), generate::sheet(seed)));
-    let own = (0..300).map(|seed| (seed.to_string(), about(&mut Random::new(seed))));
+    let any = (0..150).map(|seed| (seed.to_string(), generate::sheet(seed)));
+    let own = (0..100).map(|seed| (seed.to_string(), about(&mut Random::new(seed))));
     for (name, text) in texts.chain(any).chain(own) {
         let printed = printed(&text);
-        let told = explained(&text, &printed).unwrap_or_else(|| panic!("{name}"));
-        let is_refused = |lines: &[u8]| lines.starts_with(b"! ");
-        let refused = is_refused(&printed.report) || is_refused(&printed.undefined);
-        assert_eq!(told.refused, refused, "{name}");
-        let count = told.words.matches("\n  arose    at ").count();
-        if !is_refused(&printed.undefined) {
-            let lines = String::from_utf8_lossy(&printed.undefined).lines().count();
-            assert_eq!(count, lines, "{name}");
+        let told = explained(&text, &printed).unwrap_or_else(|how| panic!("{name}: {how}"));
+        let is_refused = |lines: &Option<Vec<u8>>| lines.as_ref().unwrap().starts_with(b"! ");
+        assert_eq!(
+            told.refusal.is_some(),
+            is_refused(&printed.report),
+            "{name}"
+        );
+        if told
+            .verdicts
+            .iter()
+            .any(|verdict| verdict.steps > MOST_TOLD)
+        {
+            continue;
+        }
+        let words = told.words();
+        let count = |kind: Kind| {
+            told.verdicts
+                .iter()
+                .filter(|verdict| verdict.kind() == kind)
+                .count()
+        };
+        let arose = words.matches("\n  arose    at ").count();
+        assert_eq!(arose, count(Kind::Undefined), "{name}");
+        let parts = words.matches("\n  parts    that decided, of ").count();
+        assert_eq!(parts, count(Kind::False), "{name}");
+        for verdict in told
+            .verdicts
+            .iter()
+            .filter(|verdict| verdict.steps <= MOST_TRACED)
+        {
+            let mut trace = Vec::new();
+            told.told().unwrap().trace(verdict, &mut trace).unwrap();
+            let steps = String::from_utf8_lossy(&trace).lines().count() - 1;
+            assert_eq!(steps, verdict.steps, "{name}: {verdict:?}");
         }
     }
 }
 
 #[test]
-fn what_does_not_go_together_is_not_explained() {
+fn a_difference_is_not_explained() {
     let text = sheet(&format!("{SHEET}X self.a5 < 12"));
     let right = printed(&text);
+    let (report, undefined) = (right.report.unwrap(), right.undefined.unwrap());
     let others: [(&[u8], &[u8]); 9] = [
         (b"", b""),
         (b"0 0 t 4\n", b""),
-        (&right.report, b""),
-        (&right.report, b"0 1 10 3\n"),
-        (&right.report, b"0 1 9 2\n"),
-        (&right.report, b"0 0 10 2\n"),
-        (&right.report, b"0 1 10 2\n0 1 10 2\n"),
-        (b"! 3 1\n", &right.undefined),
-        (b"0 0 t 4\n0 1 u\n", &right.undefined),
+        (&report, b""),
+        (&report, b"0 1 10 3\n"),
+        (&report, b"0 1 9 2\n"),
+        (&report, b"0 0 10 2\n"),
+        (&report, b"0 1 10 2\n0 1 10 2\n"),
+        (b"! 3 1\n", &undefined),
+        (b"0 0 t 4\n0 1 u 4\n", &undefined),
     ];
     for (report, undefined) in others {
-        let (report, undefined) = (report.to_vec(), undefined.to_vec());
-        assert!(explained(&text, &Printed { report, undefined }).is_none());
+        let printed = Printed {
+            report: Some(report.to_vec()),
+            undefined: Some(undefined.to_vec()),
+        };
+        assert!(explained(&text, &printed).is_err());
     }
+    let printed = Printed {
+        report: Some(b"0 0 t 4\n0 1 u 4\n".to_vec()),
+        undefined: None,
+    };
+    let how = explained(&text, &printed).err().unwrap();
+    let expected = "Line 2 of ocl_report is `0 1 u 4` by the one and `0 1 u 3` by the other";
+    assert!(how.contains(expected), "{how}");
+}
+
+#[test]
+fn it_says_whose_words_they_are() {
+    let text = sheet(&format!("{SHEET}X self.a5 < 12"));
+    let Printed { report, undefined } = printed(&text);
+    let said = |report, undefined| {
+        let printed = Printed { report, undefined };
+        explained(&text, &printed).unwrap().whose()
+    };
+    let both = said(report.clone(), undefined);
+    assert!(both.contains("proved programs ocl_report and ocl_undefined"));
+    let one = said(report, None);
+    assert!(one.contains("proved program ocl_report, and the second evaluator came to the same"));
+    let none = said(None, None);
+    assert!(none.contains("no proved program was at hand"));
 }

@@ -33,6 +33,8 @@ use calls::{Answer, Words};
 use core::str::Lines;
 pub use refusal::{Refusal, Refused};
 
+/// This crate's version, which is that of the library it is made for.
+pub const VERSION: &str = env!("CARGO_PKG_VERSION");
 /// The fewest words of each of the three slices that a call is lent.
 pub const LEAST_WORDS: usize = 8_192;
 /// The fewest bytes of an output. Every value fits, and so do the types of all

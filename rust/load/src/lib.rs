@@ -25,6 +25,8 @@
 
 #![no_std]
 
+/// This crate's version, which is that of the library it is made for.
+pub const VERSION: &str = env!("CARGO_PKG_VERSION");
 /// The widest window.
 pub const WIDEST: u64 = 64;
 /// The longest stitch.

@@ -1,150 +1,227 @@
-//! A sheet's refusal, or its undefined and stopped verdicts, in words for a person. What
-//! is explained are the lines that the product's programs print, or the second
-//! evaluator's where those are not there; the words come from the second evaluator.
+//! A sheet's refusal, or its verdicts, in words for a person. What is explained are the
+//! lines that the product's programs print; the words, and the values of a rule's parts,
+//! come from the second evaluator. Where the two do not say the same of a sheet, nothing is
+//! explained.
 
 pub mod advice;
+mod decided;
+mod hints;
 mod lines;
+pub mod page;
 mod refused;
+mod runs;
+mod spelling;
+mod typed;
 mod verdicts;
+mod why;
 
-use crate::calls::accepted;
+use crate::calls::{accepted, program, undefined_program};
+use crate::model::Sheet;
+use crate::origins;
+use crate::report;
 use lines::Lines;
-use refused::refused;
-use verdicts::{Told, Verdict};
+pub use refused::refused;
+pub use verdicts::{Kind, Told, Verdict};
 
-/// What is printed for a sheet: its report, and where undefined came from.
+/// What the product's programs print for a sheet: its report, and where undefined came
+/// from. None where a program is not at hand.
+#[derive(Default)]
 pub struct Printed {
-    pub report: Vec<u8>,
-    pub undefined: Vec<u8>,
+    pub report: Option<Vec<u8>>,
+    pub undefined: Option<Vec<u8>>,
 }
 
-/// An explanation, and whether it is of a refusal.
-pub struct Explained {
-    pub words: String,
-    pub refused: bool,
+/// A sheet with what is printed for it.
+pub struct Explained<'t> {
+    text: &'t [u8],
+    lines: Lines<'t>,
+    whose: &'static str,
+    /// The number and the place of a refusal.
+    pub refusal: Option<(u64, usize)>,
+    /// Whether the report or the lines about undefined verdicts are too long to be printed.
+    /// Then the second evaluator's are explained, which have no limit.
+    too_long: bool,
+    sheet: Option<Sheet>,
+    pub verdicts: Vec<Verdict>,
 }
 
-/// What is printed, in words. None where it does not go with the sheet, which then has
-/// been read in two ways.
-pub fn explained(text: &[u8], printed: &Printed) -> Option<Explained> {
-    let report = String::from_utf8_lossy(&printed.report);
-    let undefined = String::from_utf8_lossy(&printed.undefined);
-    let (report_refused, lines_refused) = (refusal(&report), refusal(&undefined));
-    let mut words = String::new();
-    let told = match (report_refused, lines_refused) {
-        (None, _) | (Some((18, _)), _) => accepted(text).ok()?,
-        (Some((number, place)), other) => {
-            let words = refused(text, number, place);
-            let alike = other == Some((number, place));
-            return alike.then_some(Explained {
-                words,
-                refused: true,
-            });
+/// Said where the lines that are explained are not those of a program.
+pub const TOO_LONG: &str =
+    "Too long to be printed (18), the lines below are the second evaluator's alone.\n\n";
+
+/// What is printed, compared with what the second evaluator says. Where they differ, a
+/// sentence on how.
+pub fn explained<'t>(text: &'t [u8], printed: &Printed) -> Result<Explained<'t>, String> {
+    let (report, undefined) = (program(text), undefined_program(text));
+    same("ocl_report", printed.report.as_deref(), &report)?;
+    same("ocl_undefined", printed.undefined.as_deref(), &undefined)?;
+    let sheet = accepted(text).ok().map(|(sheet, _)| sheet);
+    let refusal = refusal(&report);
+    let mut explained = Explained {
+        text,
+        lines: Lines::new(text),
+        whose: whose(printed, refusal.is_some()),
+        refusal,
+        too_long: false,
+        sheet,
+        verdicts: Vec::new(),
+    };
+    explained.take(report, undefined);
+    Ok(explained)
+}
+
+fn spelt(bytes: &[u8]) -> String {
+    String::from_utf8_lossy(bytes).into_owned()
+}
+
+/// The first line in which the product's program says something else.
+fn same(name: &str, printed: Option<&[u8]>, second: &[u8]) -> Result<(), String> {
+    let Some(printed) = printed.filter(|printed| *printed != second) else {
+        return Ok(());
+    };
+    let (printed, second) = (spelt(printed), spelt(second));
+    let (mut left, mut right) = (printed.lines(), second.lines());
+    let differs = (1..).find_map(|number| {
+        let pair = (left.next(), right.next());
+        (pair.0 != pair.1 || pair.0.is_none()).then_some((number, pair))
+    });
+    let (number, (left, right)) = differs.unwrap_or_default();
+    let said = |line: Option<&str>| line.map_or("nothing".to_string(), |line| format!("`{line}`"));
+    Err(format!(
+        "the proved program and the second evaluator do not say the same of this sheet, so nothing is \
+        explained. Line {number} of {name} is {} by the one and {} by the other. Keep the sheet: it shows \
+        a mistake in one of them",
+        said(left),
+        said(right)
+    ))
+}
+
+/// A sentence on whose lines are explained and whose words these are.
+fn whose(printed: &Printed, refused: bool) -> &'static str {
+    match (&printed.report, &printed.undefined) {
+        (Some(_), _) if refused => {
+            "The refusal is printed by the proved program ocl_report, and the second evaluator came to the \
+            same. The words are the second evaluator's, which is not proved."
         }
-    };
-    if report_refused.is_some() {
-        words += &refused(text, 18, 0);
-        words += "  The undefined verdicts are explained all the same.\n";
-    }
-    let told = Told {
-        sheet: &told.0,
-        lines: Lines(text),
-    };
-    let origins = match lines_refused {
-        Some(_) => {
-            words += &refused(text, 18, 0);
-            words += "  These are the lines that name where undefined came from.\n";
-            Vec::new()
+        (Some(_), Some(_)) => {
+            "Verdicts, steps and where undefined arose are printed by the proved programs ocl_report and \
+            ocl_undefined, and the second evaluator came to the same. The words and the values of parts are \
+            the second evaluator's, which is not proved."
         }
-        None => numbers(&undefined)?,
-    };
-    match report_refused {
-        None => words += &verdicts(&told, &report, &origins, lines_refused.is_none())?,
-        Some(_) => words += &of_origins(&told, &origins)?,
+        (Some(_), None) => {
+            "Verdicts and steps are printed by the proved program ocl_report, and the second evaluator came \
+            to the same. The words, the values of parts and where undefined arose are the second \
+            evaluator's, which is not proved."
+        }
+        _ => {
+            "All of this is said by the second evaluator, which is not proved: no proved program was at \
+            hand to compare it with."
+        }
     }
-    Some(Explained {
-        words,
-        refused: report_refused.is_some() || lines_refused.is_some(),
-    })
 }
 
 /// The number and the place of a refusal.
-fn refusal(printed: &str) -> Option<(u64, usize)> {
+fn refusal(printed: &[u8]) -> Option<(u64, usize)> {
+    let printed = spelt(printed);
     let (number, place) = printed.strip_prefix("! ")?.trim_end().split_once(' ')?;
     Some((number.parse().ok()?, place.parse().ok()?))
 }
 
-/// Lines of four numbers each.
-fn numbers(lines: &str) -> Option<Vec<[usize; 4]>> {
-    let line = |line: &str| {
-        let numbers: Vec<usize> = line.split(' ').filter_map(|n| n.parse().ok()).collect();
-        <[usize; 4]>::try_from(numbers).ok()
-    };
-    lines.lines().map(line).collect()
+/// A line of four numbers.
+fn numbers(line: &str) -> Option<[usize; 4]> {
+    let numbers: Vec<usize> = line.split(' ').filter_map(|n| n.parse().ok()).collect();
+    numbers.try_into().ok()
 }
 
-/// The verdicts of a report that are undefined or stopped, and how many there are of each.
-fn verdicts(told: &Told, report: &str, origins: &[[usize; 4]], all: bool) -> Option<String> {
-    let mut out = String::new();
-    let mut origins = origins.iter();
-    let mut counts = [0; 5];
-    let mut asked = told.asked().into_iter();
-    for line in report.lines() {
-        let fields: Vec<&str> = line.split(' ').collect();
-        let [rule, object, value, steps] = fields[..] else {
-            return None;
-        };
-        let verdict = Verdict {
-            rule: rule.parse().ok()?,
-            object: object.parse().ok()?,
-            steps: steps.parse().ok()?,
-        };
-        if asked.next() != Some((verdict.rule, verdict.object)) {
-            return None;
-        }
-        let kind = match value {
-            "t" => 0,
-            "f" => 1,
-            "u" => 2,
-            _ if value.starts_with('!') => 3,
-            _ => 4,
-        };
-        counts[kind] += 1;
-        if kind == 2 && all {
-            let [of_rule, of_object, line, step] = *origins.next()?;
-            if (of_rule, of_object) != (verdict.rule, usize::from(verdict.object)) {
-                return None;
-            }
-            out += &(told.undefined(verdict, line, step)? + "\n");
-        }
-        if kind == 3 {
-            out += &(told.stopped(verdict, value[1..].parse().ok()?)? + "\n");
-        }
-    }
-    if origins.next().is_some() || asked.next().is_some() {
+/// A line of the report, and where undefined arose in it, which is the next that is told.
+fn verdict(line: &str, origins: &mut impl Iterator<Item = [usize; 4]>) -> Option<Verdict> {
+    let fields: Vec<&str> = line.split(' ').collect();
+    let [rule, object, value, steps] = fields[..] else {
         return None;
-    }
-    let [kept, broken, undefined, stopped, others] = counts;
-    let total: usize = counts.iter().sum();
-    let word = if total == 1 { "verdict" } else { "verdicts" };
-    out += &format!("{total} {word}: {kept} true, {broken} false, {undefined} undefined, ");
-    out += &format!("{stopped} stopped, {others} other values.\n");
-    Some(out)
+    };
+    let origin = if value == "u" { origins.next() } else { None };
+    Some(Verdict {
+        rule: rule.parse().ok()?,
+        object: object.parse().ok()?,
+        value: value.to_string(),
+        steps: steps.parse().ok()?,
+        origin: origin.map(|[_, _, line, step]| (line, step)),
+    })
 }
 
-/// The undefined verdicts of a sheet whose report is too long.
-fn of_origins(told: &Told, origins: &[[usize; 4]]) -> Option<String> {
-    let mut out = String::new();
-    for [rule, object, line, step] in origins.iter().copied() {
-        let object = u8::try_from(object).ok()?;
-        let (_, steps) = crate::eval::evaluate(told.sheet, told.sheet.rules.get(rule)?, object);
-        let verdict = Verdict {
-            rule,
-            object,
-            steps: steps as usize,
-        };
-        out += &("\n".to_string() + &told.undefined(verdict, line, step)?);
+impl Explained<'_> {
+    /// Takes the verdicts from the lines that are printed.
+    fn take(&mut self, mut report: Vec<u8>, mut undefined: Vec<u8>) {
+        if let Some(sheet) = &self.sheet {
+            if refusal(&report).is_some() {
+                self.too_long = true;
+                report = report::report(sheet, usize::MAX).unwrap_or_default();
+            }
+            if refusal(&undefined).is_some() {
+                self.too_long = true;
+                undefined = origins::lines(sheet, usize::MAX).unwrap_or_default();
+            }
+        }
+        let (report, undefined) = (spelt(&report), spelt(&undefined));
+        let mut origins = undefined.lines().filter_map(numbers);
+        let lines = report.lines();
+        let verdicts = lines.filter_map(|line| verdict(line, &mut origins));
+        self.verdicts = verdicts.collect();
     }
-    out += &format!("Undefined verdicts: {}.\n", origins.len());
-    Some(out)
+
+    /// How many verdicts there are of each kind: true, false, undefined, stopped, others.
+    pub fn counts(&self) -> [usize; 5] {
+        let kinds = [
+            Kind::True,
+            Kind::False,
+            Kind::Undefined,
+            Kind::Stopped,
+            Kind::Value,
+        ];
+        kinds.map(|kind| {
+            let verdicts = self.verdicts.iter();
+            verdicts.filter(|verdict| verdict.kind() == kind).count()
+        })
+    }
+
+    pub fn told(&self) -> Option<Told<'_>> {
+        let lines = &self.lines;
+        self.sheet.as_ref().map(|sheet| Told { sheet, lines })
+    }
+
+    /// The refusal, or each verdict that is false, undefined or stopped and how many there
+    /// are of each kind.
+    pub fn words(&self) -> String {
+        let mut out = String::new();
+        if let Some((number, place)) = self.refusal {
+            out += &refused(self.text, number, place);
+        }
+        let Some(told) = self.told() else {
+            return out;
+        };
+        if self.too_long {
+            out += TOO_LONG;
+        }
+        for verdict in &self.verdicts {
+            if !matches!(verdict.kind(), Kind::True | Kind::Value) {
+                out += &(told.words(verdict) + "\n");
+            }
+        }
+        out + &self.counted() + "\n"
+    }
+
+    /// The number of verdicts, and how many there are of each kind.
+    pub fn counted(&self) -> String {
+        let [kept, broken, undefined, stopped, others] = self.counts();
+        let total = self.verdicts.len();
+        let word = if total == 1 { "verdict" } else { "verdicts" };
+        format!(
+            "{total} {word}: {kept} true, {broken} false, {undefined} undefined, {stopped} stopped, \
+            {others} other values."
+        )
+    }
+
+    pub fn whose(&self) -> &'static str {
+        self.whose
+    }
 }

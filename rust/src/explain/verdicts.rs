@@ -1,51 +1,83 @@
-//! Undefined and stopped verdicts in words.
+//! Verdicts in words.
 
 use super::advice::advice;
 use super::lines::Lines;
-use crate::eval::{runs, Ended, Run};
+use super::runs::{Line, Texts, Tree};
+use super::why::Why;
+use crate::eval::Ended;
 use crate::model::{Rule, Sheet};
-use crate::report::spell;
-use crate::tree::{Form, Node};
-use crate::values::Value;
 use crate::wording::shown;
+use std::io::{self, Write};
+
+/// The most parts that are shown of one verdict, and the most V lines to look at.
+const MOST_PARTS: usize = 30;
+const MOST_VALUES: usize = 4;
 
 /// A sheet that is accepted, and its text.
+#[derive(Clone, Copy)]
 pub struct Told<'t> {
     pub sheet: &'t Sheet,
-    pub lines: Lines<'t>,
+    pub lines: &'t Lines<'t>,
 }
 
-/// A verdict of the report, by rule and object.
-#[derive(Clone, Copy)]
+/// What a verdict says.
+#[derive(Clone, Copy, PartialEq, Eq, Debug)]
+pub enum Kind {
+    True,
+    False,
+    Undefined,
+    Stopped,
+    /// Any other value.
+    Value,
+}
+
+/// A verdict of the report.
+#[derive(Clone, PartialEq, Eq, Debug)]
 pub struct Verdict {
     pub rule: usize,
     pub object: u8,
+    /// As the report spells it.
+    pub value: String,
     pub steps: usize,
+    /// Of an undefined one, the line and the step at which undefined arose.
+    pub origin: Option<(usize, usize)>,
 }
 
-impl Told<'_> {
-    /// The rules and objects of the report's lines.
-    pub fn asked(&self) -> Vec<(usize, u8)> {
-        let rules = self.sheet.rules.iter().enumerate();
-        let asked = rules.flat_map(|(number, rule)| {
-            let objects = self.sheet.model.objects_of(rule.context);
-            objects.map(move |object| (number, object))
-        });
-        asked.collect()
+impl Verdict {
+    pub fn kind(&self) -> Kind {
+        match self.value.as_str() {
+            "t" => Kind::True,
+            "f" => Kind::False,
+            "u" => Kind::Undefined,
+            stop if stop.starts_with('!') => Kind::Stopped,
+            _ => Kind::Value,
+        }
     }
+}
 
-    fn rule(&self, verdict: Verdict) -> &Rule {
+impl<'t> Told<'t> {
+    fn rule(&self, verdict: &Verdict) -> &'t Rule {
         &self.sheet.rules[verdict.rule]
     }
 
-    fn class(&self, object: u8) -> u8 {
-        self.sheet.model.objects[usize::from(object)]
+    fn tree(&self, verdict: &Verdict) -> Tree<'t> {
+        Tree::new(self.sheet, self.lines, self.rule(verdict), verdict.object)
+    }
+
+    /// A verdict, what made it so, and what to look at.
+    pub fn words(&self, verdict: &Verdict) -> String {
+        let tree = self.tree(verdict);
+        match (verdict.kind(), verdict.origin) {
+            (Kind::Undefined, Some(origin)) => self.undefined(verdict, &tree, origin),
+            (Kind::Stopped, _) => self.stopped(verdict, &tree),
+            _ => self.decided(verdict, &tree),
+        }
     }
 
     /// The first lines of a verdict: what it is of, and the rule.
-    fn head(&self, verdict: Verdict, what: &str) -> String {
+    fn head(&self, verdict: &Verdict, what: &str) -> String {
         let Verdict { rule, object, .. } = verdict;
-        let class = self.class(object);
+        let class = self.sheet.model.objects[usize::from(*object)];
         let text = shown(&self.rule(verdict).root);
         format!("Rule {rule} {what} for @{object}, of class #{class}.\n  rule     {text}\n")
     }
@@ -56,136 +88,128 @@ impl Told<'_> {
         let head = self.lines.head(line);
         let head = head.filter(|head| self.lines.bytes(*head).starts_with(b"D"));
         let place = head.map_or(String::new(), |head| {
-            format!(", below line {head}: {}", self.lines.quoted(head))
+            format!(", below {}", self.lines.named(head))
         });
         format!("  line {line:<4}{quoted}{place}\n")
     }
 
-    /// An undefined verdict, and the line and the step at which undefined arose. None
-    /// where nothing is found there.
-    pub fn undefined(&self, verdict: Verdict, line: usize, step: usize) -> Option<String> {
-        let runs = runs(self.sheet, self.rule(verdict), verdict.object);
-        let run = runs.get(step.checked_sub(1)?)?;
-        if run.node.line != line || !run.is_undefined() {
-            return None;
+    /// The X line of a rule, or the R line of one in nodes.
+    fn line_of_rule(&self, verdict: &Verdict) -> usize {
+        let root = self.rule(verdict).root.line;
+        match self.lines.bytes(root).first() {
+            Some(b'X') => root,
+            _ => self.lines.head(root).unwrap_or(root),
         }
-        let operands: Vec<&Run> = runs
-            .iter()
-            .filter(|run| run.above == Some(step - 1))
-            .collect();
-        let (arose, look) = self.why(run.node, &operands)?;
+    }
+
+    /// Where undefined arose, and why.
+    fn undefined(&self, verdict: &Verdict, tree: &Tree, (line, step): (usize, usize)) -> String {
         let mut out = self.head(verdict, "is undefined");
         out += &self.at(line);
-        out += &format!("  arose    at `{}`, ", shown(run.node));
-        out += &format!("step {step} of {}: {arose}.\n", verdict.steps);
-        out += &format!("  look at  {look}.\n");
-        Some(out)
-    }
-
-    /// Why a node with these operands' values is undefined, and what to look at.
-    fn why(&self, node: &Node, operands: &[&Run]) -> Option<(String, String)> {
-        let value = |place: usize| operands.get(place).and_then(|run| run.value());
-        Some(match &node.form {
-            Form::Undef => (
-                "that is what is written there".to_string(),
-                "the rule itself: it says `undef`".to_string(),
-            ),
-            Form::Attr { row: Some(row), .. } => {
-                let Some(Value::Object(object)) = value(0) else {
-                    return None;
-                };
-                self.missing(&[*object], *row)
-            }
-            Form::Collect {
-                mark: Some((row, _)),
-                ..
-            } => {
-                let Some(Value::Collection(members)) = value(0) else {
-                    return None;
-                };
-                let mut without: Vec<u8> = members
-                    .members
-                    .iter()
-                    .filter_map(|member| match member {
-                        Value::Object(object) => Some(*object),
-                        _ => None,
-                    })
-                    .filter(|object| self.sheet.model.value(*object, *row).is_none())
-                    .collect();
-                without.dedup();
-                self.missing(&without, *row)
-            }
-            Form::As(class) => {
-                let value = value(0)?;
-                let what = match value {
-                    Value::Object(object) => format!(
-                        "@{object} is of class #{}, which is not #{class} or below",
-                        self.class(*object)
-                    ),
-                    other => format!("{} is no object", spelt(other)),
-                };
-                (what, self.cast(node, value))
-            }
-            Form::Div | Form::Mod | Form::Over => (
-                format!("{} is divided by 0", spelt(value(0)?)),
-                format!("the divisor, `{}`", shown(&node.operands[1])),
-            ),
-            _ => return None,
-        })
-    }
-
-    fn cast(&self, node: &Node, value: &Value) -> String {
-        let operand = shown(&node.operands[0]);
-        let declared = match value {
-            Value::Object(object) => self.lines.declared('O', *object),
-            _ => None,
+        let at = step - 1;
+        let why = Why {
+            sheet: self.sheet,
+            lines: self.lines,
+            operands: tree.operands(at),
         };
-        match declared {
-            Some(line) => format!("line {line}: {}; and `{operand}`", self.lines.quoted(line)),
-            None => format!("the values of `{operand}`"),
-        }
+        let node = tree.node(at);
+        let (arose, look) = why.of(node).expect("undefined arises there");
+        out += &format!("  arose    at `{}`, ", shown(node));
+        out += &format!("step {step} of {}: {arose}.\n", verdict.steps);
+        out + &format!("  look at  {look}.\n")
     }
 
-    /// Objects that have no value in a row.
-    fn missing(&self, objects: &[u8], row: u8) -> (String, String) {
-        let name = self.sheet.model.rows[usize::from(row)].name;
-        let named: Vec<String> = objects.iter().map(|object| format!("@{object}")).collect();
-        let have = if objects.len() == 1 { "has" } else { "have" };
-        let arose = format!(
-            "{} {have} no value in row {row}, name {name}",
-            named.join(", ")
-        );
-        let first = objects.first().copied().unwrap_or(0);
-        let declared = self.lines.declared('A', row);
-        let declared = declared.map_or(String::new(), |line| {
-            format!("line {line}: {}; and ", self.lines.quoted(line))
-        });
-        let look = format!("{declared}the V lines, none of which begins `V {first} {row}`");
-        (arose, look)
-    }
-
-    /// A stopped verdict, and where the stop arose as far as that can be told.
-    pub fn stopped(&self, verdict: Verdict, number: u64) -> Option<String> {
-        let advice = advice(number)?;
+    /// Where an evaluation was stopped.
+    fn stopped(&self, verdict: &Verdict, tree: &Tree) -> String {
+        let number = verdict.value[1..].parse().expect("a stop has its number");
+        let advice = advice(number).expect("a stop has its words");
+        let steps = verdict.steps;
         let what = format!(
-            "was stopped, {} ({number}), after {} steps,",
-            advice.word, verdict.steps
+            "was stopped, {} ({number}), after {steps} steps,",
+            advice.word
         );
-        let mut out = self.head(verdict, &what);
-        let runs = runs(self.sheet, self.rule(verdict), verdict.object);
         // The innermost run that did not end is the last of them to have begun.
-        let last = runs.iter().rposition(|run| run.ended == Ended::Stopped);
-        let last = last.and_then(|last| runs.get(last))?;
-        out += &self.at(last.node.line);
+        let stopped = |at: &usize| tree.runs[*at].ended == Ended::Stopped;
+        let last = (0..tree.runs.len()).rev().find(stopped).unwrap_or(0);
+        let mut out = self.head(verdict, &what);
+        out += &self.at(tree.node(last).line);
         out += &format!("  means    {}.\n", advice.meaning);
-        out += &format!("  stopped  in `{}`.\n", shown(last.node));
-        out += &format!("  look at  {}.\n", advice.look);
-        Some(out)
+        out += &format!("  stopped  in `{}`.\n", shown(tree.node(last)));
+        // A loop's turns say nothing of where it was stopped; operands do.
+        let below = tree.below(last).iter();
+        let operands = below.filter(|below| !stopped(below) && !tree.node(last).is_loop());
+        for below in operands {
+            let line = tree.line(*below, 0, &mut Texts::default());
+            out += &format!("  there    {}.\n", line.words);
+        }
+        out + &format!("  look at  {}.\n", advice.look)
+    }
+
+    /// The parts that decided, and the V lines that they read.
+    fn decided(&self, verdict: &Verdict, tree: &Tree) -> String {
+        let what = match verdict.kind() {
+            Kind::True => "is true".to_string(),
+            Kind::False => "is false".to_string(),
+            _ => format!("comes to {}", tree.spelt(0)),
+        };
+        let mut out = self.head(verdict, &what);
+        let line = self.line_of_rule(verdict);
+        out += &format!("  line {line:<4}{}\n", self.lines.quoted(line));
+        let parts = tree.decisive();
+        let steps = verdict.steps;
+        let word = if steps == 1 { "step" } else { "steps" };
+        out += &format!("  parts    that decided, of {steps} {word}:\n");
+        let width = steps.to_string().len();
+        for part in parts.iter().take(MOST_PARTS) {
+            out += &indented(part, width, "");
+        }
+        if parts.len() > MOST_PARTS {
+            out += &format!("    .. and {} more\n", parts.len() - MOST_PARTS);
+        }
+        out + &format!("  look at  {}.\n", values(&parts))
+    }
+
+    /// All that ran, a line each.
+    pub fn trace(&self, verdict: &Verdict, out: &mut dyn Write) -> io::Result<()> {
+        let tree = self.tree(verdict);
+        let count = tree.runs.len();
+        let word = if count == 1 { "step" } else { "steps" };
+        writeln!(out, "  trace    all {count} {word}:")?;
+        let width = count.to_string().len();
+        let mut depths = Vec::with_capacity(count);
+        let mut texts = Texts::default();
+        for (at, run) in tree.runs.iter().enumerate() {
+            let depth = run.above.map_or(0, |above| depths[above] + 1);
+            depths.push(depth);
+            let line = format!("line {:<4}", run.node.line);
+            let part = tree.line(at, depth, &mut texts);
+            out.write_all(indented(&part, width, &line).as_bytes())?;
+        }
+        Ok(())
     }
 }
 
-fn spelt(value: &Value) -> String {
-    let mut out = Vec::new();
-    spell(Some(value), &mut out);
-    String::from_utf8_lossy(&out).into_owned()
+/// The V lines that parts read, and where they look for one in vain, each once.
+fn values(parts: &[Line]) -> String {
+    let mut looks: Vec<&str> = Vec::new();
+    for look in parts.iter().filter_map(|part| part.look.as_deref()) {
+        if !looks.contains(&look) {
+            looks.push(look);
+        }
+    }
+    let first = &looks[..looks.len().min(MOST_VALUES)];
+    match looks.len() {
+        0 => "the rule itself: no value of the sheet stands in the parts above".to_string(),
+        count if count > MOST_VALUES => format!("{}; and the other lines above", first.join("; ")),
+        _ => first.join("; "),
+    }
+}
+
+/// A part in a line, with its step.
+fn indented(part: &Line, width: usize, line: &str) -> String {
+    let Line {
+        at, depth, words, ..
+    } = part;
+    let (step, indent) = (at + 1, 2 * depth);
+    format!("    step {step:<width$} {line} {:indent$}{words}\n", "")
 }

@@ -1,6 +1,7 @@
 //! Reading a sheet, line by line.
 
 mod fields;
+pub mod kinds;
 mod nodes;
 mod primaries;
 pub mod sentences;

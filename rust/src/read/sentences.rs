@@ -77,17 +77,22 @@ pub(super) struct Parser<'t> {
 
 /// What a text says, if it is a sentence.
 pub fn sentence(tokens: &[&[u8]]) -> Option<Sentence> {
-    let mut parser = Parser {
-        tokens: tokens.iter(),
-        shapes: Vec::new(),
-        waiting: Vec::new(),
-        over: false,
-    };
+    let mut parser = Parser::new(tokens);
     parser.read()?;
     Some(Sentence {
         shapes: parser.shapes,
         over: parser.over,
     })
+}
+
+/// How many tokens of a text that is no sentence can be read before the one at which it
+/// fails, or all of them where it ends too early.
+pub fn read_up_to(tokens: &[&[u8]]) -> usize {
+    // A token that no text has stands behind the last one, so that none is missing.
+    let ended: Vec<&[u8]> = tokens.iter().copied().chain([b"".as_slice()]).collect();
+    let mut parser = Parser::new(&ended);
+    parser.read();
+    ended.len() - parser.tokens.len() - 1
 }
 
 fn sign(token: &[u8]) -> Option<(Form, Level)> {
@@ -104,6 +109,17 @@ fn sign(token: &[u8]) -> Option<(Form, Level)> {
         b"/" => (Form::Over, Level::Product),
         _ => return None,
     })
+}
+
+impl<'t> Parser<'t> {
+    fn new(tokens: &'t [&'t [u8]]) -> Parser<'t> {
+        Parser {
+            tokens: tokens.iter(),
+            shapes: Vec::new(),
+            waiting: Vec::new(),
+            over: false,
+        }
+    }
 }
 
 impl Parser<'_> {
