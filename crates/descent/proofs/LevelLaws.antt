@@ -1,9 +1,8 @@
 -- Levels that lean left, comparisons and `not`s by what their calls found: one law for each return and each turn. Assumes nothing.
-use mathlib.Core.Path.{_≡_, refl, sym, ap, subst}
-use mathlib.Core.Logic.{_≢_}
+use mathlib.Core.Path.{_≡_, refl, sym, ap}
 use mathlib.Core.Option.{Option, none, some}
 use mathlib.Core.List.{List}
-use Prim.Native.Nat.{ℕ, zero, suc, _+_, _-_, _≤_, _<_}
+use Prim.Native.Nat.{ℕ, suc, _+_, _-_, _≤_, _<_}
 use native.Mathlib.Omega.{arith}
 use lib.ListN.{length}
 use Rattle.laws.specs.Choice.{mapSome}
@@ -12,10 +11,11 @@ use Rattle.sheet.specs.Grammar.Tokens.{Tokens}
 use Rattle.sheet.specs.Grammar.Trees.{Two, two, count, twoShape, shapes}
 use Rattle.sheet.specs.Grammar.Sentences.{Level, comparison, sum, prefix, postfix}
 use Rattle.sheet.specs.Grammar.Parser.{signOf, tighter}
+use Rattle.sheet.proofs.TextNodes.{some-node}
 use Rattle.tables.proofs.Tables.{kept-then}
 use Rattle.tokens.specs.declared.Token.{Token}
 use Rattle.tokens.specs.Contracts.{onward}
-use Rattle.phrases.specs.Forms.{twoWords, levelOf}
+use Rattle.phrases.specs.Forms.{twoWords}
 use Rattle.phrases.specs.Contracts.{Further, SignAs, sign-none, sign-one, StandsAsTwo}
 use Rattle.phrases.specs.declared.Sign.{Sign}
 use Rattle.phrases.specs.declared.Sign.the-variants as sign
@@ -24,13 +24,14 @@ use Rattle.importer.specs.Leaves.{NegationsAre, negated}
 use Rattle.importer.specs.declared.leaves.Negations.{Negations}
 use Rattle.importer.specs.Descent.{Room, FoundOne, FoundAt, found-none, found-one}
 use Rattle.importer.specs.Steps.{Negates}
-use Rattle.importer.specs.Puts.{PutNode}
+use Rattle.importer.specs.Puts.{PutNode, Behind, behind-none, behind-one, Joins, joins-none, joins-one}
 use Rattle.importer.specs.declared.Found.{Found}
 use Rattle.importer.specs.declared.Found.the-variants.{No, Is}
-use Rattle.importer.proofs.AnswerLaws.{Leans, or-leans, and-leans, sum-leans, product-leans, Chained, start-with, start-none, chain-ends, chain-fails, chain-goes, compare-first, compare-alone, compare-both, negated-count, underNots, nots-answer, no-negation}
+use Rattle.importer.proofs.AnswerLaws.{Leans, Chained, start-with, start-none, chain-ends, chain-fails, chain-goes, compare-first, compare-alone, compare-both, negated-count, underNots, nots-answer, no-negation}
 use Rattle.importer.proofs.LetLaws.{lets-then, lets-behind}
 use Rattle.descent.proofs.WroteLaws.{two-more, wrote-two, step-nodes}
-use Rattle.descent.proofs.FoundLaws.{found-kept, no-answer, one-found, Grown, found-grown}
+use Rattle.descent.proofs.FoundLaws.{found-kept, no-answer, one-found, Grown, grown-then, found-grown}
+use Rattle.descent.proofs.GrowthLaws.{Growing, never, breaks, goes, leftOf}
 
 pub sign-further : {s : Bytes} {t : Token} {o : Option (Two × Tokens)} {r : Sign} → SignAs s t o r → {code : ℕ} {u : Token} → r ≡ sign.Is code u → Further s t u
 sign-further {s} {t} {o} h {code} {u} e = go (rw e at h)
@@ -42,42 +43,60 @@ sign-further {s} {t} {o} h {code} {u} e = go (rw e at h)
 sign-stands : (f : Two) (code : ℕ) → twoWords f ≡ (code, 0) → StandsAsTwo f code 0
 sign-stands f code e = record { code = ap (λ (x : ℕ × ℕ). x .0) e; number = ap (λ (x : ℕ × ℕ). cut (x .1)) (sym e) }
 
+-- ---- a sign's right side
+
+module _ {l : Level} {k : ℕ} {s : Bytes} {u′ : Token} {m d : ℕ} {w : List ℕ} {r : Found} {v : List ℕ} (x : FoundAt l k s u′ m d w r v) {u : Token} where
+  pub right-long : Room s u m d w → 8192 ≤ length v
+  right-long q = let a = q .long in let b = found-kept x .size in omega arith
+
+  pub right-behind : Room s u m d w → Further s u u′ → length s ≤ 18446744073709551615 → Behind m r
+  right-behind q f small = go x
+    where
+      go : {r : Found} → FoundAt l k s u′ m d w r v → Behind m r
+      go (found-none a b) = behind-none
+      go (found-one {m = n} y) =
+          let a = q .few in
+          let b = f .from in
+          let c = y .from in
+          let e = y .counted in
+          let i = some-node (y .tree) in
+          let j = y .ahead .order in
+          let o = y .ahead .within in
+          behind-one {b = n} (omega arith) (omega arith)
+
+  pub joined-less : Further s u u′ → {code : ℕ} {r′ : Found} {v′ : List ℕ} → Joins k code m v r r′ v′ → leftOf s r′ < suc (length s - u .start)
+  unfolding leftOf
+  joined-less f {code} j = go x j
+    where
+      go : {r r′ : Found} {v v′ : List ℕ} → FoundAt l k s u′ m d w r v → Joins k code m v r r′ v′ → leftOf s r′ < suc (length s - u .start)
+      go (found-none a b) joins-none = omega arith
+      go (found-one y) (joins-one put) =
+          let a = f .from in
+          let b = y .from in
+          let c = y .ahead .order in
+          let e = y .ahead .within in
+          omega arith
+
 -- ---- levels that lean left
 
-pub leans : (level : ℕ) → level < 5 → level ≢ 2 → Leans (levelOf level)
-unfolding levelOf
-leans zero l n = or-leans
-leans (suc zero) l n = and-leans
-leans (suc (suc zero)) l n = absurd (n refl)
-leans (suc (suc (suc zero))) l n = sum-leans
-leans (suc (suc (suc (suc zero)))) l n = product-leans
-leans (suc (suc (suc (suc (suc m))))) l n = absurd (omega arith)
+module _ {l : Level} (p : Leans l) {k : ℕ} {s : Bytes} {d : ℕ} {r : Found} {w : List ℕ} {r′ : Found} {w′ : List ℕ} (g : Growing (Chained l) k s d r w r′ w′)
+    {t : Token} {n : ℕ} {v : List ℕ} (x : FoundAt (tighter l) k s t n d v r w) where
+  pub level-fails : r′ ≡ No → FoundAt l k s t n d v No w′
+  level-fails e = go x (rw e at g)
+    where
+      go : {r : Found} {w : List ℕ} → FoundAt (tighter l) k s t n d v r w → Growing (Chained l) k s d r w No w′ → FoundAt l k s t n d v No w′
+      go (found-none a b) never = found-none (start-none p (onward s t) a) b
+      go (found-one {u = u} y) (breaks a b) = found-none (start-with p (onward s t) (y .tree) (onward s u) none (y .answers) (a (y .tree))) (kept-then (y .wrote .kept) b)
 
-module _ {l : Level} (p : Leans l) {k : ℕ} {s : Bytes} {t : Token} {n d : ℕ} {w : List ℕ} {r : Found} {v : List ℕ} (h : FoundAt (tighter l) k s t n d w r v) where
-  pub going-none : r ≡ No → FoundAt l k s t n d w No v
-  going-none e = found-none (start-none p (onward s t) (no-answer h e)) (found-kept h)
+  pub level-ends : {u : Token} {m : ℕ} → r′ ≡ Is u m → {q : Sign} → SignAs s u (signOf l (onward s u)) q → q ≡ sign.No → FoundAt l k s t n d v (Is u m) w′
+  level-ends {u} {m} e h i = go x (rw e at g) (rw i at h)
+    where
+      go : {r : Found} {w : List ℕ} → FoundAt (tighter l) k s t n d v r w → Growing (Chained l) k s d r w (Is u m) w′ → SignAs s u (signOf l (onward s u)) sign.No → FoundAt l k s t n d v (Is u m) w′
+      go (found-one {u = u₀} y) (goes z) (sign-none a) =
+          found-grown z y (start-with p (onward s t) (y .tree) (onward s u₀) _ (y .answers) (z .on (y .tree) _ (chain-ends l (z .grows (y .tree)) (onward s u) a)))
 
-  module _ {u : Token} {m : ℕ} (e : r ≡ Is u m) {u′ : Token} {m′ : ℕ} {v′ : List ℕ} (g : Grown (Chained l) k s u m d v u′ m′ v′)
-      {q : Sign} (i : SignAs s u′ (signOf l (onward s u′)) q) where
-    pub going-ends : q ≡ sign.No → FoundAt l k s t n d w (Is u′ m′) v′
-    going-ends z = go (rw z at i) (one-found h e)
-      where
-        go : SignAs s u′ (signOf l (onward s u′)) sign.No → FoundOne (tighter l) k s t n d w u m v → FoundAt l k s t n d w (Is u′ m′) v′
-        go (sign-none a) x =
-            found-grown g x
-            (start-with p (onward s t) (x .tree) (onward s u) _ (x .answers) (g .on (x .tree) _ (chain-ends l (g .grows (x .tree)) (onward s u′) a)))
-
-    pub going-fails : {code : ℕ} {u″ : Token} → q ≡ sign.Is code u″ → {r′ : Found} {v″ : List ℕ} → FoundAt (tighter l) k s u″ m′ d v′ r′ v″ → r′ ≡ No → FoundAt l k s t n d w No v″
-    going-fails {code} {u″} z {r′} {v″} y f = go (rw z at i) (one-found h e)
-      where
-        go : SignAs s u′ (signOf l (onward s u′)) (sign.Is code u″) → FoundOne (tighter l) k s t n d w u m v → FoundAt l k s t n d w No v″
-        go (sign-one a b c o) x =
-            found-none
-            (start-with p (onward s t) (x .tree) (onward s u) none (x .answers) (g .on (x .tree) none (chain-fails l (g .grows (x .tree)) (onward s u′) a (onward s u″) b (no-answer y f))))
-            (kept-then (x .wrote .kept) (kept-then (g .kept) (found-kept y)))
-
--- a turn: a sign and its right side
-pub going-on : {l : Level} {k : ℕ} {s : Bytes} {u : Token} {m d : ℕ} {v : List ℕ} {q : Sign} → SignAs s u (signOf l (onward s u)) q
+-- a sign and its right side
+going-on : {l : Level} {k : ℕ} {s : Bytes} {u : Token} {m d : ℕ} {v : List ℕ} {q : Sign} → SignAs s u (signOf l (onward s u)) q
     → {code : ℕ} {u′ : Token} → q ≡ sign.Is code u′ → {r : Found} {v′ : List ℕ} → FoundAt (tighter l) k s u′ m d v r v′
     → {u″ : Token} {all : ℕ} {v″ : List ℕ} → r ≡ Is u″ all → ((f : Two) → StandsAsTwo f code 0 → PutNode k all (twoShape f (m - 1) (all - 1)) v′ v″)
     → Grown (Chained l) k s u m d v u″ (all + 1) v″
@@ -97,6 +116,18 @@ going-on {l} {k} {s} {u} {m} {d} {v} h {code} {u′} e {r} {v′} x {u″} {all}
       lets = lets-then (y .wrote .lets) (lets-behind d (put f (sign-stands f code b) .kept));
       kept = kept-then (y .wrote .kept) (put f (sign-stands f code b) .kept .kept);
     }
+
+-- a turn
+pub level-turn : {l : Level} {k : ℕ} {s : Bytes} {d : ℕ} {r : Found} {w : List ℕ} {r′ : Found} {w′ : List ℕ} → Growing (Chained l) k s d r w r′ w′ → {u : Token} {m : ℕ} → r′ ≡ Is u m
+    → {q : Sign} → SignAs s u (signOf l (onward s u)) q → {code : ℕ} {u′ : Token} → q ≡ sign.Is code u′ → {o : Found} {w″ : List ℕ} → FoundAt (tighter l) k s u′ m d w′ o w″
+    → {o′ : Found} {w‴ : List ℕ} → Joins k code m w″ o o′ w‴ → Growing (Chained l) k s d r w o′ w‴
+level-turn {l} {k} {s} {d} {w′ = w′} g {u} {m} e {q} h {code} {u′} i y j = go (rw e at g) (rw i at h) y j
+  where
+    go : {r : Found} {w : List ℕ} {o o′ : Found} {w″ w‴ : List ℕ} → Growing (Chained l) k s d r w (Is u m) w′ → SignAs s u (signOf l (onward s u)) (sign.Is code u′)
+        → FoundAt (tighter l) k s u′ m d w′ o w″ → Joins k code m w″ o o′ w‴ → Growing (Chained l) k s d r w o′ w‴
+    go (goes z) (sign-one f a b c) (found-none x v) joins-none =
+        breaks (λ t. z .on t none (chain-fails l (z .grows t) (onward s u) f (onward s u′) a x)) (kept-then (z .kept) v)
+    go (goes z) n x (joins-one put) = goes (grown-then z (going-on n refl x refl put))
 
 -- ---- comparisons
 
@@ -119,7 +150,7 @@ module _ {k : ℕ} {s : Bytes} {t : Token} {n d : ℕ} {w : List ℕ} {r : Found
         }
 
     module _ {code : ℕ} {u′ : Token} (i : q ≡ sign.Is code u′) {r′ : Found} {v′ : List ℕ} (x′ : FoundAt sum k s u′ m d v r′ v′) where
-      pub comparison-fails : r′ ≡ No → FoundAt comparison k s t n d w No v′
+      comparison-fails : r′ ≡ No → FoundAt comparison k s t n d w No v′
       unfolding mapSome
       comparison-fails z = go (rw i at h) (one-found x e)
         where
@@ -127,7 +158,7 @@ module _ {k : ℕ} {s : Bytes} {t : Token} {n d : ℕ} {w : List ℕ} {r : Found
           go (sign-one f a b c) y =
               found-none (compare-both (onward s t) (y .tree) (onward s u) (y .answers) f (onward s u′) none a (no-answer x′ z)) (kept-then (y .wrote .kept) (found-kept x′))
 
-      pub comparison-both : {u″ : Token} {all : ℕ} {v″ : List ℕ} → r′ ≡ Is u″ all → ((f : Two) → StandsAsTwo f code 0 → PutNode k all (twoShape f (m - 1) (all - 1)) v′ v″)
+      comparison-both : {u″ : Token} {all : ℕ} {v″ : List ℕ} → r′ ≡ Is u″ all → ((f : Two) → StandsAsTwo f code 0 → PutNode k all (twoShape f (m - 1) (all - 1)) v′ v″)
           → FoundAt comparison k s t n d w (Is u″ (all + 1)) v″
       unfolding mapSome count
       comparison-both {u″} {all} {v″} z put = go (rw i at h) (one-found x e) (one-found x′ z)
@@ -141,6 +172,11 @@ module _ {k : ℕ} {s : Bytes} {t : Token} {n d : ℕ} {w : List ℕ} {r : Found
             from = let g = y .from in let j = y′ .from in let o = c .from in omega arith;
             wrote = wrote-two (y .tree) (y′ .tree) f (y .wrote) (y .counted) (y′ .wrote) (y′ .counted) (put f (sign-stands f code b));
           }
+
+    pub comparison-joined : {code : ℕ} {u′ : Token} → q ≡ sign.Is code u′ → {r′ : Found} {v′ : List ℕ} → FoundAt sum k s u′ m d v r′ v′
+        → {r″ : Found} {v″ : List ℕ} → Joins k code m v′ r′ r″ v″ → FoundAt comparison k s t n d w r″ v″
+    comparison-joined i x′ joins-none = comparison-fails i x′ refl
+    comparison-joined i x′ (joins-one put) = comparison-both i x′ refl put
 
 -- ---- `not`s
 
@@ -175,26 +211,3 @@ module _ {k : ℕ} {s : Bytes} {t : Token} {n d : ℕ} {w : List ℕ} {q : Negat
 
 pub nots-small : {k : ℕ} {s : Bytes} {t u : Token} {n d m : ℕ} {w v : List ℕ} {q : Negations} → Room s t n d w → NegationsAre s t q → FoundOne postfix k s (q .next) n d w u m v → m + q .count ≤ length s
 nots-small r a x = let b = r .few in let c = a .from in let e = x .from in let f = x .counted in let g = x .ahead .order in let h = x .ahead .within in omega arith
-
--- ---- the level after that
-
-module _ {k : ℕ} {s : Bytes} {t : Token} {n d : ℕ} {w : List ℕ} {r : Found} {v : List ℕ} where
-  as-level : {l l′ : Level} → l ≡ l′ → FoundAt l k s t n d w r v → FoundAt l′ k s t n d w r v
-  as-level e x = subst (λ (l : Level). FoundAt l k s t n d w r v) e x
-
-  module _ {level : ℕ} where
-    pub level-or : level ≡ 0 → FoundAt (levelOf 1) k s t n d w r v → FoundAt (tighter (levelOf level)) k s t n d w r v
-    unfolding levelOf tighter
-    level-or e x = as-level (sym (ap (λ (i : ℕ). tighter (levelOf i)) e)) x
-
-    pub level-and : level ≡ 1 → FoundAt comparison k s t n d w r v → FoundAt (tighter (levelOf level)) k s t n d w r v
-    unfolding levelOf tighter
-    level-and e x = as-level (sym (ap (λ (i : ℕ). tighter (levelOf i)) e)) x
-
-    pub level-sum : level ≡ 3 → FoundAt (levelOf 4) k s t n d w r v → FoundAt (tighter (levelOf level)) k s t n d w r v
-    unfolding levelOf tighter
-    level-sum e x = as-level (sym (ap (λ (i : ℕ). tighter (levelOf i)) e)) x
-
-    pub level-product : level ≢ 0 → level ≢ 1 → level ≢ 3 → level < 5 → level ≢ 2 → FoundAt prefix k s t n d w r v → FoundAt (tighter (levelOf level)) k s t n d w r v
-    unfolding levelOf tighter
-    level-product a b c l f x = let e : level ≡ 4 = omega arith in as-level (sym (ap (λ (i : ℕ). tighter (levelOf i)) e)) x

@@ -1,5 +1,6 @@
 pub mod WroteLaws
 pub mod FoundLaws
+pub mod GrowthLaws
 pub mod LevelLaws
 pub mod OperandLaws
 pub mod BegunLaws

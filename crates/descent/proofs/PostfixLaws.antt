@@ -8,14 +8,12 @@ use lib.ListN.{length}
 use Rattle.ocl.specs.Types.{Ty}
 use Rattle.sheet.specs.Text.{Bytes}
 use Rattle.sheet.specs.Lines.{is}
-use Rattle.sheet.specs.Grammar.Trees.{One, Two, iterate, Tree, one, count, oneShape, shapes}
-use Rattle.sheet.specs.Grammar.Sentences.{Level, postfix, primary}
+use Rattle.sheet.specs.Grammar.Trees.{One, Two, iterate, one, count, oneShape, shapes}
+use Rattle.sheet.specs.Grammar.Sentences.{postfix, primary}
 use Rattle.sheet.specs.Grammar.Parser.{Next, stepOf}
-use Rattle.sheet.proofs.TextNodes.{some-node}
 use Rattle.types.specs.Reading.{typeField, held}
 use Rattle.types.specs.declared.GotType.{GotType}
-use Rattle.tables.specs.Layout.{Kept}
-use Rattle.tables.proofs.Tables.{kept-refl, kept-then}
+use Rattle.tables.proofs.Tables.{kept-then}
 use Rattle.tokens.specs.declared.Token.{Token}
 use Rattle.tokens.specs.Contracts.{onward}
 use Rattle.phrases.specs.Contracts.{Further, StandsAs, StandsAsTwo, StepAs, step-ends, step-broken, step-plain, step-argument, step-iteration}
@@ -23,7 +21,7 @@ use Rattle.phrases.specs.declared.Step.{Step}
 use Rattle.phrases.specs.declared.Step.the-variants as step
 use Rattle.trees.specs.Fields.{cut}
 use Rattle.trees.specs.Iterate.{Held}
-use Rattle.importer.specs.Descent.{Room, FoundAt, found-none, found-one}
+use Rattle.importer.specs.Descent.{FoundAt, found-none, found-one}
 use Rattle.importer.specs.Steps.{Stepped, StepAt, step-none, step-one}
 use Rattle.importer.specs.Puts.{PutNode}
 use Rattle.importer.specs.declared.Found.{Found}
@@ -31,86 +29,33 @@ use Rattle.importer.specs.declared.Found.the-variants.{No, Is}
 use Rattle.importer.proofs.LetLaws.{lets-behind}
 use Rattle.importer.proofs.StepLaws as steps
 use Rattle.descent.proofs.WroteLaws.{Lays, lays-put, root-is, step-nodes}
-use Rattle.descent.proofs.FoundLaws.{Grown, grown-start, grown-then, found-grown, found-kept}
+use Rattle.descent.proofs.FoundLaws.{grown-then, found-grown}
+use Rattle.descent.proofs.GrowthLaws.{Growing, never, breaks, goes, leftOf}
 
 -- ---- postfix steps
 
--- how a primary that was found has grown by steps
-pub data Stepping (k : ℕ) (s : Bytes) (d : ℕ) : Found → List ℕ → Found → List ℕ → Type 0 where
-  never : {w : List ℕ} → Stepping k s d No w No w
-  breaks : {u : Token} {m : ℕ} {w v : List ℕ} → ((a : Tree) → Stepped a (onward s u) none) → Kept w v → Stepping k s d (Is u m) w No v
-  goes : {u : Token} {m : ℕ} {w : List ℕ} {u′ : Token} {m′ : ℕ} {v : List ℕ} → Grown Stepped k s u m d w u′ m′ v → Stepping k s d (Is u m) w (Is u′ m′) v
-
--- what is left of the text
-unfoldable pub leftOf : Bytes → Found → ℕ
-leftOf s No = 0
-leftOf s (Is u m) = suc (length s - u .start)
-
-pub stepping-start : {l : Level} {k : ℕ} {s : Bytes} {t : Token} {n d : ℕ} {w : List ℕ} {r : Found} {v : List ℕ} → FoundAt l k s t n d w r v → Stepping k s d r v r v
-stepping-start (found-none a b) = never
-stepping-start (found-one x) = goes (grown-start (x .ahead))
-
-pub less-left : (s : Bytes) {r : Found} {u : Token} {m : ℕ} (i : ℕ) → r ≡ Is u m → i < suc (length s - u .start) → i < leftOf s r
-unfolding leftOf
-less-left s i e l = rw e l
-
-pub plain-less : {s : Bytes} {u u′ : Token} (m : ℕ) → Further s u u′ → leftOf s (Is u′ m) < suc (length s - u .start)
-unfolding leftOf
-plain-less m f = let a = f .from in let b = f .ahead .order in let c = f .ahead .within in omega arith
-
-module _ {k : ℕ} {s : Bytes} {d : ℕ} {r : Found} {w : List ℕ} {r′ : Found} {w′ : List ℕ} (g : Stepping k s d r w r′ w′) where
+module _ {k : ℕ} {s : Bytes} {d : ℕ} {r : Found} {w : List ℕ} {r′ : Found} {w′ : List ℕ} (g : Growing Stepped k s d r w r′ w′) where
   module _ {t : Token} {n : ℕ} {v : List ℕ} (x : FoundAt primary k s t n d v r w) where
-    pub steps-kept : Kept v w′
-    steps-kept = kept-then (found-kept x) (go g)
-      where
-        go : {r r′ : Found} {w w′ : List ℕ} → Stepping k s d r w r′ w′ → Kept w w′
-        go {w = w} never = kept-refl w
-        go (breaks a b) = b
-        go (goes y) = y .kept
-
     pub steps-fail : r′ ≡ No → FoundAt postfix k s t n d v No w′
     steps-fail e = go x (rw e at g)
       where
-        go : {r : Found} {w : List ℕ} → FoundAt primary k s t n d v r w → Stepping k s d r w No w′ → FoundAt postfix k s t n d v No w′
+        go : {r : Found} {w : List ℕ} → FoundAt primary k s t n d v r w → Growing Stepped k s d r w No w′ → FoundAt postfix k s t n d v No w′
         go (found-none a b) never = found-none (steps.steps-none (onward s t) a) b
         go (found-one {u = u} y) (breaks a b) = found-none (steps.steps-start (onward s t) (y .tree) (onward s u) none (y .answers) (a (y .tree))) (kept-then (y .wrote .kept) b)
 
     module _ {u : Token} {m : ℕ} (e : r′ ≡ Is u m) where
-      pub room-steps : Room s t n d v → Room s u m d w′
-      room-steps q = go x (rw e at g)
-        where
-          go : {r : Found} {w : List ℕ} → FoundAt primary k s t n d v r w → Stepping k s d r w (Is u m) w′ → Room s u m d w′
-          go (found-one y) (goes z) = record {
-            ahead = z .ahead;
-            few = let a = q .few in let b = y .from in let c = y .counted in let f = z .from in let i = z .counted in omega arith;
-            long = let a = q .long in let b = y .wrote .kept .size in let c = z .kept .size in omega arith;
-          }
-
-      -- some node has been put down, and some byte has been read
-      pub steps-some : 0 < m
-      steps-some = go x (rw e at g)
-        where
-          go : {r : Found} {w : List ℕ} → FoundAt primary k s t n d v r w → Stepping k s d r w (Is u m) w′ → 0 < m
-          go (found-one y) (goes z) = let a = some-node (y .tree) in let b = y .counted in let c = z .counted in omega arith
-
-      pub steps-further : t .start < u .start
-      steps-further = go x (rw e at g)
-        where
-          go : {r : Found} {w : List ℕ} → FoundAt primary k s t n d v r w → Stepping k s d r w (Is u m) w′ → t .start < u .start
-          go (found-one y) (goes z) = let a = some-node (y .tree) in let b = y .from in let c = z .from in omega arith
-
       module _ {q : Step} (h : StepAs s u (stepOf (onward s u)) q) where
         pub steps-end : q ≡ step.Ends → FoundAt postfix k s t n d v (Is u m) w′
         steps-end i = go x (rw e at g) (rw i at h)
           where
-            go : {r : Found} {w : List ℕ} → FoundAt primary k s t n d v r w → Stepping k s d r w (Is u m) w′ → StepAs s u (stepOf (onward s u)) step.Ends → FoundAt postfix k s t n d v (Is u m) w′
+            go : {r : Found} {w : List ℕ} → FoundAt primary k s t n d v r w → Growing Stepped k s d r w (Is u m) w′ → StepAs s u (stepOf (onward s u)) step.Ends → FoundAt postfix k s t n d v (Is u m) w′
             go (found-one {u = u₀} y) (goes z) (step-ends a) =
                 found-grown z y (steps.steps-start (onward s t) (y .tree) (onward s u₀) _ (y .answers) (z .on (y .tree) _ (steps.step-ends (z .grows (y .tree)) (onward s u) a)))
 
         pub steps-break : q ≡ step.Broken → FoundAt postfix k s t n d v No w′
         steps-break i = go x (rw e at g) (rw i at h)
           where
-            go : {r : Found} {w : List ℕ} → FoundAt primary k s t n d v r w → Stepping k s d r w (Is u m) w′ → StepAs s u (stepOf (onward s u)) step.Broken → FoundAt postfix k s t n d v No w′
+            go : {r : Found} {w : List ℕ} → FoundAt primary k s t n d v r w → Growing Stepped k s d r w (Is u m) w′ → StepAs s u (stepOf (onward s u)) step.Broken → FoundAt postfix k s t n d v No w′
             go (found-one {u = u₀} y) (goes z) (step-broken a) =
                 found-none (steps.steps-start (onward s t) (y .tree) (onward s u₀) none (y .answers) (z .on (y .tree) none (steps.step-broken (z .grows (y .tree)) (onward s u) a)))
                 (kept-then (y .wrote .kept) (z .kept))
@@ -125,11 +70,11 @@ module _ {k : ℕ} {s : Bytes} {d : ℕ} {r : Found} {w : List ℕ} {r′ : Foun
         go (step-plain f a b c) = c
 
     pub plain-turn : {code x : ℕ} {u′ : Token} → q ≡ step.Plain code x u′ → {w″ : List ℕ} → ((f : One) → StandsAs f code x → PutNode k m (oneShape f (m - 1)) w′ w″)
-        → Stepping k s d r w (Is u′ (m + 1)) w″
+        → Growing Stepped k s d r w (Is u′ (m + 1)) w″
     unfolding count shapes
     plain-turn {code} {x} {u′} i {w″} put = go (rw e at g) (rw i at h)
       where
-        go : {r : Found} {w : List ℕ} → Stepping k s d r w (Is u m) w′ → StepAs s u (stepOf (onward s u)) (step.Plain code x u′) → Stepping k s d r w (Is u′ (m + 1)) w″
+        go : {r : Found} {w : List ℕ} → Growing Stepped k s d r w (Is u m) w′ → StepAs s u (stepOf (onward s u)) (step.Plain code x u′) → Growing Stepped k s d r w (Is u′ (m + 1)) w″
         go (goes z) (step-plain f a b c) = goes (grown-then z record {
           grows = λ t. one f t;
           more = 1;
@@ -144,10 +89,10 @@ module _ {k : ℕ} {s : Bytes} {d : ℕ} {r : Found} {w : List ℕ} {r′ : Foun
           kept = put f b .kept .kept;
         })
 
-    step-turn : {next : Next} {u′ : Token} {r″ : Found} {w″ : List ℕ} → stepOf (onward s u) ≡ next → Further s u u′ → StepAt next k s u′ m d w′ r″ w″ → Stepping k s d r w r″ w″
+    step-turn : {next : Next} {u′ : Token} {r″ : Found} {w″ : List ℕ} → stepOf (onward s u) ≡ next → Further s u u′ → StepAt next k s u′ m d w′ r″ w″ → Growing Stepped k s d r w r″ w″
     step-turn {next} {u′} {r″} {w″} a f y = go (rw e at g) y
       where
-        go : {r r″ : Found} {w : List ℕ} → Stepping k s d r w (Is u m) w′ → StepAt next k s u′ m d w′ r″ w″ → Stepping k s d r w r″ w″
+        go : {r r″ : Found} {w : List ℕ} → Growing Stepped k s d r w (Is u m) w′ → StepAt next k s u′ m d w′ r″ w″ → Growing Stepped k s d r w r″ w″
         go (goes z) (step-none b c) = breaks (λ t. z .on t none (b (z .grows t) (onward s u) a)) (kept-then (z .kept) c)
         go (goes z) (step-one b) = goes (grown-then z record {
           grows = b .grows;
@@ -175,10 +120,10 @@ module _ {k : ℕ} {s : Bytes} {d : ℕ} {r : Found} {w : List ℕ} {r′ : Foun
           go (step-argument f a b c) = c
 
       module _ {r″ : Found} {w″ : List ℕ} (y : (f : Two) → StandsAsTwo f code x → StepAt (Next.argument f (onward s u′)) k s u′ m d w′ r″ w″) where
-        pub argument-turn : Stepping k s d r w r″ w″
+        pub argument-turn : Growing Stepped k s d r w r″ w″
         argument-turn = go (rw i at h)
           where
-            go : StepAs s u (stepOf (onward s u)) (step.Argument code x u′) → Stepping k s d r w r″ w″
+            go : StepAs s u (stepOf (onward s u)) (step.Argument code x u′) → Growing Stepped k s d r w r″ w″
             go (step-argument f a b c) = step-turn a c (y f b)
 
         pub argument-less : leftOf s r″ < suc (length s - u .start)
@@ -202,10 +147,10 @@ module _ {k : ℕ} {s : Bytes} {d : ℕ} {r : Found} {w : List ℕ} {r′ : Foun
 
       module _ {r″ : Found} {w″ : List ℕ}
           (z : (j l : ℕ) (a : Ty) → x ≡ cut j → y ≡ cut l → typeField of ≡ held (some a) → StepAt (Next.iteration (iterate j l a) (onward s u′)) k s u′ m d w′ r″ w″) where
-        pub iteration-turn : Stepping k s d r w r″ w″
+        pub iteration-turn : Growing Stepped k s d r w r″ w″
         iteration-turn = go (rw i at h)
           where
-            go : StepAs s u (stepOf (onward s u)) (step.Iteration x y of u′) → Stepping k s d r w r″ w″
+            go : StepAs s u (stepOf (onward s u)) (step.Iteration x y of u′) → Growing Stepped k s d r w r″ w″
             go (step-iteration j l a b c p o f) = step-turn b f (z j l a c p o)
 
         pub iteration-less : leftOf s r″ < suc (length s - u .start)

@@ -16,7 +16,7 @@ ghost use Rattle.phrases.specs.Contracts.{StandsAsTwo};
 ghost use Rattle.trees.specs.Iterate.{Held};
 ghost use Rattle.importer.specs.Descent.{Room, FoundAt, ClosedAt};
 ghost use Rattle.importer.specs.Steps.{BegunAt, StepAt};
-use super::signs::whole;
+use super::whole;
 use emission::emit;
 use importer::Found;
 use importer::begin::Begun;

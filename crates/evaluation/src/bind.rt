@@ -27,7 +27,7 @@ pub fn let_in(
     st: Counts,
     nodes: &[u64],
     n: usize,
-    env: [usize; 16],
+    env: &[usize; 16],
     stack: &mut [u64],
     sp: usize,
     left: usize,
@@ -35,7 +35,7 @@ pub fn let_in(
 ) -> Traced
     requires { ⌜ StackRoom st (length (now tables)) (length (now nodes)) (length (now stack)) n sp (left + 1) ⌝ }
     requires { ⌜ (levels (operandTree (now nodes) n 1) ≤ left) × (levels (operandTree (now nodes) n 2) ≤ left) ⌝ }
-    ensures { λ r. ⌜ EvalsT (ReadsWorld st (now (tables .entry)) (now (nodes .entry))) (letNode (now (nodes .entry)) n) env sp steps (now (stack .entry)) (now (stack .exit)) r ⌝ }
+    ensures { λ r. ⌜ EvalsT (ReadsWorld st (now (tables .entry)) (now (nodes .entry))) (letNode (now (nodes .entry)) n) (now (env .entry)) sp steps (now (stack .entry)) (now (stack .exit)) r ⌝ }
 {
     let i = wide(node_word(nodes, n, 3) % 16);
     let bound = below(tables, st, nodes, n, 1, env, stack, sp, left, steps);
@@ -43,9 +43,9 @@ pub fn let_in(
         return bound;
     };
     let mid = sp + la;
-    let mut inner = env;
+    let mut inner = *env;
     inner[i] = sp + 1;
-    let second = below(tables, st, nodes, n, 2, inner, stack, mid, left, sa);
+    let second = below(tables, st, nodes, n, 2, &inner, stack, mid, left, sa);
     let Traced::Value { len: lb, steps: sb } = second else {
         return second;
     };
@@ -59,7 +59,7 @@ pub fn call(
     st: Counts,
     nodes: &[u64],
     n: usize,
-    env: [usize; 16],
+    env: &[usize; 16],
     stack: &mut [u64],
     sp: usize,
     left: usize,
@@ -67,7 +67,7 @@ pub fn call(
 ) -> Traced
     requires { ⌜ StackRoom st (length (now tables)) (length (now nodes)) (length (now stack)) n sp (left + 1) ⌝ }
     requires { ⌜ (levels (operandTree (now nodes) n 1) ≤ left) × (levels (operandTree (now nodes) n 2) ≤ left) ⌝ }
-    ensures { λ r. ⌜ EvalsT (ReadsWorld st (now (tables .entry)) (now (nodes .entry))) (callNode (now (nodes .entry)) n) env sp steps (now (stack .entry)) (now (stack .exit)) r ⌝ }
+    ensures { λ r. ⌜ EvalsT (ReadsWorld st (now (tables .entry)) (now (nodes .entry))) (callNode (now (nodes .entry)) n) (now (env .entry)) sp steps (now (stack .entry)) (now (stack .exit)) r ⌝ }
 {
     let first = below(tables, st, nodes, n, 1, env, stack, sp, left, steps);
     let Traced::Value { len: la, steps: sa } = first else {
@@ -78,7 +78,7 @@ pub fn call(
         let top = sp + la;
         let mut inner = [0usize; 16];
         inner[0] = sp + 1;
-        let body = below(tables, st, nodes, n, 2, inner, stack, top, left, sa);
+        let body = below(tables, st, nodes, n, 2, &inner, stack, top, left, sa);
         let Traced::Value { len: lb, steps: sb } = body else {
             return body;
         };
@@ -97,7 +97,7 @@ pub fn quantified(
     n: usize,
     form: u64,
     i: usize,
-    env: [usize; 16],
+    env: &[usize; 16],
     stack: &mut [u64],
     sp: usize,
     left: usize,
@@ -106,7 +106,7 @@ pub fn quantified(
     requires { ⌜ StackRoom st (length (now tables)) (length (now nodes)) (length (now stack)) n sp (left + 1) ⌝ }
     requires { ⌜ (25 ≤ form) × (form < 27) × (levels (operandTree (now nodes) n 1) ≤ left) × (levels (operandTree (now nodes) n 2) ≤ left) ⌝ }
     requires { ⌜ i ≡ variable (word (now nodes) n 3) ⌝ }
-    ensures { λ r. ⌜ EvalsT (ReadsWorld st (now (tables .entry)) (now (nodes .entry))) (quantifiedNode (now (nodes .entry)) n form) env sp steps (now (stack .entry)) (now (stack .exit)) r ⌝ }
+    ensures { λ r. ⌜ EvalsT (ReadsWorld st (now (tables .entry)) (now (nodes .entry))) (quantifiedNode (now (nodes .entry)) n form) (now (env .entry)) sp steps (now (stack .entry)) (now (stack .exit)) r ⌝ }
 {
     let first = below(tables, st, nodes, n, 1, env, stack, sp, left, steps);
     let Traced::Value { len: la, steps: sa } = first else {
@@ -127,7 +127,7 @@ fn seek(
     n: usize,
     form: u64,
     i: usize,
-    env: [usize; 16],
+    env: &[usize; 16],
     stack: &mut [u64],
     sp: usize,
     la: usize,
@@ -137,16 +137,17 @@ fn seek(
     requires { ⌜ StackRoom st (length (now tables)) (length (now nodes)) (length (now stack)) n sp (left + 1) ⌝ }
     requires { ⌜ (25 ≤ form) × (form < 27) × (levels (operandTree (now nodes) n 2) ≤ left) × (1 ≤ la) × (la ≤ 128) ⌝ }
     requires { ⌜ i ≡ variable (word (now nodes) n 3) ⌝ }
-    ensures { λ r. ⌜ Seeks (ReadsWorld st (now (tables .entry)) (now (nodes .entry))) (quantifierOf form) (variable (word (now (nodes .entry)) n 3)) (operandFor (now (nodes .entry)) n 2) env sp la steps (now (stack .entry)) (now (stack .exit)) r ⌝ }
+    ensures { λ r. ⌜ Seeks (ReadsWorld st (now (tables .entry)) (now (nodes .entry))) (quantifierOf form) (variable (word (now (nodes .entry)) n 3)) (operandFor (now (nodes .entry)) n 2) (now (env .entry)) sp la steps (now (stack .entry)) (now (stack .exit)) r ⌝ }
 {
     let end = sp + la;
+    let outer = *env;
     let mut blank: u64 = 0;
     let mut s = steps;
     let mut p = sp + 1;
     while p < end {
-        let mut inner = env;
+        let mut inner = outer;
         inner[i] = p + 1;
-        let turn = below(tables, st, nodes, n, 2, inner, stack, end, left, s);
+        let turn = below(tables, st, nodes, n, 2, &inner, stack, end, left, s);
         p = skip(stack, p, end);
         if let Traced::Undef { steps: su, place } = turn {
             blank = earlier(blank, place);
@@ -182,7 +183,7 @@ pub fn iter(
     st: Counts,
     nodes: &[u64],
     n: usize,
-    env: [usize; 16],
+    env: &[usize; 16],
     stack: &mut [u64],
     sp: usize,
     left: usize,
@@ -190,7 +191,7 @@ pub fn iter(
 ) -> Traced
     requires { ⌜ StackRoom st (length (now tables)) (length (now nodes)) (length (now stack)) n sp (left + 1) ⌝ }
     requires { ⌜ (levels (operandTree (now nodes) n 1) ≤ left) × (levels (operandTree (now nodes) n 2) ≤ left) × (levels (operandTree (now nodes) n 3) ≤ left) ⌝ }
-    ensures { λ r. ⌜ EvalsT (ReadsWorld st (now (tables .entry)) (now (nodes .entry))) (iterateNode (now (nodes .entry)) n) env sp steps (now (stack .entry)) (now (stack .exit)) r ⌝ }
+    ensures { λ r. ⌜ EvalsT (ReadsWorld st (now (tables .entry)) (now (nodes .entry))) (iterateNode (now (nodes .entry)) n) (now (env .entry)) sp steps (now (stack .entry)) (now (stack .exit)) r ⌝ }
 {
     let first = below(tables, st, nodes, n, 1, env, stack, sp, left, steps);
     let Traced::Value { len: la, steps: sa } = first else {
@@ -216,7 +217,7 @@ fn fold(
     n: usize,
     i: usize,
     j: usize,
-    env: [usize; 16],
+    env: &[usize; 16],
     stack: &mut [u64],
     sp: usize,
     la: usize,
@@ -227,17 +228,18 @@ fn fold(
     requires { ⌜ StackRoom st (length (now tables)) (length (now nodes)) (length (now stack)) n sp (left + 1) ⌝ }
     requires { ⌜ (levels (operandTree (now nodes) n 3) ≤ left) × (1 ≤ la) × (la ≤ 128) × (1 ≤ lb) × (lb ≤ 128) ⌝ }
     requires { ⌜ (i ≡ variable (word (now nodes) n 4)) × (j ≡ variable (word (now nodes) n 5)) ⌝ }
-    ensures { λ r. ⌜ Folds (ReadsWorld st (now (tables .entry)) (now (nodes .entry))) (variable (word (now (nodes .entry)) n 4)) (variable (word (now (nodes .entry)) n 5)) (operandFor (now (nodes .entry)) n 3) env sp la lb steps (now (stack .entry)) (now (stack .exit)) r ⌝ }
+    ensures { λ r. ⌜ Folds (ReadsWorld st (now (tables .entry)) (now (nodes .entry))) (variable (word (now (nodes .entry)) n 4)) (variable (word (now (nodes .entry)) n 5)) (operandFor (now (nodes .entry)) n 3) (now (env .entry)) sp la lb steps (now (stack .entry)) (now (stack .exit)) r ⌝ }
 {
     let mid = sp + la;
+    let outer = *env;
     let mut len = lb;
     let mut s = steps;
     let mut p = sp + 1;
     while p < mid {
-        let mut inner = env;
+        let mut inner = outer;
         inner[i] = p + 1;
         inner[j] = mid + 1;
-        let turn = below(tables, st, nodes, n, 3, inner, stack, mid + len, left, s);
+        let turn = below(tables, st, nodes, n, 3, &inner, stack, mid + len, left, s);
         let Traced::Value { len: lt, steps: sb } = turn else {
             return turn;
         };

@@ -18,7 +18,7 @@ pub fn connective(
     nodes: &[u64],
     n: usize,
     form: u64,
-    env: [usize; 16],
+    env: &[usize; 16],
     stack: &mut [u64],
     sp: usize,
     left: usize,
@@ -26,7 +26,7 @@ pub fn connective(
 ) -> Traced
     requires { ⌜ StackRoom st (length (now tables)) (length (now nodes)) (length (now stack)) n sp (left + 1) ⌝ }
     requires { ⌜ (23 ≤ form) × (form < 25) × (levels (operandTree (now nodes) n 1) ≤ left) × (levels (operandTree (now nodes) n 2) ≤ left) ⌝ }
-    ensures { λ r. ⌜ EvalsT (ReadsWorld st (now (tables .entry)) (now (nodes .entry))) (connectiveNode (now (nodes .entry)) n form) env sp steps (now (stack .entry)) (now (stack .exit)) r ⌝ }
+    ensures { λ r. ⌜ EvalsT (ReadsWorld st (now (tables .entry)) (now (nodes .entry))) (connectiveNode (now (nodes .entry)) n form) (now (env .entry)) sp steps (now (stack .entry)) (now (stack .exit)) r ⌝ }
 {
     let first = below(tables, st, nodes, n, 1, env, stack, sp, left, steps);
     match first {
@@ -67,7 +67,7 @@ fn right(
     n: usize,
     form: u64,
     place: u64,
-    env: [usize; 16],
+    env: &[usize; 16],
     stack: &mut [u64],
     sp: usize,
     left: usize,
@@ -76,7 +76,7 @@ fn right(
     requires { ⌜ StackRoom st (length (now tables)) (length (now nodes)) (length (now stack)) n sp (left + 1) ⌝ }
     requires { ⌜ (23 ≤ form) × (form < 25) × (levels (operandTree (now nodes) n 2) ≤ left) ⌝ }
     requires { ⌜ Perhaps place ⌝ }
-    ensures { λ r. ⌜ EvalsT (ReadsWorld st (now (tables .entry)) (now (nodes .entry))) (rightSide place (connectiveOf form) (operandFor (now (nodes .entry)) n 2)) env sp steps (now (stack .entry)) (now (stack .exit)) r ⌝ }
+    ensures { λ r. ⌜ EvalsT (ReadsWorld st (now (tables .entry)) (now (nodes .entry))) (rightSide place (connectiveOf form) (operandFor (now (nodes .entry)) n 2)) (now (env .entry)) sp steps (now (stack .entry)) (now (stack .exit)) r ⌝ }
 {
     let second = below(tables, st, nodes, n, 2, env, stack, sp, left, steps);
     match second {
@@ -111,7 +111,7 @@ pub fn conditional(
     st: Counts,
     nodes: &[u64],
     n: usize,
-    env: [usize; 16],
+    env: &[usize; 16],
     stack: &mut [u64],
     sp: usize,
     left: usize,
@@ -119,7 +119,7 @@ pub fn conditional(
 ) -> Traced
     requires { ⌜ StackRoom st (length (now tables)) (length (now nodes)) (length (now stack)) n sp (left + 1) ⌝ }
     requires { ⌜ (levels (operandTree (now nodes) n 1) ≤ left) × (levels (operandTree (now nodes) n 2) ≤ left) × (levels (operandTree (now nodes) n 3) ≤ left) ⌝ }
-    ensures { λ r. ⌜ EvalsT (ReadsWorld st (now (tables .entry)) (now (nodes .entry))) (conditionalNode (now (nodes .entry)) n) env sp steps (now (stack .entry)) (now (stack .exit)) r ⌝ }
+    ensures { λ r. ⌜ EvalsT (ReadsWorld st (now (tables .entry)) (now (nodes .entry))) (conditionalNode (now (nodes .entry)) n) (now (env .entry)) sp steps (now (stack .entry)) (now (stack .exit)) r ⌝ }
 {
     let first = below(tables, st, nodes, n, 1, env, stack, sp, left, steps);
     let Traced::Value { len: _, steps: s } = first else {

@@ -27,5 +27,5 @@ pub fn trace_rule(
     push(stack, 0, Simple::Object { number: object });
     let mut env = [0usize; 16];
     env[0] = 1;
-    unpack(word(tables, st, nodes, root, env, stack, 1, 19, 0))
+    unpack(word(tables, st, nodes, root, &env, stack, 1, 19, 0))
 }

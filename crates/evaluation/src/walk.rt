@@ -41,7 +41,7 @@ pub fn below(
     nodes: &[u64],
     n: usize,
     k: usize,
-    env: [usize; 16],
+    env: &[usize; 16],
     stack: &mut [u64],
     sp: usize,
     left: usize,
@@ -49,7 +49,7 @@ pub fn below(
 ) -> Traced
     requires { ⌜ StackRoom st (length (now tables)) (length (now nodes)) (length (now stack)) n sp left ⌝ }
     requires { ⌜ (k < 8) × (levels (operandTree (now nodes) n k) ≤ left) ⌝ }
-    ensures { λ r. ⌜ EvalsT (ReadsWorld st (now (tables .entry)) (now (nodes .entry))) (operandFor (now (nodes .entry)) n k) env sp steps (now (stack .entry)) (now (stack .exit)) r ⌝ }
+    ensures { λ r. ⌜ EvalsT (ReadsWorld st (now (tables .entry)) (now (nodes .entry))) (operandFor (now (nodes .entry)) n k) (now (env .entry)) sp steps (now (stack .entry)) (now (stack .exit)) r ⌝ }
 {
     if LIMIT <= steps {
         return Traced::Stop { number: 16, steps };
@@ -66,13 +66,14 @@ pub fn below(
 }
 
 // Node n's answer as one word, which comes back in a register: reading an enum from memory right after it was written there makes
-// the processor wait.
+// the processor wait. For the same reason `nodes` is lent anew: its start and its length are then read one by one, as they were
+// written.
 pub fn word(
     tables: &[u64],
     st: Counts,
     nodes: &[u64],
     n: usize,
-    env: [usize; 16],
+    env: &[usize; 16],
     stack: &mut [u64],
     sp: usize,
     left: usize,
@@ -80,9 +81,9 @@ pub fn word(
 ) -> u64
     requires { ⌜ StackRoom st (length (now tables)) (length (now nodes)) (length (now stack)) n sp left ⌝ }
     requires { ⌜ (levels (treeAt (now nodes) n) ≤ left) × (steps < 1000000) ⌝ }
-    ensures { λ r. ⌜ EvalsT (ReadsWorld st (now (tables .entry)) (now (nodes .entry))) (nodeFor (now (nodes .entry)) n) env sp steps (now (stack .entry)) (now (stack .exit)) (answerIn r) ⌝ }
+    ensures { λ r. ⌜ EvalsT (ReadsWorld st (now (tables .entry)) (now (nodes .entry))) (nodeFor (now (nodes .entry)) n) (now (env .entry)) sp steps (now (stack .entry)) (now (stack .exit)) (answerIn r) ⌝ }
 {
-    pack(node(tables, st, nodes, n, env, stack, sp, left, steps))
+    pack(node(tables, st, &*nodes, n, env, stack, sp, left, steps))
 }
 
 // Node n: begins a step, then does what its form asks.
@@ -91,7 +92,7 @@ fn node(
     st: Counts,
     nodes: &[u64],
     n: usize,
-    env: [usize; 16],
+    env: &[usize; 16],
     stack: &mut [u64],
     sp: usize,
     left: usize,
@@ -99,7 +100,7 @@ fn node(
 ) -> Traced
     requires { ⌜ StackRoom st (length (now tables)) (length (now nodes)) (length (now stack)) n sp left ⌝ }
     requires { ⌜ (levels (treeAt (now nodes) n) ≤ left) × (steps < 1000000) ⌝ }
-    ensures { λ r. ⌜ EvalsT (ReadsWorld st (now (tables .entry)) (now (nodes .entry))) (nodeFor (now (nodes .entry)) n) env sp steps (now (stack .entry)) (now (stack .exit)) r ⌝ }
+    ensures { λ r. ⌜ EvalsT (ReadsWorld st (now (tables .entry)) (now (nodes .entry))) (nodeFor (now (nodes .entry)) n) (now (env .entry)) sp steps (now (stack .entry)) (now (stack .exit)) r ⌝ }
 {
     let s = steps + 1;
     let deeper = left - 1;
@@ -135,7 +136,7 @@ fn unary(
     nodes: &[u64],
     n: usize,
     form: u64,
-    env: [usize; 16],
+    env: &[usize; 16],
     stack: &mut [u64],
     sp: usize,
     left: usize,
@@ -143,7 +144,7 @@ fn unary(
 ) -> Traced
     requires { ⌜ StackRoom st (length (now tables)) (length (now nodes)) (length (now stack)) n sp (left + 1) ⌝ }
     requires { ⌜ (7 ≤ form) × (1 ≤ steps) × (steps ≤ 1000000) × (levels (operandTree (now nodes) n 1) ≤ left) ⌝ }
-    ensures { λ r. ⌜ EvalsT (ReadsWorld st (now (tables .entry)) (now (nodes .entry))) (unaryNode (now (nodes .entry)) n form) env sp steps (now (stack .entry)) (now (stack .exit)) r ⌝ }
+    ensures { λ r. ⌜ EvalsT (ReadsWorld st (now (tables .entry)) (now (nodes .entry))) (unaryNode (now (nodes .entry)) n form) (now (env .entry)) sp steps (now (stack .entry)) (now (stack .exit)) r ⌝ }
 {
     let first = below(tables, st, nodes, n, 1, env, stack, sp, left, steps);
     match first {
@@ -164,7 +165,7 @@ fn binary(
     nodes: &[u64],
     n: usize,
     form: u64,
-    env: [usize; 16],
+    env: &[usize; 16],
     stack: &mut [u64],
     sp: usize,
     left: usize,
@@ -172,7 +173,7 @@ fn binary(
 ) -> Traced
     requires { ⌜ StackRoom st (length (now tables)) (length (now nodes)) (length (now stack)) n sp (left + 1) ⌝ }
     requires { ⌜ (13 ≤ form) × (1 ≤ steps) × (steps ≤ 1000000) × (levels (operandTree (now nodes) n 1) ≤ left) × (levels (operandTree (now nodes) n 2) ≤ left) ⌝ }
-    ensures { λ r. ⌜ EvalsT (ReadsWorld st (now (tables .entry)) (now (nodes .entry))) (binaryNode (now (nodes .entry)) n form) env sp steps (now (stack .entry)) (now (stack .exit)) r ⌝ }
+    ensures { λ r. ⌜ EvalsT (ReadsWorld st (now (tables .entry)) (now (nodes .entry))) (binaryNode (now (nodes .entry)) n form) (now (env .entry)) sp steps (now (stack .entry)) (now (stack .exit)) r ⌝ }
 {
     let mark = nodes[MARKS + n];
     let first = below(tables, st, nodes, n, 1, env, stack, sp, left, steps);
@@ -198,7 +199,7 @@ fn coll(
     nodes: &[u64],
     n: usize,
     form: u64,
-    env: [usize; 16],
+    env: &[usize; 16],
     stack: &mut [u64],
     sp: usize,
     left: usize,
@@ -206,7 +207,7 @@ fn coll(
 ) -> Traced
     requires { ⌜ StackRoom st (length (now tables)) (length (now nodes)) (length (now stack)) n sp (left + 1) ⌝ }
     requires { ⌜ (27 ≤ form) × (form < 30) × (1 ≤ steps) × (steps ≤ 1000000) × Shallow (now nodes) n left ⌝ }
-    ensures { λ r. ⌜ EvalsT (ReadsWorld st (now (tables .entry)) (now (nodes .entry))) (assembleNode (now (nodes .entry)) n form) env sp steps (now (stack .entry)) (now (stack .exit)) r ⌝ }
+    ensures { λ r. ⌜ EvalsT (ReadsWorld st (now (tables .entry)) (now (nodes .entry))) (assembleNode (now (nodes .entry)) n form) (now (env .entry)) sp steps (now (stack .entry)) (now (stack .exit)) r ⌝ }
 {
     let count = wide(node_word(nodes, n, 5));
     if 4 < count {

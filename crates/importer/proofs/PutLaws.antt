@@ -3,7 +3,7 @@ use mathlib.Core.Path.{_≡_, refl, sym, ap, _∙_, subst}
 use mathlib.Core.Logic.{_≢_}
 use mathlib.Core.Option.{some}
 use mathlib.Core.List.{List, [], _∷_}
-use Prim.Native.Nat.{ℕ, _-_, _≤_, _<_}
+use Prim.Native.Nat.{ℕ, _+_, _-_, _≤_, _<_}
 use native.Mathlib.Omega.{arith}
 use Rattle.ocl.specs.Types.{set, sequence, bag, Ty}
 use Rattle.ocl.specs.Forms.{plus, minus, times, div, modulo, and, or, forAll, exists, ofObject, ofMembers, negation, sizeOf, convert, castTo, equal, less, arith as arithmetic, divide, over, includes, including, union}
@@ -20,8 +20,11 @@ use Rattle.trees.specs.Built.{numbersOf, shapeFrom, shapeIn, Builds, Iterates}
 use Rattle.trees.specs.Iterate.{HoldsType, TypeSpelled, a-type, TypeTold}
 use Rattle.trees.specs.declared.Parsed.{Parsed}
 use Rattle.trees.specs.declared.iterate.TypeRead.{TypeRead}
+use Rattle.tokens.specs.declared.Token.{Token}
 use Rattle.emission.specs.Nodes.{Emitted}
-use Rattle.importer.specs.Puts.{PutNode}
+use Rattle.importer.specs.Puts.{PutNode, Behind, behind-one, Joins, joins-none, joins-one}
+use Rattle.importer.specs.declared.Found.{Found}
+use Rattle.importer.specs.declared.Found.the-variants.{No, Is}
 
 pub put-as : {k n : ℕ} {p : Parsed} {u v : List ℕ} (x : Shape) → (n < 768 → StandsFor k x p) → Emitted n p u v → PutNode k n x u v
 put-as {k} {n} x z put = record { node = λ l xs s h. put .node l k x (z l) xs s h; kept = put .kept }
@@ -167,3 +170,18 @@ module _ {k a b c : ℕ} {p : Parsed} {u v : List ℕ} (some-a : 0 < a) (more : 
     where
       holds : TypeSpelled (some t) y → HoldsType t y
       holds (a-type s m) = m
+
+-- ---- a sign's form, once its right operand has been looked for
+
+pub behind-is : {a : ℕ} {r : Found} → Behind a r → {u : Token} {b : ℕ} → r ≡ Is u b → (a < b) × (b < 18446744073709551615)
+behind-is {a} h {u} {b} e = go (rw e at h)
+  where
+    go : Behind a (Is u b) → (a < b) × (b < 18446744073709551615)
+    go (behind-one l m) = (l, m)
+
+module _ {k code a : ℕ} {w : List ℕ} {r : Found} where
+  pub joined-none : r ≡ No → Joins k code a w r No w
+  joined-none e = rw e joins-none
+
+  pub joined-one : {u : Token} {b : ℕ} {v : List ℕ} → r ≡ Is u b → ((f : Two) → StandsAsTwo f code 0 → PutNode k b (twoShape f (a - 1) (b - 1)) w v) → Joins k code a w r (Is u (b + 1)) v
+  joined-one e put = rw e (joins-one put)

@@ -9,7 +9,8 @@ ghost use Rattle.types.specs.Reading.{typeField, held};
 ghost use Rattle.phrases.specs.Contracts.{StandsAs, StandsAsTwo};
 ghost use Rattle.trees.specs.Fields.{cut};
 ghost use Rattle.trees.specs.Iterate.{Held};
-ghost use Rattle.importer.specs.Puts.{PutNode};
+ghost use Rattle.importer.specs.Puts.{PutNode, Behind, Joins};
+use super::Found;
 use emission::emit;
 use trees::built::built;
 use trees::iterate::iterated;
@@ -35,6 +36,21 @@ pub fn put_two(w2: &mut [u64], code: u64, variable: u64, a: usize, b: usize, k: 
         25..=26 => emit(w2, b, built(code, [x, variable, y, 0], k)),
         32 => emit(w2, b, built(32, [variable, x, y, 0], k)),
         _ => emit(w2, b, built(code, [x, y, 0, 0], k)),
+    }
+}
+
+// A sign's form, once its right operand has been looked for; the left one is named as above.
+pub fn joined(w2: &mut [u64], code: u64, a: usize, right: Found, k: u64) -> Found
+    requires { ⌜ (8192 ≤ length (now w2)) × (0 < a) × Behind a right ⌝ }
+    ensures { λ r. ⌜ Joins k code a (now (w2 .entry)) right r (now (w2 .exit)) ⌝ }
+{
+    let Found::Is { next, nodes } = right else {
+        return Found::No;
+    };
+    put_two(w2, code, 0, a, nodes, k);
+    Found::Is {
+        next,
+        nodes: nodes + 1,
     }
 }
 

@@ -18,9 +18,9 @@ ghost use Rattle.operations.specs.Tables.{Bounds, WithObject, Instances}
 ghost use Rattle.operations.specs.Runs.{Variable, Evals, ModelIn, leafFor};
 
 // Copies the value of variable i to sp.
-pub fn variable(i: usize, env: [usize; 16], stack: &mut [u64], sp: usize, steps: u64) -> Ended
+pub fn variable(i: usize, env: &[usize; 16], stack: &mut [u64], sp: usize, steps: u64) -> Ended
     requires { ⌜ (i < 16) × (sp + 128 ≤ length (now stack)) ⌝ }
-    ensures { λ r. ⌜ Variable i env sp steps (now (stack .entry)) (now (stack .exit)) r ⌝ }
+    ensures { λ r. ⌜ Variable i (now (env .entry)) sp steps (now (stack .entry)) (now (stack .exit)) r ⌝ }
 {
     let at = env[i];
     if at == 0 {
@@ -79,13 +79,13 @@ pub fn leaf(
     st: Counts,
     form: u64,
     word: u64,
-    env: [usize; 16],
+    env: &[usize; 16],
     stack: &mut [u64],
     sp: usize,
     steps: u64,
 ) -> Ended
     requires { ⌜ (form < 7) × Bounds st (length (now tables)) × (sp + 256 ≤ length (now stack)) ⌝ }
-    ensures { λ r. ⌜ Evals (ModelIn st (now (tables .entry))) (leafFor form word) env sp steps (now (stack .entry)) (now (stack .exit)) r ⌝ }
+    ensures { λ r. ⌜ Evals (ModelIn st (now (tables .entry))) (leafFor form word) (now (env .entry)) sp steps (now (stack .entry)) (now (stack .exit)) r ⌝ }
 {
     match form {
         0 => put(stack, sp, Simple::Bool { b: false }, steps),

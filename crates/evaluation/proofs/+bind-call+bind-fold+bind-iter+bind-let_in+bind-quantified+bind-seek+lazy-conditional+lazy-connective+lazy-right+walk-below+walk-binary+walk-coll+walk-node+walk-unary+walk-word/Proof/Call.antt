@@ -51,7 +51,7 @@ module _ (t : ℕ) where
   array-write-inner c = search needs
 
   below-requires-2 : lts.Need-below-requires-2 calls (call-at t) call.Post
-  below-requires-2 c κs = omega (arith, bounds (c .before .before .before .before .before .before .before .before .before .before .below .ensures .small) (c .before .before .before .before .before .before .first .given .1), c .before .before .before .before .before .before .before .before .before .before .before .before .before .before .before .pre, c .before .before .before .before .before .before .before .before .before .before .below .kept)
+  below-requires-2 c κs = omega (arith, bounds (c .before .before .before .before .before .before .before .before .before .before .before .below .ensures .small) (c .before .before .before .before .before .before .before .first .given .1), c .before .before .before .before .before .before .before .before .before .before .before .before .before .before .before .before .pre, c .before .before .before .before .before .before .before .before .before .before .before .below .kept)
 
   enum-known-body : lts.Need-enum-known-body calls (call-at t) call.Post
   enum-known-body c = search needs
@@ -63,13 +63,13 @@ module _ (t : ℕ) where
   returns-2 c = search call-second
 
   slide-requires : lts.Need-slide-requires calls (call-at t) call.Post
-  slide-requires c κs = (omega (arith, bounds (c .before .before .before .before .before .before .before .before .before .before .before .before .before .before .before .before .before .below .ensures .small) (c .before .before .before .before .before .before .before .before .before .before .before .before .before .first .given .1), bounds (c .before .before .before .before .before .before .below2 .ensures .small) (c .before .before .body .given .1), c .before .before .before .before .before .before .before .before .before .before .before .before .before .before .before .before .before .before .before .before .before .before .pre, c .before .before .before .before .before .before .before .before .before .before .before .before .before .before .before .before .before .below .kept, c .before .before .before .before .before .before .below2 .kept), inl (omega (arith, bounds (c .before .before .before .before .before .before .before .before .before .before .before .before .before .before .before .before .before .below .ensures .small) (c .before .before .before .before .before .before .before .before .before .before .before .before .before .first .given .1))))
+  slide-requires c κs = (omega (arith, bounds (c .before .before .before .before .before .before .before .before .before .before .before .before .before .before .before .before .before .before .below .ensures .small) (c .before .before .before .before .before .before .before .before .before .before .before .before .before .before .first .given .1), bounds (c .before .before .before .before .before .before .below2 .ensures .small) (c .before .before .body .given .1), c .before .before .before .before .before .before .before .before .before .before .before .before .before .before .before .before .before .before .before .before .before .before .before .pre, c .before .before .before .before .before .before .before .before .before .before .before .before .before .before .before .before .before .before .below .kept, c .before .before .before .before .before .before .below2 .kept), inl (omega (arith, bounds (c .before .before .before .before .before .before .before .before .before .before .before .before .before .before .before .before .before .before .below .ensures .small) (c .before .before .before .before .before .before .before .before .before .before .before .before .before .before .first .given .1))))
 
   same-length-3 : lts.Need-same-length-3 calls (call-at t) call.Post
   same-length-3 c = search needs
 
   returns-3 : lts.Need-returns-3 calls (call-at t) call.Post
-  returns-3 c = call-done _ _ (c .before .before .before .before .before .before .before .before .before .before .before .before .before .before .before .before .before .before .before .before .below .ensures) (c .before .before .before .before .before .before .before .before .before .before .before .before .before .before .before .before .first .given .1) (c .before .before .before .before .before .before .before .before .before .before .before .before .before .before .node-word .ensures) (c .before .before .before .before .before .before .before .before .before .before .before .before .is-object .ensures) (c .before .before .before .before .before .before .before .before .before .before .before .if1 .taken) (c .before .before .before .before .before .before .before .before .before .below2 .ensures) (c .before .before .before .before .before .body .given .1) (omega (arith, bounds (c .before .before .before .before .before .before .before .before .before .before .before .before .before .before .before .before .before .before .before .before .below .ensures .small) (c .before .before .before .before .before .before .before .before .before .before .before .before .before .before .before .before .first .given .1), c .before .before .before .before .before .before .before .before .before .before .before .before .before .before .before .before .before .before .before .before .before .before .before .before .before .pre, c .before .before .before .before .before .before .before .before .before .before .before .before .before .before .before .before .before .before .before .before .below .kept, c .before .before .before .before .before .before .before .before .before .below2 .kept)) (c .before .before .slide .ensures .front)
+  returns-3 c = call-done _ _ (c .before .before .before .before .before .before .before .before .before .before .before .before .before .before .before .before .before .before .before .before .before .below .ensures) (c .before .before .before .before .before .before .before .before .before .before .before .before .before .before .before .before .before .first .given .1) (c .before .before .before .before .before .before .before .before .before .before .before .before .before .before .before .node-word .ensures) (c .before .before .before .before .before .before .before .before .before .before .before .before .before .is-object .ensures) (c .before .before .before .before .before .before .before .before .before .before .before .before .if1 .taken) (c .before .before .before .before .before .before .before .before .before .below2 .ensures) (c .before .before .before .before .before .body .given .1) (omega (arith, bounds (c .before .before .before .before .before .before .before .before .before .before .before .before .before .before .before .before .before .before .before .before .before .below .ensures .small) (c .before .before .before .before .before .before .before .before .before .before .before .before .before .before .before .before .before .first .given .1), c .before .before .before .before .before .before .before .before .before .before .before .before .before .before .before .before .before .before .before .before .before .before .before .before .before .before .pre, c .before .before .before .before .before .before .before .before .before .before .before .before .before .before .before .before .before .before .before .before .before .below .kept, c .before .before .before .before .before .before .before .before .before .below2 .kept)) (c .before .before .slide .ensures .front)
 
   same-length-4 : lts.Need-same-length-4 calls (call-at t) call.Post
   same-length-4 c = search needs

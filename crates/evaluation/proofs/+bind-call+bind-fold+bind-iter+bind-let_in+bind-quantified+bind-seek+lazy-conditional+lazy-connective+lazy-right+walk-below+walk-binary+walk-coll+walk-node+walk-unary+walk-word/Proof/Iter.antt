@@ -60,7 +60,7 @@ module _ (t : ℕ) where
   returns-3 c = iterate-second _ _ (c .before .before .before .before .before .before .before .before .before .before .before .before .before .below .ensures) (c .before .before .before .before .before .before .before .before .before .first .given .1) (c .before .before .before .before .before .before .sort-of .ensures) (c .before .before .before .before .before .if1 .left) (omega (arith, bounds (c .before .before .before .before .before .before .before .before .before .before .before .before .before .below .ensures .small) (c .before .before .before .before .before .before .before .before .before .first .given .1), c .before .before .before .before .before .before .before .before .before .before .before .before .before .before .before .before .before .before .pre, c .before .before .before .before .before .before .before .before .before .before .before .before .before .below .kept)) (c .before .before .before .below2 .ensures) (c .match2 .keys2)
 
   node-word-requires : lts.Need-node-word-requires calls (iter-at t) iter.Post
-  node-word-requires c κs = search needs
+  node-word-requires c κs = omega (arith, c .before .before .before .before .before .before .before .before .before .before .before .before .before .before .before .before .before .before .before .before .pre)
 
   wide-requires : lts.Need-wide-requires calls (iter-at t) iter.Post
   wide-requires c κs = search needs

@@ -20,10 +20,10 @@ module _ (t : ℕ) where
   calls = (below-below t, below.Post, skip-reads.Asked, skip-reads.Learnt, earlier-reads.Asked, earlier-reads.Learnt, truth-reads.Asked, truth-reads.Learnt, push-reads.Asked, push-reads.Learnt)
 
   abbrev Inv : lts.InvT-loop
-  Inv tables st nodes n form i env stack₀ sp la left steps end blank₀ s₀ p₀ stack blank s p = Seeking (ReadsWorld st tables nodes) (quantifierOf form) (variable (word nodes n 3)) (operandFor nodes n 2) env sp (sp + la) stack₀ stack s₀ blank s p
+  Inv tables st nodes n form i env stack₀ sp la left steps end outer blank₀ s₀ p₀ stack blank s p = Seeking (ReadsWorld st tables nodes) (quantifierOf form) (variable (word nodes n 3)) (operandFor nodes n 2) env sp (sp + la) stack₀ stack s₀ blank s p
 
   abbrev μ : lts.MeasureT-loop
-  μ tables st nodes n form i env stack₀ sp la left steps end blank₀ s₀ p₀ stack blank s p = sp + la - p
+  μ tables st nodes n form i env stack₀ sp la left steps end outer blank₀ s₀ p₀ stack blank s p = sp + la - p
 
   add-end : lts.Need-add-end calls (seek-at t) seeking.Post Inv μ
   add-end c = search needs
@@ -32,7 +32,7 @@ module _ (t : ℕ) where
   add-p c = search needs
 
   loop-holds : lts.Need-loop-holds calls (seek-at t) seeking.Post Inv μ
-  loop-holds c = seek-starts (omega (arith, c .before .before .before .pre))
+  loop-holds c = seek-starts (omega (arith, c .before .before .before .before .pre))
 
   add-inner : lts.Need-add-inner calls (seek-at t) seeking.Post Inv μ
   add-inner c = search needs
@@ -44,10 +44,10 @@ module _ (t : ℕ) where
   array-write-inner c = search needs
 
   below-requires : lts.Need-below-requires calls (seek-at t) seeking.Post Inv μ
-  below-requires c κs = omega (arith, c .before .before .before .before .before .before .pre, c .before .before .loop .inv .long)
+  below-requires c κs = omega (arith, c .before .before .before .before .before .before .before .before .pre, c .before .before .before .loop .inv .long)
 
   skip-requires : lts.Need-skip-requires calls (seek-at t) seeking.Post Inv μ
-  skip-requires c κs = omega (arith, c .before .before .before .before .before .before .before .before .before .before .pre, c .before .before .before .before .before .before .loop .inv .long, c .before .before .before .below .kept .1 .1 .1 .1 .1 .1 .0, c .before .before .before .before .before .loop-test .taken)
+  skip-requires c κs = omega (arith, c .before .before .before .before .before .before .before .before .before .before .before .before .pre, c .before .before .before .before .before .before .before .loop .inv .long, c .before .before .before .below .kept .1 .1 .1 .1 .1 .1 .0, c .before .before .before .before .before .before .loop-test .taken)
 
   enum-known-turn : lts.Need-enum-known-turn calls (seek-at t) seeking.Post Inv μ
   enum-known-turn c = search needs
@@ -56,7 +56,7 @@ module _ (t : ℕ) where
   earlier-requires c κs = search needs
 
   loop-less : lts.Need-loop-less calls (seek-at t) seeking.Post Inv μ
-  loop-less c = omega (arith, c .before .before .before .before .skip .ensures .up (c .before .before .before .before .before .before .before .before .before .before .loop-test .taken), c .before .before .before .before .skip .ensures .within, c .before .before .before .before .before .before .before .before .before .before .loop-test .taken)
+  loop-less c = omega (arith, c .before .before .before .before .skip .ensures .up (c .before .before .before .before .before .before .before .before .before .before .before .loop-test .taken), c .before .before .before .before .skip .ensures .within, c .before .before .before .before .before .before .before .before .before .before .before .loop-test .taken)
 
   loop-again : lts.Need-loop-again calls (seek-at t) seeking.Post Inv μ
   loop-again c = search seek-past
@@ -65,7 +65,7 @@ module _ (t : ℕ) where
   enum-known-turn-2 c = search needs
 
   same-length : lts.Need-same-length calls (seek-at t) seeking.Post Inv μ
-  same-length c = (c .before .before .before .before .before .before .below .kept .1 .1 .1 .1 .1 .1 .0) ∙ c .before .before .before .before .before .before .before .before .before .loop .inv .long
+  same-length c = (c .before .before .before .before .before .before .below .kept .1 .1 .1 .1 .1 .1 .0) ∙ c .before .before .before .before .before .before .before .before .before .before .loop .inv .long
 
   returns : lts.Need-returns calls (seek-at t) seeking.Post Inv μ
   returns c = search seek-early
@@ -74,34 +74,34 @@ module _ (t : ℕ) where
   mul-truth c = search needs
 
   slice-read-truth : lts.Need-slice-read-truth calls (seek-at t) seeking.Post Inv μ
-  slice-read-truth c = omega (arith, c .before .before .before .before .before .before .before .before .before .before .before .before .before .before .before .before .pre, c .before .before .before .before .before .before .before .before .before .before .before .before .loop .inv .long, c .before .before .before .before .before .before .before .before .before .below .kept .1 .1 .1 .1 .1 .1 .0)
+  slice-read-truth c = omega (arith, c .before .before .before .before .before .before .before .before .before .before .before .before .before .before .before .before .before .before .pre, c .before .before .before .before .before .before .before .before .before .before .before .before .before .loop .inv .long, c .before .before .before .before .before .before .before .before .before .below .kept .1 .1 .1 .1 .1 .1 .0)
 
   truth-requires : lts.Need-truth-requires calls (seek-at t) seeking.Post Inv μ
   truth-requires c κs = search needs
 
   same-length-2 : lts.Need-same-length-2 calls (seek-at t) seeking.Post Inv μ
-  same-length-2 c = (c .before .before .before .before .before .before .before .before .before .before .before .below .kept .1 .1 .1 .1 .1 .1 .0) ∙ c .before .before .before .before .before .before .before .before .before .before .before .before .before .before .loop .inv .long
+  same-length-2 c = (c .before .before .before .before .before .before .before .before .before .before .before .below .kept .1 .1 .1 .1 .1 .1 .0) ∙ c .before .before .before .before .before .before .before .before .before .before .before .before .before .before .before .loop .inv .long
 
   returns-2 : lts.Need-returns-2 calls (seek-at t) seeking.Post Inv μ
-  returns-2 c = seek-stuck _ _ (c .before .before .before .before .before .before .before .before .before .before .before .before .before .before .loop .inv) (c .before .before .before .before .before .before .before .before .before .before .before .before .before .before .before .before .before .before .pre .1 .0) (c .before .before .before .before .before .before .before .before .before .before .before .before .before .before .before .before .before .before .pre .1 .1 .0 .4) (c .before .before .before .before .before .before .before .before .before .before .before .before .before .before .before .before .before .before .pre .1 .1 .1) (c .before .before .before .before .before .before .before .before .before .before .before .before .before .loop-test .taken) (c .before .before .before .before .before .before .before .before .before .before .before .below .ensures) (c .before .before .before .before .turn2 .given .1) (c .before .truth .ensures) (c .if1 .taken)
+  returns-2 c = seek-stuck _ _ (c .before .before .before .before .before .before .before .before .before .before .before .before .before .before .before .loop .inv) (c .before .before .before .before .before .before .before .before .before .before .before .before .before .before .before .before .before .before .before .before .pre .1 .0) (c .before .before .before .before .before .before .before .before .before .before .before .before .before .before .before .before .before .before .before .before .pre .1 .1 .0 .4) (c .before .before .before .before .before .before .before .before .before .before .before .before .before .before .before .before .before .before .before .before .pre .1 .1 .1) (c .before .before .before .before .before .before .before .before .before .before .before .before .before .before .loop-test .taken) (c .before .before .before .before .before .before .before .before .before .before .before .below .ensures) (c .before .before .before .before .turn2 .given .1) (c .before .truth .ensures) (c .if1 .taken)
 
   sub-if2 : lts.Need-sub-if2 calls (seek-at t) seeking.Post Inv μ
   sub-if2 c = search needs
 
   push-requires : lts.Need-push-requires calls (seek-at t) seeking.Post Inv μ
-  push-requires c κs = (tt, omega (arith, c .before .before .before .before .before .before .before .before .before .before .before .before .before .before .before .before .before .before .before .before .pre, c .before .before .before .before .before .before .before .before .before .before .before .before .before .before .before .before .loop .inv .long, c .before .before .before .before .before .before .before .before .before .before .before .before .before .below .kept .1 .1 .1 .1 .1 .1 .0))
+  push-requires c κs = (tt, omega (arith, c .before .before .before .before .before .before .before .before .before .before .before .before .before .before .before .before .before .before .before .before .before .before .pre, c .before .before .before .before .before .before .before .before .before .before .before .before .before .before .before .before .before .loop .inv .long, c .before .before .before .before .before .before .before .before .before .before .before .before .before .below .kept .1 .1 .1 .1 .1 .1 .0))
 
   same-length-3 : lts.Need-same-length-3 calls (seek-at t) seeking.Post Inv μ
-  same-length-3 c = c .before .before .push .kept .0 ∙ (c .before .before .before .before .before .before .before .before .before .before .before .before .before .before .before .before .below .kept .1 .1 .1 .1 .1 .1 .0) ∙ c .before .before .before .before .before .before .before .before .before .before .before .before .before .before .before .before .before .before .before .loop .inv .long
+  same-length-3 c = c .before .before .push .kept .0 ∙ (c .before .before .before .before .before .before .before .before .before .before .before .before .before .before .before .before .below .kept .1 .1 .1 .1 .1 .1 .0) ∙ c .before .before .before .before .before .before .before .before .before .before .before .before .before .before .before .before .before .before .before .before .loop .inv .long
 
   returns-3 : lts.Need-returns-3 calls (seek-at t) seeking.Post Inv μ
-  returns-3 c = seek-ends _ _ (c .before .before .before .before .before .before .before .before .before .before .before .before .before .before .before .before .before .before .before .loop .inv) (c .before .before .before .before .before .before .before .before .before .before .before .before .before .before .before .before .before .before .before .before .before .before .before .pre .1 .0) (c .before .before .before .before .before .before .before .before .before .before .before .before .before .before .before .before .before .before .before .before .before .before .before .pre .1 .1 .0 .4) (c .before .before .before .before .before .before .before .before .before .before .before .before .before .before .before .before .before .before .before .before .before .before .before .pre .1 .1 .1) (c .before .before .before .before .before .before .before .before .before .before .before .before .before .before .before .before .before .before .loop-test .taken) (c .before .before .before .before .before .before .before .before .before .before .before .before .before .before .before .before .below .ensures) (c .before .before .before .before .before .before .before .before .before .turn2 .given .1) (c .before .before .before .before .before .before .truth .ensures) (c .before .before .before .before .before .before .before .before .before .before .before .before .before .before .before .before .before .before .before .before .before .before .before .pre .1 .1 .0 .0) (c .before .before .before .before .before .before .before .before .before .before .before .before .before .before .before .before .before .before .before .before .before .before .before .pre .1 .1 .0 .1) (c .before .before .before .before .before .if1 .left) (c .before .before .before .before .if2 .taken) (c .before .before .before .before .before .before .before .before .before .before .before .before .before .before .before .before .below .kept .1 .1 .1 .1 .1 .1 .0) (c .before .before .push .ensures)
+  returns-3 c = seek-ends _ _ (c .before .before .before .before .before .before .before .before .before .before .before .before .before .before .before .before .before .before .before .before .loop .inv) (c .before .before .before .before .before .before .before .before .before .before .before .before .before .before .before .before .before .before .before .before .before .before .before .before .before .pre .1 .0) (c .before .before .before .before .before .before .before .before .before .before .before .before .before .before .before .before .before .before .before .before .before .before .before .before .before .pre .1 .1 .0 .4) (c .before .before .before .before .before .before .before .before .before .before .before .before .before .before .before .before .before .before .before .before .before .before .before .before .before .pre .1 .1 .1) (c .before .before .before .before .before .before .before .before .before .before .before .before .before .before .before .before .before .before .before .loop-test .taken) (c .before .before .before .before .before .before .before .before .before .before .before .before .before .before .before .before .below .ensures) (c .before .before .before .before .before .before .before .before .before .turn2 .given .1) (c .before .before .before .before .before .before .truth .ensures) (c .before .before .before .before .before .before .before .before .before .before .before .before .before .before .before .before .before .before .before .before .before .before .before .before .before .pre .1 .1 .0 .0) (c .before .before .before .before .before .before .before .before .before .before .before .before .before .before .before .before .before .before .before .before .before .before .before .before .before .pre .1 .1 .0 .1) (c .before .before .before .before .before .if1 .left) (c .before .before .before .before .if2 .taken) (c .before .before .before .before .before .before .before .before .before .before .before .before .before .before .before .before .below .kept .1 .1 .1 .1 .1 .1 .0) (c .before .before .push .ensures)
 
   loop-less-2 : lts.Need-loop-less-2 calls (seek-at t) seeking.Post Inv μ
-  loop-less-2 c = omega (arith, c .before .before .before .before .before .before .before .before .skip .ensures .up (c .before .before .before .before .before .before .before .before .before .before .before .before .before .before .loop-test .taken), c .before .before .before .before .before .before .before .before .skip .ensures .within, c .before .before .before .before .before .before .before .before .before .before .before .before .before .before .loop-test .taken)
+  loop-less-2 c = omega (arith, c .before .before .before .before .before .before .before .before .skip .ensures .up (c .before .before .before .before .before .before .before .before .before .before .before .before .before .before .before .loop-test .taken), c .before .before .before .before .before .before .before .before .skip .ensures .within, c .before .before .before .before .before .before .before .before .before .before .before .before .before .before .before .loop-test .taken)
 
   loop-again-2 : lts.Need-loop-again-2 calls (seek-at t) seeking.Post Inv μ
-  loop-again-2 c = seek-again _ _ (c .before .before .before .before .before .before .before .before .before .before .before .before .before .before .before .loop .inv) (c .before .before .before .before .before .before .before .before .before .before .before .before .before .before .before .before .before .before .before .pre .1 .0) (c .before .before .before .before .before .before .before .before .before .before .before .before .before .before .before .before .before .before .before .pre .1 .1 .0 .4) (c .before .before .before .before .before .before .before .before .before .before .before .before .before .before .before .before .before .before .before .pre .1 .1 .1) (c .before .before .before .before .before .before .before .before .before .before .before .before .before .before .loop-test .taken) (c .before .before .before .before .before .before .before .before .before .before .before .before .below .ensures) (c .before .before .before .before .before .turn2 .given .1) (c .before .before .truth .ensures) (c .before .before .before .before .before .before .before .before .before .before .before .before .before .before .before .before .before .before .before .pre .1 .1 .0 .0) (c .before .before .before .before .before .before .before .before .before .before .before .before .before .before .before .before .before .before .before .pre .1 .1 .0 .1) (c .before .if1 .left) (c .if2 .left) (c .before .before .before .before .before .before .before .before .before .before .before .before .below .kept .1 .1 .1 .1 .1 .1 .0) (c .before .before .before .before .before .before .before .before .skip .ensures)
+  loop-again-2 c = seek-again _ _ (c .before .before .before .before .before .before .before .before .before .before .before .before .before .before .before .before .loop .inv) (c .before .before .before .before .before .before .before .before .before .before .before .before .before .before .before .before .before .before .before .before .before .pre .1 .0) (c .before .before .before .before .before .before .before .before .before .before .before .before .before .before .before .before .before .before .before .before .before .pre .1 .1 .0 .4) (c .before .before .before .before .before .before .before .before .before .before .before .before .before .before .before .before .before .before .before .before .before .pre .1 .1 .1) (c .before .before .before .before .before .before .before .before .before .before .before .before .before .before .before .loop-test .taken) (c .before .before .before .before .before .before .before .before .before .before .before .before .below .ensures) (c .before .before .before .before .before .turn2 .given .1) (c .before .before .truth .ensures) (c .before .before .before .before .before .before .before .before .before .before .before .before .before .before .before .before .before .before .before .before .before .pre .1 .1 .0 .0) (c .before .before .before .before .before .before .before .before .before .before .before .before .before .before .before .before .before .before .before .before .before .pre .1 .1 .0 .1) (c .before .if1 .left) (c .if2 .left) (c .before .before .before .before .before .before .before .before .before .before .before .before .below .kept .1 .1 .1 .1 .1 .1 .0) (c .before .before .before .before .before .before .before .before .skip .ensures)
 
   same-length-4 : lts.Need-same-length-4 calls (seek-at t) seeking.Post Inv μ
   same-length-4 c = c .before .before .loop .inv .long
@@ -110,7 +110,7 @@ module _ (t : ℕ) where
   returns-4 c = search seek-blank
 
   push-requires-2 : lts.Need-push-requires-2 calls (seek-at t) seeking.Post Inv μ
-  push-requires-2 c κs = (tt, omega (arith, c .before .before .before .before .before .before .before .pre, c .before .before .before .loop .inv .long))
+  push-requires-2 c κs = (tt, omega (arith, c .before .before .before .before .before .before .before .before .pre, c .before .before .before .loop .inv .long))
 
   same-length-5 : lts.Need-same-length-5 calls (seek-at t) seeking.Post Inv μ
   same-length-5 c = c .before .before .push2 .kept .0 ∙ c .before .before .before .before .before .before .loop .inv .long

@@ -21,7 +21,7 @@ same-length : tie.Need-same-length
 same-length c = search needs
 
 returns : tie.Need-returns
-returns c = rw (c .unpack .ensures) (rule-done _ _ _ (c .before .before .before .before .before .before .before .before .before .before .before .before .args .stack .now) (omega (arith, c .before .before .before .before .before .before .before .before .before .before .before .before .pre)) (c .before .before .before .before .before .before .before .before .before .before .before .before .pre .1 .1) (c .before .before .before .before .before .before .before .push .ensures) (c .before .before .before .word .ensures))
+returns c = rw (c .unpack .ensures) (rule-done _ _ _ (c .before .before .before .before .before .before .before .before .before .before .before .before .before .args .stack .now) (omega (arith, c .before .before .before .before .before .before .before .before .before .before .before .before .before .pre)) (c .before .before .before .before .before .before .before .before .before .before .before .before .before .pre .1 .1) (c .before .before .before .before .before .before .before .before .push .ensures) (c .before .before .before .word .ensures))
 
 pub trace-rule-spec : {M : Type 1} → statement M
 trace-rule-spec =

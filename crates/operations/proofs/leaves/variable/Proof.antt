@@ -9,8 +9,8 @@ use Rattle.operations.proofs.leaves.variable.Tie as tie
 mul-at : tie.Need-mul-at
 mul-at c = search needs
 
-array-read-at : tie.Need-array-read-at
-array-read-at c = search needs
+element-copy-out-at : tie.Need-element-copy-out-at
+element-copy-out-at c = search needs
 
 returns : tie.Need-returns
 returns c = variable-free (c .if1 .taken)
@@ -38,7 +38,7 @@ variable-spec =
     tie.close
     (tie.spec
     mul-at
-    array-read-at
+    element-copy-out-at
     returns
     sub-p
     returns-2

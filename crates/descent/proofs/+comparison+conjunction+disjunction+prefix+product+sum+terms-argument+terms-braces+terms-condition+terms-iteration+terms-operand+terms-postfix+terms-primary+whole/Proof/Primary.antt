@@ -9,8 +9,8 @@ use Rattle.descent.proofs.terms.condition.Reads as condition
 use Rattle.descent.proofs.terms.operand.Reads as operand
 use Rattle.descent.proofs.terms.primary.Reads as primary
 use Rattle.importer.proofs.begin.begin.Reads as begin-reads
-use Rattle.descent.proofs.+signs-comparison+signs-leaning+signs-next_level+signs-prefix+signs-whole+terms-argument+terms-braces+terms-condition+terms-iteration+terms-operand+terms-postfix+terms-primary.Lts-terms-primary as primary-lts
-use Rattle.descent.proofs.+signs-comparison+signs-leaning+signs-next_level+signs-prefix+signs-whole+terms-argument+terms-braces+terms-condition+terms-iteration+terms-operand+terms-postfix+terms-primary.Proof.Base.{braces-below, condition-below, operand-below, primary-at}
+use Rattle.descent.proofs.+comparison+conjunction+disjunction+prefix+product+sum+terms-argument+terms-braces+terms-condition+terms-iteration+terms-operand+terms-postfix+terms-primary+whole.Lts-terms-primary as primary-lts
+use Rattle.descent.proofs.+comparison+conjunction+disjunction+prefix+product+sum+terms-argument+terms-braces+terms-condition+terms-iteration+terms-operand+terms-postfix+terms-primary+whole.Proof.Base.{braces-below, condition-below, operand-below, primary-at}
 
 module _ (t : ℕ) where
   abbrev calls : primary-lts.Claims

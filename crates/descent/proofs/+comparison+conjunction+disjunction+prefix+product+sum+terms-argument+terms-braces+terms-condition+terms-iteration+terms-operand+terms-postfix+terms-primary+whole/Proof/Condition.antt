@@ -7,8 +7,8 @@ use native.Mathlib.Omega.{arith}
 use Rattle.descent.proofs.terms.condition.Reads as condition
 use Rattle.descent.proofs.terms.operand.Reads as operand
 use Rattle.importer.proofs.puts.put_condition.Reads as put-condition-reads
-use Rattle.descent.proofs.+signs-comparison+signs-leaning+signs-next_level+signs-prefix+signs-whole+terms-argument+terms-braces+terms-condition+terms-iteration+terms-operand+terms-postfix+terms-primary.Lts-terms-condition as condition-lts
-use Rattle.descent.proofs.+signs-comparison+signs-leaning+signs-next_level+signs-prefix+signs-whole+terms-argument+terms-braces+terms-condition+terms-iteration+terms-operand+terms-postfix+terms-primary.Proof.Base.{condition-at, operand-below}
+use Rattle.descent.proofs.+comparison+conjunction+disjunction+prefix+product+sum+terms-argument+terms-braces+terms-condition+terms-iteration+terms-operand+terms-postfix+terms-primary+whole.Lts-terms-condition as condition-lts
+use Rattle.descent.proofs.+comparison+conjunction+disjunction+prefix+product+sum+terms-argument+terms-braces+terms-condition+terms-iteration+terms-operand+terms-postfix+terms-primary+whole.Proof.Base.{condition-at, operand-below}
 
 module _ (t : ℕ) where
   abbrev calls : condition-lts.Claims

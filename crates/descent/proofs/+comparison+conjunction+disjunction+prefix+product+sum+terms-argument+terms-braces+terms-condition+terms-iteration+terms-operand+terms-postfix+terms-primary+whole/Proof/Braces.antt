@@ -7,12 +7,12 @@ use Prim.Native.Nat.{ℕ, _-_}
 use borrow.Author.Needs.{needs}
 use native.Mathlib.Omega.{arith}
 use Rattle.descent.proofs.terms.braces.Reads as braces
-use Rattle.descent.proofs.signs.whole.Reads as whole
+use Rattle.descent.proofs.whole.Reads as whole
 use Rattle.phrases.proofs.words.after.Reads as after-reads
 use Rattle.trees.proofs.built.assembled.Reads as assembled-reads
 use Rattle.emission.proofs.emit.Reads as emit-reads
-use Rattle.descent.proofs.+signs-comparison+signs-leaning+signs-next_level+signs-prefix+signs-whole+terms-argument+terms-braces+terms-condition+terms-iteration+terms-operand+terms-postfix+terms-primary.Lts-terms-braces as braces-lts
-use Rattle.descent.proofs.+signs-comparison+signs-leaning+signs-next_level+signs-prefix+signs-whole+terms-argument+terms-braces+terms-condition+terms-iteration+terms-operand+terms-postfix+terms-primary.Proof.Base.{braces-at, whole-below}
+use Rattle.descent.proofs.+comparison+conjunction+disjunction+prefix+product+sum+terms-argument+terms-braces+terms-condition+terms-iteration+terms-operand+terms-postfix+terms-primary+whole.Lts-terms-braces as braces-lts
+use Rattle.descent.proofs.+comparison+conjunction+disjunction+prefix+product+sum+terms-argument+terms-braces+terms-condition+terms-iteration+terms-operand+terms-postfix+terms-primary+whole.Proof.Base.{braces-at, whole-below}
 
 abbrev Inv-loop : braces-lts.InvT-loop
 Inv-loop s w2₀ n d k code at₀ m₀ u₀ nodes₀ w2 at m u nodes = Gathering k s u₀ n d w2₀ at m u nodes w2

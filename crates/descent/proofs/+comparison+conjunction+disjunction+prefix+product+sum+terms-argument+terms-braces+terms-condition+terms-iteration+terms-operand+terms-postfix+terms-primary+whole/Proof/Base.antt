@@ -3,16 +3,18 @@ use Prim.Native.Nat.{ℕ, _+_, _*_, _-_, _<_}
 use lib.ListN.{length}
 use borrow.Fn.Kinds.{In}
 use borrow.Fn.PlainCycle.{Measures, is, falls, and}
-use Rattle.descent.proofs.signs.comparison.Reads as comparison
-use Rattle.descent.proofs.signs.comparison.Kinds as comparison-kinds
-use Rattle.descent.proofs.signs.leaning.Reads as leaning
-use Rattle.descent.proofs.signs.leaning.Kinds as leaning-kinds
-use Rattle.descent.proofs.signs.next_level.Reads as next-level
-use Rattle.descent.proofs.signs.next_level.Kinds as next-level-kinds
-use Rattle.descent.proofs.signs.prefix.Reads as prefix
-use Rattle.descent.proofs.signs.prefix.Kinds as prefix-kinds
-use Rattle.descent.proofs.signs.whole.Reads as whole
-use Rattle.descent.proofs.signs.whole.Kinds as whole-kinds
+use Rattle.descent.proofs.comparison.Reads as comparison
+use Rattle.descent.proofs.comparison.Kinds as comparison-kinds
+use Rattle.descent.proofs.conjunction.Reads as conjunction
+use Rattle.descent.proofs.conjunction.Kinds as conjunction-kinds
+use Rattle.descent.proofs.disjunction.Reads as disjunction
+use Rattle.descent.proofs.disjunction.Kinds as disjunction-kinds
+use Rattle.descent.proofs.prefix.Reads as prefix
+use Rattle.descent.proofs.prefix.Kinds as prefix-kinds
+use Rattle.descent.proofs.product.Reads as product
+use Rattle.descent.proofs.product.Kinds as product-kinds
+use Rattle.descent.proofs.sum.Reads as sum
+use Rattle.descent.proofs.sum.Kinds as sum-kinds
 use Rattle.descent.proofs.terms.argument.Reads as argument
 use Rattle.descent.proofs.terms.argument.Kinds as argument-kinds
 use Rattle.descent.proofs.terms.braces.Reads as braces
@@ -27,21 +29,26 @@ use Rattle.descent.proofs.terms.postfix.Reads as postfix
 use Rattle.descent.proofs.terms.postfix.Kinds as postfix-kinds
 use Rattle.descent.proofs.terms.primary.Reads as primary
 use Rattle.descent.proofs.terms.primary.Kinds as primary-kinds
+use Rattle.descent.proofs.whole.Reads as whole
+use Rattle.descent.proofs.whole.Kinds as whole-kinds
 
 abbrev pub μ-comparison : Measures 2 comparison-kinds.ps ℕ
 μ-comparison κs a = 32 * (length (a .0 .now) - a .1 .0 .start) + 10
 
-abbrev pub μ-leaning : Measures 2 leaning-kinds.ps ℕ
-μ-leaning κs a = 32 * (length (a .0 .now) - a .1 .0 .start) + (14 - 2 * a .1 .1 .1 .1 .1 .1 .0)
+abbrev pub μ-conjunction : Measures 2 conjunction-kinds.ps ℕ
+μ-conjunction κs a = 32 * (length (a .0 .now) - a .1 .0 .start) + 12
 
-abbrev pub μ-next-level : Measures 2 next-level-kinds.ps ℕ
-μ-next-level κs a = 32 * (length (a .0 .now) - a .1 .0 .start) + (13 - 2 * a .1 .1 .1 .1 .1 .1 .0)
+abbrev pub μ-disjunction : Measures 2 disjunction-kinds.ps ℕ
+μ-disjunction κs a = 32 * (length (a .0 .now) - a .1 .0 .start) + 14
 
 abbrev pub μ-prefix : Measures 2 prefix-kinds.ps ℕ
 μ-prefix κs a = 32 * (length (a .0 .now) - a .1 .0 .start) + 4
 
-abbrev pub μ-whole : Measures 2 whole-kinds.ps ℕ
-μ-whole κs a = 32 * (length (a .0 .now) - a .1 .0 .start) + 15
+abbrev pub μ-product : Measures 2 product-kinds.ps ℕ
+μ-product κs a = 32 * (length (a .0 .now) - a .1 .0 .start) + 6
+
+abbrev pub μ-sum : Measures 2 sum-kinds.ps ℕ
+μ-sum κs a = 32 * (length (a .0 .now) - a .1 .0 .start) + 8
 
 abbrev pub μ-argument : Measures 2 argument-kinds.ps ℕ
 μ-argument κs a = 32 * (length (a .0 .now) - a .1 .0 .start) + 17
@@ -64,23 +71,26 @@ abbrev pub μ-postfix : Measures 2 postfix-kinds.ps ℕ
 abbrev pub μ-primary : Measures 2 primary-kinds.ps ℕ
 μ-primary κs a = 32 * (length (a .0 .now) - a .1 .0 .start) + 2
 
+abbrev pub μ-whole : Measures 2 whole-kinds.ps ℕ
+μ-whole κs a = 32 * (length (a .0 .now) - a .1 .0 .start) + 15
+
 abbrev pub comparison-at : ℕ → In 2 comparison-kinds.ps
 comparison-at t = and 2 comparison-kinds.ps (is 2 comparison-kinds.ps μ-comparison t) comparison.Pre
 
 abbrev pub comparison-below : ℕ → In 2 comparison-kinds.ps
 comparison-below t = and 2 comparison-kinds.ps (falls 2 comparison-kinds.ps _<_ μ-comparison t) comparison.Pre
 
-abbrev pub leaning-at : ℕ → In 2 leaning-kinds.ps
-leaning-at t = and 2 leaning-kinds.ps (is 2 leaning-kinds.ps μ-leaning t) leaning.Pre
+abbrev pub conjunction-at : ℕ → In 2 conjunction-kinds.ps
+conjunction-at t = and 2 conjunction-kinds.ps (is 2 conjunction-kinds.ps μ-conjunction t) conjunction.Pre
 
-abbrev pub leaning-below : ℕ → In 2 leaning-kinds.ps
-leaning-below t = and 2 leaning-kinds.ps (falls 2 leaning-kinds.ps _<_ μ-leaning t) leaning.Pre
+abbrev pub conjunction-below : ℕ → In 2 conjunction-kinds.ps
+conjunction-below t = and 2 conjunction-kinds.ps (falls 2 conjunction-kinds.ps _<_ μ-conjunction t) conjunction.Pre
 
-abbrev pub next-level-at : ℕ → In 2 next-level-kinds.ps
-next-level-at t = and 2 next-level-kinds.ps (is 2 next-level-kinds.ps μ-next-level t) next-level.Pre
+abbrev pub disjunction-at : ℕ → In 2 disjunction-kinds.ps
+disjunction-at t = and 2 disjunction-kinds.ps (is 2 disjunction-kinds.ps μ-disjunction t) disjunction.Pre
 
-abbrev pub next-level-below : ℕ → In 2 next-level-kinds.ps
-next-level-below t = and 2 next-level-kinds.ps (falls 2 next-level-kinds.ps _<_ μ-next-level t) next-level.Pre
+abbrev pub disjunction-below : ℕ → In 2 disjunction-kinds.ps
+disjunction-below t = and 2 disjunction-kinds.ps (falls 2 disjunction-kinds.ps _<_ μ-disjunction t) disjunction.Pre
 
 abbrev pub prefix-at : ℕ → In 2 prefix-kinds.ps
 prefix-at t = and 2 prefix-kinds.ps (is 2 prefix-kinds.ps μ-prefix t) prefix.Pre
@@ -88,11 +98,17 @@ prefix-at t = and 2 prefix-kinds.ps (is 2 prefix-kinds.ps μ-prefix t) prefix.Pr
 abbrev pub prefix-below : ℕ → In 2 prefix-kinds.ps
 prefix-below t = and 2 prefix-kinds.ps (falls 2 prefix-kinds.ps _<_ μ-prefix t) prefix.Pre
 
-abbrev pub whole-at : ℕ → In 2 whole-kinds.ps
-whole-at t = and 2 whole-kinds.ps (is 2 whole-kinds.ps μ-whole t) whole.Pre
+abbrev pub product-at : ℕ → In 2 product-kinds.ps
+product-at t = and 2 product-kinds.ps (is 2 product-kinds.ps μ-product t) product.Pre
 
-abbrev pub whole-below : ℕ → In 2 whole-kinds.ps
-whole-below t = and 2 whole-kinds.ps (falls 2 whole-kinds.ps _<_ μ-whole t) whole.Pre
+abbrev pub product-below : ℕ → In 2 product-kinds.ps
+product-below t = and 2 product-kinds.ps (falls 2 product-kinds.ps _<_ μ-product t) product.Pre
+
+abbrev pub sum-at : ℕ → In 2 sum-kinds.ps
+sum-at t = and 2 sum-kinds.ps (is 2 sum-kinds.ps μ-sum t) sum.Pre
+
+abbrev pub sum-below : ℕ → In 2 sum-kinds.ps
+sum-below t = and 2 sum-kinds.ps (falls 2 sum-kinds.ps _<_ μ-sum t) sum.Pre
 
 abbrev pub argument-at : ℕ → In 2 argument-kinds.ps
 argument-at t = and 2 argument-kinds.ps (is 2 argument-kinds.ps μ-argument t) argument.Pre
@@ -135,3 +151,9 @@ primary-at t = and 2 primary-kinds.ps (is 2 primary-kinds.ps μ-primary t) prima
 
 abbrev pub primary-below : ℕ → In 2 primary-kinds.ps
 primary-below t = and 2 primary-kinds.ps (falls 2 primary-kinds.ps _<_ μ-primary t) primary.Pre
+
+abbrev pub whole-at : ℕ → In 2 whole-kinds.ps
+whole-at t = and 2 whole-kinds.ps (is 2 whole-kinds.ps μ-whole t) whole.Pre
+
+abbrev pub whole-below : ℕ → In 2 whole-kinds.ps
+whole-below t = and 2 whole-kinds.ps (falls 2 whole-kinds.ps _<_ μ-whole t) whole.Pre

@@ -5,10 +5,10 @@ use Prim.Native.Nat.{ℕ}
 use borrow.Author.Needs.{needs}
 use native.Mathlib.Omega.{arith}
 use Rattle.descent.proofs.terms.operand.Reads as operand
-use Rattle.descent.proofs.signs.whole.Reads as whole
+use Rattle.descent.proofs.whole.Reads as whole
 use Rattle.phrases.proofs.words.after.Reads as after-reads
-use Rattle.descent.proofs.+signs-comparison+signs-leaning+signs-next_level+signs-prefix+signs-whole+terms-argument+terms-braces+terms-condition+terms-iteration+terms-operand+terms-postfix+terms-primary.Lts-terms-operand as operand-lts
-use Rattle.descent.proofs.+signs-comparison+signs-leaning+signs-next_level+signs-prefix+signs-whole+terms-argument+terms-braces+terms-condition+terms-iteration+terms-operand+terms-postfix+terms-primary.Proof.Base.{operand-at, whole-below}
+use Rattle.descent.proofs.+comparison+conjunction+disjunction+prefix+product+sum+terms-argument+terms-braces+terms-condition+terms-iteration+terms-operand+terms-postfix+terms-primary+whole.Lts-terms-operand as operand-lts
+use Rattle.descent.proofs.+comparison+conjunction+disjunction+prefix+product+sum+terms-argument+terms-braces+terms-condition+terms-iteration+terms-operand+terms-postfix+terms-primary+whole.Proof.Base.{operand-at, whole-below}
 
 module _ (t : ℕ) where
   abbrev calls : operand-lts.Claims

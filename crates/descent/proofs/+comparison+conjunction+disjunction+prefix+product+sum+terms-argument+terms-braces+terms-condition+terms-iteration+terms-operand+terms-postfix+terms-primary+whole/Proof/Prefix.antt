@@ -5,11 +5,11 @@ use Prim.Native.Nat.{ℕ}
 use borrow.Author.Needs.{needs}
 use native.Mathlib.Omega.{arith}
 use Rattle.descent.proofs.terms.postfix.Reads as postfix
-use Rattle.descent.proofs.signs.prefix.Reads as prefix
+use Rattle.descent.proofs.prefix.Reads as prefix
 use Rattle.importer.proofs.leaves.negate.Reads as negate-reads
 use Rattle.importer.proofs.leaves.nots.Reads as nots-reads
-use Rattle.descent.proofs.+signs-comparison+signs-leaning+signs-next_level+signs-prefix+signs-whole+terms-argument+terms-braces+terms-condition+terms-iteration+terms-operand+terms-postfix+terms-primary.Lts-signs-prefix as prefix-lts
-use Rattle.descent.proofs.+signs-comparison+signs-leaning+signs-next_level+signs-prefix+signs-whole+terms-argument+terms-braces+terms-condition+terms-iteration+terms-operand+terms-postfix+terms-primary.Proof.Base.{postfix-below, prefix-at}
+use Rattle.descent.proofs.+comparison+conjunction+disjunction+prefix+product+sum+terms-argument+terms-braces+terms-condition+terms-iteration+terms-operand+terms-postfix+terms-primary+whole.Lts-prefix as prefix-lts
+use Rattle.descent.proofs.+comparison+conjunction+disjunction+prefix+product+sum+terms-argument+terms-braces+terms-condition+terms-iteration+terms-operand+terms-postfix+terms-primary+whole.Proof.Base.{postfix-below, prefix-at}
 
 module _ (t : ℕ) where
   abbrev calls : prefix-lts.Claims

@@ -1,0 +1,64 @@
+-- The needs of `comparison`.
+use Rattle.phrases.specs.Forms.{levelOf}
+use Rattle.descent.proofs.FoundLaws.{one-found, room-after, room-further, found-some, found-further}
+use Rattle.descent.proofs.LevelLaws.{sign-further, right-long, right-behind, comparison-none, comparison-alone, comparison-joined}
+use Prim.Native.Nat.{ℕ}
+use borrow.Author.Needs.{needs}
+use native.Mathlib.Omega.{arith}
+use Rattle.descent.proofs.comparison.Reads as comparison
+use Rattle.descent.proofs.sum.Reads as sum
+use Rattle.importer.proofs.puts.joined.Reads as joined-reads
+use Rattle.phrases.proofs.words.sign.Reads as sign-reads
+use Rattle.descent.proofs.+comparison+conjunction+disjunction+prefix+product+sum+terms-argument+terms-braces+terms-condition+terms-iteration+terms-operand+terms-postfix+terms-primary+whole.Lts-comparison as comparison-lts
+use Rattle.descent.proofs.+comparison+conjunction+disjunction+prefix+product+sum+terms-argument+terms-braces+terms-condition+terms-iteration+terms-operand+terms-postfix+terms-primary+whole.Proof.Base.{comparison-at, sum-below}
+
+module _ (t : ℕ) where
+  abbrev calls : comparison-lts.Claims
+  calls = (sum-below t, sum.Post, sign-reads.Asked, sign-reads.Learnt, joined-reads.Asked, joined-reads.Learnt)
+
+  sum-requires : comparison-lts.Need-sum-requires calls (comparison-at t) comparison.Post
+  sum-requires c κs = (let m = c .before .before .before .pre .0 in omega arith, c .before .before .before .pre .1)
+
+  enum-known-u : comparison-lts.Need-enum-known-u calls (comparison-at t) comparison.Post
+  enum-known-u c = search needs
+
+  enum-told : comparison-lts.Need-enum-told calls (comparison-at t) comparison.Post
+  enum-told c = search needs
+
+  same-length : comparison-lts.Need-same-length calls (comparison-at t) comparison.Post
+  same-length c = search needs
+
+  returns : comparison-lts.Need-returns calls (comparison-at t) comparison.Post
+  returns c = comparison-none (c .before .before .before .before .sum .ensures) (c .enum-told .given .1)
+
+  sign-requires : comparison-lts.Need-sign-requires calls (comparison-at t) comparison.Post
+  sign-requires c κs = ((one-found (c .before .before .before .before .before .sum .ensures) (c .before .u .given .1)) .ahead, omega arith)
+
+  enum-known-code : comparison-lts.Need-enum-known-code calls (comparison-at t) comparison.Post
+  enum-known-code c = search needs
+
+  enum-told-2 : comparison-lts.Need-enum-told-2 calls (comparison-at t) comparison.Post
+  enum-told-2 c = search needs
+
+  same-length-2 : comparison-lts.Need-same-length-2 calls (comparison-at t) comparison.Post
+  same-length-2 c = search needs
+
+  returns-2 : comparison-lts.Need-returns-2 calls (comparison-at t) comparison.Post
+  unfolding levelOf
+  returns-2 c = comparison-alone (c .before .before .before .before .before .before .before .before .sum .ensures) (c .before .before .before .before .u .given .1) (c .before .before .sign .ensures) (c .enum-told2 .given .1)
+
+  sum-requires-2 : comparison-lts.Need-sum-requires-2 calls (comparison-at t) comparison.Post
+  sum-requires-2 c κs = (let m = c .before .before .before .before .before .before .before .before .before .before .before .before .before .before .pre .0 in let a = found-further (one-found (c .before .before .before .before .before .before .before .before .before .before .sum .ensures) (c .before .before .before .before .before .before .u .given .1)) in let b = (sign-further (c .before .before .before .before .sign .ensures) (c .before .before .code .given .1)) .from in omega arith, room-further (room-after (c .before .before .before .before .before .before .before .before .before .before .before .before .before .before .pre .1) (one-found (c .before .before .before .before .before .before .before .before .before .before .sum .ensures) (c .before .before .before .before .before .before .u .given .1))) (sign-further (c .before .before .before .before .sign .ensures) (c .before .before .code .given .1)))
+
+  joined-requires : comparison-lts.Need-joined-requires calls (comparison-at t) comparison.Post
+  joined-requires c κs = (right-long (c .before .before .before .sum2 .ensures) (room-after (c .before .before .before .before .before .before .before .before .before .before .before .before .before .before .before .before .before .before .pre .1) (one-found (c .before .before .before .before .before .before .before .before .before .before .before .before .before .before .sum .ensures) (c .before .before .before .before .before .before .before .before .before .before .u .given .1))), omega (arith, found-some (one-found (c .before .before .before .before .before .before .before .before .before .before .before .before .before .before .sum .ensures) (c .before .before .before .before .before .before .before .before .before .before .u .given .1))), right-behind (c .before .before .before .sum2 .ensures) (room-after (c .before .before .before .before .before .before .before .before .before .before .before .before .before .before .before .before .before .before .pre .1) (one-found (c .before .before .before .before .before .before .before .before .before .before .before .before .before .before .sum .ensures) (c .before .before .before .before .before .before .before .before .before .before .u .given .1))) (sign-further (c .before .before .before .before .before .before .before .before .sign .ensures) (c .before .before .before .before .before .before .code .given .1)) (omega (arith, c .before .before .before .before .before .before .before .before .before .before .before .before .before .before .before .before .before .before .good)))
+
+  same-length-3 : comparison-lts.Need-same-length-3 calls (comparison-at t) comparison.Post
+  same-length-3 c = search needs
+
+  returns-3 : comparison-lts.Need-returns-3 calls (comparison-at t) comparison.Post
+  unfolding levelOf
+  returns-3 c = comparison-joined (c .before .before .before .before .before .before .before .before .before .before .before .before .before .before .before .before .before .sum .ensures) (c .before .before .before .before .before .before .before .before .before .before .before .before .before .u .given .1) (c .before .before .before .before .before .before .before .before .before .before .before .sign .ensures) (c .before .before .before .before .before .before .before .before .before .code .given .1) (c .before .before .before .before .before .before .sum2 .ensures) (c .before .before .joined .ensures)
+
+  pub closed : {M : Type 1} → comparison-lts.Closed calls (comparison-at t) comparison.Post M
+  closed = comparison-lts.spec calls (comparison-at t) comparison.Post sum-requires enum-known-u enum-told same-length returns sign-requires enum-known-code enum-told-2 same-length-2 returns-2 sum-requires-2 joined-requires same-length-3 returns-3

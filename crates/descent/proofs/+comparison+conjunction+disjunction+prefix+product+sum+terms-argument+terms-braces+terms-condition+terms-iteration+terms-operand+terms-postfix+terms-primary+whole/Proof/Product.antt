@@ -1,0 +1,78 @@
+-- The needs of `product`.
+use Rattle.sheet.specs.Grammar.Sentences.{product as level}
+use Rattle.sheet.specs.Grammar.Parser.{tighter}
+use Rattle.phrases.specs.Forms.{levelOf}
+use Rattle.importer.proofs.AnswerLaws.{Chained, product-leans}
+use Rattle.descent.proofs.FoundLaws.{room-further}
+use Rattle.descent.proofs.GrowthLaws.{Growing, leftOf, less-left, growing-start, growing-kept, room-growing, growing-some, growing-further}
+use Rattle.descent.proofs.LevelLaws.{sign-further, right-long, right-behind, joined-less, level-fails, level-ends, level-turn}
+use Prim.Native.Nat.{ℕ}
+use borrow.Author.Needs.{needs}
+use native.Mathlib.Omega.{arith}
+use Rattle.descent.proofs.product.Reads as product
+use Rattle.descent.proofs.prefix.Reads as prefix
+use Rattle.importer.proofs.puts.joined.Reads as joined-reads
+use Rattle.phrases.proofs.words.sign.Reads as sign-reads
+use Rattle.descent.proofs.+comparison+conjunction+disjunction+prefix+product+sum+terms-argument+terms-braces+terms-condition+terms-iteration+terms-operand+terms-postfix+terms-primary+whole.Lts-product as product-lts
+use Rattle.descent.proofs.+comparison+conjunction+disjunction+prefix+product+sum+terms-argument+terms-braces+terms-condition+terms-iteration+terms-operand+terms-postfix+terms-primary+whole.Proof.Base.{prefix-below, product-at}
+
+abbrev Inv-loop : product-lts.InvT-loop
+Inv-loop s w2₀ n d k found₀ w2 found = Growing (Chained level) k s d found₀ w2₀ found w2
+
+abbrev μ-loop : product-lts.MeasureT-loop
+μ-loop s w2₀ n d k found₀ w2 found = leftOf s found
+
+module _ (t : ℕ) where
+  abbrev calls : product-lts.Claims
+  calls = (prefix-below t, prefix.Post, sign-reads.Asked, sign-reads.Learnt, joined-reads.Asked, joined-reads.Learnt)
+
+  prefix-requires : product-lts.Need-prefix-requires calls (product-at t) product.Post Inv-loop μ-loop
+  prefix-requires c κs = (let m = c .before .before .before .pre .0 in omega arith, c .before .before .before .pre .1)
+
+  loop-holds : product-lts.Need-loop-holds calls (product-at t) product.Post Inv-loop μ-loop
+  loop-holds c = growing-start (c .before .before .prefix .ensures)
+
+  enum-known-found : product-lts.Need-enum-known-found calls (product-at t) product.Post Inv-loop μ-loop
+  enum-known-found c = search needs
+
+  enum-told : product-lts.Need-enum-told calls (product-at t) product.Post Inv-loop μ-loop
+  enum-told c = search needs
+
+  same-length : product-lts.Need-same-length calls (product-at t) product.Post Inv-loop μ-loop
+  same-length c = growing-kept (c .before .before .loop .inv) (c .before .before .before .before .before .prefix .ensures) .size
+
+  returns : product-lts.Need-returns calls (product-at t) product.Post Inv-loop μ-loop
+  unfolding tighter
+  returns c = level-fails product-leans (c .before .before .loop .inv) (c .before .before .before .before .before .prefix .ensures) (c .enum-told .given .1)
+
+  sign-requires : product-lts.Need-sign-requires calls (product-at t) product.Post Inv-loop μ-loop
+  sign-requires c κs = ((room-growing (c .before .before .before .loop .inv) (c .before .before .before .before .before .before .prefix .ensures) (c .before .found .given .1) (c .before .before .before .before .before .before .before .before .before .before .pre .1)) .ahead, omega arith)
+
+  enum-known-code : product-lts.Need-enum-known-code calls (product-at t) product.Post Inv-loop μ-loop
+  enum-known-code c = search needs
+
+  enum-told-2 : product-lts.Need-enum-told-2 calls (product-at t) product.Post Inv-loop μ-loop
+  enum-told-2 c = search needs
+
+  same-length-2 : product-lts.Need-same-length-2 calls (product-at t) product.Post Inv-loop μ-loop
+  same-length-2 c = growing-kept (c .before .before .before .before .before .before .loop .inv) (c .before .before .before .before .before .before .before .before .before .prefix .ensures) .size
+
+  returns-2 : product-lts.Need-returns-2 calls (product-at t) product.Post Inv-loop μ-loop
+  unfolding tighter levelOf
+  returns-2 c = level-ends product-leans (c .before .before .before .before .before .before .loop .inv) (c .before .before .before .before .before .before .before .before .before .prefix .ensures) (c .before .before .before .before .found .given .1) (c .before .before .sign .ensures) (c .enum-told2 .given .1)
+
+  prefix-requires-2 : product-lts.Need-prefix-requires-2 calls (product-at t) product.Post Inv-loop μ-loop
+  prefix-requires-2 c κs = (let m = c .before .before .before .before .before .before .before .before .before .before .before .before .before .before .before .pre .0 in let a = growing-further (c .before .before .before .before .before .before .before .before .loop .inv) (c .before .before .before .before .before .before .before .before .before .before .before .prefix .ensures) (c .before .before .before .before .before .before .found .given .1) in let b = (sign-further (c .before .before .before .before .sign .ensures) (c .before .before .code .given .1)) .from in let o = (sign-further (c .before .before .before .before .sign .ensures) (c .before .before .code .given .1)) .ahead .order in let i = (sign-further (c .before .before .before .before .sign .ensures) (c .before .before .code .given .1)) .ahead .within in omega arith, room-further (room-growing (c .before .before .before .before .before .before .before .before .loop .inv) (c .before .before .before .before .before .before .before .before .before .before .before .prefix .ensures) (c .before .before .before .before .before .before .found .given .1) (c .before .before .before .before .before .before .before .before .before .before .before .before .before .before .before .pre .1)) (sign-further (c .before .before .before .before .sign .ensures) (c .before .before .code .given .1)))
+
+  joined-requires : product-lts.Need-joined-requires calls (product-at t) product.Post Inv-loop μ-loop
+  joined-requires c κs = (right-long (c .before .before .before .prefix2 .ensures) (room-growing (c .before .before .before .before .before .before .before .before .before .before .before .before .loop .inv) (c .before .before .before .before .before .before .before .before .before .before .before .before .before .before .before .prefix .ensures) (c .before .before .before .before .before .before .before .before .before .before .found .given .1) (c .before .before .before .before .before .before .before .before .before .before .before .before .before .before .before .before .before .before .before .pre .1)), growing-some (c .before .before .before .before .before .before .before .before .before .before .before .before .loop .inv) (c .before .before .before .before .before .before .before .before .before .before .before .before .before .before .before .prefix .ensures) (c .before .before .before .before .before .before .before .before .before .before .found .given .1), right-behind (c .before .before .before .prefix2 .ensures) (room-growing (c .before .before .before .before .before .before .before .before .before .before .before .before .loop .inv) (c .before .before .before .before .before .before .before .before .before .before .before .before .before .before .before .prefix .ensures) (c .before .before .before .before .before .before .before .before .before .before .found .given .1) (c .before .before .before .before .before .before .before .before .before .before .before .before .before .before .before .before .before .before .before .pre .1)) (sign-further (c .before .before .before .before .before .before .before .before .sign .ensures) (c .before .before .before .before .before .before .code .given .1)) (omega (arith, c .before .before .before .before .before .before .before .before .before .before .before .before .before .before .before .before .before .before .before .good)))
+
+  loop-less : product-lts.Need-loop-less calls (product-at t) product.Post Inv-loop μ-loop
+  loop-less c = less-left _ _ (c .before .before .before .before .before .before .before .before .before .before .before .before .before .found .given .1) (joined-less (c .before .before .before .before .before .before .prefix2 .ensures) (sign-further (c .before .before .before .before .before .before .before .before .before .before .before .sign .ensures) (c .before .before .before .before .before .before .before .before .before .code .given .1)) (c .before .before .joined .ensures))
+
+  loop-again : product-lts.Need-loop-again calls (product-at t) product.Post Inv-loop μ-loop
+  unfolding tighter levelOf
+  loop-again c = level-turn (c .before .before .before .before .before .before .before .before .before .before .before .before .before .before .before .loop .inv) (c .before .before .before .before .before .before .before .before .before .before .before .before .before .found .given .1) (c .before .before .before .before .before .before .before .before .before .before .before .sign .ensures) (c .before .before .before .before .before .before .before .before .before .code .given .1) (c .before .before .before .before .before .before .prefix2 .ensures) (c .before .before .joined .ensures)
+
+  pub closed : {M : Type 1} → product-lts.Closed calls (product-at t) product.Post M
+  closed = product-lts.spec calls (product-at t) product.Post Inv-loop μ-loop prefix-requires loop-holds enum-known-found enum-told same-length returns sign-requires enum-known-code enum-told-2 same-length-2 returns-2 prefix-requires-2 joined-requires loop-less loop-again
