@@ -90,6 +90,82 @@ static void lend(size_t length0, size_t length1, size_t length2, size_t bytes)
     room = bytes;
 }
 
+/* A board and its verdicts, which outlast a call, and what they held before it. */
+static uint64_t board[OCL_LEAST_BOARD + MARGIN], board_before[OCL_LEAST_BOARD + MARGIN];
+static uint8_t verdicts[OCL_LEAST_VERDICTS + MARGIN], verdicts_before[OCL_LEAST_VERDICTS + MARGIN];
+static size_t board_length = OCL_LEAST_BOARD, verdicts_length = OCL_LEAST_VERDICTS;
+
+/* Makes the board, or edits it; a refusal leaves it, and an answer writes its verdicts and no word behind the board's. */
+static void expect_board(const char *text, const char *edit, uint64_t number, uint64_t steps, uint64_t place, const char *written)
+{
+    uint64_t *b = board_length == 0 ? NULL : board;
+    uint8_t *v = verdicts_length == 0 ? NULL : verdicts;
+    size_t length = strlen(written);
+    memset(words, BYTE, sizeof words);
+    memset(output, BYTE, sizeof output);
+    memcpy(board_before, board, sizeof board);
+    memcpy(verdicts_before, verdicts, sizeof verdicts);
+    ocl_answer answer =
+        edit == NULL
+            ? ocl_make_board((const uint8_t *)text, strlen(text), words[0], lengths[0], words[1], lengths[1], words[2], lengths[2], b,
+                  board_length, v, verdicts_length)
+            : ocl_edit_board((const uint8_t *)text, strlen(text), (const uint8_t *)edit, strlen(edit), words[0], lengths[0], words[1],
+                  lengths[1], words[2], lengths[2], b, board_length, v, verdicts_length);
+    size_t changed = number == OCL_ANSWERED ? OCL_LEAST_BOARD : 0;
+    int good = answer.number == number && answer.steps == steps && answer.place == place && answer.length == length &&
+               memcmp(verdicts, written, length) == 0 &&
+               memcmp(verdicts + length, verdicts_before + length, sizeof verdicts - length) == 0 &&
+               memcmp(board + changed, board_before + changed, sizeof board - changed * sizeof *board) == 0 &&
+               left(number == OCL_SHORT_SLICE ? 0 : OCL_LEAST_WORDS, 0);
+    cases++;
+    if (!good) {
+        failures++;
+        printf("a board, edit %s: %" PRIu64 " and not %" PRIu64 ", or the memory is wrong\n", edit == NULL ? "none" : edit,
+            answer.number, number);
+    }
+}
+
+/* Boards of the least lengths, too short, edited and refused. */
+static void boards(void)
+{
+    static const char sheet[] = "C\t0\t-\nA\t0\t0\t5\tInt\nA\t1\t0\t6\tInt\nO\t0\t0\nV\t0\t0\t9\n"
+                                "R\t0\t0\nX\tself.a5 < 12\nR\t1\t0\nX\tself.a6\n";
+    static const char set[] = "V\t0\t0\t12\n";
+    static const size_t little[] = {0, 1, OCL_LEAST_BOARD - 1};
+    memset(board, BYTE, sizeof board);
+    memset(verdicts, BYTE, sizeof verdicts);
+    lend(OCL_LEAST_WORDS, OCL_LEAST_WORDS, OCL_LEAST_WORDS, 0);
+    for (size_t i = 0; i < 3; i++) {
+        board_length = little[i];
+        expect_board(sheet, NULL, OCL_SHORT_SLICE, 0, 0, "");
+        expect_board(sheet, set, OCL_SHORT_SLICE, 0, 0, "");
+    }
+    board_length = OCL_LEAST_BOARD;
+    for (verdicts_length = 0; verdicts_length < OCL_LEAST_VERDICTS; verdicts_length += OCL_LEAST_VERDICTS - 1) {
+        expect_board(sheet, NULL, OCL_SHORT_SLICE, 0, 0, "");
+        expect_board(sheet, set, OCL_SHORT_SLICE, 0, 0, "");
+    }
+    verdicts_length = OCL_LEAST_VERDICTS;
+    lend(OCL_LEAST_WORDS, OCL_LEAST_WORDS - 1, OCL_LEAST_WORDS, 0);
+    expect_board(sheet, NULL, OCL_SHORT_SLICE, 0, 0, "");
+    expect_board(sheet, set, OCL_SHORT_SLICE, 0, 0, "");
+    lend(OCL_LEAST_WORDS, OCL_LEAST_WORDS, OCL_LEAST_WORDS, 0);
+    expect_board("C\t0\t-\nC\t1\t1\n", NULL, OCL_UNKNOWN_REFERENCE, 0, 2, "");
+    expect_board("C\t0\t-\nC\t1\t1\n", set, OCL_UNKNOWN_REFERENCE, 0, 2, "");
+    expect_board(sheet, NULL, OCL_ANSWERED, 0, 0, "0 0 t 4\n1 0 u 2\n");
+    expect_board(sheet, set, OCL_ANSWERED, 4, 0, "0 0 f 4\n1 0 u 2\n");
+    expect_board(sheet, "V\t0\t1\t100\n", OCL_ANSWERED, 2, 0, "0 0 f 4\n1 0 100 2\n");
+    expect_board(sheet, "", OCL_BAD_LINE, 0, 1, "");
+    expect_board(sheet, "V\t0\t0\t7", OCL_BAD_LINE, 0, 1, "");
+    expect_board(sheet, "V\t0\t0\t2147483648\n", OCL_OUT_OF_LIMITS, 0, 1, "");
+    expect_board(sheet, "V\t0\t0\tS(2,1)\n", OCL_OUT_OF_ORDER, 0, 1, "");
+    expect_board(sheet, "V\t1\t0\t-\n", OCL_UNKNOWN_REFERENCE, 0, 1, "");
+    expect_board(sheet, "V\t0\t0\tt\n", OCL_VALUE_MISMATCH, 0, 1, "");
+    /* shorter verdicts leave what stood behind them */
+    expect_board(sheet, "V\t0\t1\t-\n", OCL_ANSWERED, 2, 0, "0 0 f 4\n1 0 u 2\n");
+    expect_board(sheet, "V\t0\t0\t-\n", OCL_ANSWERED, 3, 0, "0 0 u 3\n1 0 u 2\n");
+}
+
 int main(void)
 {
     static const char sheet[] = "C\t0\t-\nO\t0\t0\nR\t0\t0\nN\t0\ttrue\n";
@@ -177,6 +253,7 @@ int main(void)
         /* the text of no bytes is a sheet without rules */
         expect(which, NULL, 0, which == EVALUATE ? OCL_NOT_FOUND : OCL_ANSWERED, "");
     }
+    boards();
     if (failures == 0) {
         printf("misuse: %d cases\n", cases);
     }

@@ -1,7 +1,7 @@
 /*
  * stack SHEET..: how much stack the calls take. Each call runs on a stack of its own, painted before, on every sheet, rule and
- * object; the most bytes that each call took, its arguments among them, are printed with the sheet, and so are the sheets whose
- * report is refused.
+ * object, and an edit with every V line of the sheet; the most bytes that each call took, its arguments among them, are printed with
+ * the sheet, and so are the sheets whose report is refused.
  */
 #define _XOPEN_SOURCE 700
 #include <inttypes.h>
@@ -13,8 +13,11 @@
 #define STACK_WORDS (512 * 1024 / 8)
 #define PAINT UINT64_C(0xa5c3a5c3a5c3a5c3)
 
-enum call { READ, PROFILE, EVALUATE, REPORT, ROWS, UNDEFINED };
-static const char *const names[] = {"read_sheet", "read_free_numbering", "evaluate_rule", "report", "rows", "undefined"};
+enum call { READ, PROFILE, EVALUATE, REPORT, ROWS, UNDEFINED, MAKE, EDIT, CALLS };
+static const char *const names[] = {
+    "read_sheet", "read_free_numbering", "evaluate_rule", "report", "rows", "undefined", "make_board", "edit_board"};
+static uint64_t board[OCL_LEAST_BOARD];
+static size_t edit_start, edit_length;
 
 static uint64_t stack[STACK_WORDS];
 static uint8_t text[OCL_LONGEST_TEXT + 1];
@@ -28,8 +31,8 @@ static uint64_t rule, object;
 static ocl_answer answer;
 static uintptr_t frame;
 
-static size_t most[6];
-static const char *most_in[6];
+static size_t most[CALLS];
+static const char *most_in[CALLS];
 static uint64_t runs;
 
 #define TEXT text, text_length
@@ -57,6 +60,14 @@ static void run(void)
         break;
     case UNDEFINED:
         answer = ocl_undefined(TEXT, WORDS, OUTPUT);
+        break;
+    case MAKE:
+        answer = ocl_make_board(TEXT, WORDS, board, OCL_LEAST_BOARD, OUTPUT);
+        break;
+    case EDIT:
+        answer = ocl_edit_board(TEXT, text + edit_start, edit_length, WORDS, board, OCL_LEAST_BOARD, OUTPUT);
+        break;
+    case CALLS:
         break;
     }
 }
@@ -88,6 +99,26 @@ static uint64_t measure(enum call call, const char *sheet)
     return answer.number;
 }
 
+/* Makes a board, and edits it with each V line of the sheet; a sheet that is refused is read by an edit too. */
+static void measure_board(const char *sheet)
+{
+    if (measure(MAKE, sheet) != OCL_ANSWERED) {
+        edit_length = 0;
+        measure(EDIT, sheet);
+        return;
+    }
+    for (size_t start = 0, end = 0; end < text_length; end++) {
+        if (text[end] == '\n') {
+            edit_start = start;
+            edit_length = end + 1 - start;
+            if (text[start] == 'V') {
+                measure(EDIT, sheet);
+            }
+            start = end + 1;
+        }
+    }
+}
+
 static void measure_sheet(const char *sheet)
 {
     if (measure(REPORT, sheet) != OCL_ANSWERED) {
@@ -96,6 +127,7 @@ static void measure_sheet(const char *sheet)
     measure(ROWS, sheet);
     measure(PROFILE, sheet);
     measure(UNDEFINED, sheet);
+    measure_board(sheet);
     rule = 0;
     object = 0;
     measure(EVALUATE, sheet);
@@ -124,7 +156,7 @@ int main(int argc, char **argv)
         fclose(file);
         measure_sheet(argv[i]);
     }
-    for (int i = READ; i <= UNDEFINED; i++) {
+    for (int i = READ; i < CALLS; i++) {
         printf("%s %zu %s\n", names[i], most[i], most_in[i] == NULL ? "-" : most_in[i]);
     }
     printf("runs %" PRIu64 "\n", runs);

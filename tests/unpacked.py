@@ -12,7 +12,9 @@ VERSION = (ROOT / "VERSION").read_text().strip()
 GATE = "12 passed, 0 failed"
 KIT = "the toolchain of a test"
 # each example in C: what it is given, what is typed, and how what it prints must end
-EXAMPLES = {"check": ("cap.sheet", None, "cap.report"), "load": ("leaves.run", None, "leaves.load")}
+EXAMPLES = {
+    "check": ("cap.sheet", None, "cap.report"), "setter": ("cap.sheet", "cap.edits", "cap.corrected"), "load": ("leaves.run", None, "leaves.load"),
+}
 problems = []
 cases = []
 

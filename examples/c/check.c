@@ -50,6 +50,7 @@ static const char *const meanings[][2] = {
     [OCL_REPORT_TOO_LONG] = {"slip too long", "what is to be written is longer than the output"},
     [OCL_OVER_RANGE] = {"over the range", "a result of Integers leaves their range, or one of Reals is infinite"},
     [OCL_NOT_A_SENTENCE] = {"not a sentence", "the text of the rule is no sentence"},
+    [OCL_BOARD_FULL] = {"board full", "there would be too many values, or too large ones"},
     [OCL_OUTSIDE_PROFILE] = {"outside the profile", "what the rule says may follow the objects' numbers"},
     [OCL_CALL_UPWARD] = {"call upward", "the definition calls itself or a larger one"},
     [OCL_UNKNOWN_DEFINITION] = {"unknown definition", "the sheet has no such definition"},

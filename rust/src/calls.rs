@@ -1,10 +1,12 @@
 //! The calls, with everything they answer: number, steps, place, length,
 //! the output bytes and the word slices. Each reads the text anew.
 
+use crate::board::Board;
 use crate::eval::evaluate;
 use crate::model::Sheet;
 use crate::origins;
 use crate::profile::lowest_line;
+use crate::read::edits::edit;
 use crate::read::read;
 use crate::refusal::{Refusal, Refused};
 use crate::report;
@@ -15,6 +17,9 @@ use crate::typing::type_rules;
 pub const LONGEST_SHEET: usize = 49_152;
 pub const LEAST_WORDS: usize = 8_192;
 pub const LEAST_OUTPUT: usize = 2_560;
+/// The fewest words of a board, and the fewest bytes for its verdicts.
+pub const LEAST_BOARD: usize = 8_192;
+pub const LEAST_VERDICTS: usize = LEAST_OUTPUT;
 /// The output bytes the program lends.
 pub const PROGRAM_OUTPUT: usize = 65_536;
 
@@ -70,28 +75,51 @@ pub fn evaluate_rule(text: &[u8], rule: u64, object: u64, words: Words, out: &mu
 }
 
 pub fn report(text: &[u8], words: Words, out: &mut [u8]) -> Answer {
-    lent(words, out, |room| {
+    lent(words, out, |out| {
         let (sheet, _) = accepted(text)?;
-        let written = report::report(&sheet, room).map_err(without_steps)?;
+        let written = report::report(&sheet, out.len()).map_err(without_steps)?;
         Ok((written, 0))
     })
 }
 
 /// Reads and types the sheet and writes the rows that each rule sees, a line a rule.
 pub fn rows(text: &[u8], words: Words, out: &mut [u8]) -> Answer {
-    lent(words, out, |room| {
+    lent(words, out, |out| {
         let (sheet, _) = accepted(text)?;
-        let written = rows::lines(&sheet, room).map_err(without_steps)?;
+        let written = rows::lines(&sheet, out.len()).map_err(without_steps)?;
         Ok((written, 0))
     })
 }
 
 /// Reads and types the sheet and writes where each undefined verdict came from.
 pub fn undefined(text: &[u8], words: Words, out: &mut [u8]) -> Answer {
-    lent(words, out, |room| {
+    lent(words, out, |out| {
         let (sheet, _) = accepted(text)?;
-        let written = origins::lines(&sheet, room).map_err(without_steps)?;
+        let written = origins::lines(&sheet, out.len()).map_err(without_steps)?;
         Ok((written, 0))
+    })
+}
+
+/// Makes a running board of a sheet: the verdicts are its report.
+pub fn make_board(text: &[u8], words: Words, board: &mut [u64], verdicts: &mut [u8]) -> Answer {
+    on_board(words, board, verdicts, |_, verdicts| {
+        let (sheet, _) = accepted(text)?;
+        Board::made(&sheet, verdicts.len()).map_err(without_steps)
+    })
+}
+
+/// Sets or clears one value on a board of the sheet, and brings its verdicts up to date.
+pub fn edit_board(
+    text: &[u8],
+    line: &[u8],
+    words: Words,
+    board: &mut [u64],
+    verdicts: &mut [u8],
+) -> Answer {
+    on_board(words, board, verdicts, |board, verdicts| {
+        let (sheet, _) = accepted(text)?;
+        let edit = edit(&sheet.model, line).map_err(|refusal| (refusal.at(1), 0))?;
+        Board::edited(sheet, edit, board, verdicts).map_err(without_steps)
     })
 }
 
@@ -113,6 +141,40 @@ pub fn profile_program(text: &[u8]) -> Vec<u8> {
 /// What the program prints that tells where undefined came from.
 pub fn undefined_program(text: &[u8]) -> Vec<u8> {
     printed(text, undefined)
+}
+
+/// What the program prints that makes a board and edits it: for each call the answer's four
+/// numbers, parted by one space, and then the verdicts that it gives. The pieces, the sheet
+/// and then the edits, end in a tilde and a line feed each; the least that there can be is
+/// lent for words and verdicts.
+pub fn board_program(pieces: &[u8]) -> Vec<u8> {
+    let mut words = vec![0; 3 * LEAST_WORDS];
+    let mut board = vec![0; LEAST_BOARD];
+    let mut verdicts = vec![0; LEAST_VERDICTS];
+    let mut printed = Vec::new();
+    let mut sheet = None;
+    let mut rest = pieces;
+    while let Some(end) = rest.iter().position(|byte| *byte == b'~') {
+        let piece = &rest[..end];
+        let (first, others) = words.split_at_mut(LEAST_WORDS);
+        let (second, third) = others.split_at_mut(LEAST_WORDS);
+        let words = [first, second, third];
+        let answer = match sheet {
+            None => make_board(piece, words, &mut board, &mut verdicts),
+            Some(text) => edit_board(text, piece, words, &mut board, &mut verdicts),
+        };
+        let Answer {
+            number,
+            steps,
+            place,
+            length,
+        } = answer;
+        printed.extend(format!("{number} {steps} {place} {length}\n").as_bytes());
+        printed.extend(&verdicts[..length as usize]);
+        sheet = sheet.or(Some(piece));
+        rest = rest.get(end + 2..).unwrap_or_default();
+    }
+    printed
 }
 
 /// What a program prints that makes the call.
@@ -160,8 +222,29 @@ fn without_steps(refused: Refused) -> (Refused, u64) {
     (refused, 0)
 }
 
-/// A call's work within what is lent to it, given the output's length.
-fn lent(words: Words, out: &mut [u8], work: impl FnOnce(usize) -> Work) -> Answer {
+/// A call's work on a board: given its words and its verdicts as they are, those that they
+/// become. A refusal leaves them.
+fn on_board(
+    words: Words,
+    board: &mut [u64],
+    verdicts: &mut [u8],
+    work: impl FnOnce(&[u64], &[u8]) -> Result<Board, (Refused, u64)>,
+) -> Answer {
+    if board.len() < LEAST_BOARD {
+        return Answer {
+            number: Refusal::ShortSlice as u64,
+            ..Answer::default()
+        };
+    }
+    lent(words, verdicts, |verdicts| {
+        let after = work(board, verdicts)?;
+        board[..after.words.len()].copy_from_slice(&after.words);
+        Ok((after.verdicts, after.steps))
+    })
+}
+
+/// A call's work within what is lent to it, given the output as it is.
+fn lent(words: Words, out: &mut [u8], work: impl FnOnce(&[u8]) -> Work) -> Answer {
     if words.iter().any(|slice| slice.len() < LEAST_WORDS) || out.len() < LEAST_OUTPUT {
         return Answer {
             number: Refusal::ShortSlice as u64,
@@ -171,7 +254,7 @@ fn lent(words: Words, out: &mut [u8], work: impl FnOnce(usize) -> Work) -> Answe
     for slice in words {
         slice[..LEAST_WORDS].fill(0);
     }
-    match work(out.len()) {
+    match work(out) {
         Ok((written, steps)) => {
             out[..written.len()].copy_from_slice(&written);
             Answer {

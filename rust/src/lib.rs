@@ -2,6 +2,7 @@
 //! from documents 01 and 02 alone: the yardstick the product is compared with.
 
 pub mod binary64;
+pub mod board;
 pub mod calls;
 pub mod eval;
 pub mod explain;

@@ -6,7 +6,7 @@ use crate::types::Type;
 use crate::values::Value;
 
 /// The parent of each class, by class number.
-#[derive(Default)]
+#[derive(Clone, Default)]
 pub struct Classes(pub Vec<Option<u8>>);
 
 impl Classes {
@@ -31,13 +31,14 @@ impl Classes {
 }
 
 /// An attribute row.
+#[derive(Clone)]
 pub struct Row {
     pub class: u8,
     pub name: u8,
     pub ty: Type,
 }
 
-#[derive(Default)]
+#[derive(Clone, Default)]
 pub struct Model {
     pub classes: Classes,
     pub rows: Vec<Row>,
@@ -59,6 +60,25 @@ impl Model {
     pub fn value(&self, object: u8, row: u8) -> Option<&Value> {
         let found = self.values.binary_search_by_key(&(object, row), |v| v.0);
         found.ok().map(|position| &self.values[position].1)
+    }
+
+    /// The values with an edit made.
+    pub fn edit(&mut self, edit: Edit) {
+        let key = (edit.object, edit.row);
+        match (
+            self.values.binary_search_by_key(&key, |value| value.0),
+            edit.value,
+        ) {
+            (Ok(position), Some(value)) => self.values[position].1 = value,
+            (Ok(position), None) => drop(self.values.remove(position)),
+            (Err(position), Some(value)) => self.values.insert(position, (key, value)),
+            (Err(_), None) => {}
+        }
+    }
+
+    /// The sizes of all values together.
+    pub fn value_sizes(&self) -> usize {
+        self.values.iter().map(|(_, value)| value.size()).sum()
     }
 
     pub fn is_of(&self, object: u8, class: u8) -> bool {
@@ -93,7 +113,16 @@ impl Model {
     }
 }
 
+/// What an object has in a row from now on: another value, or none.
+#[derive(Clone)]
+pub struct Edit {
+    pub object: u8,
+    pub row: u8,
+    pub value: Option<Value>,
+}
+
 /// A named definition: what it is called for, what it gives, and its body.
+#[derive(Clone)]
 pub struct Definition {
     pub class: u8,
     pub ty: Type,
@@ -102,12 +131,13 @@ pub struct Definition {
     pub depth: usize,
 }
 
+#[derive(Clone)]
 pub struct Rule {
     pub context: u8,
     pub root: Node,
 }
 
-#[derive(Default)]
+#[derive(Clone, Default)]
 pub struct Sheet {
     pub model: Model,
     pub definitions: Vec<Definition>,

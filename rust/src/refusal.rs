@@ -22,7 +22,8 @@ pub enum Refusal {
     ReportTooLong,
     OverRange,
     NoSentence,
-    OutsideProfile = 22,
+    BoardFull,
+    OutsideProfile,
     CallUpward,
     UnknownDefinition,
 }

@@ -157,6 +157,7 @@ impl Form {
     }
 }
 
+#[derive(Clone)]
 pub struct Node {
     pub form: Form,
     pub operands: Vec<Node>,

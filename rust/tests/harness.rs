@@ -1,5 +1,9 @@
 //! The comparison finds every fault of a stand-in, and none where there is none.
 
+#[path = "common/digit.rs"]
+mod digit;
+
+use digit::OneDigit;
 use second_evaluator::calls::{Answer, Words};
 use second_evaluator::generate::{self, Ask, Call};
 use second_evaluator::harness::cases::Case;
@@ -120,22 +124,6 @@ fn tallies_add_up() {
     }
 }
 
-/// Writes one digit of its reports wrong.
-struct OneDigit;
-
-impl Calls for OneDigit {
-    fn stack(&self) -> usize {
-        2 * 1024 * 1024
-    }
-
-    fn call(&self, call: Call, text: &[u8], words: Words, out: &mut [u8]) -> Answer {
-        let answer = second(call, text, words, out);
-        let real = out.iter().rposition(|byte| *byte == b'r').unwrap();
-        out[real + 16] ^= 1;
-        answer
-    }
-}
-
 #[test]
 fn a_wrong_digit_of_one_operation_is_found() {
     let operations = Operations::new(3);
@@ -159,10 +147,6 @@ struct Keeper {
 }
 
 impl Calls for Keeper {
-    fn stack(&self) -> usize {
-        2 * 1024 * 1024
-    }
-
     fn call(&self, call: Call, text: &[u8], words: Words, out: &mut [u8]) -> Answer {
         let slices = words.iter().map(|slice| slice.to_vec());
         self.slices.lock().unwrap().extend(slices);

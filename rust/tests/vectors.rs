@@ -1,8 +1,10 @@
 //! The second evaluator prints what each vector says.
 
-use second_evaluator::calls::{profile_program, program, rows_program, undefined_program};
+use second_evaluator::calls::{
+    board_program, profile_program, program, rows_program, undefined_program,
+};
 use second_evaluator::harness::run::{
-    origin_vectors, profile_vectors, row_vectors, vectors, Vector,
+    board_vectors, origin_vectors, profile_vectors, row_vectors, vectors, Vector,
 };
 
 /// The names of those for which something else is printed.
@@ -35,5 +37,11 @@ fn every_vector_is_held_to_the_profile_as_it_says() {
 #[test]
 fn every_vector_prints_the_origins_that_it_says() {
     let wrong = wrong(origin_vectors().unwrap(), undefined_program);
+    assert!(wrong.is_empty(), "{wrong:#?}");
+}
+
+#[test]
+fn every_list_of_edits_is_answered_as_it_says() {
+    let wrong = wrong(board_vectors().unwrap(), board_program);
     assert!(wrong.is_empty(), "{wrong:#?}");
 }

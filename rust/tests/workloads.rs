@@ -1,7 +1,9 @@
 //! The benchmark's workloads are good sheets of the sizes they claim.
 
-use second_evaluator::calls::{Answer, LEAST_WORDS, LONGEST_SHEET, PROGRAM_OUTPUT};
+use second_evaluator::calls::{edit_board, make_board};
+use second_evaluator::calls::{Answer, LEAST_BOARD, LEAST_WORDS, LONGEST_SHEET, PROGRAM_OUTPUT};
 use second_evaluator::harness::second;
+use second_evaluator::workloads::edits::{edits, RULES};
 use second_evaluator::workloads::{workloads, Workload};
 
 /// The answer for each text of a job, and its units.
@@ -59,4 +61,27 @@ fn the_limits_are_near() {
             workload.name
         );
     }
+}
+
+#[test]
+fn an_edit_takes_the_steps_of_the_rules_that_see_it() {
+    let steps = edits().map(|edits| {
+        let mut words = [0; 3].map(|word| vec![word; LEAST_WORDS]);
+        let mut board = vec![0; LEAST_BOARD];
+        let mut out = vec![0; PROGRAM_OUTPUT];
+        let lent = words.each_mut().map(Vec::as_mut_slice);
+        assert_eq!(
+            make_board(&edits.text, lent, &mut board, &mut out).number,
+            0
+        );
+        let answers = edits.edits.each_ref().map(|edit| {
+            let lent = words.each_mut().map(Vec::as_mut_slice);
+            edit_board(&edits.text, edit, lent, &mut board, &mut out)
+        });
+        assert_eq!(answers[0], answers[1]);
+        assert_eq!(answers[0].number, 0);
+        assert_eq!(answers[0].steps % edits.seeing as u64, 0);
+        answers[0].steps / edits.seeing as u64
+    });
+    assert_eq!(steps, [202; 3], "{RULES}");
 }

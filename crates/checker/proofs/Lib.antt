@@ -4,5 +4,8 @@ pub mod OutcomeLaws
 pub mod EvaluateCalls
 pub mod ReportCalls
 pub mod RowsCalls
+pub mod MakeCalls
+pub mod EditCalls
 pub mod Soundness
+pub mod Corrections
 pub mod Unseen

@@ -15,9 +15,10 @@ use Rattle.ocl.specs.Laws.{numbersKept, Formed}
 use Rattle.sheet.specs.Text.{Bytes, bytes, linesOf}
 use Rattle.sheet.specs.Spelling.{spellType, spellValue}
 use Rattle.sheet.specs.Sheet.{modelOf}
+use Rattle.sheet.specs.Reading.{sheetIn}
 use Rattle.sheet.specs.Calls.{readCall, evaluateCall}
 use Rattle.sheet.specs.Report.{reportCall}
-use Rattle.sheet.specs.Soundness.{Lent, sheetIn, reachOf, ofContext}
+use Rattle.sheet.specs.Soundness.{Lent, reachOf, ofContext}
 use Rattle.opening.specs.declared.Answer.{Answer}
 use Rattle.opening.specs.Answers.{AnswersWith}
 

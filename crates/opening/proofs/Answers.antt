@@ -83,15 +83,15 @@ gives-written {w = w} p e = record { is = rw (p .end, zero-add (length w)) at e;
 
 -- ---- the words and the output after a call
 
-untouched : {a : Answer} (w0 w1 w2 : List ℕ) (out : Bytes) → a ≡ answerOf (refusalAt 1 0) → AnswersWith (refusal 1) a w0 w1 w2 out w0 w1 w2 out
+pub untouched : {a : Answer} (w0 w1 w2 : List ℕ) (out : Bytes) → a ≡ answerOf (refusalAt 1 0) → AnswersWith (refusal 1) a w0 w1 w2 out w0 w1 w2 out
 unfolding refusal refusalAt wordsAfter outputAfter
 untouched w0 w1 w2 out e = record { is = e; words0 = refl; words1 = refl; words2 = refl; output = refl }
 
-wiped-kept : {w v : List ℕ} → Kept w v → wiped v ≡ wiped w
+pub wiped-kept : {w v : List ℕ} → Kept w v → wiped v ≡ wiped w
 unfolding wiped
 wiped-kept k = ap (λ l. replicate 8192 0 ++ l) (k .rest)
 
-finished : {v : Verdict} {a : Answer} {w0 w1 w2 v0 v1 v2 x0 x1 x2 : List ℕ} {out after : Bytes} → v .number ≢ 1
+pub finished : {v : Verdict} {a : Answer} {w0 w1 w2 v0 v1 v2 x0 x1 x2 : List ℕ} {out after : Bytes} → v .number ≢ 1
     → Leaves v a w0 w1 w2 out v0 v1 v2 after → Wipes v0 v1 v2 x0 x1 x2 → AnswersWith v a w0 w1 w2 out x0 x1 x2 after
 unfolding wordsAfter
 finished {v} n l z =

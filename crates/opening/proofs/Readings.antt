@@ -18,6 +18,7 @@ use Rattle.sheet.specs.Sheet.{Rule, Sheet, schemaIn}
 use Rattle.sheet.specs.Reading.{Reading, accepted, rejected, readText}
 use Rattle.sheet.specs.Calls.{Verdict, refusalAt, onSheet, typingOf, onType, onTypes, onDefinitions, onAccepted}
 use Rattle.sheet.specs.Laws.{ReadRefusal, over-length, at-line, AllTyped, none-typed, one-typed, Defined}
+use Rattle.sheet.proofs.Acceptance.{accepted-good}
 use Rattle.sheet.proofs.Listed.{listed-within, read-refusals}
 use Rattle.sheet.proofs.Accepted.{on-accepted}
 use Rattle.sheet.proofs.Soundness.{type-refusals}
@@ -31,6 +32,7 @@ use Rattle.rules.specs.declared.all.RulesTyped.{RulesTyped}
 use Rattle.rules.specs.declared.all.RulesTyped.the-variants as rules
 use Rattle.rules.specs.Accepted.{Known, KnownTyped}
 use Rattle.rules.specs.All.{AcceptsAs, refused as not-all, accepted as all-rules, Accepts}
+use Rattle.sheet.proofs.LineNumbers.{node-line-low}
 use Rattle.opening.specs.declared.Answer.{Answer}
 use Rattle.opening.specs.Answers.{answerOf}
 use Rattle.opening.specs.Parts.{ReadsText, OpensAs, opened, refused, AcceptsSheet, OpensText, GivesAnswer, GivesFor, Leaves}
@@ -67,14 +69,14 @@ module _ {text : Bytes} {w0 w1 w2 v0 v1 v2 : List ℕ} {r : SheetRead} (t : Read
   known-read {st} e = by (readText text) refl (rw e at (t .is))
     where
       by : (x : Reading) → readText text ≡ x → EndsAs v0 v1 (sheet.Sheet st) x → Known st v0 v1
-      by x q (a-sheet {s = s} f g) = record { sheet = s; lies = record { text = text; was = q; fine = f; holds = g } }
+      by x q (a-sheet {s = s} f g) = record { sheet = s; lies = record { good = accepted-good text s q; low = node-line-low text s q; fine = f; holds = g } }
 
   pub opens-sheet : {st : Counts} {x1 x2 : List ℕ} {z : SheetRead} → r ≡ sheet.Sheet st → AcceptsSheet st v0 v1 v2 x1 x2 z → OpensText text z w0 w1 w2 v0 x1 x2
   opens-sheet {st} {x1} {x2} {z} e d =
       record { is = by (readText text) refl (rw e at (t .is)); kept0 = t .kept0; kept1 = kept-then (t .kept1) (d .kept1); kept2 = kept-then (t .kept2) (d .kept2) }
     where
       by : (x : Reading) → readText text ≡ x → EndsAs v0 v1 (sheet.Sheet st) x → OpensAs text v0 x1 x2 z
-      by x q (a-sheet {s = s} f g) = d .is text s q (record { text = text; was = q; fine = f; holds = g })
+      by x q (a-sheet {s = s} f g) = d .is text s q (record { good = accepted-good text s q; low = node-line-low text s q; fine = f; holds = g })
 
   pub opens-none : {n k : ℕ} → r ≡ sheet.Refused n k → OpensText text (sheet.Refused n k) w0 w1 w2 v0 v1 v2
   unfolding onAccepted onSheet

@@ -9,10 +9,11 @@ use Rattle.ocl.specs.Values.{Value}
 use Rattle.ocl.specs.Operations.{Stop}
 use Rattle.sheet.specs.Text.{Bytes, bytes}
 use Rattle.sheet.specs.Spelling.{spellValue}
+use Rattle.sheet.specs.Reading.{sheetIn}
 use Rattle.sheet.specs.Calls.{Verdict, refusalAt, readCall, evaluateCall}
 use Rattle.sheet.specs.Profile.{profileCall}
 use Rattle.sheet.specs.ProfileLaws.{nodesOutside}
-use Rattle.sheet.specs.Soundness.{Lent, sheetIn}
+use Rattle.sheet.specs.Soundness.{Lent}
 use Rattle.profile.specs.Renumbering.{Permutation, renumbered}
 use Rattle.profile.specs.RenumberedLines.{linesIn, renumberedLines}
 

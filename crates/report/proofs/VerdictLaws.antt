@@ -1,5 +1,5 @@
 -- The line of a verdict, by the evaluation's answer: it is the definition's, and takes no more than its bound. Assumes nothing.
-use mathlib.Core.Path.{_≡_, refl, sym, ap, _∙_}
+use mathlib.Core.Path.{_≡_, refl}
 use mathlib.Core.Logic.{⊎-elim}
 use mathlib.Core.Bool.{Bool, true, false}
 use mathlib.Core.Option.{some}
@@ -14,18 +14,17 @@ use Rattle.ocl.specs.Values.{obj}
 use Rattle.ocl.specs.Model.{isA}
 use Rattle.ocl.specs.Environment.{start}
 use Rattle.ocl.specs.Operations.{Outcome}
-use Rattle.ocl.specs.Evaluation.{evaluateRule}
-use Rattle.ocl.specs.Trace.{Traced, undefinedT, untraced, traceRule}
+use Rattle.ocl.specs.Trace.{Traced, undefinedT, traceRule}
 use Rattle.ocl.proofs.Trace.{origin}
-use Rattle.ocl.proofs.Origin.{one-origin}
+use Rattle.ocl.proofs.Origin.{origin-place}
 use Rattle.sheet.specs.Text.{Bytes}
 use Rattle.sheet.specs.Sheet.{Rule, Sheet, modelOf}
-use Rattle.sheet.specs.Reading.{accepted, readText}
 use Rattle.sheet.specs.Calls.{marksOf, outcomeOf}
 use Rattle.sheet.specs.Report.{reportLine}
 use Rattle.sheet.specs.Origin.{traceOf, originLine}
 use Rattle.sheet.proofs.Lengths.{length-laws}
-use Rattle.sheet.proofs.Origin.{origin-on}
+use Rattle.sheet.proofs.Good.{Good}
+use Rattle.sheet.proofs.Origin.{node-on-sheet}
 use Rattle.text.specs.Written.{Puts}
 use Rattle.tables.specs.declared.Counts.{Counts}
 use Rattle.operations.specs.declared.Ended.{Ended}
@@ -39,7 +38,6 @@ use Rattle.report.specs.Bound.{lineWidth}
 use Rattle.report.specs.Lines.{LineFits, originBy, OriginFits}
 use Rattle.report.specs.Passes.{TypedRule, verdictLine, RoomForLine, PutsVerdict}
 use Rattle.report.proofs.LineLaws.{place-length}
-use Rattle.report.proofs.LineNumbers.{node-line-low}
 
 -- ---- a line of the report
 
@@ -75,15 +73,13 @@ module _ {origins : Bool} (no : origins ≡ false) {st : Counts} {w0 w1 : List �
 
 -- ---- a line that says where undefined came from
 
--- the node at which undefined arose is on the sheet
-arose-on-sheet : (text : Bytes) (s : Sheet) → readText text ≡ accepted s → (r : ℕ) (x : Rule) → getElem? (s .rules) r ≡ some x → (o n q j : ℕ)
-    → traceOf s x o ≡ undefinedT n q j → q < length (s .lines)
-unfolding traceOf traceRule outcomeOf evaluateRule
-arose-on-sheet text s e r x i o n q j h =
-    let all = origin (modelOf s) (marksOf s) (x .body) (start (obj o)) 0 in
-    let named = origin-on text s e r x i o .named n (sym (all .same-outcome) ∙ ap untraced h) in
-    let same : named .at ≡ q = one-origin (modelOf s) (marksOf s) (x .body) (start (obj o)) 0 (named .at) (named .step) q j (named .arose) (all .arose n q j h) .0 in
-    rw same at (named .on-sheet)
+-- the node at which undefined arose has a line
+arose-on-sheet : (s : Sheet) → Good s → (r : ℕ) (x : Rule) → getElem? (s .rules) r ≡ some x → (o n q j : ℕ) → traceOf s x o ≡ undefinedT n q j
+    → q < length (s .lines)
+unfolding traceOf traceRule
+arose-on-sheet s g r x i o n q j h =
+    let a = origin (modelOf s) (marksOf s) (x .body) (start (obj o)) 0 .arose n q j h in
+    node-on-sheet s g r x i q (origin-place _ _ _ _ _ _ _ a)
 
 module _ {st : Counts} {w0 w1 : List ℕ} {r : ℕ} (o : ℕ) {s : Sheet} {x : Rule} {t : Ty} (m : TypedRule st w0 w1 r s x t) where
   -- the line by the words
@@ -91,7 +87,7 @@ module _ {st : Counts} {w0 w1 : List ℕ} {r : ℕ} (o : ℕ) {s : Sheet} {x : R
   unfolding originLine originBy
   origin-by y h (ends-value l k) = refl
   origin-by y h (ends-undefined {s = n} {p = p} {k = j} {place = place} a) =
-      let l = arose-on-sheet (m .lies .text) s (m .lies .was) r x (m .rule) o n p j h in
+      let l = arose-on-sheet s (m .lies .good) r x (m .rule) o n p j h in
       rw (a .node, a .step, node-line (m .lies .fine) (m .lies .holds) p l .1)
   origin-by y h ends-stuck = refl
   origin-by y h ends-stop = refl
@@ -103,7 +99,7 @@ module _ {st : Counts} {w0 w1 : List ℕ} {r : ℕ} (o : ℕ) {s : Sheet} {x : R
   origin-short y a b k (ends-undefined {p = p} {k = j} {place = place} i) =
       let d = length-laws .number-length 2 r (omega arith) (omega arith) in
       let f = length-laws .number-length 2 o (omega arith) (omega arith) in
-      let g = length-laws .number-length 5 (getD (s .lines) p 0) (omega arith) (let z = node-line-low (m .lies .text) s (m .lies .was) p in omega arith) in
+      let g = length-laws .number-length 5 (getD (s .lines) p 0) (omega arith) (let z = m .lies .low p in omega arith) in
       let h = length-laws .number-length 7 j (omega arith) (let z = k .room in let v = i .step in omega arith) in
       omega (arith, place-length r o (getD (s .lines) p 0) j)
   origin-short y a b k ends-stuck = omega arith

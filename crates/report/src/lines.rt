@@ -31,7 +31,7 @@ fn put_outcome(out: &mut [u8], at: usize, stack: &[u64], e: Ended) -> usize
     }
 }
 
-fn steps_of(e: Ended) -> u64
+pub fn steps_of(e: Ended) -> u64
     ensures { λ r. ⌜ ((stack : List ℕ) (x : Outcome) → Ends 1 stack x e → r ≡ stepsOf x) ⌝ }
 {
     match e {

@@ -63,7 +63,7 @@ fn object_line(
 }
 
 // The lines of rule r.
-fn object_lines(
+pub fn object_lines(
     w0: &[u64],
     st: Counts,
     w1: &[u64],

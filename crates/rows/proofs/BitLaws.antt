@@ -32,7 +32,7 @@ odd-only (suc d) =
     let e : 2 ^ suc d % 2 ≡ 0 = omega (arith, pow-suc 2 d) in
     rw (e, ne-eqb (suc d) 0 (λ q. omega arith))
 
-one-bit : (k i : ℕ) → bit (2 ^ k) i ≡ eqb i k
+pub one-bit : (k i : ℕ) → bit (2 ^ k) i ≡ eqb i k
 unfolding bit
 one-bit k i = by (decLt k i)
   where

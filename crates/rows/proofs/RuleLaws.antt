@@ -12,7 +12,6 @@ use Rattle.sheet.specs.Text.{Bytes}
 use Rattle.sheet.specs.Sheet.{Rule, Sheet}
 use Rattle.sheet.specs.Calls.{marksOf}
 use Rattle.sheet.specs.Rows.{rowsSeen, rowsLine, rowsLines}
-use Rattle.sheet.proofs.Acceptance.{accepted-good}
 use Rattle.sheet.proofs.Unseen.{rows-in-table}
 use Rattle.text.specs.Written.{Puts}
 use Rattle.text.proofs.WrittenLaws.{puts-nothing, puts-then}
@@ -29,25 +28,24 @@ module _ {st : Counts} {w0 w1 : List ℕ} {s : Sheet} {ts : List Ty} (a : Accept
   rows-marked = record { at = λ p h. ready (a .lies) .mark p .row ∙ ap (λ (n : ℕ). n % 64) (sym (a .marks .at p h)) }
 
   -- the word of a rule's root
-  rule-bits : {w2 : List ℕ} → AllSeen w1 w2 → (r : ℕ) (x : Rule) → getElem? (s .rules) r ≡ some x
+  pub rule-bits : {w2 : List ℕ} → AllSeen w1 w2 → (r : ℕ) (x : Rule) → getElem? (s .rules) r ≡ some x
       → Bits (getD w2 (getD w0 (4512 + r) 0) 0) (rowsSeen s x)
   rule-bits {w2} seen r x e =
       let k = ready (a .lies) .rule r x e in
       let b = rw (k .body) at (seen (marksOf s) rows-marked .at (getD w0 (4512 + r) 0) (k .root)) in
-      record { is = λ i. b .is i ∙ rows-in-table s (accepted-good (a .lies .text) s (a .lies .was)) (a .defined) (a .typed) r x e i }
+      record { is = λ i. b .is i ∙ rows-in-table s (a .lies .good) (a .defined) (a .typed) r x e i }
 
   line-bits : {w2 : List ℕ} → AllSeen w1 w2 → (r : ℕ) (x : Rule) → getElem? (s .rules) r ≡ some x → lineOf (st .rows) r (rowsSeen s x) ≡ rowsLine s r x
   unfolding lineOf rowsLine
   line-bits seen r x e = rw (a .lies .holds .counted .rows)
 
+pub accepted-rooted : {st : Counts} {w0 w1 : List ℕ} {s : Sheet} {ts : List Ty} → Accepted st w0 w1 s ts → Rooted st w0
+accepted-rooted a =
+    let y = ready (a .lies) in
+    record { rules = a .lies .fine .rules; rows = a .lies .fine .rows; root = λ r h. let x = y .some-rule r h in y .rule r (x .0) (x .1) .root }
+
 pub rooted : {st : Counts} {w0 w1 w2 : List ℕ} → KnownTyped st w0 w1 w2 → Rooted st w0
-rooted k =
-    let y = ready (k .accepted .lies) in
-    record {
-      rules = k .accepted .lies .fine .rules;
-      rows = k .accepted .lies .fine .rows;
-      root = λ r h. let x = y .some-rule r h in y .rule r (x .0) (x .1) .root;
-    }
+rooted k = accepted-rooted (k .accepted)
 
 pub root-low : {st : Counts} {w0 : List ℕ} {rules r root : ℕ} → Rooted st w0 → rules ≡ st .rules → r < rules → root ≡ getD w0 (4512 + r) 0 → root < 768
 root-low {r = r} k e h q = omega (arith, k .root r (omega arith))

@@ -29,7 +29,6 @@ use Rattle.sheet.specs.Limits.{partWithin}
 use Rattle.sheet.specs.Calls.{typingOf, outcomeOf}
 use Rattle.sheet.specs.Laws.{Defined}
 use Rattle.sheet.specs.Report.{spellOutcome, reportLine}
-use Rattle.sheet.proofs.Acceptance.{accepted-good}
 use Rattle.sheet.proofs.Soundness.{sound-rule}
 use Rattle.sheet.proofs.Lengths.{length-laws}
 use Rattle.values.specs.Cells.{Fits, fits-num, fits-coll, AllFit, fit-nil, fit-cons}
@@ -161,7 +160,7 @@ module _ {st : Counts} {w0 w1 : List ℕ} {s : Sheet} (a : InWords st w0 w1 s) (
   few-objects i c q = let h = elem-at (s .objects) i c q .0 in let n = a .holds .counted .objects in let f = a .fine .objects in omega arith
 
   sound : Sound (modelOf s) t (reach (x .body)) (outcomeOf s x o)
-  sound = sound-rule s (accepted-good (a .text) s (a .was)) defined r o x t is type of
+  sound = sound-rule s (a .good) defined r o x t is type of
 
   within : (v : Value) (n : ℕ) → outcomeOf s x o ≡ value v n → T (everyPart partWithin v)
   within v n q = parts-within (modelOf s) few-objects t v (ends-fit ends v n q) (sound .of-type v n q)

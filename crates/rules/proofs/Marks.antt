@@ -107,8 +107,8 @@ module _ {w2 w1 v1 : List ℕ} (k : KeepsMarks w2 w1 v1) where
       let d = a .holds .definitions in
       let roots = tab 4640 (length (s .definitions)) w0 in
       record {
-        text = a .text;
-        was = a .was;
+        good = a .good;
+        low = a .low;
         fine = a .fine;
         holds = record {
           counted = a .holds .counted;

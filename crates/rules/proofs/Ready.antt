@@ -14,7 +14,7 @@ use Rattle.laws.proofs.Elements.{elem-some, elem-none}
 use Rattle.ocl.specs.Model.{Row}
 use Rattle.sheet.specs.Sheet.{Slot, Sheet, noRow, modelOf}
 use Rattle.sheet.proofs.Good.{Good}
-use Rattle.sheet.proofs.Acceptance.{accepted-good, good-model}
+use Rattle.sheet.proofs.Acceptance.{good-model}
 use Rattle.sheet.proofs.Soundness.{good-refusals, good-definition-refusals}
 use Rattle.tables.specs.declared.Counts.{Counts}
 use Rattle.tables.specs.Layout.{Holds, Fine}
@@ -58,7 +58,7 @@ module _ {st : Counts} {w0 w1 : List ℕ} {s : Sheet} (fine : Fine st) (holds : 
 pub ready : {st : Counts} {w0 w1 : List ℕ} {s : Sheet} → InWords st w0 w1 s → Ready st w0 w1 s
 unfolding modelOf
 ready {st} {s = s} a =
-    let good = accepted-good (a .text) s (a .was) in
+    let good = a .good in
     let c = a .holds .counted .rows in
     let f = a .fine .rows in
     record {

@@ -101,7 +101,7 @@ cells-parts [] x after = refl
 cells-parts (y ∷ before) x after =
     ap (λ (l : List ℕ). enc (y .value) ++ l) (cells-parts before x after) ∙ sym (append-assoc (enc (y .value)) (cellsOf before) (enc (x .value) ++ cellsOf after))
 
-cells-length : (xs : List Slot) → length (cellsOf xs) ≡ totalSize xs
+pub cells-length : (xs : List Slot) → length (cellsOf xs) ≡ totalSize xs
 unfolding cellsOf concat totalSize
 cells-length [] = refl
 cells-length (x ∷ xs) = length-append (enc (x .value)) (cellsOf xs) ∙ (let a = size-law (x .value) in let b = cells-length xs in omega arith)
@@ -120,7 +120,7 @@ middle w off n A B C more e is =
 -- ---- the slots in the words
 
 module _ {st : Counts} {w0 : List ℕ} {s : Sheet} (fine : Fine st) (counted : Counted st s) (h : HoldsTables w0 s) where
-  key-at : (j : ℕ) → j < length (s .slots) → keyAt w0 j ≡ getD (map slotKey (s .slots)) j 0
+  pub key-at : (j : ℕ) → j < length (s .slots) → keyAt w0 j ≡ getD (map slotKey (s .slots)) j 0
   key-at j l = sym (tab-at 352 (length (s .slots)) w0 j l) ∙ ap (λ (k : List ℕ). getD k j 0) (h .keys)
 
   start-at : (j : ℕ) → j < length (s .slots) → getD w0 (1376 + j) 0 ≡ getD (startsFrom 0 (s .slots)) j 0
@@ -135,7 +135,7 @@ module _ {st : Counts} {w0 : List ℕ} {s : Sheet} (fine : Fine st) (counted : C
     length-parts : (after : List Slot) → s .slots ≡ before ++ x ∷ after → st .slots ≡ length before + suc (length after)
     length-parts after e = counted .slots ∙ ap length e ∙ length-append before (x ∷ after)
 
-    begins : (after : List Slot) → s .slots ≡ before ++ x ∷ after → startAt w0 (length before) ≡ 2400 + totalSize before
+    pub begins : (after : List Slot) → s .slots ≡ before ++ x ∷ after → startAt w0 (length before) ≡ 2400 + totalSize before
     begins after e =
         let n = length-parts after e in
         let c = counted .slots in
@@ -143,7 +143,7 @@ module _ {st : Counts} {w0 : List ℕ} {s : Sheet} (fine : Fine st) (counted : C
         (start-at (length before) (omega arith) ∙ ap (λ (l : List Slot). getD (startsFrom 0 l) (length before) 0) e ∙ starts-at 0 before x after ∙ omega arith)
 
     -- where the next slot begins, or behind the last cell
-    ends : (after : List Slot) → s .slots ≡ before ++ x ∷ after → endAt st w0 (length before) ≡ 2400 + (totalSize before + size (x .value))
+    pub ends : (after : List Slot) → s .slots ≡ before ++ x ∷ after → endAt st w0 (length before) ≡ 2400 + (totalSize before + size (x .value))
     unfolding totalSize
     ends [] e =
         let n = length-parts [] e in
@@ -156,7 +156,7 @@ module _ {st : Counts} {w0 : List ℕ} {s : Sheet} (fine : Fine st) (counted : C
         (start-at (suc (length before)) (omega arith) ∙ ap (λ (l : List Slot). getD (startsFrom 0 l) (suc (length before)) 0) e ∙ starts-next 0 before x y after ∙ omega arith))
 
     module _ (after : List Slot) (e : s .slots ≡ before ++ x ∷ after) where
-      cells-at : slice (startAt w0 (length before)) (endAt st w0 (length before)) w0 ≡ enc (x .value)
+      pub cells-at : slice (startAt w0 (length before)) (endAt st w0 (length before)) w0 ≡ enc (x .value)
       cells-at =
           let a = cells-length before in
           let b = size-law (x .value) in

@@ -8,11 +8,10 @@ use Rattle.laws.specs.Lists.{Each}
 use Rattle.ocl.specs.Types.{Ty}
 use Rattle.ocl.specs.Forms.{Definition, levels}
 use Rattle.ocl.specs.Typing.{refused as untyped, typeDefinition}
-use Rattle.sheet.specs.Text.{Bytes}
 use Rattle.sheet.specs.Sheet.{Rule, Sheet, schemaIn, modelOf, mostLevels}
-use Rattle.sheet.specs.Reading.{accepted, readText}
 use Rattle.sheet.specs.Calls.{typingOf, marksOf}
 use Rattle.sheet.specs.Laws.{AllTyped, Defined}
+use Rattle.sheet.proofs.Good.{Good}
 use Rattle.types.specs.Word.{typeIn}
 use Rattle.nodes.specs.Nodes.{word, treeAt}
 use Rattle.nodes.specs.Marks.{markWord, Marked}
@@ -22,10 +21,11 @@ use Rattle.tables.specs.Stored.{HoldsModel}
 use Rattle.judgements.specs.Replies.{ReadsRows as TypingReads}
 use Rattle.operations.specs.Tables.{Plain}
 
--- the sheet of a text that is read lies in the words
+-- a sheet lies in the words, which has what every sheet has that is read: that of a text, or one with edits made (document 02, F-10)
 pub record InWords (st : Counts) (w0 w1 : List ℕ) (s : Sheet) : Type 0 where
-  pub text : Bytes
-  pub was : readText text ≡ accepted s
+  pub good : Good s
+  -- each node's line is one of a text's, which has at most 49,153
+  pub low : (p : ℕ) → getD (s .lines) p 0 ≤ 49153
   pub fine : Fine st
   pub holds : Holds st w0 w1 s
 

@@ -18,6 +18,7 @@ pub mod Numbering
 pub mod Alike
 pub mod NodesRead
 pub mod Acceptance
+pub mod LineNumbers
 pub mod AsNodeLines
 pub mod Listed
 pub mod Marks

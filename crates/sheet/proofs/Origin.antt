@@ -26,9 +26,9 @@ use Rattle.ocl.proofs.Origin.{origin-place}
 use Rattle.ocl.proofs.InTurn.{origin-step}
 use Rattle.sheet.specs.Text.{Bytes}
 use Rattle.sheet.specs.Sheet.{Rule, Sheet, modelOf}
+use Rattle.sheet.specs.Reading.{sheetIn}
 use Rattle.sheet.specs.Calls.{Verdict, answer, refusalAt, refusal, shortWords, shortOutput, onAccepted, typeLines, readCall, marksOf, outcomeOf}
 use Rattle.sheet.specs.Report.{reportLine, objectLines, ruleLines, fitting, reportOf, reportCall}
-use Rattle.sheet.specs.Soundness.{sheetIn}
 use Rattle.sheet.specs.TextLaws.{withLines}
 use Rattle.sheet.specs.Origin.{traceOf, originLine, objectOrigins, ruleOrigins, originsOf, originCall}
 use Rattle.sheet.specs.OriginLaws.{OriginOnLaw, Asked, SameOrder, AsReportLaw, OriginOfText}
@@ -39,7 +39,7 @@ use Rattle.sheet.proofs.Soundness.{sheet-is}
 
 -- ---- a node of a rule, or of a definition that it reaches, has a line
 
-node-on-sheet : (s : Sheet) → Good s → (r : ℕ) (x : Rule) → getElem? (s .rules) r ≡ some x → (q : ℕ) → NodeOf (x .body) q → q < length (s .lines)
+pub node-on-sheet : (s : Sheet) → Good s → (r : ℕ) (x : Rule) → getElem? (s .rules) r ≡ some x → (q : ℕ) → NodeOf (x .body) q → q < length (s .lines)
 node-on-sheet s g r x e q (own-node h) = each-at (each-elem r (g .rules) e .on-sheet) (member-exact q (numbers (x .body)) .0 h)
 node-on-sheet s g r x e q (reached-node d m h) =
     let i = each-at (each-elem r (g .rules) e .called) m in

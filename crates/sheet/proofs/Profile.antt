@@ -19,9 +19,9 @@ use Rattle.ocl.specs.Profile.{outsideRule}
 use Rattle.ocl.proofs.Means.{definition-type}
 use Rattle.sheet.specs.Text.{Bytes}
 use Rattle.sheet.specs.Sheet.{Rule, Sheet, schemaIn}
-use Rattle.sheet.specs.Reading.{Reading, accepted, rejected, readText}
+use Rattle.sheet.specs.Reading.{Reading, accepted, rejected, readText, sheetIn}
 use Rattle.sheet.specs.Calls.{Verdict, answer, refusalAt, refusal, shortWords, shortOutput, onSheet, typingOf, onType, onTypes, onDefinitions, onAccepted, typeLines, readCall}
-use Rattle.sheet.specs.Soundness.{Lent, sheetIn}
+use Rattle.sheet.specs.Soundness.{Lent}
 use Rattle.sheet.specs.Laws.{none-typed, one-typed, Defined}
 use Rattle.sheet.specs.Profile.{outsideRules, lowestFrom, lowest, firstOutside, onProfile, profileOf, profileCall}
 use Rattle.sheet.specs.ProfileLaws.{outsideOn, nodesOutside, OutsideAt, ProfileCallLaw, ProfileLength}

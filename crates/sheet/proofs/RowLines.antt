@@ -17,9 +17,9 @@ use Rattle.ocl.specs.Types.{Ty}
 use Rattle.ocl.proofs.Rows.{rows-below-count}
 use Rattle.sheet.specs.Text.{Bytes, byte, bytes, isDigit, split, linesOf, spellNumber}
 use Rattle.sheet.specs.Sheet.{Rule, Sheet, schemaIn}
+use Rattle.sheet.specs.Reading.{sheetIn}
 use Rattle.sheet.specs.Calls.{Verdict, answer, refusalAt, refusal, shortWords, shortOutput}
 use Rattle.sheet.specs.Report.{fitting, printed}
-use Rattle.sheet.specs.Soundness.{sheetIn}
 use Rattle.sheet.specs.Rows.{rowsSeen, rowFields, rowsLine, rowsLines, rowsInto, rowsCall, rowsProgram}
 use Rattle.sheet.specs.Unseen.{Ascends, ascends-nil, ascends-one, ascends-cons, SaysRows, RowsSaid, RowsExact, RowsPrinted}
 use Rattle.sheet.proofs.Numbers.{decimal}

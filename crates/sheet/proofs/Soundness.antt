@@ -27,10 +27,10 @@ use Rattle.ocl.proofs.Places.{typing-places, definition-places}
 use Rattle.sheet.specs.Text.{Bytes, linesOf}
 use Rattle.sheet.specs.Spelling.{readType, spellType}
 use Rattle.sheet.specs.Sheet.{Rule, Sheet, schemaIn, modelOf}
-use Rattle.sheet.specs.Reading.{accepted, readText}
+use Rattle.sheet.specs.Reading.{accepted, readText, sheetFrom, sheetIn}
 use Rattle.sheet.specs.Calls.{Verdict, answer, refusalAt, refusal, shortWords, shortOutput, typingOf, onAccepted, typeLines, readCall, onRule, onObject, marksOf, outcomeOf, ended, evaluateOn, evaluateCall}
 use Rattle.sheet.specs.Profile.{firstOutside, onProfile, profileOf, profileCall}
-use Rattle.sheet.specs.Soundness.{Lent, sheetFrom, sheetIn, ruleReach, reachOf, contextHas, ofContext, Ending, undefined-end, value-end, stop-end, Demand3}
+use Rattle.sheet.specs.Soundness.{Lent, ruleReach, reachOf, contextHas, ofContext, Ending, undefined-end, value-end, stop-end, Demand3}
 use Rattle.sheet.specs.Laws.{TypeRefusal, TypeRefusals, DefinitionRefusals, AllTyped, none-typed, one-typed, Defined}
 use Rattle.sheet.proofs.Spelling.{type-back}
 use Rattle.sheet.proofs.TypeLines.{type-line}

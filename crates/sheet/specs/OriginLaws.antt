@@ -12,10 +12,9 @@ use Rattle.ocl.specs.Operations.{undefined}
 use Rattle.ocl.specs.Origin.{Arose, NodeOf}
 use Rattle.sheet.specs.Text.{Bytes}
 use Rattle.sheet.specs.Sheet.{Rule, Sheet, modelOf}
-use Rattle.sheet.specs.Reading.{accepted, readText}
+use Rattle.sheet.specs.Reading.{accepted, readText, sheetIn}
 use Rattle.sheet.specs.Calls.{readCall, marksOf, outcomeOf}
 use Rattle.sheet.specs.Report.{reportLine, ruleLines, fitting, reportCall}
-use Rattle.sheet.specs.Soundness.{sheetIn}
 use Rattle.sheet.specs.TextLaws.{withLines}
 use Rattle.sheet.specs.Origin.{traceOf, placeLine, originLine, ruleOrigins, originCall}
 

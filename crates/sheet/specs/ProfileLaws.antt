@@ -10,8 +10,9 @@ use Rattle.laws.specs.Lists.{member}
 use Rattle.ocl.specs.Profile.{outsideRule}
 use Rattle.sheet.specs.Text.{Bytes}
 use Rattle.sheet.specs.Sheet.{Rule, Sheet, schemaIn}
+use Rattle.sheet.specs.Reading.{sheetIn}
 use Rattle.sheet.specs.Calls.{refusalAt, readCall}
-use Rattle.sheet.specs.Soundness.{Lent, sheetIn}
+use Rattle.sheet.specs.Soundness.{Lent}
 use Rattle.sheet.specs.Profile.{profileCall}
 
 -- a rule's nodes outside the profile; where there is no such rule, none

@@ -71,3 +71,11 @@ readLines s k (l ∷ m ∷ ls) = closing s k (fieldsOf l) (λ t. onStep (step t 
 -- over 49,152 bytes are 2
 unfoldable pub readText : Bytes → Reading
 readText text = if ltb 49152 (length text) then rejected 2 0 else readLines empty 0 (linesOf text)
+
+-- the sheet of an accepted text; nothing is asked of another
+unfoldable pub sheetFrom : Reading → Sheet
+sheetFrom (accepted s) = s
+sheetFrom (rejected n k) = empty
+
+unfoldable pub sheetIn : Bytes → Sheet
+sheetIn text = sheetFrom (readText text)

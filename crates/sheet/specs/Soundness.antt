@@ -15,8 +15,8 @@ use Rattle.ocl.specs.Operations.{stuck, Stop}
 use Rattle.ocl.specs.Laws.{Formed, numbersKept}
 use Rattle.sheet.specs.Text.{Bytes, bytes, linesOf}
 use Rattle.sheet.specs.Spelling.{spellType, spellValue}
-use Rattle.sheet.specs.Sheet.{Rule, Sheet, empty, modelOf}
-use Rattle.sheet.specs.Reading.{Reading, accepted, rejected, readText}
+use Rattle.sheet.specs.Sheet.{Rule, Sheet, modelOf}
+use Rattle.sheet.specs.Reading.{sheetIn}
 use Rattle.sheet.specs.Calls.{Verdict, readCall, outcomeOf, evaluateCall}
 use Rattle.sheet.specs.Report.{reportCall, program}
 use Rattle.sheet.specs.Profile.{profileCall}
@@ -27,14 +27,6 @@ pub record Lent (w0 w1 w2 : List ℕ) (out : Bytes) : Type 0 where
   pub words1 : 8192 ≤ length w1
   pub words2 : 8192 ≤ length w2
   pub output : 2560 ≤ length out
-
--- the sheet of an accepted text; nothing is asked of another
-unfoldable pub sheetFrom : Reading → Sheet
-sheetFrom (accepted s) = s
-sheetFrom (rejected n k) = empty
-
-unfoldable pub sheetIn : Bytes → Sheet
-sheetIn text = sheetFrom (readText text)
 
 -- a rule's reach is its root's
 unfoldable pub ruleReach : Option Rule → ℕ

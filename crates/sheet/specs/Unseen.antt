@@ -11,9 +11,10 @@ use Rattle.laws.specs.Lists.{member}
 use Rattle.sheet.specs.Text.{Bytes, byte, split, linesOf, fieldsOf, spellNumber}
 use Rattle.sheet.specs.Lines.{Line, classLine, rowLine, objectLine, valueLine, definitionLine, ruleLine, nodeLine, textLine, lineOf}
 use Rattle.sheet.specs.Sheet.{Rule, Sheet}
+use Rattle.sheet.specs.Reading.{sheetIn}
 use Rattle.sheet.specs.Calls.{wordsAfter, outputAfter, readCall, evaluateCall}
 use Rattle.sheet.specs.Rows.{rowsSeen, rowsInto, rowsCall, rowsProgram}
-use Rattle.sheet.specs.Soundness.{Lent, sheetIn}
+use Rattle.sheet.specs.Soundness.{Lent}
 
 -- the rows that rule r sees; none where there is no such rule
 unfoldable pub seenBy : Sheet → Option Rule → List ℕ

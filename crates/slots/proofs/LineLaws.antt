@@ -108,21 +108,22 @@ tab-back A B back off m h =
     let z : 4448 + (off - 4448) ≡ off = omega arith in
     ap (take m) (ap (λ (i : ℕ). drop i A) (sym z) ∙ sym (drop-drop (off - 4448) 4448 A) ∙ ap (drop (off - 4448)) back ∙ drop-drop (off - 4448) 4448 B ∙ ap (λ (i : ℕ). drop i B) z)
 
-module _ {st : Counts} {f : Bytes} {n : ℕ} {A B : List ℕ} {r : Read} (got : ReadInto f n B A r) (count : n ≡ st .cells) (same : length A ≡ length B) (room : 8192 ≤ length B) (fine : Fine st) where
+-- what lies behind the first n cells is all that may differ
+module _ {st : Counts} {n : ℕ} (A B : List ℕ) (front : take (2400 + n) A ≡ take (2400 + n) B) (back : drop 4448 A ≡ drop 4448 B) (count : n ≡ st .cells) (same : length A ≡ length B) (room : 8192 ≤ length B) (fine : Fine st) where
   low-tab : (off m : ℕ) → off + m ≤ 2400 + n → tab off m A ≡ tab off m B
-  low-tab = tab-front A B (2400 + n) (got .front) same (omega arith) (let c = fine .cells in omega arith)
+  low-tab = tab-front A B (2400 + n) front same (omega arith) (let c = fine .cells in omega arith)
 
   high-tab : (off m : ℕ) → 4448 ≤ off → tab off m A ≡ tab off m B
-  high-tab = tab-back A B (got .back)
+  high-tab = tab-back A B back
 
-  pub kept-read : Kept B A
-  kept-read = record {
+  pub kept-behind : Kept B A
+  kept-behind = record {
     size = same;
-    rest = sym (drop-drop 3744 4448 A) ∙ ap (drop 3744) (got .back) ∙ drop-drop 3744 4448 B;
+    rest = sym (drop-drop 3744 4448 A) ∙ ap (drop 3744) back ∙ drop-drop 3744 4448 B;
   }
 
-  pub holds-read : {w1 : List ℕ} {s : Sheet} → Holds st B w1 s → Holds st A w1 s
-  holds-read {w1} {s} h =
+  pub holds-behind : {w1 : List ℕ} {s : Sheet} → Holds st B w1 s → Holds st A w1 s
+  holds-behind {w1} {s} h =
       let c = h .counted in
       record {
         counted = h .counted;
@@ -153,6 +154,13 @@ module _ {st : Counts} {f : Bytes} {n : ℕ} {A B : List ℕ} {r : Read} (got : 
         };
         current = h .current;
       }
+
+module _ {st : Counts} {f : Bytes} {n : ℕ} {A B : List ℕ} {r : Read} (got : ReadInto f n B A r) (count : n ≡ st .cells) (same : length A ≡ length B) (room : 8192 ≤ length B) (fine : Fine st) where
+  pub kept-read : Kept B A
+  kept-read = kept-behind A B (got .front) (got .back) count same room fine
+
+  holds-read : {w1 : List ℕ} {s : Sheet} → Holds st B w1 s → Holds st A w1 s
+  holds-read = holds-behind A B (got .front) (got .back) count same room fine
 
 -- ---- the answers
 

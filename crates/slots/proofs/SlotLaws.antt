@@ -192,7 +192,7 @@ seen {st} {w0} {w1} {s} h p q = record {
 
 module _ {st : Counts} {w0 P Q : List ℕ} {o a i : ℕ} (room : 8192 ≤ length w0) (fine : Fine st) (p : P ≡ tab 0 (st .classes) w0) (q : Q ≡ tab 256 (st .objects) w0) (e : i ≡ a)
     {b : Bool} (ob : ObjectSuits P Q o 5 (getD w0 (64 + i) 0) b) where
-  its-object : {w1 : List ℕ} {s : Sheet} → a < st .rows → Holds st w0 w1 s → b ≡ isA (modelOf s) o (class (modelOf s .row a .owner))
+  pub its-object : {w1 : List ℕ} {s : Sheet} → a < st .rows → Holds st w0 w1 s → b ≡ isA (modelOf s) o (class (modelOf s .row a .owner))
   unfolding modelOf simpleBy
   its-object {w1} {s} known h = ob .is (modelOf s) (seen h p q) ∙ ap (λ (c : ℕ). isA (modelOf s) o (class c)) (ap (λ (j : ℕ). getD w0 (64 + j) 0) e ∙ owner-at room fine h known)
 

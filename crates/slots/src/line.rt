@@ -128,7 +128,7 @@ fn long(n: usize) -> u64
 }
 
 // The slot, whose value of `size` cells is written and within its limits.
-fn put_slot(w0: &mut [u64], st: Counts, o: u64, a: u64, size: usize) -> Step
+pub fn put_slot(w0: &mut [u64], st: Counts, o: u64, a: u64, size: usize) -> Step
     requires { ⌜ (8192 ≤ length (now w0)) × Fine st × (0 < size) × (st .cells + size ≤ 2048) ⌝ }
     ensures { λ r. ⌜ ((w1 : List ℕ) (k : ℕ) → SlotTook st k o a size r (now (w0 .entry)) w1 (now (w0 .exit))) ⌝ }
 {

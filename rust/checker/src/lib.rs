@@ -26,8 +26,11 @@
 
 #![no_std]
 
+mod board;
 pub mod calls;
 mod refusal;
+
+pub use board::{edit_board, make_board, Board, Edited};
 
 use calls::{Answer, Words};
 use core::str::Lines;
@@ -40,6 +43,10 @@ pub const LEAST_WORDS: usize = 8_192;
 /// The fewest bytes of an output. Every value fits, and so do the types of all
 /// rules.
 pub const LEAST_OUTPUT: usize = 2_560;
+/// The fewest words of a running board.
+pub const LEAST_BOARD: usize = 8_192;
+/// The fewest bytes for a board's verdicts.
+pub const LEAST_VERDICTS: usize = 2_560;
 /// The most bytes of a sheet.
 pub const LONGEST_TEXT: usize = 49_152;
 /// The bytes that the program `ocl_report` lends for a report.

@@ -42,14 +42,17 @@ pub enum Refusal {
     StepStop,
     /// A value of a size over 128 would be formed.
     SizeStop,
-    /// The report, the rows or the lines about undefined are longer than the output.
+    /// The report, the rows or the lines about undefined are longer than the output, or a
+    /// board's verdicts than their bytes.
     ReportTooLong,
     /// A result of Integers leaves their range, or one of Reals is infinite.
     OverRange,
     /// The text of a rule is no sentence.
     NotASentence,
+    /// After the edit a board would have over 1,024 values, or over size 2,048 in all.
+    BoardFull,
     /// A rule is outside the free-numbering profile.
-    OutsideProfile = 22,
+    OutsideProfile,
     /// A definition calls itself or a larger one.
     CallUpward,
     /// A rule calls a definition that the sheet does not have.
@@ -58,7 +61,7 @@ pub enum Refusal {
 
 impl Refusal {
     /// All of them, in the order of their numbers.
-    pub const ALL: [Refusal; 23] = [
+    pub const ALL: [Refusal; 24] = [
         Refusal::ShortSlice,
         Refusal::SheetTooLong,
         Refusal::BadLine,
@@ -79,12 +82,13 @@ impl Refusal {
         Refusal::ReportTooLong,
         Refusal::OverRange,
         Refusal::NotASentence,
+        Refusal::BoardFull,
         Refusal::OutsideProfile,
         Refusal::CallUpward,
         Refusal::UnknownDefinition,
     ];
 
-    /// The refusal of a number from 1 to 20, or from 22 to 24.
+    /// The refusal of a number from 1 to 24.
     pub fn of(number: u64) -> Option<Refusal> {
         Refusal::ALL
             .into_iter()
@@ -119,6 +123,7 @@ impl Refusal {
             Refusal::ReportTooLong => "slip too long",
             Refusal::OverRange => "over the range",
             Refusal::NotASentence => "not a sentence",
+            Refusal::BoardFull => "board full",
             Refusal::OutsideProfile => "outside the profile",
             Refusal::CallUpward => "call upward",
             Refusal::UnknownDefinition => "unknown definition",
@@ -152,6 +157,7 @@ impl Refusal {
                 "a result of Integers leaves their range, or one of Reals is infinite"
             }
             Refusal::NotASentence => "the text of the rule is no sentence",
+            Refusal::BoardFull => "there would be too many values, or too large ones",
             Refusal::OutsideProfile => "what the rule says may follow the objects' numbers",
             Refusal::CallUpward => "the definition calls itself or a larger one",
             Refusal::UnknownDefinition => "the sheet has no such definition",
@@ -162,7 +168,7 @@ impl Refusal {
 /// A call's refusal, or a stop of its evaluation.
 #[derive(Clone, Copy, PartialEq, Eq, Debug)]
 pub struct Refused {
-    /// The refusal's number. The calls give no other than 1 to 20 and 22 to 24.
+    /// The refusal's number. The calls give no other than 1 to 24.
     pub number: u64,
     /// The steps begun where an evaluation was stopped, else 0.
     pub steps: u64,

@@ -222,11 +222,11 @@ fn a_stop_has_its_steps() {
 
 #[test]
 fn refusals_have_numbers_and_words() {
-    for number in (1..=20).chain(22..=24) {
+    for number in 1..=24 {
         let refusal = Refusal::of(number).unwrap();
         assert_eq!(refusal.number(), number);
     }
-    for number in [0, 21, 25, 100, u64::MAX] {
+    for number in [0, 25, 100, u64::MAX] {
         assert_eq!(Refusal::of(number), None);
     }
     assert_eq!(Refusal::MalformedTree.word(), "broken tree");

@@ -1,11 +1,17 @@
 //! `compare FIRST COUNT`: compares the linked calls, and the programs that
 //! CHECKER_PROGRAM, ROWS_PROGRAM and UNDEFINED_PROGRAM name, with the second evaluator
 //! over the vectors and the sheets of COUNT seeds from FIRST on, on all processors; a
-//! rule of each with itself, on two sheets that differ in what it does not see; and
-//! those in the profile on the sheet with its objects numbered anew. `--stand-in`
-//! compares the second evaluator with itself in place of the linked calls.
+//! rule of each with itself, on two sheets that differ in what it does not see; those
+//! in the profile on the sheet with its objects numbered anew; and lists of edits of a
+//! board. `--stand-in` compares the second evaluator with itself in place of the linked
+//! calls.
 
-use second_evaluator::generate::{asks, sheet, vector_asks, Ask};
+use second_evaluator::calls::accepted;
+use second_evaluator::generate::random::Random;
+use second_evaluator::generate::{asks, boards, sheet, vector_asks, Ask};
+use second_evaluator::harness::board_tally::BoardTally;
+use second_evaluator::harness::boards::{Boards, Second};
+use second_evaluator::harness::corrections::{self, corrected};
 use second_evaluator::harness::faults::Fault;
 use second_evaluator::harness::program::{long_texts, programs, Program};
 use second_evaluator::harness::run::{self, Difference, Differs, Vector};
@@ -80,51 +86,110 @@ impl Cases {
 
 struct Comparison {
     calls: Option<Box<dyn Calls>>,
+    boards: Option<Box<dyn Boards>>,
     programs: Vec<Program>,
 }
 
+/// What was compared: of the calls about a text, and of those about boards.
+#[derive(Default)]
+struct Tallies {
+    calls: Tally,
+    boards: BoardTally,
+}
+
 impl Comparison {
-    fn case(&self, case: &Case, tally: &mut Tally) -> Result<(), Difference> {
+    fn case(&self, case: &Case, tallies: &mut Tallies) -> Result<(), Found> {
         if let Some(calls) = &self.calls {
-            run::sheet(&**calls, &case.text, case.seed, &case.asks, tally)?;
-            run::paired(&**calls, &case.text, case.seed, tally)?;
-            run::renumbered(&**calls, &case.text, case.seed, tally)?;
+            run::sheet(
+                &**calls,
+                &case.text,
+                case.seed,
+                &case.asks,
+                &mut tallies.calls,
+            )?;
+            run::paired(&**calls, &case.text, case.seed, &mut tallies.calls)?;
+            run::renumbered(&**calls, &case.text, case.seed, &mut tallies.calls)?;
         }
-        let mut programs = self.programs.iter();
-        programs.try_for_each(|program| {
-            run::program_sheet(program, &case.text).expect("the program can be run")
-        })
+        if let Some(boards) = &self.boards {
+            let tally = &mut tallies.boards;
+            if case.seed % 4 == 0 || accepted(&case.text).is_err() {
+                corrected(&**boards, &case.text, case.seed, tally)?;
+            }
+            let text = boards::sheet(&mut Random::new(case.seed));
+            corrected(&**boards, &text, case.seed, tally)?;
+        }
+        for program in &self.programs {
+            run::program_sheet(program, &case.text).expect("the program can be run")?;
+        }
+        Ok(())
     }
 
     /// Compares all cases, spread over the processors, up to a difference, which
     /// is printed.
-    fn all(&self, cases: &Cases) -> Option<Tally> {
+    fn all(&self, cases: &Cases) -> Option<Tallies> {
         let next = AtomicUsize::new(0);
         let differs = AtomicBool::new(false);
         let work = || {
-            let mut tally = Tally::default();
+            let mut tallies = Tallies::default();
             while !differs.load(Ordering::Relaxed) {
                 let Some(case) = cases.case(next.fetch_add(1, Ordering::Relaxed)) else {
                     break;
                 };
-                if let Err(difference) = self.case(&case, &mut tally) {
+                if let Err(found) = self.case(&case, &mut tallies) {
                     // Only the first one is printed.
                     if !differs.swap(true, Ordering::Relaxed) {
-                        print_difference(&case, &difference);
+                        print_found(&case, &found);
                     }
                 }
             }
-            tally
+            tallies
         };
         let processors = thread::available_parallelism().map_or(1, usize::from);
-        let mut tally = Tally::default();
+        let mut tallies = Tallies::default();
         thread::scope(|scope| {
             let workers: Vec<_> = (0..processors).map(|_| scope.spawn(work)).collect();
             for worker in workers {
-                tally.join(worker.join().expect("a comparison does not panic"));
+                let more = worker.join().expect("a comparison does not panic");
+                tallies.calls.join(more.calls);
+                tallies.boards.join(more.boards);
             }
         });
-        (!differs.into_inner()).then_some(tally)
+        (!differs.into_inner()).then_some(tallies)
+    }
+}
+
+/// The first difference: in a call or a program, or in a list of calls about a board.
+enum Found {
+    Sheet(Difference),
+    Board(corrections::Difference),
+}
+
+impl From<Difference> for Found {
+    fn from(difference: Difference) -> Found {
+        Found::Sheet(difference)
+    }
+}
+
+impl From<corrections::Difference> for Found {
+    fn from(difference: corrections::Difference) -> Found {
+        Found::Board(difference)
+    }
+}
+
+fn print_found(case: &Case, found: &Found) {
+    match found {
+        Found::Sheet(difference) => print_difference(case, difference),
+        Found::Board(difference) => {
+            println!(
+                "a board of {} differs, calls of seed {}:",
+                case.name, case.seed
+            );
+            for turn in &difference.turns {
+                println!("{turn:?}");
+            }
+            println!("{}", difference.how);
+            write_sheet(DIFFERENCE, &difference.text);
+        }
     }
 }
 
@@ -153,7 +218,15 @@ fn write_sheet(path: &str, text: &[u8]) {
 /// The linked calls, if the program was built with them.
 fn linked() -> Option<Box<dyn Calls>> {
     #[cfg(feature = "linked")]
-    return Some(Box::new(second_evaluator::harness::linked::Linked));
+    return Some(Box::new(second_evaluator::harness::linked::Linked::BOUNDED));
+    #[cfg(not(feature = "linked"))]
+    None
+}
+
+/// Those about boards.
+fn linked_boards() -> Option<Box<dyn Boards>> {
+    #[cfg(feature = "linked")]
+    return Some(Box::new(second_evaluator::harness::linked::Linked::BOUNDED));
     #[cfg(not(feature = "linked"))]
     None
 }
@@ -181,6 +254,11 @@ fn main() -> ExitCode {
         } else {
             linked()
         },
+        boards: if stand_in {
+            Some(Box::new(Second))
+        } else {
+            linked_boards()
+        },
         programs: programs(),
     };
     if comparison.calls.is_none() && comparison.programs.is_empty() {
@@ -192,7 +270,7 @@ fn main() -> ExitCode {
         long: long_texts(),
         seeds,
     };
-    let Some(tally) = comparison.all(&cases) else {
+    let Some(tallies) = comparison.all(&cases) else {
         return ExitCode::FAILURE;
     };
     let (vectors, sheets) = (cases.vectors.len(), cases.seeds.end - cases.seeds.start);
@@ -200,8 +278,12 @@ fn main() -> ExitCode {
     if comparison.calls.is_none() {
         return ExitCode::SUCCESS;
     }
-    println!("{tally}");
-    let missing = tally.missing();
+    println!("{}", tallies.calls);
+    let mut missing = tallies.calls.missing();
+    if comparison.boards.is_some() {
+        println!("{}", tallies.boards);
+        missing.extend(tallies.boards.missing());
+    }
     if missing.is_empty() {
         return ExitCode::SUCCESS;
     }

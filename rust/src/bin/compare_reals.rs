@@ -17,7 +17,7 @@ fn calls() -> Vec<(&'static str, Box<dyn Calls>)> {
         #[cfg(feature = "linked")]
         (
             "the product",
-            Box::new(second_evaluator::harness::linked::Linked),
+            Box::new(second_evaluator::harness::linked::Linked::BOUNDED),
         ),
         ("the second evaluator", Box::new(second)),
     ]

@@ -2,10 +2,12 @@
 
 pub mod blank_forms;
 pub mod blanks;
+pub mod boards;
 pub mod chains;
 pub mod damage;
 pub mod definitions;
 pub mod draft;
+pub mod edits;
 pub mod fields;
 pub mod forms;
 pub mod full;
@@ -25,6 +27,7 @@ pub mod sentences;
 pub mod slips;
 pub mod texts;
 pub mod trees;
+pub mod turns;
 pub mod world;
 
 use crate::calls::{program, rows_program, undefined_program};
@@ -72,6 +75,31 @@ pub fn sheet(seed: u64) -> Vec<u8> {
             }
         }
     }
+}
+
+/// A sheet with a text, for a seed: about texts, or another one with its rules in text,
+/// some of them with a slip.
+pub fn sheet_of_texts(seed: u64) -> Vec<u8> {
+    let mut random = Random::new(seed);
+    loop {
+        let text = match random.below(4) {
+            0 => told(&mut random),
+            1 => {
+                let text = told(&mut random);
+                texts::slipped(&mut random, text)
+            }
+            _ => sentences::about(&mut random).into_bytes(),
+        };
+        if texts_of(&text) > 0 {
+            return text;
+        }
+    }
+}
+
+/// The lines of a sheet that are texts.
+pub fn texts_of(text: &[u8]) -> usize {
+    let lines = text.split(|byte| *byte == b'\n');
+    lines.filter(|line| line.starts_with(b"X\t")).count()
 }
 
 /// Another sheet with its rules in text.
@@ -129,11 +157,8 @@ pub struct Ask {
 /// What is asked about a sheet: each call, for numbers on the sheet and off it.
 pub fn asks(seed: u64, text: &[u8]) -> Vec<Ask> {
     let mut random = Random::new(!seed);
-    let (rules, objects) = match read(text) {
-        Ok(sheet) => (sheet.rules.len(), sheet.model.objects.len()),
-        Err(_) => (1, 1),
-    };
-    let mut calls = vec![
+    let (rules, objects) = counts(text);
+    let calls = [
         Call::Read,
         Call::Read,
         Call::FreeNumbering,
@@ -142,18 +167,7 @@ pub fn asks(seed: u64, text: &[u8]) -> Vec<Ask> {
         Call::Rows,
         Call::Undefined,
     ];
-    for _ in 0..5 {
-        let rule = number(&mut random, rules);
-        let object = number(&mut random, objects);
-        calls.push(Call::Evaluate { rule, object });
-    }
-    let mut asks: Vec<Ask> = (calls.into_iter())
-        .map(|call| Ask {
-            call,
-            words: std::array::from_fn(|_| length(&mut random, LEAST_WORDS, LEAST_WORDS + 300)),
-            out: length(&mut random, LEAST_OUTPUT, PROGRAM_OUTPUT),
-        })
-        .collect();
+    let mut asks = drawn(&mut random, &calls, 5, (rules, objects));
     // So many lines may be more than the least output.
     if rules * objects > 32 || random.one_in(4) {
         asks.extend(exact(Call::Report, &program(text)));
@@ -163,6 +177,48 @@ pub fn asks(seed: u64, text: &[u8]) -> Vec<Ask> {
         asks.extend(exact(Call::Rows, &rows_program(text)));
     }
     asks
+}
+
+/// Fewer of them, for many sheets.
+pub fn few_asks(seed: u64, text: &[u8]) -> Vec<Ask> {
+    let calls = [
+        Call::Read,
+        Call::FreeNumbering,
+        Call::Report,
+        Call::Rows,
+        Call::Undefined,
+    ];
+    drawn(&mut Random::new(!seed), &calls, 2, counts(text))
+}
+
+/// The rules and the objects of a sheet.
+fn counts(text: &[u8]) -> (usize, usize) {
+    match read(text) {
+        Ok(sheet) => (sheet.rules.len(), sheet.model.objects.len()),
+        Err(_) => (1, 1),
+    }
+}
+
+/// The calls and so many evaluations, with lengths.
+fn drawn(
+    random: &mut Random,
+    calls: &[Call],
+    evaluations: usize,
+    (rules, objects): (usize, usize),
+) -> Vec<Ask> {
+    let mut calls = calls.to_vec();
+    for _ in 0..evaluations {
+        let rule = number(random, rules);
+        let object = number(random, objects);
+        calls.push(Call::Evaluate { rule, object });
+    }
+    (calls.into_iter())
+        .map(|call| Ask {
+            call,
+            words: std::array::from_fn(|_| length(random, LEAST_WORDS, LEAST_WORDS + 300)),
+            out: length(random, LEAST_OUTPUT, PROGRAM_OUTPUT),
+        })
+        .collect()
 }
 
 /// What is asked about a vector: as well, its types and the profile with the least that

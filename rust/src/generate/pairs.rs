@@ -4,18 +4,11 @@
 use super::random::Random;
 use super::world::{any_value, Scale};
 use crate::calls::accepted;
-use crate::model::Model;
+use crate::model::{Edit, Model};
 use crate::rows::rows_seen;
 use crate::values::Value;
 use std::collections::{BTreeMap, BTreeSet};
 use std::str::from_utf8;
-
-/// What the second sheet has for an object in a row: another value, or none.
-pub struct Edit {
-    pub object: u8,
-    pub row: u8,
-    pub value: Option<Value>,
-}
 
 /// The first sheet, the rule, and in what the second sheet differs.
 pub struct Pair {

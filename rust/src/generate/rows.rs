@@ -85,7 +85,7 @@ pub fn about(random: &mut Random) -> String {
 }
 
 /// N lines of nodes that a bar parts, names and definitions put in.
-fn numbered(random: &mut Random, nodes: &str, definitions: usize) -> String {
+pub fn numbered(random: &mut Random, nodes: &str, definitions: usize) -> String {
     let mut lines = String::new();
     for (node, words) in nodes.split('|').enumerate() {
         let words = words.replace('#', &random.below(NAMES).to_string());

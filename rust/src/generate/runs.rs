@@ -2,6 +2,7 @@
 
 use super::random::Random;
 use crate::load::{LONGEST, MOST, WIDEST};
+use std::fmt::Write;
 
 /// Numbers near a limit, or with digits beyond every limit.
 const NEAR: [&str; 12] = [
@@ -73,6 +74,17 @@ fn damaged(random: &mut Random, mut lines: Vec<String>) -> Vec<String> {
         lines[at] = (*random.pick(&from)).to_string();
     }
     lines
+}
+
+/// A run of full length for a seed.
+pub fn full_run(seed: u64) -> Vec<u8> {
+    let mut random = Random::new(seed);
+    let window = random.between(1, WIDEST as usize);
+    let mut text = format!("{window}\n");
+    for length in lengths(&mut random, MOST) {
+        let _ = writeln!(text, "{length}");
+    }
+    text.into_bytes()
 }
 
 /// Inputs that are about their length: the most lengths, one more, and lines that

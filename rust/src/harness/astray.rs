@@ -243,10 +243,6 @@ fn is_body(runs: &[Run], position: usize) -> bool {
 }
 
 impl Calls for Astray {
-    fn stack(&self) -> usize {
-        2 * 1024 * 1024
-    }
-
     fn call(&self, call: Call, text: &[u8], words: Words, out: &mut [u8]) -> Answer {
         if call != Call::Undefined {
             return second(call, text, words, out);

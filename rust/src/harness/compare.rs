@@ -5,15 +5,16 @@ use super::{second, Calls};
 use crate::calls::{Answer, Words, LEAST_OUTPUT, LEAST_WORDS, PROGRAM_OUTPUT};
 use crate::generate::random::Random;
 use crate::generate::{Ask, Call};
+use std::cell::RefCell;
 use std::sync::LazyLock;
 use std::thread;
 
 /// Words and bytes around each slice that no call may touch.
-const MARGIN: usize = 16;
+pub(super) const MARGIN: usize = 16;
 
 /// The garbage that all of what is lent is cut from, made once: several times
 /// the longest slice, so that two cuts are hardly ever the same.
-static GARBAGE: LazyLock<(Vec<u64>, Vec<u8>)> = LazyLock::new(|| {
+pub(super) static GARBAGE: LazyLock<(Vec<u64>, Vec<u8>)> = LazyLock::new(|| {
     let mut random = Random::new(0);
     let words: Vec<u64> = (0..PROGRAM_OUTPUT).map(|_| random.word()).collect();
     let bytes = words.iter().flat_map(|word| word.to_ne_bytes()).collect();
@@ -21,27 +22,34 @@ static GARBAGE: LazyLock<(Vec<u64>, Vec<u8>)> = LazyLock::new(|| {
 });
 
 /// A piece of the garbage as long as a slice with its margins, from anywhere.
-fn cut<T: Clone>(random: &mut Random, garbage: &[T], length: usize) -> Vec<T> {
+pub(super) fn cut<'g, T>(random: &mut Random, garbage: &'g [T], length: usize) -> &'g [T] {
     let length = length + 2 * MARGIN;
     let start = random.below(garbage.len() - length);
-    garbage[start..start + length].to_vec()
+    &garbage[start..start + length]
 }
 
 /// What is lent, in the middle of what is not, all of it garbage.
-#[derive(Clone, PartialEq, Eq)]
+#[derive(Default)]
 struct Lent {
     words: [Vec<u64>; 3],
     out: Vec<u8>,
 }
 
+thread_local! {
+    /// Memory for the second evaluator and for the other, used again and again.
+    static LENT: RefCell<[Lent; 2]> = RefCell::default();
+}
+
 impl Lent {
-    fn garbage(seed: u64, ask: Ask) -> Lent {
+    fn fill(&mut self, seed: u64, ask: Ask) {
         let mut random = Random::new(seed);
         let (words, bytes) = &*GARBAGE;
-        Lent {
-            words: ask.words.map(|length| cut(&mut random, words, length)),
-            out: cut(&mut random, bytes, ask.out),
+        for (lent, length) in self.words.iter_mut().zip(ask.words) {
+            lent.clear();
+            lent.extend_from_slice(cut(&mut random, words, length));
         }
+        self.out.clear();
+        self.out.extend_from_slice(cut(&mut random, bytes, ask.out));
     }
 
     fn slices(&mut self) -> (Words<'_>, &mut [u8]) {
@@ -64,13 +72,25 @@ pub struct Compared {
 
 /// The garbage in what is lent follows from the seed.
 pub fn compare(calls: &dyn Calls, text: &[u8], ask: Ask, seed: u64) -> Compared {
-    let mut ours = Lent::garbage(seed, ask);
-    let mut theirs = ours.clone();
+    LENT.with_borrow_mut(|[ours, theirs]| {
+        ours.fill(seed, ask);
+        theirs.fill(seed, ask);
+        compare_lent(calls, text, ask.call, ours, theirs)
+    })
+}
+
+fn compare_lent(
+    calls: &dyn Calls,
+    text: &[u8],
+    call: Call,
+    ours: &mut Lent,
+    theirs: &mut Lent,
+) -> Compared {
     let (words, out) = ours.slices();
-    let answer = second(ask.call, text, words, out);
+    let answer = second(call, text, words, out);
     let copy = text.to_vec();
     let (words, out) = theirs.slices();
-    let other = on_stack(calls, ask.call, &copy, words, out);
+    let other = on_stack(calls, call, &copy, words, out);
     let written = ours.slices().1[..answer.length as usize].to_vec();
     let difference = if answer != other {
         Some(format!("expected {answer:?}\n     got {other:?}"))
@@ -79,7 +99,7 @@ pub fn compare(calls: &dyn Calls, text: &[u8], ask: Ask, seed: u64) -> Compared 
         Some(format!("word {place} of word slice {slice}"))
     } else if ours.out != theirs.out {
         let place = first_unlike(&ours.out, &theirs.out);
-        let (ours, theirs) = (spelt(&mut ours, answer), spelt(&mut theirs, answer));
+        let (ours, theirs) = (spelt(ours, answer), spelt(theirs, answer));
         Some(format!(
             "byte {place} of the output\nexpected {ours}\n     got {theirs}"
         ))
@@ -101,14 +121,16 @@ pub(super) fn answered(calls: &dyn Calls, call: Call, text: &[u8], seed: u64) ->
         words: [LEAST_WORDS; 3],
         out: LEAST_OUTPUT,
     };
-    let mut lent = Lent::garbage(seed, ask);
-    let (words, out) = lent.slices();
-    let answer = on_stack(calls, call, text, words, out);
-    (answer, spelt(&mut lent, answer))
+    LENT.with_borrow_mut(|[lent, _]| {
+        lent.fill(seed, ask);
+        let (words, out) = lent.slices();
+        let answer = on_stack(calls, call, text, words, out);
+        (answer, spelt(lent, answer))
+    })
 }
 
 /// Where two slices differ first, counted from the start of what is lent.
-fn first_unlike<T: PartialEq>(left: &[T], right: &[T]) -> isize {
+pub(super) fn first_unlike<T: PartialEq>(left: &[T], right: &[T]) -> isize {
     let unlike = left
         .iter()
         .zip(right)
@@ -129,9 +151,12 @@ pub(super) fn on_stack(
     words: Words,
     out: &mut [u8],
 ) -> Answer {
+    let Some(stack) = calls.stack() else {
+        return calls.call(call, text, words, out);
+    };
     thread::scope(|scope| {
         thread::Builder::new()
-            .stack_size(calls.stack())
+            .stack_size(stack)
             .spawn_scoped(scope, || calls.call(call, text, words, out))
             .expect("a thread can be started")
             .join()

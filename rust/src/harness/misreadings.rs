@@ -54,10 +54,6 @@ const fn wrong(case: TextCase, number: u64) -> Misreading {
 }
 
 impl Calls for Misreading {
-    fn stack(&self) -> usize {
-        2 * 1024 * 1024
-    }
-
     fn call(&self, call: Call, text: &[u8], words: Words, out: &mut [u8]) -> Answer {
         let answer = second(call, text, words, out);
         let met = Texts::of(text).map_or(Vec::new(), |texts| texts.met(call, answer));

@@ -1,13 +1,20 @@
 //! Compares the product's calls and program with the second evaluator's.
 
 pub mod astray;
+pub mod board_cases;
+pub mod board_tally;
+pub mod board_verdicts;
+pub mod boards;
 pub mod cases;
 pub mod clock;
 pub mod compare;
+pub mod corrections;
 pub mod definitions;
 pub mod faults;
 #[cfg(feature = "linked")]
 pub mod linked;
+pub mod mishandlings;
+mod misjudged_edits;
 pub mod misreadings;
 mod named;
 pub mod numberings;
@@ -24,6 +31,7 @@ pub mod runs;
 pub mod shrink;
 pub mod slack;
 pub mod slips;
+pub mod soak;
 pub mod standin;
 pub mod tally;
 pub mod text_cases;
@@ -34,8 +42,10 @@ use crate::generate::{Ask, Call};
 
 /// An implementation of the calls.
 pub trait Calls: Sync {
-    /// The stack the calls must do with.
-    fn stack(&self) -> usize;
+    /// The stack that the calls must do with; the caller's where there is none.
+    fn stack(&self) -> Option<usize> {
+        None
+    }
 
     /// The call, which reads nothing but the text and what is lent.
     fn call(&self, call: Call, text: &[u8], words: Words, out: &mut [u8]) -> Answer;

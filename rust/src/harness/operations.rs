@@ -228,8 +228,21 @@ impl Counts {
         }
     }
 
+    /// Adds what another one has counted.
+    pub fn join(&mut self, other: Counts) {
+        let counts = self.forms.iter_mut().chain(&mut self.cases);
+        for (count, more) in counts.zip(other.forms.into_iter().chain(other.cases)) {
+            *count += more;
+        }
+    }
+
     pub fn total(&self) -> u64 {
         self.forms.iter().sum()
+    }
+
+    /// How many cases there are.
+    pub fn cases(&self) -> usize {
+        self.cases.len()
     }
 
     /// The cases that were never met.

@@ -131,10 +131,6 @@ impl Oversight {
 }
 
 impl Calls for Oversight {
-    fn stack(&self) -> usize {
-        2 * 1024 * 1024
-    }
-
     fn call(&self, call: Call, text: &[u8], words: Words, out: &mut [u8]) -> Answer {
         if call != Call::Rows {
             return second(call, text, words, out);
@@ -190,10 +186,6 @@ impl Peek {
 }
 
 impl Calls for Peek {
-    fn stack(&self) -> usize {
-        2 * 1024 * 1024
-    }
-
     fn call(&self, call: Call, text: &[u8], words: Words, out: &mut [u8]) -> Answer {
         let mut answer = second(call, text, words, out);
         let (Call::Evaluate { rule, .. }, Ok((sheet, _))) = (call, accepted(text)) else {

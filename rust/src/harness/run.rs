@@ -1,7 +1,7 @@
 //! Comparisons over many sheets, up to the first difference.
 
 use super::cases::Cases;
-use super::compare::compare;
+use super::compare::{compare, Compared};
 use super::numberings::{self, Asked, NumberingCase};
 use super::origins::Origins;
 use super::pairs;
@@ -50,8 +50,7 @@ pub fn sheet(
     let texts = Texts::of(text);
     let origins = Origins::of(text);
     for ask in asks.iter().copied() {
-        let seed = garbage.word();
-        let compared = compare(calls, text, ask, seed);
+        let compared = asked(calls, text, ask, garbage.word())?;
         tally.add(ask.call, compared.answer);
         for case in cases.met(ask.call, compared.answer) {
             tally.add_case(case);
@@ -71,17 +70,23 @@ pub fn sheet(
         {
             tally.add_origin(name);
         }
-        if compared.difference.is_some() {
-            let how = |text: &[u8]| compare(calls, text, ask, seed).difference;
-            let text = shrink(text, |text| how(text).is_some());
-            return Err(Difference {
-                how: how(&text).unwrap_or_default(),
-                differs: Differs::Call(ask),
-                text,
-            });
-        }
     }
     Ok(())
+}
+
+/// One call, the garbage following from the seed.
+pub fn asked(calls: &dyn Calls, text: &[u8], ask: Ask, seed: u64) -> Result<Compared, Difference> {
+    let compared = compare(calls, text, ask, seed);
+    if compared.difference.is_none() {
+        return Ok(compared);
+    }
+    let how = |text: &[u8]| compare(calls, text, ask, seed).difference;
+    let text = shrink(text, |text| how(text).is_some());
+    Err(Difference {
+        how: how(&text).unwrap_or_default(),
+        differs: Differs::Call(ask),
+        text,
+    })
 }
 
 /// The rules of a sheet that are tried on another one.
@@ -268,6 +273,11 @@ pub fn all_vectors() -> io::Result<Vec<Vector>> {
     all.extend(profile_vectors()?);
     all.extend(origin_vectors()?);
     Ok(all)
+}
+
+/// Lists of edits with what they are answered, and the verdicts after each.
+pub fn board_vectors() -> io::Result<Vec<Vector>> {
+    vectors_of("board_vectors", "board")
 }
 
 /// The vectors of a crate in the order of their names.

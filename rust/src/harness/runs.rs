@@ -43,7 +43,7 @@ impl Record {
 }
 
 /// An implementation of the record and of the call over a whole text.
-pub trait Loads {
+pub trait Loads: Sync {
     fn push(&self, record: &mut Record, length: u16) -> bool;
     fn print(&self, text: &[u8], output: &mut [u8; LINE]) -> usize;
 }

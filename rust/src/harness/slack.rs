@@ -166,10 +166,6 @@ fn typed_rules(text: &[u8]) -> Option<Sheet> {
 }
 
 impl Calls for Slack {
-    fn stack(&self) -> usize {
-        2 * 1024 * 1024
-    }
-
     fn call(&self, call: Call, text: &[u8], words: Words, out: &mut [u8]) -> Answer {
         if call != Call::FreeNumbering {
             return second(call, text, words, out);
@@ -236,10 +232,6 @@ impl Favour {
 }
 
 impl Calls for Favour {
-    fn stack(&self) -> usize {
-        2 * 1024 * 1024
-    }
-
     fn call(&self, call: Call, text: &[u8], words: Words, out: &mut [u8]) -> Answer {
         let mut answer = second(call, text, words, out);
         let of_first = matches!(call, Call::Evaluate { object: 0, .. });

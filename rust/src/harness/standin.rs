@@ -12,10 +12,6 @@ pub struct StandIn {
 }
 
 impl Calls for StandIn {
-    fn stack(&self) -> usize {
-        2 * 1024 * 1024
-    }
-
     fn call(&self, call: Call, text: &[u8], words: Words, out: &mut [u8]) -> Answer {
         let [first, middle, last] = words;
         let left = middle.get(LEAST_WORDS - 1).copied();

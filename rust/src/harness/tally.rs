@@ -11,7 +11,7 @@ use crate::generate::Call;
 use std::fmt;
 
 const NAMES: [&str; 6] = ["read", "evaluate", "report", "rows", "profile", "undefined"];
-/// The numbers from 0 on; 21 is given to no call yet.
+/// The numbers from 0 on; 21 is given to none of these calls.
 pub const NUMBERS: usize = 25;
 
 /// Answers by call and number, and cases in the order of each kind's `ALL`, or of
@@ -131,6 +131,11 @@ impl Tally {
         for (count, more) in counts.zip(more) {
             *count += more;
         }
+    }
+
+    /// How often each number was answered, by all calls together.
+    pub fn numbers(&self) -> [u64; NUMBERS] {
+        std::array::from_fn(|number| self.answers.iter().map(|row| row[number]).sum())
     }
 
     /// The numbers a call can answer with and never did, and the cases never met.

@@ -127,7 +127,19 @@ impl<'a> Fields<'a> {
     }
 
     pub fn value(&mut self) -> Value {
-        let spelt = spelling::value(self.next());
-        self.keep(spelt, Value::Bool(false))
+        let field = self.next();
+        self.value_in(field)
+    }
+
+    /// A value, or none for a minus sign.
+    pub fn value_or_none(&mut self) -> Option<Value> {
+        match self.next() {
+            b"-" => None,
+            field => Some(self.value_in(field)),
+        }
+    }
+
+    fn value_in(&mut self, field: &[u8]) -> Value {
+        self.keep(spelling::value(field), Value::Bool(false))
     }
 }

@@ -1,5 +1,6 @@
 //! Reading a sheet, line by line.
 
+pub mod edits;
 mod fields;
 pub mod kinds;
 mod nodes;
@@ -10,14 +11,15 @@ mod steps;
 mod texts;
 pub mod tokens;
 
-use crate::model::{Definition, Row, Rule, Sheet};
+use crate::model::{Definition, Model, Row, Rule, Sheet};
 use crate::refusal::{Refusal, Refused};
 use crate::tree::{Node, DEEPEST_RULE};
 use crate::types::Type;
+use crate::values::Value;
 use fields::Fields;
 
-const MOST_VALUES: usize = 1_024;
-const MOST_VALUE_SIZES: usize = 2_048;
+pub const MOST_VALUES: usize = 1_024;
+pub const MOST_VALUE_SIZES: usize = 2_048;
 
 /// The blocks in their order.
 #[derive(Clone, Copy, Default, PartialEq, Eq, PartialOrd, Ord)]
@@ -160,14 +162,7 @@ impl Reader {
         let last = model.values.last();
         let ascends = last.is_none_or(|(last, _)| *last < (object, row));
         require(ascends && value.is_ordered(), Refusal::OutOfOrder)?;
-        let objects = model.objects.len();
-        let known = usize::from(object) < objects
-            && usize::from(row) < model.rows.len()
-            && value.objects_below(objects);
-        require(known, Refusal::UnknownReference)?;
-        let declared = &model.rows[usize::from(row)];
-        let suits = model.is_of(object, declared.class) && model.belongs(&value, &declared.ty);
-        require(suits, Refusal::ValueMismatch)?;
+        suits(model, object, row, Some(&value))?;
         self.value_sizes += value.size();
         model.values.push(((object, row), value));
         Ok(())
@@ -235,6 +230,20 @@ impl Reader {
         }
         Ok(())
     }
+}
+
+/// Object, row and the objects in a value are on the sheet, the object has such a row,
+/// and the value, if there is one, belongs to its type.
+fn suits(model: &Model, object: u8, row: u8, value: Option<&Value>) -> Result<(), Refusal> {
+    let objects = model.objects.len();
+    let known = usize::from(object) < objects
+        && usize::from(row) < model.rows.len()
+        && value.is_none_or(|value| value.objects_below(objects));
+    require(known, Refusal::UnknownReference)?;
+    let declared = &model.rows[usize::from(row)];
+    let suits = model.is_of(object, declared.class)
+        && value.is_none_or(|value| model.belongs(value, &declared.ty));
+    require(suits, Refusal::ValueMismatch)
 }
 
 fn require(holds: bool, refusal: Refusal) -> Result<(), Refusal> {

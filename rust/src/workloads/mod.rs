@@ -3,6 +3,7 @@
 mod areas;
 mod cap;
 mod densities;
+pub mod edits;
 mod sheets;
 mod texts;
 
@@ -39,6 +40,17 @@ pub struct Workload {
 }
 
 impl Workload {
+    /// One call for one text, small and large the same.
+    pub fn of(name: &'static str, call: Call, text: Vec<u8>) -> Workload {
+        Workload {
+            name,
+            unit: Unit::Line,
+            jobs: [vec![text.clone()], vec![text]],
+            call,
+            number: 0,
+        }
+    }
+
     /// The units of a text that the call answered and wrote the output for.
     pub fn units(&self, text: &[u8], answer: Answer, out: &[u8]) -> usize {
         let lines = |bytes: &[u8], start: &[u8]| {

@@ -1,11 +1,9 @@
 //! Calls of the second evaluator, with all that was lent checked.
 
-use second_evaluator::calls::{self, Answer, Words};
+mod text;
 
-pub fn text(sheet: &str) -> Vec<u8> {
-    let lines = sheet.split('|').map(|line| line.replace(' ', "\t") + "\n");
-    lines.collect::<String>().into_bytes()
-}
+use second_evaluator::calls::{self, Answer, Words};
+pub use text::text;
 
 /// The answer and what was written, with all that was lent checked.
 pub fn lent(call: impl Fn(Words, &mut [u8]) -> Answer) -> (Answer, String) {

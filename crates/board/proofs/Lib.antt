@@ -1,0 +1,13 @@
+pub mod Slots
+pub mod Cells
+pub mod Facts
+pub mod Within
+pub mod Judged
+pub mod Verdicts
+pub mod Taken
+pub mod AsLines
+pub mod Board
+pub mod Others
+pub mod Runs
+pub mod Ends
+pub mod Examples

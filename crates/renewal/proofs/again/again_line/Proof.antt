@@ -1,0 +1,44 @@
+-- `again_line` meets its contract. Assumes nothing.
+use Prim.Native.Nat.{ℕ}
+use lib.ListN.{length-replicate}
+use Rattle.renewal.proofs.AgainLaws.{line-size, line-room, line-again}
+use borrow.Author.Needs.{needs}
+use Rattle.renewal.proofs.again.again_line.Statement.{statement}
+use Rattle.renewal.proofs.again.again_line.Tie as tie
+
+slice-aggregate-fresh-line : tie.Need-slice-aggregate-fresh-line
+slice-aggregate-fresh-line c = search needs
+
+fresh-line-requires : tie.Need-fresh-line-requires
+fresh-line-requires c κs = search needs
+
+array-share-prefix-line : tie.Need-array-share-prefix-line
+array-share-prefix-line c = search needs
+
+slice-aggregate-put-bytes : tie.Need-slice-aggregate-put-bytes
+slice-aggregate-put-bytes c = line-size _ (c .before .before .before .before .before .fresh-line .ensures) (length-replicate {A = ℕ} 5120 0)
+
+put-bytes-requires : tie.Need-put-bytes-requires
+put-bytes-requires c κs = line-room _ (c .before .before .before .before .before .fresh-line .ensures) (length-replicate {A = ℕ} 5120 0) (c .before .before .before .before .before .before .before .before .before .before .before .before .pre .1)
+
+same-length : tie.Need-same-length
+same-length c = search needs
+
+same-length-2 : tie.Need-same-length-2
+same-length-2 c = search needs
+
+returns : tie.Need-returns
+returns c = line-again _ (c .before .before .before .before .before .before .before .before .fresh-line .ensures) (length-replicate {A = ℕ} 5120 0) (c .before .before .put-bytes .ensures) (search needs)
+
+pub again-line-spec : {M : Type 1} → statement M
+again-line-spec =
+    tie.close
+    (tie.spec
+    slice-aggregate-fresh-line
+    fresh-line-requires
+    array-share-prefix-line
+    slice-aggregate-put-bytes
+    put-bytes-requires
+    same-length
+    same-length-2
+    returns)

@@ -1,0 +1,52 @@
+-- `fresh_lines` meets its contract. Assumes nothing.
+use Prim.Native.Nat.{_-_}
+use native.Mathlib.Omega.{arith}
+use Rattle.renewal.proofs.FreshLaws.{ObjectsTo, objects-none, objects-next, objects-few, objects-all}
+use borrow.Author.Needs.{needs}
+use Rattle.renewal.proofs.fresh.fresh_lines.Statement.{statement}
+use Rattle.renewal.proofs.fresh.fresh_lines.Tie as tie
+
+abbrev Inv-loop : tie.InvT-loop
+Inv-loop w0 st w1 w2₀ r buf₀ sums₀ o₀ w2 buf sums o = ObjectsTo st w0 w1 r sums₀ w2₀ w2 buf₀ buf o sums
+
+abbrev μ-loop : tie.MeasureT-loop
+μ-loop w0 st w1 w2₀ r buf₀ sums₀ o₀ w2 buf sums o = st .objects - o
+
+loop-holds : tie.Need-loop-holds Inv-loop μ-loop
+loop-holds c = objects-none _ _
+
+fresh-line-requires : tie.Need-fresh-line-requires Inv-loop μ-loop
+fresh-line-requires c κs = ((c .before .before .before .before .before .before .before .before .before .pre .0 .0, c .before .before .before .before .before .before .before .before .before .pre .0 .1, omega (arith, c .before .before .before .before .before .before .before .before .before .pre .0 .2, c .before .before .before .before .loop .inv .so .kept .size), c .before .before .before .before .before .before .before .before .before .pre .0 .3, c .before .before .if1 .taken), (omega (arith, c .before .before .before .before .before .before .before .before .before .pre .1 .0, c .before .before .before .before .loop .inv .so .size), objects-few (c .before .before .before .before .loop .inv) (c .before .before .before .before .before .before .before .before .before .pre .0 .3) (c .before .before .before .before .before .before .before .before .before .pre .1 .1) (c .before .before .before .before .before .before .before .before .before .pre .1 .2) .0, objects-few (c .before .before .before .before .loop .inv) (c .before .before .before .before .before .before .before .before .before .pre .0 .3) (c .before .before .before .before .before .before .before .before .before .pre .1 .1) (c .before .before .before .before .before .before .before .before .before .pre .1 .2) .1))
+
+add-o : tie.Need-add-o Inv-loop μ-loop
+add-o c = search needs
+
+loop-less : tie.Need-loop-less Inv-loop μ-loop
+loop-less c = search needs
+
+loop-again : tie.Need-loop-again Inv-loop μ-loop
+loop-again c = search objects-next
+
+same-length : tie.Need-same-length Inv-loop μ-loop
+same-length c = cc
+
+same-length-2 : tie.Need-same-length-2 Inv-loop μ-loop
+same-length-2 c = cc
+
+returns : tie.Need-returns Inv-loop μ-loop
+returns c = search objects-all
+
+pub fresh-lines-spec : {M : Type 1} → statement M
+fresh-lines-spec =
+    tie.close
+    (tie.spec
+    Inv-loop
+    μ-loop
+    loop-holds
+    fresh-line-requires
+    add-o
+    loop-less
+    loop-again
+    same-length
+    same-length-2
+    returns)

@@ -1,0 +1,81 @@
+-- `renew_touched` meets its contract. Assumes nothing.
+use Prim.Native.Nat.{ℕ}
+use native.Mathlib.Omega.{arith}
+use lib.ListN.{length-replicate}
+use Rattle.renewal.proofs.RenewalLaws.{few-rules, rising-by, fresh-rising, some-placing, renewed-written, renewed-short}
+use borrow.Author.Needs.{needs}
+use Rattle.renewal.proofs.renew_touched.Statement.{statement}
+use Rattle.renewal.proofs.renew_touched.Tie as tie
+
+wide-requires : tie.Need-wide-requires
+wide-requires c κs = search needs
+
+slice-aggregate-fresh-rules : tie.Need-slice-aggregate-fresh-rules
+slice-aggregate-fresh-rules c = search needs
+
+slice-aggregate-fresh-rules-2 : tie.Need-slice-aggregate-fresh-rules-2
+slice-aggregate-fresh-rules-2 c = search needs
+
+fresh-rules-requires : tie.Need-fresh-rules-requires
+fresh-rules-requires c κs = search needs
+
+slice-aggregate-place : tie.Need-slice-aggregate-place
+slice-aggregate-place c = search needs
+
+place-requires : tie.Need-place-requires
+place-requires c κs = ((few-rules (c .before .before .before .before .before .before .before .before .before .before .wide .ensures) (c .before .before .before .before .before .before .before .before .before .before .before .before .before .before .before .before .before .pre .0 .3), omega (arith, few-rules (c .before .before .before .before .before .before .before .before .before .before .wide .ensures) (c .before .before .before .before .before .before .before .before .before .before .before .before .before .before .before .before .before .pre .0 .3), c .before .before .before .before .before .before .before .before .before .before .before .before .before .before .before .before .before .pre .1 .0), omega (arith, few-rules (c .before .before .before .before .before .before .before .before .before .before .wide .ensures) (c .before .before .before .before .before .before .before .before .before .before .before .before .before .before .before .before .before .pre .0 .3), c .before .before .before .before .before .before .fresh-rules .ensures .ends-size, length-replicate {A = ℕ} 64 0), omega (arith, few-rules (c .before .before .before .before .before .before .before .before .before .before .wide .ensures) (c .before .before .before .before .before .before .before .before .before .before .before .before .before .before .before .before .before .pre .0 .3), c .before .before .before .before .before .before .before .before .before .before .before .before .before .before .before .before .before .pre .1 .1)), (rising-by (c .before .before .before .before .before .before .before .before .before .before .wide .ensures) (c .before .before .before .before .before .before .before .before .before .before .before .before .before .before .before .before .before .pre .1 .2), fresh-rising (c .before .before .before .before .before .before .before .before .before .before .wide .ensures) (c .before .before .before .before .before .before .fresh-rules .ensures) (c .before .before .before .before .before .before .before .before .before .before .before .before .before .before .before .before .before .pre .0 .3)))
+
+slice-aggregate-rearrange : tie.Need-slice-aggregate-rearrange
+slice-aggregate-rearrange c = search needs
+
+slice-aggregate-rearrange-2 : tie.Need-slice-aggregate-rearrange-2
+slice-aggregate-rearrange-2 c = search needs
+
+rearrange-requires : tie.Need-rearrange-requires
+rearrange-requires c κs = ((c .before .before .before .before .before .before .before .before .before .before .before .before .before .before .before .before .before .before .before .before .before .before .before .before .before .before .pre .0 .0, c .before .before .before .before .before .before .before .before .before .before .before .before .before .before .before .before .before .before .before .before .before .before .before .before .before .before .pre .0 .1, omega (arith, c .before .before .before .before .before .before .before .before .before .before .before .before .before .before .before .before .before .before .before .before .before .before .before .before .before .before .pre .0 .2, c .before .before .before .before .before .before .before .before .before .before .before .before .before .before .before .fresh-rules .ensures .kept .size), c .before .before .before .before .before .before .before .before .before .before .before .before .before .before .before .before .before .before .before .before .before .before .before .before .before .before .pre .1 .0, omega (arith, c .before .before .before .before .before .before .before .before .before .before .before .before .before .before .before .fresh-rules .ensures .ends-size, length-replicate {A = ℕ} 64 0), omega (arith, c .before .before .before .before .before .before .before .before .before .before .before .before .before .before .before .fresh-rules .ensures .size, length-replicate {A = ℕ} 18944 0)), (omega (arith, c .before .before .before .before .before .before .before .before .before .before .before .before .before .before .before .before .before .before .before .before .before .before .before .before .before .before .pre .1 .1, c .before .before .before .before .before .before .before .before .place .ensures .size), some-placing (c .before .before .before .before .before .before .before .before .before .before .before .before .before .before .before .fresh-rules .ensures) _ (c .before .before .before .before .before .before .before .before .before .before .before .before .before .before .before .before .before .before .before .wide .ensures) (c .before .before .before .before .before .before .before .before .place .ensures) (c .before .before .before .before .before .if1 .taken) (c .before .before .before .before .before .before .before .before .before .before .before .before .before .before .before .before .before .before .before .before .before .before .before .before .before .before .pre .0 .3) (c .before .before .before .before .before .before .before .before .before .before .before .before .before .before .before .before .before .before .before .before .before .before .before .before .before .before .pre .1 .2), c .before .before .before .before .before .before .before .before .before .before .before .before .before .before .before .before .before .before .before .before .before .before .before .before .before .before .pre .1 .2))
+
+start-of-requires : tie.Need-start-of-requires
+start-of-requires c κs = omega (arith, few-rules (c .before .before .before .before .before .before .before .before .before .before .before .before .before .before .before .before .before .before .before .before .before .before .before .before .before .wide .ensures) (c .before .before .before .before .before .before .before .before .before .before .before .before .before .before .before .before .before .before .before .before .before .before .before .before .before .before .before .before .before .before .before .before .pre .0 .3), c .before .before .before .before .before .before .before .before .before .before .before .before .before .before .before .before .before .before .before .before .before .before .before .before .before .before .before .before .before .before .before .before .pre .1 .1, c .before .before .before .before .before .before .before .before .before .before .before .before .before .before .place .ensures .size)
+
+same-length : tie.Need-same-length
+same-length c = search needs
+
+same-length-2 : tie.Need-same-length-2
+same-length-2 c = search needs
+
+same-length-3 : tie.Need-same-length-3
+same-length-3 c = search needs
+
+returns : tie.Need-returns
+returns c = renewed-written (c .before .before .before .before .before .before .before .before .before .before .before .before .before .before .before .before .before .before .before .before .before .before .fresh-rules .ensures) _ (c .before .before .before .before .before .before .before .before .before .before .before .before .before .before .before .before .before .before .before .before .before .before .before .before .before .before .wide .ensures) (c .before .before .before .before .before .before .before .before .before .before .before .before .before .before .before .place .ensures) (c .before .before .before .before .before .before .before .before .before .before .before .before .if1 .taken) (c .before .before .before .before .before .before .rearrange .ensures) (c .start-of .ensures)
+
+same-length-4 : tie.Need-same-length-4
+same-length-4 c = search needs
+
+same-length-5 : tie.Need-same-length-5
+same-length-5 c = search needs
+
+returns-2 : tie.Need-returns-2
+returns-2 c = renewed-short (c .before .before .before .before .before .before .before .before .before .before .fresh-rules .ensures) _ (c .before .before .before .before .before .before .before .before .before .before .before .before .before .before .wide .ensures) (c .before .before .before .place .ensures) (c .if1 .left)
+
+pub renew-touched-spec : {M : Type 1} → statement M
+renew-touched-spec =
+    tie.close
+    (tie.spec
+    wide-requires
+    slice-aggregate-fresh-rules
+    slice-aggregate-fresh-rules-2
+    fresh-rules-requires
+    slice-aggregate-place
+    place-requires
+    slice-aggregate-rearrange
+    slice-aggregate-rearrange-2
+    rearrange-requires
+    start-of-requires
+    same-length
+    same-length-2
+    same-length-3
+    returns
+    same-length-4
+    same-length-5
+    returns-2)

@@ -1,0 +1,4 @@
+pub mod Touched
+pub mod Fresh
+pub mod Spread
+pub mod Renewed

@@ -1,0 +1,96 @@
+-- A slot's cells taken from words: the answers of `copy_cells` and `take_cells`. Assumes nothing.
+use mathlib.Core.Path.{_≡_, refl, sym, ap, _∙_}
+use mathlib.Core.Bool.{Bool, true, false, _&&_, true≢false}
+use mathlib.Core.List.{List, _++_}
+use Prim.Native.Nat.{ℕ, _+_, _-_, _/_, _%_, _<_, _≤_}
+use native.Mathlib.Omega.{arith}
+use native.Mathlib.Numerals.{add-one}
+use lib.ListN.{length, getD, take, drop, set}
+use lib.Seq.{slice, paste, paste-suc, take-paste, drop-paste, take-length, drop-drop, drop-at, length-take-le}
+use lib.Dec.{T, ltb, leb, leb→le}
+use Rattle.laws.proofs.Tests.{and-r, test-fails}
+use Rattle.laws.proofs.Slices.{trim}
+use Rattle.ocl.specs.Values.{size}
+use Rattle.sheet.specs.Sheet.{Slot, Sheet}
+use Rattle.sheet.specs.Limits.{totalSize, valueWithin, withinLimits}
+use Rattle.board.proofs.Facts.{lineFor}
+use Rattle.values.specs.Cells.{enc}
+use Rattle.values.proofs.Encoding.{size-law}
+use Rattle.tables.specs.declared.Counts.{Counts}
+use Rattle.tables.specs.declared.Step.{Step as CodeStep}
+use Rattle.tables.specs.declared.Step.the-variants as code
+use Rattle.tables.specs.Layout.{slotKey, Holds, Fine, moved-stop}
+use Rattle.tables.proofs.Tables.{kept-refl, kept-then}
+use Rattle.tables.proofs.Steps.{over-limits}
+use Rattle.slots.specs.Slots.{SlotTook}
+use Rattle.slots.proofs.LineLaws.{kept-behind, holds-behind}
+use Rattle.replay.specs.Values.{IsValue}
+use Rattle.replay.specs.Slots.{CellsTook}
+use Rattle.replay.proofs.TakingLaws.{stop-next}
+
+-- ---- a slot's cells
+
+module _ {cells : List ℕ} {key : ℕ} {st : Counts} (w0 w1 : List ℕ) {b : Bool} (value : IsValue cells b) where
+  pub no-cells : b ≡ false → CellsTook cells key st (code.Stop 4) w0 w1 w0
+  no-cells z = record {
+    is = λ s x h m k l f w e. absurd (true≢false (sym (value .is (x .value) f w e) ∙ z));
+    found = λ e. stop-next e;
+    kept = kept-refl w0;
+  }
+
+  pub no-room : (fine : Fine st) → 2048 - st .cells < length cells → CellsTook cells key st (code.Stop 4) w0 w1 w0
+  unfolding withinLimits
+  no-room fine h = record {
+    is = λ s x g m k l f w e. rw (over-limits s 1 (lineFor x) (test-fails (withinLimits s (lineFor x)) (λ t. full s x g e t))) moved-stop;
+    found = λ e. stop-next e;
+    kept = kept-refl w0;
+  }
+    where
+      full : (s : Sheet) (x : Slot) → Holds st w0 w1 s → cells ≡ enc (x .value) → T (withinLimits s (lineFor x)) → ⊥
+      full s x g e t =
+          let l = leb→le (totalSize (s .slots) + size (x .value)) 2048
+          (and-r (ltb (x .object) 96 && ltb (x .row) 64 && valueWithin (x .value) && ltb (length (s .slots)) 1024) (leb (totalSize (s .slots) + size (x .value)) 2048) t) in
+          omega (arith, size-law (x .value), ap length e, g .counted .cells)
+
+  module _ (yes : b ≡ true) (low : key < 6144) (fine : Fine st) (long : 8192 ≤ length w0) (room : st .cells + length cells ≤ 2048) {used : ℕ} (count : used ≡ st .cells) {v0 : List ℕ}
+      (copied : v0 ≡ paste w0 (2400 + used) cells (length cells)) (same : length v0 ≡ length w0) where
+    abbrev at : ℕ
+    at = 2400 + st .cells
+
+    pasted : v0 ≡ paste w0 at cells (length cells)
+    pasted = copied ∙ ap (λ (i : ℕ). paste w0 (2400 + i) cells (length cells)) count
+
+    up-to : take (at + length cells) v0 ≡ take at w0 ++ cells
+    up-to = ap (take (at + length cells)) pasted ∙ take-paste w0 at cells (length cells) (omega arith) (omega arith) ∙ ap (λ (l : List ℕ). take at w0 ++ l) (take-length cells)
+
+    front : take at v0 ≡ take at w0
+    front = trim at (length cells) v0 (take at w0) cells (length-take-le at w0 (omega arith)) up-to
+
+    back : drop 4448 v0 ≡ drop 4448 w0
+    back =
+        let m = at + length cells in
+        let z : m + (4448 - m) ≡ 4448 = omega arith in
+        ap (λ (i : ℕ). drop i v0) (sym z) ∙ sym (drop-drop (4448 - m) m v0)
+        ∙ ap (drop (4448 - m)) (ap (drop m) pasted ∙ drop-paste w0 at cells (length cells) (omega arith) (omega arith))
+        ∙ drop-drop (4448 - m) m w0 ∙ ap (λ (i : ℕ). drop i w0) z
+
+    lies : slice at (at + length cells) v0 ≡ cells
+    lies = ap (drop at) up-to ∙ drop-at (take at w0) cells at (length-take-le at w0 (omega arith))
+
+    pub put-cells : {r : CodeStep} {u0 : List ℕ} → SlotTook st 1 (key / 64) (key % 64) (length cells) r v0 w1 u0 → CellsTook cells key st r w0 w1 u0
+    unfolding slotKey
+    put-cells took = record {
+      is = λ s x h m k l f w e.
+          took .is s (x .object) (x .row) (x .value) (holds-behind v0 w0 front back refl same long fine h) m (record { fits = f; lies = lies ∙ e }) (ap length e ∙ size-law (x .value)) w
+          (omega arith) (omega arith);
+      found = λ e. value .found yes;
+      kept = kept-then (kept-behind v0 w0 front back refl same long fine) (took .kept0);
+    }
+
+-- ---- cells copied one by one
+
+pub paste-more : (S : List ℕ) {T : List ℕ} (t : List ℕ) (to i : ℕ) → T ≡ paste S to t i → to + i < length S → i < length t → set T (to + i) (getD t i 0) ≡ paste S to t (i + 1)
+paste-more S t to i e h l = rw (e, add-one i) (paste-suc S to t i 0 h l)
+
+pub paste-done : (S : List ℕ) {T : List ℕ} (t : List ℕ) (to i : ℕ) → T ≡ paste S to t i → length t ≤ i → i ≤ length t → T ≡ paste S to t (length t)
+paste-done S t to i e h l = e ∙ ap (λ (k : ℕ). paste S to t k) (let z : i ≡ length t = omega arith in z)

@@ -1,0 +1,13 @@
+pub mod CellLaws
+pub mod MemberLaws
+pub mod ValueLaws
+pub mod TakingLaws
+pub mod CopyLaws
+pub mod ValuedLaws
+pub mod EditFieldLaws
+pub mod ClearingLaws
+pub mod JudgingLaws
+pub mod FoundLaws
+pub mod ReplayLaws
+pub mod EditSlotLaws
+pub mod EditLineLaws

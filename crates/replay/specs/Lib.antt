@@ -1,0 +1,4 @@
+pub mod Values
+pub mod Slots
+pub mod Judging
+pub mod Replays

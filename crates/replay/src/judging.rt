@@ -1,0 +1,127 @@
+// An edit's line judged by itself, as a V line is on a sheet without values. Document 02, F-10.
+ghost use mathlib.Core.Path.{_≡_};
+ghost use mathlib.Core.Bool.{true, false};
+ghost use mathlib.Core.List.{List, []};
+ghost use Prim.Native.Nat.{ℕ, _≤_};
+ghost use lib.ListN.{length, getD};
+ghost use Rattle.sheet.specs.Text.{bytes, fieldsOf};
+ghost use Rattle.sheet.specs.Lines.{is};
+ghost use Rattle.text.specs.Parts.{Cut};
+ghost use Rattle.tables.specs.Layout.{Fine};
+ghost use Rattle.replay.specs.Slots.{Lying};
+ghost use Rattle.replay.specs.Judging.{emptyCounts, clearsLine, ClearingAs, Judges, OwnTook};
+use slots::line::value_line;
+use slots::suits::object_suits;
+use tables::Counts;
+use tables::Step;
+use text::numbers::Num;
+use text::numbers::number;
+use text::parts::Fields;
+use text::parts::field;
+use types::classes::wide;
+
+// The key of the edited slot, its object times 64 and its row; or a refusal's number.
+pub enum Judged {
+    Key(u64),
+    Stop(u64),
+}
+
+// The counts of the sheet without its values, where V lines may come.
+pub fn emptied(st: Counts) -> Counts
+    ensures { λ r. ⌜ r ≡ emptyCounts st ⌝ }
+{
+    let mut r = st;
+    r.block = 3;
+    r.slots = 0;
+    r.cells = 0;
+    r.open = 0;
+    r
+}
+
+// Whether the line has `-` for its value.
+fn clears(line: &[u8], f: Fields) -> bool
+    requires { ⌜ Cut (now line) f ⌝ }
+    ensures { λ r. ⌜ r ≡ clearsLine (fieldsOf (now (line .entry))) ⌝ }
+{
+    if f.count != 4 {
+        return false;
+    }
+    let last = field(line, f, 3);
+    if last.len() != 1 {
+        return false;
+    }
+    last[0] == b'-'
+}
+
+// Clearing row a for object o, each a million at most.
+fn judge_cleared(w0: &[u64], st: Counts, o: u64, a: u64) -> Judged
+    requires { ⌜ (8192 ≤ length (now w0)) × Fine st ⌝ }
+    ensures { λ r. ⌜ ((w1 : List ℕ) → ClearingAs st o a (now (w0 .entry)) w1 r) ⌝ }
+{
+    if 96 <= o {
+        return Judged::Stop(4);
+    }
+    if 64 <= a {
+        return Judged::Stop(4);
+    }
+    if st.objects <= o {
+        return Judged::Stop(6);
+    }
+    if st.rows <= a {
+        return Judged::Stop(6);
+    }
+    let classes = wide(st.classes);
+    let objects_end = 256 + wide(st.objects);
+    let i = wide(a);
+    if !object_suits(&w0[..classes], &w0[256..objects_end], o, 5, w0[64 + i]) {
+        return Judged::Stop(7);
+    }
+    Judged::Key(o * 64 + a)
+}
+
+// A line that clears.
+fn judge_clearing(line: &[u8], f: Fields, w0: &[u64], st: Counts) -> Judged
+    requires { ⌜ Cut (now line) f × (is (getD (fieldsOf (now line)) 0 []) (bytes "V") ≡ true) × (clearsLine (fieldsOf (now line)) ≡ true) × (8192 ≤ length (now w0)) × Fine st ⌝ }
+    ensures { λ r. ⌜ ((w1 : List ℕ) → Judges (now (line .entry)) st r (now (w0 .entry)) w1 (now (w0 .entry))) ⌝ }
+{
+    let Num::Is(o) = number(field(line, f, 1)) else {
+        return Judged::Stop(3);
+    };
+    let Num::Is(a) = number(field(line, f, 2)) else {
+        return Judged::Stop(3);
+    };
+    judge_cleared(w0, st, o, a)
+}
+
+// Any other line: its value is taken as the first one, and its key read where it then lies.
+fn judge_value(line: &[u8], f: Fields, w0: &mut [u64], st: Counts) -> Judged
+    requires { ⌜ Cut (now line) f × (is (getD (fieldsOf (now line)) 0 []) (bytes "V") ≡ true) × (clearsLine (fieldsOf (now line)) ≡ false) × (8192 ≤ length (now w0)) × Fine st ⌝ }
+    ensures { λ r. ⌜ ((w1 : List ℕ) → Judges (now (line .entry)) st r (now (w0 .entry)) w1 (now (w0 .exit))) ⌝ }
+{
+    match value_line(line, f, w0, emptied(st)) {
+        Step::Stop(n) => Judged::Stop(n),
+        Step::Next(_) => Judged::Key(w0[352]),
+    }
+}
+
+// The edit's line, whose first field is `V`.
+pub fn judge(line: &[u8], f: Fields, w0: &mut [u64], st: Counts) -> Judged
+    requires { ⌜ Cut (now line) f × (is (getD (fieldsOf (now line)) 0 []) (bytes "V") ≡ true) × (8192 ≤ length (now w0)) × Fine st ⌝ }
+    ensures { λ r. ⌜ ((w1 : List ℕ) → Judges (now (line .entry)) st r (now (w0 .entry)) w1 (now (w0 .exit))) ⌝ }
+{
+    if clears(line, f) {
+        return judge_clearing(line, f, w0, st);
+    }
+    judge_value(line, f, w0, st)
+}
+
+// The edit's own slot in its place, if it has one.
+pub fn own_slot(line: &[u8], f: Fields, w0: &mut [u64], st: Counts) -> Step
+    requires { ⌜ Cut (now line) f × (is (getD (fieldsOf (now line)) 0 []) (bytes "V") ≡ true) × (8192 ≤ length (now w0)) × Lying st (now w0) ⌝ }
+    ensures { λ r. ⌜ ((w1 : List ℕ) → OwnTook (now (line .entry)) st r (now (w0 .entry)) w1 (now (w0 .exit))) ⌝ }
+{
+    if clears(line, f) {
+        return Step::Next(st);
+    }
+    value_line(line, f, w0, st)
+}

@@ -1,0 +1,140 @@
+// The slots in a board's words, each taken as its V line would be.
+ghost use mathlib.Core.Path.{_≡_};
+ghost use mathlib.Core.List.{List};
+ghost use Prim.Native.Nat.{ℕ, _+_, _<_, _≤_};
+ghost use lib.ListN.{length};
+ghost use lib.Seq.{paste};
+ghost use Rattle.replay.specs.Slots.{endIn, afterIn, FirstFrom, Lying, CellsTook, SlotReplayed, SlotsReplayed};
+use crate::value::is_value;
+use slots::line::put_slot;
+use tables::Counts;
+use tables::Step;
+use types::classes::wide;
+
+// Where the tables start, in w0 and in the board's words.
+const KEYS: usize = 352;
+
+const STARTS: usize = 1376;
+
+const CELLS: usize = 2400;
+// Keys are below 96 objects times 64 rows.
+const MOST_KEYS: u64 = 6144;
+// There are at most this many cells.
+const MOST_CELLS: usize = 2048;
+
+// Where the cells of slot j of n end: where those of the next one start, or behind the last cell.
+fn end_of(words: &[u64], n: usize, j: usize) -> u64
+    requires { ⌜ (8192 ≤ length (now words)) × (j < n) × (n ≤ 1024) ⌝ }
+    ensures { λ r. ⌜ r ≡ endIn (now (words .entry)) n j ⌝ }
+{
+    if j + 1 == n {
+        return words[1];
+    }
+    words[STARTS + (j + 1)]
+}
+
+// Copies the cells to `at`.
+fn copy_cells(w0: &mut [u64], at: usize, cells: &[u64])
+    requires { ⌜ at + length (now cells) ≤ length (now w0) ⌝ }
+    ensures { λ _. ⌜ now (w0 .exit) ≡ paste (now (w0 .entry)) at (now (cells .entry)) (length (now (cells .entry))) ⌝ }
+{
+    let mut i: usize = 0;
+    while i < cells.len() {
+        w0[at + i] = cells[i];
+        i += 1;
+    }
+}
+
+// The slot with this key and these cells.
+fn take_cells(cells: &[u64], key: u64, w0: &mut [u64], st: Counts) -> Step
+    requires { ⌜ (8192 ≤ length (now w0)) × Lying st (now w0) × (0 < length (now cells)) × (key < 6144) ⌝ }
+    ensures { λ r. ⌜ ((w1 : List ℕ) → CellsTook (now (cells .entry)) key st r (now (w0 .entry)) w1 (now (w0 .exit))) ⌝ }
+{
+    if !is_value(cells) {
+        return Step::Stop(4);
+    }
+    let used = wide(st.cells);
+    if MOST_CELLS - used < cells.len() {
+        return Step::Stop(4);
+    }
+    copy_cells(w0, CELLS + used, cells);
+    put_slot(w0, st, key / 64, key % 64, cells.len())
+}
+
+// Slot j of the n slots in the words.
+fn take_slot(words: &[u64], n: usize, j: usize, w0: &mut [u64], st: Counts) -> Step
+    requires { ⌜ (8192 ≤ length (now words)) × (8192 ≤ length (now w0)) × Lying st (now w0) × (j < n) × (n ≤ 1024) ⌝ }
+    ensures { λ r. ⌜ ((w1 : List ℕ) → SlotReplayed (now (words .entry)) n j st r (now (w0 .entry)) w1 (now (w0 .exit))) ⌝ }
+{
+    let key = words[KEYS + j];
+    if MOST_KEYS <= key {
+        return Step::Stop(4);
+    }
+    let from = wide(words[STARTS + j]);
+    let to = wide(end_of(words, n, j));
+    if MOST_CELLS < to {
+        return Step::Stop(4);
+    }
+    if to <= from {
+        return Step::Stop(4);
+    }
+    let a = CELLS + from;
+    let e = CELLS + to;
+    take_cells(&words[a..e], key, w0, st)
+}
+
+// The slots from `from` to `to` of the n slots in the words, one after the other.
+pub fn take_slots(
+    words: &[u64],
+    n: usize,
+    from: usize,
+    to: usize,
+    w0: &mut [u64],
+    st: Counts,
+) -> Step
+    requires { ⌜ (8192 ≤ length (now words)) × (8192 ≤ length (now w0)) × Lying st (now w0) × (from ≤ to) × (to ≤ n) × (n ≤ 1024) ⌝ }
+    ensures { λ r. ⌜ ((w1 : List ℕ) → SlotsReplayed (now (words .entry)) n from to st r (now (w0 .entry)) w1 (now (w0 .exit))) ⌝ }
+{
+    let mut su = st;
+    let mut j = from;
+    while j < to {
+        match take_slot(words, n, j, w0, su) {
+            Step::Stop(k) => {
+                return Step::Stop(k);
+            }
+            Step::Next(next) => {
+                su = next;
+            }
+        }
+        j += 1;
+    }
+    Step::Next(su)
+}
+
+// How many of the n slots come before the key.
+pub fn slots_before(words: &[u64], n: usize, key: u64) -> usize
+    requires { ⌜ (8192 ≤ length (now words)) × (n ≤ 1024) ⌝ }
+    ensures { λ r. ⌜ FirstFrom (now (words .entry)) n key r ⌝ }
+{
+    let mut p: usize = 0;
+    while p < n {
+        if key <= words[KEYS + p] {
+            return p;
+        }
+        p += 1;
+    }
+    p
+}
+
+// The first of the n slots that comes after the key, where p come before it.
+pub fn slot_after(words: &[u64], n: usize, p: usize, key: u64) -> usize
+    requires { ⌜ (8192 ≤ length (now words)) × (p ≤ n) × (n ≤ 1024) ⌝ }
+    ensures { λ r. ⌜ r ≡ afterIn (now (words .entry)) n p key ⌝ }
+{
+    if p < n {
+        if words[KEYS + p] == key {
+            return p + 1;
+        }
+    }
+    p
+}

@@ -1,0 +1,298 @@
+//! The cases of making a board and of editing it that a comparison must have met.
+
+use super::board_verdicts::seen;
+use super::named::cases;
+use crate::calls::{Answer, LEAST_BOARD, LEAST_VERDICTS, LEAST_WORDS, LONGEST_SHEET};
+use crate::generate::turns::{Tampering, Turn, What};
+use crate::model::{Edit, Sheet};
+use crate::read::edits::edit;
+use crate::read::{MOST_VALUES, MOST_VALUE_SIZES};
+use crate::report::report;
+use crate::values::Value;
+
+cases! {
+    BoardCase:
+    ShortWords: "a board, and a word slice too short",
+    ShortBoard: "a board, and its words too few",
+    ShortVerdicts: "a board, and verdict bytes too few",
+    LongerBoard: "a board with more words than it needs",
+    MadeAgain: "a board made again",
+    MadeJustFits: "a board made, its verdicts just fitting",
+    MadeTooLong: "a board refused for its verdicts",
+    NoRules: "a board without rules",
+    NoValues: "a board without values",
+    Set: "an edit that sets a value where none stood",
+    Changed: "an edit that changes a value",
+    Same: "an edit with the value that stood",
+    Cleared: "an edit that clears a value",
+    ClearedEmpty: "an edit that clears where no value stood",
+    FirstOfAll: "an edit before all other values",
+    LastOfAll: "an edit behind all other values",
+    Unseen: "an edit that no rule sees",
+    SeenByAll: "an edit that every rule of several sees",
+    SeenBySome: "an edit that some rules see and others do not",
+    Called: "an edit that a rule sees only through a definition",
+    CalledFurther: "an edit that a rule sees only through a definition's call",
+    Collected: "an edit that a rule sees only by collect",
+    Unrun: "an edit that a rule sees only in a part that is not run",
+    SameName: "an edit in a row with the name of one that a rule sees",
+    NoObjects: "an edit that a rule without objects sees",
+    OtherObject: "an edit after which another object has another verdict",
+    OneOfSeveral: "an edit after which not all verdicts of a rule are others",
+    NoOther: "an edit seen by a rule, after which no verdict is another one",
+    Longer: "an edit after which verdicts are longer",
+    Shorter: "an edit after which verdicts are shorter",
+    MovedBack: "an edit after which a later rule's lines stand further back",
+    MovedAhead: "an edit after which a later rule's lines stand further ahead",
+    Stopped: "an edit after which a rule is stopped",
+    NoLongerStopped: "an edit after which a rule is no longer stopped",
+    StepsOfStop: "an edit with the steps of a step stop among its own",
+    JustFits: "an edit, its verdicts just fitting",
+    TooLong: "an edit refused for its verdicts",
+    AfterTooLong: "an edit after one that was refused for its verdicts",
+    AfterFull: "an edit after one that found the board full",
+    AfterBad: "an edit after a bad one",
+    LongSheet: "an edit after which a sheet would be too long",
+    Lines: "an edit that is one value too many",
+    Sizes: "an edit that is too large for the board",
+    MostLines: "an edit that fills the board with values",
+    MostSizes: "an edit that fills the board by sizes",
+    ChangedFull: "an edit that changes a value on a full board",
+    LargerTaken: "an edit that fits because the value before it goes",
+    ClearedFull: "an edit that clears a value on a full board",
+    EmptyFull: "an edit that clears where no value stood on a full board",
+    FullTooLong: "an edit too large for the board, its verdicts too long",
+    MismatchFull: "an edit that does not suit, on a full board",
+    NoLineFeed: "an edit without a line feed",
+    TwoLines: "an edit of two lines",
+    NoBytes: "an edit of no bytes",
+    OtherLetter: "an edit that is another line",
+    Undefined: "an edit with u",
+    ClearedAbsent: "an edit that clears what is not on the sheet",
+    ClearedMismatch: "an edit that clears what the object does not have",
+    Faults34: "an edit with 3 and 4",
+    Faults35: "an edit with 3 and 5",
+    Faults36: "an edit with 3 and 6",
+    Faults37: "an edit with 3 and 7",
+    Faults45: "an edit with 4 and 5",
+    Faults46: "an edit with 4 and 6",
+    Faults47: "an edit with 4 and 7",
+    Faults56: "an edit with 5 and 6",
+    Faults57: "an edit with 5 and 7",
+    Faults67: "an edit with 6 and 7",
+    BadText: "an edit of a refused sheet",
+    Bit: "a bit of a board changed",
+    Words: "words of a board changed",
+    AllWords: "a board of other words",
+    NoWords: "a board of zeroes",
+    Bytes: "verdict bytes changed",
+    Text: "a board of another text",
+}
+
+/// A call about a board of a text, or of one that is refused.
+pub struct Happened<'h> {
+    pub text: &'h [u8],
+    pub turn: &'h Turn,
+    pub answer: Answer,
+    /// With the values that the board had before; none where there was no board.
+    pub sheet: Option<&'h Sheet>,
+    /// All verdicts before and after.
+    pub before: &'h [u8],
+    pub after: &'h [u8],
+    /// The number of the call before.
+    pub last: u64,
+}
+
+/// Cases, and whether each is met.
+pub type Met = Vec<(bool, BoardCase)>;
+
+impl BoardCase {
+    pub fn of(how: Tampering) -> BoardCase {
+        match how {
+            Tampering::Bit { .. } => BoardCase::Bit,
+            Tampering::Words(_) => BoardCase::Words,
+            Tampering::AllWords(_) => BoardCase::AllWords,
+            Tampering::NoWords => BoardCase::NoWords,
+            Tampering::Bytes(_) => BoardCase::Bytes,
+            Tampering::Text(_) => BoardCase::Text,
+        }
+    }
+}
+
+pub fn met(happened: &Happened) -> Vec<BoardCase> {
+    let Turn { what, faults, .. } = happened.turn;
+    let mut met = lent(happened);
+    match (what, happened.sheet) {
+        (What::Edit(bytes), Some(sheet)) => {
+            met.extend(spelt(bytes, happened.answer.number, faults));
+            if let Ok(edit) = edit(&sheet.model, bytes) {
+                met.extend(edited(happened, sheet, &edit));
+            }
+            met.push((
+                happened.answer.number == 7 && sheet.model.values.len() == MOST_VALUES,
+                BoardCase::MismatchFull,
+            ));
+        }
+        (What::Edit(_), None) => met.push((happened.answer.number > 2, BoardCase::BadText)),
+        (_, sheet) => met.push((
+            sheet.is_some() && happened.answer.number == 0,
+            BoardCase::MadeAgain,
+        )),
+    }
+    let met = met.into_iter().filter(|(is_met, _)| *is_met);
+    met.map(|(_, case)| case).collect()
+}
+
+/// What is lent, and whether verdicts fit.
+fn lent(happened: &Happened) -> Met {
+    let Turn { words, .. } = happened.turn;
+    let (board, verdicts) = (happened.turn.board, happened.turn.verdicts);
+    let is_made = happened.turn.what == What::Make;
+    let number = happened.answer.number;
+    let few = words.iter().any(|words| *words < LEAST_WORDS);
+    let fits = number == 0 && happened.answer.length == verdicts as u64;
+    vec![
+        (
+            few && board >= LEAST_BOARD && verdicts >= LEAST_VERDICTS,
+            BoardCase::ShortWords,
+        ),
+        (
+            !few && board == LEAST_BOARD - 1 && verdicts >= LEAST_VERDICTS,
+            BoardCase::ShortBoard,
+        ),
+        (
+            !few && board >= LEAST_BOARD && verdicts == LEAST_VERDICTS - 1,
+            BoardCase::ShortVerdicts,
+        ),
+        (number == 0 && board > LEAST_BOARD, BoardCase::LongerBoard),
+        (is_made && fits, BoardCase::MadeJustFits),
+        (is_made && number == 18, BoardCase::MadeTooLong),
+        (!is_made && fits, BoardCase::JustFits),
+        (!is_made && number == 18, BoardCase::TooLong),
+    ]
+}
+
+/// How an edit is spelt, and the faults that were put into it.
+fn spelt(bytes: &[u8], number: u64, faults: &[u64]) -> Met {
+    let feeds = bytes.iter().filter(|byte| **byte == b'\n').count();
+    let is_value = bytes.starts_with(b"V\t");
+    let clears = bytes.ends_with(b"\t-\n");
+    let pairs = [
+        (3, 4, BoardCase::Faults34),
+        (3, 5, BoardCase::Faults35),
+        (3, 6, BoardCase::Faults36),
+        (3, 7, BoardCase::Faults37),
+        (4, 5, BoardCase::Faults45),
+        (4, 6, BoardCase::Faults46),
+        (4, 7, BoardCase::Faults47),
+        (5, 6, BoardCase::Faults56),
+        (5, 7, BoardCase::Faults57),
+        (6, 7, BoardCase::Faults67),
+    ];
+    let both = pairs.into_iter().map(|(low, high, case)| {
+        let is_met = number == low && faults.contains(&low) && faults.contains(&high);
+        (is_met, case)
+    });
+    let mut met: Met = both.collect();
+    met.extend([
+        (number == 3 && is_value && feeds == 0, BoardCase::NoLineFeed),
+        (number == 3 && is_value && feeds == 2, BoardCase::TwoLines),
+        (number == 3 && bytes.is_empty(), BoardCase::NoBytes),
+        (
+            number == 3 && !is_value && feeds == 1,
+            BoardCase::OtherLetter,
+        ),
+        (
+            number == 3 && bytes.ends_with(b"\tu\n"),
+            BoardCase::Undefined,
+        ),
+        (number == 6 && clears, BoardCase::ClearedAbsent),
+        (number == 7 && clears, BoardCase::ClearedMismatch),
+    ]);
+    met
+}
+
+/// An edit without a fault of its own: what it does to the values.
+fn edited(happened: &Happened, sheet: &Sheet, edit: &Edit) -> Met {
+    let model = &sheet.model;
+    let old = model.value(edit.object, edit.row);
+    let number = happened.answer.number;
+    let key = (edit.object, edit.row);
+    let (count, sizes) = (model.values.len(), model.value_sizes());
+    let size = |value: Option<&Value>| value.map_or(0, Value::size);
+    let then = count - usize::from(old.is_some()) + usize::from(edit.value.is_some());
+    let size_then = sizes - size(old) + size(edit.value.as_ref());
+    let is_full = count == MOST_VALUES || sizes == MOST_VALUE_SIZES;
+    let is_new = old.is_none() && edit.value.is_some();
+    let cleared = old.is_some() && edit.value.is_none();
+    let empty = old.is_none() && edit.value.is_none();
+    let changed = old.is_some() && edit.value.is_some();
+    let same = changed && old == edit.value.as_ref();
+    let mut met = vec![
+        (number == 21 && then > MOST_VALUES, BoardCase::Lines),
+        (
+            number == 21 && size_then > MOST_VALUE_SIZES,
+            BoardCase::Sizes,
+        ),
+    ];
+    if !matches!(number, 0 | 21) {
+        return met;
+    }
+    let mut then_sheet = sheet.clone();
+    then_sheet.model.edit(edit.clone());
+    if number == 21 {
+        let lines = report(&then_sheet, happened.turn.verdicts);
+        met.push((lines.is_err(), BoardCase::FullTooLong));
+        return met;
+    }
+    met.extend([
+        (sheet.rules.is_empty(), BoardCase::NoRules),
+        (model.values.is_empty(), BoardCase::NoValues),
+        (is_new, BoardCase::Set),
+        (changed && !same, BoardCase::Changed),
+        (same, BoardCase::Same),
+        (cleared, BoardCase::Cleared),
+        (empty, BoardCase::ClearedEmpty),
+        (
+            is_new && model.values.first().is_some_and(|first| key < first.0),
+            BoardCase::FirstOfAll,
+        ),
+        (
+            is_new && model.values.last().is_some_and(|last| key > last.0),
+            BoardCase::LastOfAll,
+        ),
+        (is_new && then == MOST_VALUES, BoardCase::MostLines),
+        (
+            sizes < size_then && size_then == MOST_VALUE_SIZES,
+            BoardCase::MostSizes,
+        ),
+        (is_full && changed, BoardCase::ChangedFull),
+        (
+            changed && sizes + size(edit.value.as_ref()) > MOST_VALUE_SIZES && size(old) > 1,
+            BoardCase::LargerTaken,
+        ),
+        (is_full && cleared, BoardCase::ClearedFull),
+        (is_full && empty, BoardCase::EmptyFull),
+        (happened.last == 18, BoardCase::AfterTooLong),
+        (happened.last == 21, BoardCase::AfterFull),
+        (matches!(happened.last, 3..=7), BoardCase::AfterBad),
+        (
+            length(happened.text, &then_sheet) > LONGEST_SHEET,
+            BoardCase::LongSheet,
+        ),
+    ]);
+    met.extend(seen(happened, sheet, edit));
+    met
+}
+
+/// The bytes of a text with the values of a sheet in place of its own.
+fn length(text: &[u8], sheet: &Sheet) -> usize {
+    let lines = text.split_inclusive(|byte| *byte == b'\n');
+    let others: usize = lines.filter(|line| line[0] != b'V').map(<[u8]>::len).sum();
+    let values = sheet.model.values.iter().map(|((object, row), value)| {
+        let mut line = format!("V\t{object}\t{row}\t\n").into_bytes();
+        value.spell(&mut line);
+        line.len()
+    });
+    others + values.sum::<usize>()
+}
