@@ -11,21 +11,22 @@ use Rattle.laws.specs.Lists.{Each, each-nil, each-cons}
 use Rattle.laws.proofs.Tests.{and-l, and-r}
 use Rattle.laws.proofs.Lists.{length-more}
 use Rattle.ocl.specs.Values.{size}
-use Rattle.sheet.specs.Sheet.{Slot, Sheet, added}
+use Rattle.sheet.specs.Sheet.{Slot, Sheet}
 use Rattle.sheet.specs.Limits.{totalSize, valueWithin, withinLimits}
 use Rattle.sheet.specs.Refusals.{numbered, afterSlots, ordered}
 use Rattle.sheet.specs.Reading.{Step, taken, refuse, stepLine}
 use Rattle.sheet.proofs.Ascending.{Ascending, ascending-nil, ascending-more}
 use Rattle.sheet.proofs.Good.{Good, SlotOk, plain}
 use Rattle.sheet.proofs.GoodLines.{Met, met-numbered, slot-ok}
+use Rattle.sheet.proofs.SlotSizes.{size-more}
 use Rattle.board.specs.Edits.{Edit, edited, withSlots, judged, hasRoom}
 use Rattle.board.specs.Board.{valued}
 use Rattle.board.specs.Laws.{onTaken, takeSlots}
 use Rattle.board.proofs.Slots.{each-edited, ascending-edited}
 use Rattle.board.proofs.Facts.{lineFor, Fact, fact-same, fact-of, met-taken}
-use Rattle.board.proofs.Within.{size-more, room-of}
+use Rattle.board.proofs.Within.{room-of}
 use Rattle.board.proofs.Judged.{Passed, met-of, new-fact, good-with}
-use Rattle.board.proofs.Taken.{slots-taken}
+use Rattle.board.proofs.Taken.{with-more, slots-taken}
 
 step-sheet : Sheet → Step → Sheet
 step-sheet u (taken s) = s
@@ -60,9 +61,6 @@ module _ (s : Sheet) where
   unfolding withSlots numbered
   after-more done x a m = ascending-more done x a (and-l (afterSlots done (x .object) (x .row)) (ordered (x .value)) (met-numbered (withSlots s 3 done) (lineFor x) m))
 
-  with-more : (done : List Slot) (x : Slot) → added (withSlots s 3 done) 1 (lineFor x) ≡ withSlots s 3 (done ++ (x ∷ []))
-  with-more done x = unfold added withSlots in refl
-
   fact-at : (done : List Slot) (x : Slot) → Met (withSlots s 3 done) (lineFor x) → Fact s x
   fact-at done x m = unfold withSlots in fact-same (withSlots s 3 done) s x refl refl refl (fact-of (withSlots s 3 done) x m)
 
@@ -87,7 +85,7 @@ module _ (s : Sheet) where
       by (refuse n) q e go = not-taken e
       by (taken u) q e go =
           let m = met-of (withSlots s 3 done) 1 (x .object) (x .row) (x .value) (subst Passed (sym q) (unfold Passed in tt)) in
-          let i : u ≡ withSlots s 3 (done ++ (x ∷ [])) = taken-same (sym q ∙ met-taken (withSlots s 3 done) 1 x m) ∙ with-more done x in
+          let i : u ≡ withSlots s 3 (done ++ (x ∷ [])) = taken-same (sym q ∙ met-taken (withSlots s 3 done) 1 x m) ∙ with-more s done x in
           let h = go (room-more done x m) (after-more done x a m) (ap (λ v. takeSlots v xs) (sym i) ∙ e) in
           let z : (done ++ (x ∷ [])) ++ xs ≡ done ++ x ∷ xs = append-assoc done (x ∷ []) xs in
           record {

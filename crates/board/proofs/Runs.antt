@@ -15,10 +15,11 @@ use Rattle.laws.proofs.Tests.{by-if}
 use Rattle.sheet.specs.Text.{Bytes}
 use Rattle.sheet.specs.Sheet.{Sheet}
 use Rattle.sheet.specs.Reading.{Step, taken, refuse, sheetIn}
-use Rattle.sheet.specs.Calls.{Verdict, answer, refusalAt, refusal, outputAfter}
+use Rattle.sheet.specs.Calls.{Verdict, refusalAt, refusal, outputAfter}
 use Rattle.sheet.specs.Report.{fitting}
 use Rattle.sheet.proofs.Accepted.{AcceptedSheet, on-accepted}
 use Rattle.sheet.proofs.Soundness.{sheet-is}
+use Rattle.sheet.proofs.RowLines.{fits}
 use Rattle.board.specs.Edits.{Edit, readEdit, edited, judged, hasRoom}
 use Rattle.board.specs.Board.{Board, allVerdicts, made, after}
 use Rattle.board.specs.Calls.{shortBoard, makeCall, onJudged, answered, editOn, editCall, afterLine, Layout, Slices, Holds, boardAfter, After, none-yet, one-more}
@@ -27,10 +28,6 @@ use Rattle.board.proofs.Judged.{Said, answered-of}
 use Rattle.board.proofs.Board.{ready, made-accepted, is-board}
 
 -- ---- what an accepted text's calls come to
-
-fits : (room : ℕ) (b : Bytes) → fitting room b .number ≡ 0 → fitting room b .output ≡ b
-unfolding fitting answer refusal refusalAt
-fits room b e = by-if (λ (v : Verdict). v .number ≡ 0 → v .output ≡ b) (ltb room (length b)) (refusal 18) (answer b) (λ t q. absurd (omega arith)) (λ t q. refl) e
 
 module _ (text : Bytes) (a : AcceptedSheet text) where
   make-is : (w0 w1 w2 words : List ℕ) (out : Bytes) → makeCall text w0 w1 w2 words out ≡ (if shortBoard w0 w1 w2 words out then refusal 1 else fitting (length out) (allVerdicts (made (sheetIn text))))

@@ -2,7 +2,7 @@
 use mathlib.Core.Path.{_≡_, refl, sym, _∙_, subst}
 use mathlib.Core.Bool.{Bool, true, false, _&&_}
 use mathlib.Core.Option.{Option, none, some}
-use mathlib.Core.List.{List, [], _∷_, _++_}
+use mathlib.Core.List.{List, [], _∷_}
 use Prim.Native.Nat.{ℕ, suc, _+_, _-_, _<_, _≤_}
 use native.Mathlib.Omega.{arith}
 use borrow.Author.Tests.{le-leb}
@@ -23,7 +23,8 @@ use Rattle.sheet.specs.Limits.{totalSize, valueWithin, withinLimits}
 use Rattle.sheet.specs.Refusals.{blockOf, inOrder, partsKnown, callsSmaller, callsKnown, suits, treeHolds}
 use Rattle.sheet.specs.Reading.{Step, taken, refuse, must, stepLine, stepSpelled, step, Reading, accepted, rejected, onStep, onEnd, closing, readLast, readLines, readText}
 use Rattle.sheet.proofs.TextLaws.{lines-read}
-use Rattle.sheet.proofs.GoodLines.{Met}
+use Rattle.sheet.proofs.GoodLines.{Met, block-le}
+use Rattle.sheet.proofs.SlotSizes.{size-more}
 use Rattle.board.specs.Edits.{hasRoom}
 use Rattle.board.proofs.Facts.{lineFor, Fact, fact-same, fact-of}
 
@@ -35,15 +36,6 @@ pub record Small (s : Sheet) : Type 0 where
   pub facts : Each (Fact s) (s .slots)
 
 -- ---- a line
-
-pub size-more : (xs : List Slot) (x : Slot) → totalSize (xs ++ (x ∷ [])) ≡ totalSize xs + size (x .value)
-unfolding totalSize
-size-more [] x = omega arith
-size-more (y ∷ xs) x = omega (arith, size-more xs x)
-
-block-low : (s : Sheet) (l : Line) → Met s l → s .block ≤ blockOf l
-unfolding inOrder
-block-low s l m = leb→le (s .block) (blockOf l) (and-l (leb (s .block) (blockOf l)) _ (m .order))
 
 -- the sheet with other fields than slots changed
 small-same : (s t : Sheet) → t .slots ≡ s .slots → t .parents ≡ s .parents → t .rows ≡ s .rows → t .objects ≡ s .objects → (t .block < 3 → s .block < 3) → Small s → Small t
@@ -57,7 +49,7 @@ small-same s t e p q r b h = record {
 -- classes, rows and objects come before all slots
 small-none : (s t : Sheet) (l : Line) → t .slots ≡ s .slots → blockOf l < 3 → Met s l → Small s → Small t
 small-none s t l e n m h =
-    let z : t .slots ≡ [] = e ∙ h .early (let k = block-low s l m in omega arith) in
+    let z : t .slots ≡ [] = e ∙ h .early (let k = block-le s l m in omega arith) in
     record { count = rw e (h .count); sizes = rw e (h .sizes); early = λ i. z; facts = rw z each-nil }
 
 small-value : (s : Sheet) (k : ℕ) (y : Slot) → Small s → Met s (lineFor y) → Small (added s k (lineFor y))

@@ -60,7 +60,7 @@ pub record Written (before after : List ℕ) (n : ℕ) (part : List ℕ) : Type 
   pub back : drop 8192 after ≡ drop 8192 before
   pub size : length after ≡ length before
 
-pub first-two : (w : List ℕ) (a b : ℕ) → 8192 ≤ length w → Written w (set (set w 0 a) 1 b) 2 (a ∷ b ∷ [])
+first-two : (w : List ℕ) (a b : ℕ) → 8192 ≤ length w → Written w (set (set w 0 a) 1 b) 2 (a ∷ b ∷ [])
 first-two w a b h = record {
   front = two w h;
   back = drop-set-lt 8192 (set w 0 a) 1 b (omega arith) ∙ drop-set-lt 8192 w 0 a (omega arith);
@@ -72,7 +72,7 @@ first-two w a b h = record {
     two (x ∷ []) h = absurd (omega arith)
     two (x ∷ y ∷ w) h = refl
 
-pub table-put : {w v u : List ℕ} (xs : List ℕ) {front : List ℕ} (at room : ℕ) → 8192 ≤ length w → at + room ≤ 8192 → Written w v at front → u ≡ paste v at (padded room xs) room
+table-put : {w v u : List ℕ} (xs : List ℕ) {front : List ℕ} (at room : ℕ) → 8192 ≤ length w → at + room ≤ 8192 → Written w v at front → u ≡ paste v at (padded room xs) room
     → Written w u (at + room) (front ++ padded room xs)
 table-put {w} {v} {u} xs {front} at room long fits h e =
     let l = padded-length room xs in
@@ -91,17 +91,17 @@ table-put {w} {v} {u} xs {front} at room long fits h e =
 
 -- ---- what each table holds
 
-pub part-long : (w : List ℕ) (off m n : ℕ) → 8192 ≤ length w → off + m ≤ 8192 → n ≤ m → n ≤ length (take m (drop off w))
-part-long w off m n h k l = omega (arith, length-take-le m (drop off w) (omega (arith, length-drop off w)))
+pub part-long : (w : List ℕ) (off m : ℕ) {n : ℕ} → 8192 ≤ length w → off + m ≤ 8192 → n ≤ m → n ≤ length (take m (drop off w))
+part-long w off m h k l = omega (arith, length-take-le m (drop off w) (omega (arith, length-drop off w)))
 
-pub part-of : (w : List ℕ) (off m n : ℕ) → n ≤ m → take n (take m (drop off w)) ≡ tab off n w
+part-of : (w : List ℕ) (off m n : ℕ) → n ≤ m → take n (take m (drop off w)) ≡ tab off n w
 part-of w off m n h = take-take n m (drop off w) h
 
 zeros : (m : ℕ) (table : List ℕ) → padded m (take 0 table) ≡ replicate m 0
 unfolding padded
 zeros m table = take-all m (replicate m 0) (omega (arith, length-replicate {A = ℕ} m 0))
 
-pub stored : {st : Counts} {w0 w1 ends before after K S C : List ℕ} {slots cells rules : ℕ} → Fine st → slots ≡ st .slots → cells ≡ st .cells → rules ≡ st .rules
+stored : {st : Counts} {w0 w1 ends before after K S C : List ℕ} {slots cells rules : ℕ} → Fine st → slots ≡ st .slots → cells ≡ st .cells → rules ≡ st .rules
     → K ≡ tab 352 slots w0 → S ≡ tab 1376 slots w0 → C ≡ tab 2400 cells w0
     → Written before after 8192 ((st .slots ∷ st .cells ∷ []) ++ padded 350 (take 0 ends) ++ padded 1024 K ++ padded 1024 S ++ padded 2048 C ++ padded 64 (take rules ends) ++ padded 3680 (take 0 ends))
     → StoresBoard st w0 w1 ends before after
@@ -113,3 +113,51 @@ stored {st} {w0} {w1} {ends} {before} {after} {K} {S} {C} {rules = rules} fine a
       rw (zeros 350 ends, zeros 3680 ends, k, s, d, a, b, c, g .counted .slots, g .counted .cells, g .tables .keys, g .tables .starts, g .tables .cells, e) in
       sym (take-append-drop 8192 after) ∙ ap (λ (t : List ℕ). t ++ drop 8192 after) (h .front ∙ z) ∙ ap (λ (t : List ℕ). boardWords x ++ t) (h .back);
 }
+
+-- ---- the words after each table
+
+-- the front after each of them
+abbrev front1 : Counts → List ℕ → List ℕ
+front1 st ends = (st .slots ∷ st .cells ∷ []) ++ padded 350 (take 0 ends)
+
+abbrev front2 : Counts → List ℕ → List ℕ → ℕ → List ℕ
+front2 st w0 ends slots = front1 st ends ++ padded 1024 (take slots (take 1024 (drop 352 w0)))
+
+abbrev front3 : Counts → List ℕ → List ℕ → ℕ → List ℕ
+front3 st w0 ends slots = front2 st w0 ends slots ++ padded 1024 (take slots (take 1024 (drop 1376 w0)))
+
+abbrev front4 : Counts → List ℕ → List ℕ → ℕ → ℕ → List ℕ
+front4 st w0 ends slots cells = front3 st w0 ends slots ++ padded 2048 (take cells (take 2048 (drop 2400 w0)))
+
+abbrev front5 : Counts → List ℕ → List ℕ → ℕ → ℕ → ℕ → List ℕ
+front5 st w0 ends slots cells rules = front4 st w0 ends slots cells ++ padded 64 (take rules ends)
+
+module _ (st : Counts) (w0 ends w : List ℕ) (long : 8192 ≤ length w) {v1 : List ℕ} (a : v1 ≡ paste (set (set w 0 (st .slots)) 1 (st .cells)) 2 (padded 350 (take 0 ends)) 350) where
+  pub written1 : Written w v1 352 (front1 st ends)
+  written1 = table-put _ 2 350 long (omega arith) (first-two w (st .slots) (st .cells) long) a
+
+  module _ {slots : ℕ} (x : slots ≡ st .slots) {v2 : List ℕ} (b : v2 ≡ paste v1 352 (padded 1024 (take slots (take 1024 (drop 352 w0)))) 1024) where
+    pub written2 : Written w v2 1376 (front2 st w0 ends slots)
+    written2 = table-put _ 352 1024 long (omega arith) written1 b
+
+    module _ {v3 : List ℕ} (c : v3 ≡ paste v2 1376 (padded 1024 (take slots (take 1024 (drop 1376 w0)))) 1024) where
+      pub written3 : Written w v3 2400 (front3 st w0 ends slots)
+      written3 = table-put _ 1376 1024 long (omega arith) written2 c
+
+      module _ {cells : ℕ} (y : cells ≡ st .cells) {v4 : List ℕ} (d : v4 ≡ paste v3 2400 (padded 2048 (take cells (take 2048 (drop 2400 w0)))) 2048) where
+        pub written4 : Written w v4 4448 (front4 st w0 ends slots cells)
+        written4 = table-put _ 2400 2048 long (omega arith) written3 d
+
+        module _ {rules : ℕ} (z : rules ≡ st .rules) {v5 : List ℕ} (e : v5 ≡ paste v4 4448 (padded 64 (take rules ends)) 64) where
+          pub written5 : Written w v5 4512 (front5 st w0 ends slots cells rules)
+          written5 = table-put _ 4448 64 long (omega arith) written4 e
+
+          module _ {v6 : List ℕ} (f : v6 ≡ paste v5 4512 (padded 3680 (take 0 ends)) 3680) where
+            pub written6 : Written w v6 8192 (front5 st w0 ends slots cells rules ++ padded 3680 (take 0 ends))
+            written6 = table-put _ 4512 3680 long (omega arith) written5 f
+
+            pub board-stored : (w1 : List ℕ) → Fine st → StoresBoard st w0 w1 ends w v6
+            board-stored w1 fine =
+                let i = fine .slots in
+                let j = fine .cells in
+                stored {w1 = w1} fine x y z (part-of w0 352 1024 slots (omega arith)) (part-of w0 1376 1024 slots (omega arith)) (part-of w0 2400 2048 cells (omega arith)) written6

@@ -1,10 +1,10 @@
 -- The call that evaluates a rule for an object. Assumes nothing.
-use mathlib.Core.Path.{_≡_, refl, sym, ap, _∙_, subst}
+use mathlib.Core.Path.{_≡_, refl, sym, ap, _∙_}
 use mathlib.Core.Logic.{_≢_}
 use mathlib.Core.Bool.{Bool, true, false}
-use mathlib.Core.Option.{Option, none, some, Option·some-injective, Option·none-ne-some}
+use mathlib.Core.Option.{Option, none, some}
 use mathlib.Core.List.{List}
-use Prim.Native.Nat.{ℕ, zero, suc, _+_, _≤_, _<_}
+use Prim.Native.Nat.{ℕ, _+_, _≤_, _<_}
 use native.Mathlib.Omega.{arith}
 use borrow.Author.Tests.{lt-ltb, le-ltb}
 use lib.ListN.{getD, getElem?}
@@ -20,10 +20,11 @@ use Rattle.ocl.proofs.Stops.{stop-within}
 use Rattle.sheet.specs.Text.{Bytes}
 use Rattle.sheet.specs.Sheet.{Rule, Sheet, modelOf}
 use Rattle.sheet.specs.Reading.{accepted, readText}
-use Rattle.sheet.specs.Calls.{Verdict, refusalAt, refusal, typingOf, onAccepted, onRule, onObject, outcomeOf, ended, evaluateOn}
-use Rattle.sheet.specs.Laws.{AllTyped, none-typed, one-typed, Defined}
+use Rattle.sheet.specs.Calls.{Verdict, refusalAt, refusal, onAccepted, onRule, onObject, outcomeOf, ended, evaluateOn}
+use Rattle.sheet.specs.Laws.{AllTyped, Defined}
 use Rattle.sheet.proofs.Soundness.{sound-rule}
 use Rattle.sheet.proofs.Acceptance.{accepted-good}
+use Rattle.sheet.proofs.NeverStuck.{type-of}
 use Rattle.tables.specs.declared.Counts.{Counts}
 use Rattle.operations.specs.declared.Ended.{Ended}
 use Rattle.operations.specs.Answers.{Ends}
@@ -42,12 +43,6 @@ use Rattle.opening.proofs.Readings.{accepted-number}
 -- what evaluate does for a rule
 abbrev forObject : ℕ → Sheet → Rule → Verdict
 forObject o s x = onObject (modelOf s) (modelOf s .classOf o) o (x .context) (ended (outcomeOf s x o))
-
--- a rule of an accepted sheet has a type
-type-of : {s : Sheet} {xs : List Rule} {ts : List Ty} → AllTyped s xs ts → (r : ℕ) (x : Rule) → getElem? xs r ≡ some x → (t : Ty) × (typingOf s x .answer ≡ typed t)
-type-of none-typed r x e = absurd (Option·none-ne-some _ e)
-type-of {s} (one-typed {t} a h) zero x e = (t, subst (λ y. typingOf s y .answer ≡ typed t) (Option·some-injective _ _ e) a)
-type-of (one-typed a h) (suc r) x e = type-of h r x e
 
 -- ---- the object
 

@@ -14,7 +14,8 @@ use Rattle.sheet.specs.Text.{Bytes, bytes, fieldsOf}
 use Rattle.sheet.specs.Lines.{classLine, is, next, done, aNumber, aParent, lineOf}
 use Rattle.sheet.specs.Sheet.{Sheet, added}
 use Rattle.sheet.specs.Limits.{isClass, parentWithin, withinLimits}
-use Rattle.sheet.specs.Refusals.{blockOf, numbered, inOrder, partsKnown, callsSmaller, callsKnown, suits, treeHolds}
+use Rattle.sheet.specs.Refusals.{blockOf, numbered, inOrder, parentSmaller, partsKnown, callsSmaller, callsKnown, suits, treeHolds}
+use Rattle.sheet.proofs.Parents.{parent-more}
 use Rattle.types.specs.Flat.{parentOf}
 use Rattle.text.specs.Numbers.{cutNum}
 use Rattle.text.specs.declared.parts.Fields.{Fields}
@@ -108,9 +109,9 @@ classCounts st n = record {
 
 -- where the next word of the parents is the parent's already
 class-held : (st : Counts) (k n : ℕ) (p : Option ℕ) (w0 w1 : List ℕ) (s : Sheet) → st .block ≤ 0 → n ≡ st .classes → n < length w0 → getD w0 n 0 ≡ parentCode p
-    → Holds st w0 w1 s → Holds (classCounts st n) w0 w1 (added s k (classLine n p))
+    → parentSmaller n p ≡ true → Holds st w0 w1 s → Holds (classCounts st n) w0 w1 (added s k (classLine n p))
 unfolding added
-class-held st k n p w0 w1 s b e room at h =
+class-held st k n p w0 w1 s b e room at less h =
     let long : 0 + length (s .parents) ≡ n = omega (arith, e, h .counted .classes) in
     record {
       counted = record {
@@ -126,6 +127,7 @@ class-held st k n p w0 w1 s b e room at h =
       };
       tables = record {
         parents = tab-more-of parentCode 0 w0 (s .parents) p (rw long room) (h .tables .parents) (rw long at);
+        smaller = parent-more (s .parents) p (h .tables .smaller) (rw (sym (e ∙ h .counted .classes), less) tt);
         owners = h .tables .owners;
         names = h .tables .names;
         types = h .tables .types;
@@ -176,5 +178,6 @@ module _ (st : Counts) (k : ℕ) (w0 w1 : List ℕ) (n q : ℕ) (low : n < 64) (
             steps-on s k (classLine n (parentOf q)) refl refl (within s) (in-order s h) (code-smaller n q smaller) refl refl,
             class-held st k n (parentOf q) (set w0 n q) w1 s in-block is-next (rw length-set (omega arith))
                 (getD-set-same w0 n q 0 (omega arith) ∙ sym (code-of q))
+                (code-smaller n q smaller)
                 (holds-kept q (rw is-next (spare-parent fine (h .counted) (omega arith))) h),
           ))

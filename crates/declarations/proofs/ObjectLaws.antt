@@ -62,6 +62,7 @@ object-held st k n c w0 w1 s e room at h =
       };
       tables = record {
         parents = h .tables .parents;
+        smaller = h .tables .smaller;
         owners = h .tables .owners;
         names = h .tables .names;
         types = h .tables .types;

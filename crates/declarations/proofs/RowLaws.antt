@@ -105,6 +105,7 @@ row-held st k n c name t w0 w1 s e room at1 at2 at3 h =
       };
       tables = record {
         parents = h .tables .parents;
+        smaller = h .tables .smaller;
         owners = tab-more-of (λ (x : Row). x .owner) 64 w0 (s .rows) r (omega arith) (h .tables .owners) (rw long at1);
         names = tab-more-of (λ (x : Row). x .name) 128 w0 (s .rows) r (omega arith) (h .tables .names) (rw long at2);
         types = tab-more-by typeIn (λ (x : Row). x .type) 192 w0 (s .rows) r (omega arith) (h .tables .types) (rw long at3);

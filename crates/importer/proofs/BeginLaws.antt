@@ -9,7 +9,7 @@ use native.Mathlib.Omega.{arith}
 use Rattle.laws.specs.Choice.{mapSome}
 use Rattle.ocl.specs.Forms.{Leaf, all}
 use Rattle.sheet.specs.Text.{Bytes}
-use Rattle.sheet.specs.Lines.{Shape, leaf as leafShape}
+use Rattle.sheet.specs.Lines.{Shape, leaf as leafShape, forms}
 use Rattle.sheet.specs.Grammar.Tokens.{Tokens}
 use Rattle.sheet.specs.Grammar.Trees.{Tree, leaf, assemble, Trees, count, counts, roots, shapes, shapesOf}
 use Rattle.sheet.specs.Grammar.Words.{leafWord, kinds, named}
@@ -21,7 +21,9 @@ use Rattle.phrases.specs.Contracts.{OpeningAs, opening-none, opening-all, openi
 use Rattle.phrases.specs.declared.Opening.{Opening}
 use Rattle.phrases.specs.declared.Opening.the-variants as opening
 use Rattle.trees.specs.Forms.{Spelled, spelled, misspelled, FormRead}
-use Rattle.trees.specs.Built.{numbersOf, shapeFrom, Builds, Assembles}
+use Rattle.text.specs.Words.{formCodes}
+use Rattle.text.specs.Forms.{withCode, fieldsBy}
+use Rattle.trees.specs.Built.{countOf, formWith, Builds, Assembles}
 use Rattle.trees.specs.declared.Parsed.{Parsed}
 use Rattle.emission.specs.Nodes.{Emitted}
 use Rattle.importer.specs.Leaves.{leafOf}
@@ -109,7 +111,7 @@ module _ {k : ℕ} {s : Bytes} {t : Token} (ahead : Ahead s t) {p : Parsed} (rea
 
     module _ {v : List ℕ} {q : Parsed} (put : Emitted n q w v) where
       pub begin-all : {x : ℕ} {u : Token} → r ≡ opening.All x u → Builds 6 (x ∷ 0 ∷ 0 ∷ 0 ∷ []) k q → BeginAt k s t n w (begun.Done u) v
-      unfolding count shapes numbersOf shapeFrom
+      unfolding count shapes countOf formWith fieldsBy withCode forms formCodes
       begin-all {x} {u} e built = go (rw e at h)
         where
           go : OpeningAs s t (otherStart (onward s t)) (opening.All x u) → BeginAt k s t n w (begun.Done u) v

@@ -5,14 +5,16 @@ use mathlib.Core.List.{List, [], _∷_, _++_, append-assoc}
 use Prim.Native.Nat.{ℕ, suc, _+_, _-_, _≤_, _<_}
 use native.Mathlib.Omega.{arith}
 use lib.ListN.{length, getD}
-use Rattle.sheet.specs.Lines.{Shape}
+use Rattle.sheet.specs.Lines.{Shape, forms}
 use Rattle.sheet.specs.Grammar.Trees.{letIn, Tree, two, count, root, twoShape, shapes}
 use Rattle.sheet.proofs.TextNodes.{root-last}
 use Rattle.tables.specs.Layout.{Kept}
 use Rattle.tables.proofs.Tables.{kept-refl, kept-then}
 use Rattle.trees.specs.Fields.{cut}
 use Rattle.trees.specs.Forms.{StandsFor}
-use Rattle.trees.specs.Built.{numbersOf, shapeFrom, Builds}
+use Rattle.text.specs.Words.{formCodes}
+use Rattle.text.specs.Forms.{withCode, fieldsBy}
+use Rattle.trees.specs.Built.{countOf, formWith, Builds}
 use Rattle.trees.specs.declared.Parsed.{Parsed}
 use Rattle.emission.specs.Nodes.{HoldsNodes, Emitted}
 use Rattle.importer.specs.Lets.{SameLets, Frame, value, body, counted, valueNodes, LetsLie, value-lies, body-lies, Open, endedIn, leftOpen, LetsClosed}
@@ -100,7 +102,7 @@ module _ (k from m d : ℕ) (before : List ℕ) where
         node-is : (n : ℕ) (i : ℕ) (e x : Tree) (fs : List Frame) → m′ + d′ ≤ 768 → d′ ≡ from + suc (length fs) → m′ ≡ n + ((counted fs + count e) + count x)
             → getD w (6144 + (from + length fs)) 0 ≡ cut i → getD w (6912 + (from + length fs)) 0 ≡ n + (counted fs + count e)
             → StandsFor k (twoShape (letIn i) (root (n + counted fs) e) (root (n + counted fs + count e) x)) p
-        unfolding numbersOf shapeFrom twoShape
+        unfolding countOf formWith fieldsBy withCode forms formCodes twoShape
         node-is n i e x fs room q s a b =
             let r = root-last (n + counted fs) e in
             let t = root-last (n + counted fs + count e) x in

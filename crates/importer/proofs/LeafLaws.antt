@@ -19,7 +19,7 @@ use Rattle.laws.proofs.Tests.{Any?, any-some, and-true}
 use Rattle.reals.specs.Reals.{Real, int, real}
 use Rattle.ocl.specs.Forms.{Leaf, truth, undef, number, self, var}
 use Rattle.sheet.specs.Text.{Bytes, bytes, after, behind, _or_, _then_, mapped, atEnd, whole, isDigit, digits, afterDigits, plain, numberParser, integerParser, realParser}
-use Rattle.sheet.specs.Lines.{Shape, leaf, is, aNumber, anInteger, aReal}
+use Rattle.sheet.specs.Lines.{Shape, leaf, is, aNumber, anInteger, aReal, forms}
 use Rattle.sheet.specs.Grammar.Words.{named, labelled, constants, variableWord, leafWord}
 use Rattle.sheet.specs.Texts.{isThere}
 use Rattle.sheet.proofs.Grammar.Single.{Entries, entry}
@@ -32,7 +32,9 @@ use Rattle.tokens.specs.declared.Token.{Token}
 use Rattle.tokens.proofs.CodeLaws.{named-told, byCode, coded, allCoded}
 use Rattle.trees.specs.Fields.{cut}
 use Rattle.trees.specs.Forms.{StandsFor, spelled, FormRead}
-use Rattle.trees.specs.Built.{numbersOf, shapeFrom, Whole, Builds}
+use Rattle.text.specs.Words.{formCodes}
+use Rattle.text.specs.Forms.{withCode, fieldsBy}
+use Rattle.trees.specs.Built.{countOf, formWith, Whole, Builds}
 use Rattle.trees.specs.declared.Parsed.{Parsed}
 use Rattle.importer.specs.Leaves.{leafOf}
 
@@ -47,7 +49,7 @@ module _ (o : Option ℕ) where
   variable-none h = rw (num-bad o h)
 
   pub variable-one : {k n : ℕ} {p : Parsed} → num.Is n ≡ cutNum o → Builds 5 (n ∷ 0 ∷ 0 ∷ 0 ∷ []) k p → FormRead k (mapSome (λ i. leaf (var i)) o) p
-  unfolding mapSome shapeFrom numbersOf
+  unfolding mapSome countOf formWith fieldsBy withCode forms formCodes
   variable-one {k} {n} {p} h b = go (num-is o h)
     where
       go : {o : Option ℕ} → Any? (λ i. n ≡ cut i) o → FormRead k (mapSome (λ i. leaf (var i)) o) p
@@ -104,7 +106,7 @@ module _ (w : Bytes) where
 
   module _ {line : ℕ} {p : Parsed} where
     pub constant-read : (k : ℕ) → k < 3 → codeOf w ≡ k → Builds k (0 ∷ 0 ∷ 0 ∷ 0 ∷ []) line p → FormRead line (mapSome leaf (leafWord w)) p
-    unfolding mapSome numbersOf shapeFrom AllBelow byCode coded codeOf codes orCode named constants is bytes
+    unfolding mapSome countOf formWith fieldsBy withCode forms formCodes AllBelow byCode coded codeOf codes orCode named constants is bytes
     constant-read = all-below (λ k. codeOf w ≡ k → Builds k (0 ∷ 0 ∷ 0 ∷ 0 ∷ []) line p → FormRead line (mapSome leaf (leafWord w)) p) 3 (
       (
         (tt, λ e b. rw (constant 0 (truth false) e refl) (form-read (b .fine) (b .is [] (omega arith) refl refl))),
@@ -114,7 +116,7 @@ module _ (w : Bytes) where
     )
 
     pub self-read : codeOf w ≡ 4 → Builds 4 (0 ∷ 0 ∷ 0 ∷ 0 ∷ []) line p → FormRead line (mapSome leaf (leafWord w)) p
-    unfolding mapSome numbersOf shapeFrom byCode coded codeOf codes orCode named constants is bytes
+    unfolding mapSome countOf formWith fieldsBy withCode forms formCodes byCode coded codeOf codes orCode named constants is bytes
     self-read e b = rw (constant 4 self e refl) (form-read (b .fine) (b .is [] (omega arith) refl refl))
 
 -- ---- other words, by their first byte

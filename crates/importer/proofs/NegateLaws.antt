@@ -5,14 +5,15 @@ use Prim.Native.Nat.{ℕ, suc, _+_, _-_, _<_, _≤_}
 use native.Mathlib.Omega.{arith}
 use lib.ListN.{length, length-append}
 use Rattle.ocl.specs.Forms.{negation}
-use Rattle.sheet.specs.Lines.{Shape}
+use Rattle.sheet.specs.Lines.{Shape, forms}
 use Rattle.sheet.specs.Grammar.Trees.{unary, Tree, count, root, oneShape, shapes}
 use Rattle.sheet.proofs.TextNodes.{root-last, shapes-size}
 use Rattle.tables.proofs.Tables.{kept-refl, kept-then}
-use Rattle.nodes.specs.Nodes.{unaryOf}
 use Rattle.trees.specs.Fields.{cut}
 use Rattle.trees.specs.Forms.{StandsFor}
-use Rattle.trees.specs.Built.{numbersOf, shapeFrom, Builds}
+use Rattle.text.specs.Words.{formCodes}
+use Rattle.text.specs.Forms.{withCode, fieldsBy}
+use Rattle.trees.specs.Built.{countOf, formWith, Builds}
 use Rattle.trees.specs.declared.Parsed.{Parsed}
 use Rattle.emission.specs.Nodes.{HoldsNodes, KeptBehind, Emitted}
 use Rattle.importer.specs.Leaves.{negated}
@@ -49,7 +50,7 @@ module _ (k n : ℕ) (before : List ℕ) where
 
   module _ {m : ℕ} {w v : List ℕ} {p : Parsed} (c : Negating k n before m w) (some : 0 < n) (built : Builds 7 ((m - 1) ∷ 0 ∷ 0 ∷ 0 ∷ []) k p) (put : Emitted m p w v) where
     not-is : (y : Tree) (i : ℕ) → m ≡ i + count y → m < 768 → StandsFor k (oneShape (unary negation) (root i y)) p
-    unfolding numbersOf shapeFrom unaryOf oneShape
+    unfolding countOf formWith fieldsBy withCode forms formCodes oneShape
     not-is y i e l =
         let r = root-last i y in
         let z : m - 1 ≡ cut (root i y) = omega arith in

@@ -7,16 +7,18 @@ use Prim.Native.Nat.{ℕ, _+_, _-_, _≤_, _<_}
 use native.Mathlib.Omega.{arith}
 use Rattle.ocl.specs.Types.{set, sequence, bag, Ty}
 use Rattle.ocl.specs.Forms.{plus, minus, times, div, modulo, and, or, forAll, exists, ofObject, ofMembers, negation, sizeOf, convert, castTo, equal, less, arith as arithmetic, divide, over, includes, including, union}
-use Rattle.sheet.specs.Lines.{Shape}
+use Rattle.sheet.specs.Lines.{Shape, forms}
 use Rattle.sheet.specs.Grammar.Trees.{One, unary, isUndef, attribute, call, Two, binary, connective, letIn, quantified, conditional, iterate, oneShape, twoShape, threeShape}
 use Rattle.types.specs.Reading.{typeField, held}
 use Rattle.types.specs.declared.GotType.{GotType}
-use Rattle.nodes.specs.Nodes.{unaryOf, binaryOf, arithByCode, divisionByCode, connectiveOf, quantifierOf, accessOf, unaryWords, accessCode, binaryCode, arithCode, divisionCode, connectiveCode, quantifierCode}
+use Rattle.nodes.specs.Nodes.{unaryWords, accessCode, binaryCode, arithCode, divisionCode, connectiveCode, quantifierCode}
 use Rattle.phrases.specs.Forms.{oneWords, twoWords}
 use Rattle.phrases.specs.Contracts.{StandsAs, StandsAsTwo}
 use Rattle.trees.specs.Fields.{cut}
 use Rattle.trees.specs.Forms.{StandsFor}
-use Rattle.trees.specs.Built.{numbersOf, shapeFrom, shapeIn, Builds, Iterates}
+use Rattle.text.specs.Words.{formCodes}
+use Rattle.text.specs.Forms.{withCode, fieldsBy}
+use Rattle.trees.specs.Built.{countOf, formWith, numbersOf, shapeIn, Builds, Iterates}
 use Rattle.trees.specs.Iterate.{HoldsType, TypeSpelled, a-type, TypeTold}
 use Rattle.trees.specs.declared.Parsed.{Parsed}
 use Rattle.trees.specs.declared.iterate.TypeRead.{TypeRead}
@@ -58,7 +60,7 @@ module _ {k code x y r : ℕ} {p : Parsed} (built : Builds code (y ∷ x ∷ 0 �
       go b = b .is (r ∷ z ∷ []) (omega arith) (sym n) (pair e h)
 
   one-is : (f : One) → StandsAs f code x → StandsFor k (oneShape f r) p
-  unfolding oneWords unaryWords accessCode oneShape numbersOf shapeFrom unaryOf accessOf
+  unfolding oneWords unaryWords accessCode oneShape countOf formWith fieldsBy withCode forms formCodes
   one-is (unary negation) s = alone (s .code) (s .number) refl
   one-is (unary sizeOf) s = alone (s .code) (s .number) refl
   one-is (unary (convert set)) s = alone (s .code) (s .number) refl
@@ -72,7 +74,7 @@ module _ {k code x y r : ℕ} {p : Parsed} (built : Builds code (y ∷ x ∷ 0 �
 
   -- signs and arguments without a variable
   two-is : {z : ℕ} → Of z x → code ≢ 25 → code ≢ 26 → code ≢ 32 → {v : ℕ} (f : Two) → StandsAsTwo f code v → StandsFor k (twoShape f r z) p
-  unfolding twoWords binaryCode arithCode divisionCode connectiveCode quantifierCode twoShape numbersOf shapeFrom binaryOf arithByCode divisionByCode connectiveOf
+  unfolding twoWords binaryCode arithCode divisionCode connectiveCode quantifierCode twoShape countOf formWith fieldsBy withCode forms formCodes
   two-is h a b c (binary equal) s = both (s .code) h refl
   two-is h a b c (binary less) s = both (s .code) h refl
   two-is h a b c (binary (arithmetic plus)) s = both (s .code) h refl
@@ -98,7 +100,7 @@ module _ {k code x v w : ℕ} {p : Parsed} (built : Builds code (x ∷ v ∷ w �
       go b = b .is (r ∷ i ∷ q ∷ []) (omega arith) (sym n) (triple h j z)
 
   quantified-is : {r q : ℕ} → Of r x → Of q w → 25 ≤ code → code < 27 → (f : Two) → StandsAsTwo f code v → StandsFor k (twoShape f r q) p
-  unfolding twoWords binaryCode arithCode divisionCode connectiveCode quantifierCode twoShape numbersOf shapeFrom quantifierOf
+  unfolding twoWords binaryCode arithCode divisionCode connectiveCode quantifierCode twoShape countOf formWith fieldsBy withCode forms formCodes
   quantified-is h z a b (binary equal) s = absurd (let e = s .code in omega arith)
   quantified-is h z a b (binary less) s = absurd (let e = s .code in omega arith)
   quantified-is h z a b (binary (arithmetic plus)) s = absurd (let e = s .code in omega arith)
@@ -117,7 +119,7 @@ module _ {k code x v w : ℕ} {p : Parsed} (built : Builds code (x ∷ v ∷ w �
   quantified-is h z a b (quantified exists i) s = three-by (s .code) h (record { is = s .number }) z refl
 
 let-is : {k x v w r q : ℕ} {p : Parsed} → Builds 32 (v ∷ x ∷ w ∷ 0 ∷ []) k p → Of r x → Of q w → (f : Two) → StandsAsTwo f 32 v → StandsFor k (twoShape f r q) p
-unfolding twoWords binaryCode arithCode divisionCode connectiveCode quantifierCode twoShape numbersOf shapeFrom
+unfolding twoWords binaryCode arithCode divisionCode connectiveCode quantifierCode twoShape countOf formWith fieldsBy withCode forms formCodes
 let-is b h z (binary equal) s = absurd (let e = s .code in omega arith)
 let-is b h z (binary less) s = absurd (let e = s .code in omega arith)
 let-is b h z (binary (arithmetic plus)) s = absurd (let e = s .code in omega arith)
@@ -156,7 +158,7 @@ module _ {k a b x : ℕ} {p : Parsed} {u v : List ℕ} (some-a : 0 < a) (more : 
 
 module _ {k a b c : ℕ} {p : Parsed} {u v : List ℕ} (some-a : 0 < a) (more : a < b) (most : b < c) (put : Emitted c p u v) where
   pub put-condition-is : Builds 31 ((a - 1) ∷ (b - 1) ∷ (c - 1) ∷ 0 ∷ []) k p → PutNode k c (threeShape conditional (a - 1) (b - 1) (c - 1)) u v
-  unfolding numbersOf shapeFrom threeShape
+  unfolding countOf formWith fieldsBy withCode forms formCodes threeShape
   put-condition-is z =
       put-as (threeShape conditional (a - 1) (b - 1) (c - 1))
       (λ l. three-by z refl (same (a - 1) (omega arith)) (same (b - 1) (omega arith)) (same (c - 1) (omega arith)) refl) put

@@ -13,7 +13,7 @@ use Rattle.ocl.specs.Types.{Kind, set, sequence, bag, Ty}
 use Rattle.ocl.specs.Forms.{plus, minus, times, div, modulo, Connective, and, or, Quantifier, forAll, exists, Access, ofObject, ofMembers, Leaf, truth, undef, number, self, var, all, Unary, negation, sizeOf, convert, castTo, Binary, equal, less, arith as calculation, divide, over, includes, including, union, Expr, node, Form, Definition}
 use Rattle.sheet.specs.Lines.{Shape, leaf, unary, binary, connective, isUndef, conditional, letIn, attribute, call, quantified, iterate, assemble}
 use Rattle.sheet.specs.Sheet.{operandsOf, growAll, grow}
-use Rattle.sheet.specs.Limits.{isVariable, isClass, typeWithin, leafWithin, unaryWithin, formWithin}
+use Rattle.sheet.specs.Limits.{isVariable, isClass, typeWithin, leafHeld, unaryHeld, heldBy, formWithin}
 use Rattle.types.specs.Word.{typeIn}
 use Rattle.reals.proofs.Onto.{number-back}
 use Rattle.nodes.specs.Nodes.{Called, TypeSaid, CallSaid, word, variable, classIn, leafOf, unaryOf, arithByCode, divisionByCode, binaryOf, connectiveOf, quantifierOf, kindOf, accessOf, operandsIn, formOf, treesBelow, treeAt, leafWords, unaryWords, arithCode, divisionCode, binaryCode, connectiveCode, quantifierCode, accessCode, assembleCode, operandWord, shapeWords}
@@ -55,8 +55,8 @@ module _ (f g : ℕ → Expr) (w : ℕ → ℕ) (first n type : ℕ) (d : Called
   Words : Shape → Type 0
   Words x = (j : ℕ) → j < 8 → w j ≡ getD (shapeWords first type d line x) j 0
 
-  leaf-grow : (l : Leaf) → leafWithin l ≡ true → Words (leaf l) → formOf f w (w 0) ≡ Form.leaf l
-  unfolding Words shapeWords leafWords leafWithin formOf leafOf
+  leaf-grow : (l : Leaf) → leafHeld l .within ≡ true → Words (leaf l) → formOf f w (w 0) ≡ Form.leaf l
+  unfolding Words shapeWords leafWords leafHeld formOf leafOf
   leaf-grow (truth false) h ws = rw (ws 0 (omega arith))
   leaf-grow (truth true) h ws = rw (ws 0 (omega arith))
   leaf-grow undef h ws = rw (ws 0 (omega arith))
@@ -65,8 +65,8 @@ module _ (f g : ℕ → Expr) (w : ℕ → ℕ) (first n type : ℕ) (d : Called
   leaf-grow (var i) h ws = rw (ws 0 (omega arith), ws 1 (omega arith), variable-back i h)
   leaf-grow (all c) h ws = rw (ws 0 (omega arith), ws 1 (omega arith), class-back c h)
 
-  unary-grow : (op : Unary) (a : ℕ) → unaryWithin op ≡ true → a < n → Words (unary op a) → formOf f w (w 0) ≡ Form.unary op (g a)
-  unfolding Words shapeWords unaryWords unaryWithin formOf unaryOf
+  unary-grow : (op : Unary) (a : ℕ) → unaryHeld op .within ≡ true → a < n → Words (unary op a) → formOf f w (w 0) ≡ Form.unary op (g a)
+  unfolding Words shapeWords unaryWords unaryHeld formOf unaryOf
   unary-grow negation a h l ws = rw (ws 0 (omega arith), ws 1 (omega arith), near a l)
   unary-grow sizeOf a h l ws = rw (ws 0 (omega arith), ws 1 (omega arith), near a l)
   unary-grow (convert set) a h l ws = rw (ws 0 (omega arith), ws 1 (omega arith), near a l)
@@ -132,7 +132,7 @@ module _ (f g : ℕ → Expr) (w : ℕ → ℕ) (first n type : ℕ) (d : Called
 
   pub form-grow : (h : ℕ → Definition) (x : Shape) → formWithin x ≡ true → TypeSaid type x → CallSaid f h d x → Each (λ a. a < n) (operandsOf x) → length (operandsOf x) ≤ 4
       → ((j : ℕ) → j < 8 → w j ≡ getD (shapeWords first type d line x) j 0) → formOf f w (w 0) ≡ grow g h x
-  unfolding grow operandsOf formWithin Words shapeWords formOf
+  unfolding grow operandsOf heldBy formWithin Words shapeWords formOf
   form-grow defs (leaf l) h s called o c ws = leaf-grow l h ws
   form-grow defs (unary op a) h s called (each-cons l each-nil) c ws = unary-grow op a h l ws
   form-grow defs (binary op a b) h s called (each-cons l (each-cons m each-nil)) c ws = binary-grow op a b l m ws

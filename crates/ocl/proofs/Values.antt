@@ -1,8 +1,8 @@
 -- What is added to a collection, which values belong to a type, and that belonging goes up. Assumes nothing.
-use mathlib.Core.Path.{_≡_, sym, ap}
+use mathlib.Core.Path.{_≡_, refl, sym, ap}
 use mathlib.Core.Bool.{Bool, true, false, _&&_}
 use mathlib.Core.Option.{Option, none, some}
-use Prim.Native.Nat.{ℕ, zero, suc, _≤_, _<_, Ordering, Ordering·lt, Ordering·eq, Ordering·gt}
+use Prim.Native.Nat.{ℕ, zero, suc, _+_, _≤_, _<_, Ordering, Ordering·lt, Ordering·eq, Ordering·gt}
 use native.Mathlib.Omega.{arith}
 use lib.Dec.{T, eqb, eqb→eq}
 use Rattle.laws.specs.Choice.{onSome, mapSome}
@@ -85,6 +85,18 @@ pub count-sizes : (vs : Values) → count vs ≤ sizes vs
 unfolding size count
 count-sizes nil = omega arith
 count-sizes (cons v vs) = let p = size-pos v in let q = count-sizes vs in omega arith
+
+-- a Bag grows by what is put in
+put-sizes : (o : Ordering) (v w : Value) (ws further : Values) → sizes further ≡ size v + sizes ws → sizes (put true o v w ws further) ≡ size v + sizes (cons w ws)
+unfolding put size
+put-sizes Ordering·lt v w ws further h = refl
+put-sizes Ordering·eq v w ws further h = refl
+put-sizes Ordering·gt v w ws further h = omega arith
+
+pub insert-sizes : (v : Value) (vs : Values) → sizes (insert true v vs) ≡ size v + sizes vs
+unfolding insert size
+insert-sizes v nil = refl
+insert-sizes v (cons w ws) = put-sizes (order v w) v w ws (insert true v ws) (insert-sizes v ws)
 
 -- ---- belonging, with members as a predicate
 

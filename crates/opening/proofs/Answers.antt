@@ -10,6 +10,7 @@ use borrow.Author.Tests.{lt-ltb, le-ltb, ltb-false, ne-eqb}
 use lib.ListN.{length, replicate}
 use lib.Dec.{ltb, eqb}
 use Rattle.laws.specs.Choice.{if_then_else_}
+use Rattle.laws.proofs.Tests.{or-false}
 use Rattle.sheet.specs.Text.{Bytes}
 use Rattle.sheet.specs.Calls.{Verdict, refusalAt, refusal, wiped, wordsAfter, outputAfter, shortWords, shortOutput}
 use Rattle.sheet.specs.Soundness.{Lent}
@@ -25,10 +26,6 @@ use Rattle.opening.specs.Parts.{OpensText, GivesAnswer, Leaves, Wipes, w
 or-true : (b : Bool) → b || true ≡ true
 or-true true = refl
 or-true false = refl
-
-or-false : (a b : Bool) → a || b ≡ false → (a ≡ false) × (b ≡ false)
-or-false false b e = (refl, e)
-or-false true b e = absurd (let z : _≡_ {A = ℕ} 0 1 = cc in omega arith)
 
 module _ (w0 w1 w2 : List ℕ) where
   pub short0 : length w0 < 8192 → true ≡ shortWords w0 w1 w2

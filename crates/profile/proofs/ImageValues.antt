@@ -2,16 +2,16 @@
 -- Assumes nothing.
 use mathlib.Core.Path.{_≡_, refl, sym, ap, _∙_, subst}
 use mathlib.Core.Bool.{Bool, true, _&&_}
-use Prim.Native.Nat.{ℕ, zero, suc, _+_, _≤_, max, Ordering, Ordering·lt, Ordering·eq, Ordering·gt}
+use Prim.Native.Nat.{ℕ, zero, suc, _+_, _≤_, max, Ordering}
 use native.Mathlib.Omega.{arith}
 use lib.Dec.{T}
 use Rattle.laws.proofs.Tests.{and-i, and-l, and-r}
 use Rattle.reals.specs.Reals.{Number, isLess}
 use Rattle.ocl.specs.Types.{Simple, Kind, set, sequence, bag, Ty, void, simple, around}
-use Rattle.ocl.specs.Values.{Value, bool, num, obj, coll, Values, nil, cons, size, sizes, everyPart, everyParts, order, put, insert, add, addAll}
+use Rattle.ocl.specs.Values.{Value, bool, num, obj, coll, Values, nil, cons, size, sizes, everyPart, everyParts, insert, add, addAll}
 use Rattle.ocl.specs.Model.{Model, isA, belongs}
 use Rattle.ocl.specs.Laws.{InOrder, ascends, repeats, anyhow, Sorted, sorted-nil, sorted-cons, Formed, formed-bool, formed-num, formed-obj, formed-coll, FormedAll, formed-nil, formed-cons}
-use Rattle.ocl.proofs.Values.{Every, every-nil, every-cons, every-imp, addAll-every, Belongs, belongs-by, belongs-test}
+use Rattle.ocl.proofs.Values.{Every, every-nil, every-cons, every-imp, addAll-every, insert-sizes, Belongs, belongs-by, belongs-test}
 use Rattle.ocl.proofs.Sorted.{addAll-sorted, sorted-tail}
 use Rattle.ocl.proofs.Formed.{formed-of}
 use Rattle.sheet.specs.Limits.{nesting, nestings}
@@ -46,21 +46,10 @@ mutual
 
 -- ---- size
 
-sizes-put : (v w : Value) (ws more : Values) (o : Ordering) → sizes more ≡ size v + sizes ws → sizes (put true o v w ws more) ≡ size v + (size w + sizes ws)
-unfolding put size
-sizes-put v w ws more Ordering·lt h = refl
-sizes-put v w ws more Ordering·eq h = refl
-sizes-put v w ws more Ordering·gt h = omega arith
-
-sizes-insert : (v : Value) (vs : Values) → sizes (insert true v vs) ≡ size v + sizes vs
-unfolding insert size
-sizes-insert v nil = refl
-sizes-insert v (cons w ws) = sizes-put v w ws (insert true v ws) (order v w) (sizes-insert v ws)
-
 sizes-bag : (us vs : Values) → sizes (addAll bag us vs) ≡ sizes us + sizes vs
 unfolding addAll add size
 sizes-bag nil vs = omega arith
-sizes-bag (cons u us) vs = let a = sizes-bag us (insert true u vs) in let b = sizes-insert u vs in omega arith
+sizes-bag (cons u us) vs = let a = sizes-bag us (insert true u vs) in let b = insert-sizes u vs in omega arith
 
 module _ (f g : ℕ → ℕ) (back : (o : ℕ) → g (f o) ≡ o) where
   sizes-gathered : (k : Kind) (vs : Values) → FitAll k vs → sizes (addAll k (renumberedAll f vs) nil) ≡ sizes (renumberedAll f vs)

@@ -1,15 +1,14 @@
 -- V lines that are taken one after another: what they have met, what they make of a sheet, and which are taken. Assumes nothing.
 use mathlib.Core.Path.{_≡_, refl, sym, ap, _∙_, subst}
-use mathlib.Core.Bool.{_&&_, _||_}
+use mathlib.Core.Bool.{_&&_}
 use mathlib.Core.Option.{none}
 use mathlib.Core.List.{List, [], _∷_, _++_, append-nil, append-assoc}
 use Prim.Native.Nat.{ℕ, suc, _+_, _≤_, _<_}
 use native.Mathlib.Omega.{arith}
-use borrow.Author.Tests.{eq-eqb}
 use lib.ListN.{length}
-use lib.Dec.{T, eqb, ltb, ltb→lt, leb, leb→le, lt→ltb, le→leb}
+use lib.Dec.{T, ltb, ltb→lt, leb, leb→le, lt→ltb, le→leb}
 use Rattle.laws.specs.Lists.{Each, each-nil, each-cons}
-use Rattle.laws.proofs.Tests.{and-i, and-l, and-r, or-l, or-r}
+use Rattle.laws.proofs.Tests.{and-i, and-l, and-r}
 use Rattle.laws.proofs.Lists.{length-more, each-imp}
 use Rattle.ocl.specs.Types.{class}
 use Rattle.ocl.specs.Values.{size, everyPart}
@@ -19,7 +18,7 @@ use Rattle.sheet.specs.Sheet.{Slot, Sheet, modelOf, added}
 use Rattle.sheet.specs.Texts.{onText}
 use Rattle.sheet.specs.Refusals.{objectBelow, blockOf, afterSlots, ordered, numbered, inOrder, partsKnown, callsSmaller, callsKnown, suits, treeHolds}
 use Rattle.sheet.specs.Limits.{valueWithin, totalSize, withinLimits}
-use Rattle.sheet.proofs.Ascending.{Before, smaller-object, smaller-row, Ascending, ascending-cons}
+use Rattle.sheet.proofs.Ascending.{Ascending, ascending-after}
 use Rattle.sheet.proofs.GoodLines.{Met}
 use Rattle.sheet.proofs.Good.{plain}
 use Rattle.sheet.proofs.Belonging.{belongs-same}
@@ -169,18 +168,6 @@ slots-facts (x ∷ xs) s t k j (takes-cons {t = w} e m r) h =
     let z = closed-none (ofBody y) s w h e in
     one-slot s t x xs (subst (λ u. Met u y) (sym z) m)
     (slots-facts xs (added s (suc k) y) t (suc k) j (subst (λ u. Takes (added u (suc k) y) (suc k) (valueLines xs) t j) (sym z) r) h)
-
--- a slot comes after those before it
-before-test : (x y : Slot) → Before x y → T (ltb (x .object) (y .object) || eqb (x .object) (y .object) && ltb (x .row) (y .row))
-before-test x y (smaller-object h) = or-l (ltb (x .object) (y .object)) _ (lt→ltb (x .object) (y .object) h)
-before-test x y (smaller-row e h) =
-    or-r (ltb (x .object) (y .object)) _ (and-i (eqb (x .object) (y .object)) (ltb (x .row) (y .row)) (subst T (sym (eq-eqb (x .object) (y .object) e)) tt) (lt→ltb (x .row) (y .row) h))
-
-pub ascending-after : (l : List Slot) (x : Slot) (r : List Slot) → Ascending (l ++ (x ∷ r)) → T (afterSlots l (x .object) (x .row))
-unfolding afterSlots
-ascending-after [] x r a = tt
-ascending-after (y ∷ []) x r (ascending-cons (each-cons b bs) a) = before-test y x b
-ascending-after (y ∷ z ∷ l) x r (ascending-cons b a) = ascending-after (z ∷ l) x r a
 
 pub slots-taken : (xs : List Slot) (s : Sheet) (k : ℕ) → s .current ≡ none → (1 ≤ length xs → s .block ≤ 3) → Each (SlotFact s) xs → length (s .slots) + length xs ≤ 1024
     → totalSize (s .slots) + totalSize xs ≤ 2048 → Ascending (s .slots ++ xs) → Takes s k (valueLines xs) (slotted s (blockAfter 3 (s .block) xs) (s .slots ++ xs)) (k + length xs)

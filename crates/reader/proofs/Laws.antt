@@ -1,7 +1,7 @@
 -- A line, the end of a definition or rule before it and the text's end, put together as reading is defined. Assumes nothing.
 use mathlib.Core.Path.{_≡_, refl, sym, _∙_, subst}
 use mathlib.Core.Logic.{_≢_}
-use mathlib.Core.Bool.{Bool, true, false, _||_, true≢false}
+use mathlib.Core.Bool.{Bool, true, false, _||_}
 use mathlib.Core.Option.{Option, none, some}
 use mathlib.Core.List.{List, [], _∷_}
 use Prim.Native.Nat.{ℕ, suc, _+_, _<_}
@@ -12,7 +12,7 @@ use lib.ListN.{length, getD}
 use lib.Dec.{eqb}
 use Rattle.sheet.specs.Text.{Bytes, bytes, split, fieldsOf}
 use Rattle.sheet.specs.Lines.{is, lineOf, inBody}
-use Rattle.laws.proofs.Tests.{All?, all-some}
+use Rattle.laws.proofs.Tests.{or-false, All?, all-some}
 use Rattle.laws.proofs.Lists.{each-imp}
 use Rattle.sheet.specs.Sheet.{Current, Sheet}
 use Rattle.sheet.specs.Reading.{Step, step, Reading, accepted, rejected, onStep, onEnd, closing, readLast, readLines}
@@ -91,14 +91,10 @@ unfolding lineOf
 no-line [] a b c d e f g h = refl
 no-line (w ∷ fs) a b c d e f g h = rw (a, b, c, d, e, f, g, h)
 
-neither : (a b : Bool) → a || b ≡ false → (a ≡ false) × (b ≡ false)
-neither true b h = absurd (true≢false h)
-neither false b h = (refl, h)
-
 pub unknown-line : (fs : List Bytes) (kind : ℕ) → kind ≡ byteKind (onlyByte (getD fs 0 [])) → kind ≢ 1 → kind ≢ 2 → kind ≢ 3 → kind ≢ 4 → kind ≢ 5 → kind ≢ 8 → bodyKind kind ≡ false → lineOf fs ≡ none
 unfolding bodyKind
 unknown-line fs kind e a b c d f i g =
-    let n = neither (eqb kind 6) (eqb kind 9) g in
+    let n = or-false (eqb kind 6) (eqb kind 9) g in
     no-line fs
     (is-class-line (getD fs 0 []) ∙ rw (← e) (ne-eqb kind 1 a)) (is-row-line (getD fs 0 []) ∙ rw (← e) (ne-eqb kind 2 b))
     (is-object-line (getD fs 0 []) ∙ rw (← e) (ne-eqb kind 3 c)) (is-value-line (getD fs 0 []) ∙ rw (← e) (ne-eqb kind 4 d))

@@ -29,7 +29,7 @@ holds-empty : (w0 w1 : List ℕ) → Holds noCounts w0 w1 empty
 unfolding empty startsFrom cellsOf concat linesIn totalSize
 holds-empty w0 w1 = record {
   counted = record { block = refl; classes = refl; rows = refl; objects = refl; slots = refl; cells = refl; nodes = refl; definitions = refl; rules = refl };
-  tables = record { parents = refl; owners = refl; names = refl; types = refl; objects = refl; keys = refl; starts = refl; cells = refl; fits = each-nil; contexts = refl };
+  tables = record { parents = refl; smaller = good-empty .parents; owners = refl; names = refl; types = refl; objects = refl; keys = refl; starts = refl; cells = refl; fits = each-nil; contexts = refl };
   definitions = record { contexts = refl; classes = each-nil; types = refl; bodies = refl; roots = each-nil; depths = each-nil };
   rules = record { bodies = refl; roots = each-nil; lines = refl };
   current = closed refl;

@@ -133,7 +133,7 @@ module _ {st : Counts} {o a : ℕ} {w0 w1 : List ℕ} where
         }
 
         module _ (there : a < st .rows) (room : 8192 ≤ length w0) (fine : Fine st) {P Q : List ℕ} {i : ℕ} (p : P ≡ tab 0 (st .classes) w0) (q : Q ≡ tab 256 (st .objects) w0) (e : i ≡ a)
-            {b : Bool} (ob : ObjectSuits P Q o 5 (getD w0 (64 + i) 0) b) where
+            {b : Bool} (ob : ObjectSuits P Q o (getD w0 (64 + i) 0) b) where
           owner : (s : Sheet) → Holds st w0 w1 s → b ≡ isA (modelOf s) o (class (modelOf s .row a .owner))
           owner s h = its-object room fine p q e ob there h
 

@@ -17,9 +17,10 @@ use Rattle.laws.proofs.Lists.{each-head, each-imp, each-right}
 use Rattle.ocl.specs.Values.{Value, size, everyPart}
 use Rattle.sheet.specs.Sheet.{Slot, Sheet, empty}
 use Rattle.sheet.specs.Limits.{totalSize, partWithin, nesting, valueWithin}
+use Rattle.sheet.proofs.Good.{good-empty}
 use Rattle.board.specs.Edits.{comesBefore, slotsBefore, slotsAfter, withSlots, hasRoom}
 use Rattle.board.proofs.Facts.{Fact}
-use Rattle.board.proofs.Taken.{size-append}
+use Rattle.sheet.proofs.SlotSizes.{size-append}
 use Rattle.values.specs.Cells.{enc, Fits}
 use Rattle.values.proofs.Encoding.{size-law, some-cells, same-cells}
 use Rattle.tables.specs.declared.Counts.{Counts}
@@ -86,6 +87,7 @@ module _ (words : List ℕ) (xs : List Slot) (lies : SlotsLie words xs) (room : 
   unfolding withSlots empty
   held = record {
     parents = refl;
+    smaller = good-empty .parents;
     owners = refl;
     names = refl;
     types = refl;

@@ -1,6 +1,6 @@
 -- An edit's line by itself: a value taken as the first one of a sheet, and the edit's own slot. Assumes nothing.
 use mathlib.Core.Path.{_≡_, refl, sym, ap, _∙_, subst}
-use mathlib.Core.Bool.{Bool, true, false}
+use mathlib.Core.Bool.{true, false}
 use mathlib.Core.Option.{some, Option·none-ne-some, Option·some-injective}
 use mathlib.Core.List.{List, [], _∷_}
 use Prim.Native.Nat.{ℕ, _+_, _*_, _<_}
@@ -9,7 +9,6 @@ use lib.ListN.{getD}
 use Rattle.ocl.specs.Values.{Value}
 use Rattle.sheet.specs.Text.{Bytes, bytes, fieldsOf}
 use Rattle.sheet.specs.Lines.{valueLine, is, next}
-use Rattle.sheet.specs.Texts.{onText}
 use Rattle.sheet.specs.Sheet.{Slot, Sheet, added}
 use Rattle.sheet.specs.Reading.{Step, taken, refuse, stepLine, step}
 use Rattle.sheet.proofs.GoodLines.{slot-ok}
@@ -25,6 +24,7 @@ use Rattle.tables.specs.Layout.{slotKey, Holds, Fine, Moved, moved-next}
 use Rattle.tables.proofs.Tables.{kept-refl, tab-at}
 use Rattle.tables.proofs.Steps.{step-bad, step-line}
 use Rattle.slots.specs.Slots.{TookSlot}
+use Rattle.slots.proofs.LineLaws.{value-plain}
 use Rattle.replay.specs.declared.judging.Judged.the-variants as code
 use Rattle.replay.specs.Judging.{emptyCounts, clearsLine, judgedEdit, JudgedAs, judged-stop, judged-key, Judges, OwnTook}
 use Rattle.replay.proofs.TakingLaws.{onward, stopped}
@@ -32,10 +32,6 @@ use Rattle.replay.proofs.ValuedLaws.{empty-held, empty-rows}
 use Rattle.replay.proofs.EditFieldLaws.{EditLine, neither, both, edit-line, cleared-none}
 
 -- ---- a value
-
-value-plain : (o a : ℕ) (v : Value) (test : Bytes → Bool) → onText (valueLine o a v) test ≡ true
-unfolding onText
-value-plain o a v test = refl
 
 -- the line as the sheet without values judges it
 edit-step : (line : Bytes) → is (getD (fieldsOf line) 0 []) (bytes "V") ≡ true → clearsLine (fieldsOf line) ≡ false → (s : Sheet)

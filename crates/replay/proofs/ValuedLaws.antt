@@ -14,6 +14,7 @@ use Rattle.board.specs.Edits.{withSlots}
 use Rattle.board.proofs.AsLines.{Lined, good-lined}
 use Rattle.tables.specs.declared.Counts.{Counts}
 use Rattle.tables.specs.Layout.{startsFrom, cellsOf, Holds, Fine, closed, HoldsOpen}
+use Rattle.tables.proofs.Entries.{tables-same, definitions-same}
 use Rattle.slots.specs.Slots.{SmallRows}
 use Rattle.replay.specs.Judging.{emptyCounts}
 use Rattle.sheet.specs.Calls.{marksOf}
@@ -41,6 +42,7 @@ empty-held st a b c d e f h = record {
   };
   tables = record {
     parents = h .tables .parents;
+    smaller = h .tables .smaller;
     owners = h .tables .owners;
     names = h .tables .names;
     types = h .tables .types;
@@ -51,14 +53,7 @@ empty-held st a b c d e f h = record {
     fits = each-nil;
     contexts = h .tables .contexts;
   };
-  definitions = record {
-    contexts = h .definitions .contexts;
-    classes = h .definitions .classes;
-    types = h .definitions .types;
-    bodies = h .definitions .bodies;
-    roots = h .definitions .roots;
-    depths = h .definitions .depths;
-  };
+  definitions = definitions-same refl refl (h .definitions);
   rules = record { bodies = h .rules .bodies; roots = h .rules .roots; lines = h .rules .lines };
   current = closed refl;
 }
@@ -98,26 +93,8 @@ last-held {su} {v0} {w1} s xs h = record {
     definitions = h .counted .definitions;
     rules = h .counted .rules;
   };
-  tables = record {
-    parents = h .tables .parents;
-    owners = h .tables .owners;
-    names = h .tables .names;
-    types = h .tables .types;
-    objects = h .tables .objects;
-    keys = h .tables .keys;
-    starts = h .tables .starts;
-    cells = h .tables .cells;
-    fits = h .tables .fits;
-    contexts = h .tables .contexts;
-  };
-  definitions = record {
-    contexts = h .definitions .contexts;
-    classes = h .definitions .classes;
-    types = h .definitions .types;
-    bodies = h .definitions .bodies;
-    roots = h .definitions .roots;
-    depths = h .definitions .depths;
-  };
+  tables = tables-same refl refl refl refl refl (h .tables);
+  definitions = definitions-same refl refl (h .definitions);
   rules = record { bodies = h .rules .bodies; roots = h .rules .roots; lines = h .rules .lines };
   current = nothing-open (h .current);
 }

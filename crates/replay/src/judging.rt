@@ -73,7 +73,7 @@ fn judge_cleared(w0: &[u64], st: Counts, o: u64, a: u64) -> Judged
     let classes = wide(st.classes);
     let objects_end = 256 + wide(st.objects);
     let i = wide(a);
-    if !object_suits(&w0[..classes], &w0[256..objects_end], o, 5, w0[64 + i]) {
+    if !object_suits(&w0[..classes], &w0[256..objects_end], o, w0[64 + i]) {
         return Judged::Stop(7);
     }
     Judged::Key(o * 64 + a)

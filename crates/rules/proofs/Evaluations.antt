@@ -5,15 +5,12 @@ use Prim.Native.Nat.{ℕ, _+_, _≤_, _<_}
 use native.Mathlib.Omega.{arith}
 use lib.ListN.{length, getD, take, drop, length-append, length-drop}
 use lib.Seq.{length-take-le, take-append-le, drop-at}
-use Rattle.ocl.specs.Values.{obj}
-use Rattle.ocl.specs.Environment.{start}
 use Rattle.ocl.specs.Forms.{levels}
-use Rattle.ocl.specs.Evaluation.{evaluateRule}
-use Rattle.ocl.specs.Trace.{Traced, untraced, traceRule}
-use Rattle.ocl.proofs.Trace.{origin}
+use Rattle.ocl.specs.Trace.{Traced, traceRule}
 use Rattle.sheet.specs.Sheet.{Rule, Sheet, modelOf}
-use Rattle.sheet.specs.Calls.{marksOf, outcomeOf}
+use Rattle.sheet.specs.Calls.{marksOf}
 use Rattle.sheet.specs.Origin.{traceOf}
+use Rattle.sheet.proofs.Origin.{traced-outcome}
 use Rattle.nodes.specs.Nodes.{treeAt}
 use Rattle.tables.specs.declared.Counts.{Counts}
 use Rattle.operations.specs.declared.Ended.{Ended}
@@ -39,11 +36,6 @@ rule-trace : {w0 w1 : List ℕ} {r root : ℕ} (s : Sheet) (x : Rule) (o : ℕ) 
     → traceRule (modelOf s) (marksOf s) (treeAt w1 root) o ≡ traceOf s x o
 unfolding traceOf
 rule-trace s x o i e = rw (e, i .body)
-
--- the outcome alone is evaluation's
-trace-outcome : (s : Sheet) (x : Rule) (o : ℕ) → untraced (traceOf s x o) ≡ outcomeOf s x o
-unfolding traceOf traceRule outcomeOf evaluateRule
-trace-outcome s x o = origin (modelOf s) (marksOf s) (x .body) (start (obj o)) 0 .same-outcome
 
 -- the rule is shallow enough for the stack
 pub rule-shallow : {st : Counts} {w0 w1 : List ℕ} {r root : ℕ} → Known st w0 w1 → r < st .rules → root ≡ getD w0 (4512 + r) 0 → levels (treeAt w1 root) ≤ 19
@@ -84,6 +76,6 @@ module _ {st : Counts} {w0 w1 : List ℕ} where
   pub evaluates-numbered : {r o : ℕ} {before after : List ℕ} {e : Answer} {x : Ended} → TracesNumbered st w0 w1 r o before after e → x ≡ withoutPlace e → EvaluatesNumbered st w0 w1 r o before after x
   evaluates-numbered {o = o} {e = e} t i = rw i (record {
     small = small-alone e (t .small);
-    ends = λ s g m x q. rw (trace-outcome s x o) at (ends-alone (t .ends s g m x q));
+    ends = λ s g m x q. rw (traced-outcome s x o) at (ends-alone (t .ends s g m x q));
     kept = t .kept;
   })

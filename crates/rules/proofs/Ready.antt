@@ -40,7 +40,7 @@ module _ {st : Counts} {w0 w1 : List ℕ} {s : Sheet} (fine : Fine st) (holds : 
   model-held : HoldsModel st w0 (modelOf s)
   unfolding modelOf
   model-held = record {
-    classes = classes-held (holds .tables) (good .parents) (st .classes) (st .rows) (holds .counted .classes) (let c = holds .counted .rows in omega arith);
+    classes = classes-held (holds .tables) (st .classes) (st .rows) (holds .counted .classes) (let c = holds .counted .rows in omega arith);
     rowCount = sym (holds .counted .rows);
     objectCount = sym (holds .counted .objects);
     classOf = λ o. object-class o (decLt o (st .objects));
@@ -62,7 +62,7 @@ ready {st} {s = s} a =
     let c = a .holds .counted .rows in
     let f = a .fine .rows in
     record {
-      classes = record { classes = classes-held (a .holds .tables) (good .parents) (st .classes) 64 (a .holds .counted .classes) (omega arith); count = sym c };
+      classes = record { classes = classes-held (a .holds .tables) (st .classes) 64 (a .holds .counted .classes) (omega arith); count = sym c };
       model = model-held (a .fine) (a .holds) good;
       plain = plain-model (a .fine) (a .holds) good;
       definition = definition-in (a .fine) (a .holds) good;

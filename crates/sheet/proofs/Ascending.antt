@@ -1,12 +1,13 @@
 -- Slots ascend by object and row: a V line comes after the last slot, and so after each. Assumes nothing.
-use mathlib.Core.Path.{_≡_}
-use mathlib.Core.Bool.{_&&_}
+use mathlib.Core.Path.{_≡_, sym, subst}
+use mathlib.Core.Bool.{_&&_, _||_}
 use mathlib.Core.List.{List, [], _∷_, _++_}
 use Prim.Native.Nat.{_<_}
 use native.Mathlib.Omega.{arith}
-use lib.Dec.{T, eqb, eqb→eq, ltb, ltb→lt}
+use borrow.Author.Tests.{eq-eqb}
+use lib.Dec.{T, eqb, eqb→eq, ltb, ltb→lt, lt→ltb}
 use Rattle.laws.specs.Lists.{Each, each-nil, each-cons}
-use Rattle.laws.proofs.Tests.{and-l, and-r, or-e}
+use Rattle.laws.proofs.Tests.{and-i, and-l, and-r, or-l, or-r, or-e}
 use Rattle.laws.proofs.Lists.{each-append, each-head}
 use Rattle.sheet.specs.Sheet.{Slot}
 use Rattle.sheet.specs.Refusals.{afterSlots}
@@ -26,6 +27,18 @@ before-then (smaller-object a) (smaller-object b) = smaller-object (omega arith)
 before-then (smaller-object a) (smaller-row b c) = smaller-object (omega arith)
 before-then (smaller-row a b) (smaller-object c) = smaller-object (omega arith)
 before-then (smaller-row a b) (smaller-row c d) = smaller-row (omega arith) (omega arith)
+
+before-test : (x y : Slot) → Before x y → T (ltb (x .object) (y .object) || eqb (x .object) (y .object) && ltb (x .row) (y .row))
+before-test x y (smaller-object h) = or-l (ltb (x .object) (y .object)) _ (lt→ltb (x .object) (y .object) h)
+before-test x y (smaller-row e h) =
+    or-r (ltb (x .object) (y .object)) _ (and-i (eqb (x .object) (y .object)) (ltb (x .row) (y .row)) (subst T (sym (eq-eqb (x .object) (y .object) e)) tt) (lt→ltb (x .row) (y .row) h))
+
+-- a slot comes after those before it
+pub ascending-after : (l : List Slot) (x : Slot) (r : List Slot) → Ascending (l ++ (x ∷ r)) → T (afterSlots l (x .object) (x .row))
+unfolding afterSlots
+ascending-after [] x r a = tt
+ascending-after (y ∷ []) x r (ascending-cons (each-cons b bs) a) = before-test y x b
+ascending-after (y ∷ z ∷ l) x r (ascending-cons b a) = ascending-after (z ∷ l) x r a
 
 pub before-by : (x y : Slot) → T (afterSlots (x ∷ []) (y .object) (y .row)) → Before x y
 unfolding afterSlots

@@ -13,6 +13,7 @@ use Rattle.ocl.specs.Forms.{Expr, Definition, calls, callsIn, callsOf}
 use Rattle.ocl.specs.Laws.{numbers}
 use Rattle.sheet.specs.Lines.{Shape, leaf, unary, binary, connective, isUndef, conditional, letIn, attribute, call, quantified, iterate, assemble}
 use Rattle.sheet.specs.Sheet.{growAll, grow, treeOf, definitionOf}
+use Rattle.sheet.specs.Limits.{heldBy}
 use Rattle.sheet.specs.Refusals.{callBelow}
 
 -- ---- nodes
@@ -66,7 +67,7 @@ module _ {ds : List Definition} (f : ℕ → Expr) (h : (a : ℕ) → Each (Amon
   definition-there d l = record { index = d; there = elem-some ds d _ l }
 
   pub grown-called : (x : Shape) → T (callBelow (length ds) x) → Each (Among ds) (callsIn (grow f (definitionOf ds) x))
-  unfolding grow calls callBelow
+  unfolding grow calls heldBy callBelow
   grown-called (leaf l) t = each-nil
   grown-called (unary op a) t = h a
   grown-called (binary op a b) t = each-append (h a) (h b)

@@ -14,10 +14,10 @@ use Rattle.ocl.specs.Types.{Kind, set, sequence, bag, Ty}
 use Rattle.ocl.specs.Forms.{plus, minus, times, div, modulo, and, or, forAll, exists, ofObject, ofMembers, Leaf, truth, undef, number, self, var, all, Unary, negation, sizeOf, convert, castTo, Binary, equal, less, arith as arithOf, divide, over, includes, including, union}
 use Rattle.reals.specs.Spelling.{spellReal}
 use Rattle.sheet.specs.Text.{Bytes, bytes, after as afterBytes, literal, realParser, atEnd, whole as wholeField, _or_ as either, spellNumber, spellInteger}
-use Rattle.sheet.specs.Spelling.{letterByte, kindByte, readType, spellType}
-use Rattle.sheet.specs.Lines.{Shape, leaf, unary, binary, connective, isUndef, conditional, letIn, attribute, call, quantified, iterate, assemble, Line, nodeLine, is, next, done, each, aWord, aNumber, anInteger, aReal, aKind, oneOperand, twoOperands, threeNumbers, iterateFields, atMostFour, assembleFields, shapeOf, lineOf}
+use Rattle.sheet.specs.Spelling.{letterByte, kindByte, spellType}
+use Rattle.sheet.specs.Lines.{Shape, leaf, unary, binary, connective, isUndef, conditional, letIn, attribute, call, quantified, iterate, assemble, Line, nodeLine, is, next, done, each, aWord, aNumber, anInteger, aReal, aKind, oneNumber, twoNumbers, threeNumbers, readFields, iterateFields, atMostFour, assembleFields, forms, named, shapeOf, lineOf}
 use Rattle.sheet.specs.NodeSpelling.{conversionWord, arithmeticWord, divisionWord, binaryWord, connectiveWord, quantifierWord, accessWord, numberFields, leafFields, unaryFields, formFields, nodeFields}
-use Rattle.sheet.proofs.Spelling.{spelling-laws}
+use Rattle.sheet.proofs.Spelling.{type-back, spelling-laws}
 
 -- ---- fields read back
 
@@ -33,9 +33,6 @@ integer-back z = spelling-laws .integers .back z
 pub real-back : (f : Bytes) (r : Real) → aReal f ≡ some r → aReal (spellReal r) ≡ some r
 unfolding aReal
 real-back f r e = ap (wholeField realParser) (sym (spelling-laws .reals .only f r e)) ∙ e
-
-type-back : (t : Ty) → readType (spellType t) ≡ some t
-type-back t = spelling-laws .types .back t
 
 kind-back : (k : Kind) → aKind (kindByte k ∷ []) ≡ some k
 unfolding aKind wholeField atEnd either literal afterBytes bytes kindByte letterByte orElse onSome mapSome
@@ -78,16 +75,16 @@ unfoldable pub shapeIn : List Bytes → Option Shape
 shapeIn [] = none
 shapeIn (w ∷ fs) = shapeOf w fs
 
-one-back : (f : ℕ → Shape) (a : ℕ) → oneOperand f (spellNumber a ∷ []) ≡ some (f a)
-unfolding oneOperand next done onSome
+one-back : (f : ℕ → Shape) (a : ℕ) → readFields (oneNumber f) (spellNumber a ∷ []) ≡ some (f a)
+unfolding readFields next done onSome
 one-back f a = rw (number-back a)
 
-two-back : (f : ℕ → ℕ → Shape) (a b : ℕ) → twoOperands f (spellNumber a ∷ spellNumber b ∷ []) ≡ some (f a b)
-unfolding twoOperands next done onSome
+two-back : (f : ℕ → ℕ → Shape) (a b : ℕ) → readFields (twoNumbers f) (spellNumber a ∷ spellNumber b ∷ []) ≡ some (f a b)
+unfolding readFields next done onSome
 two-back f a b = rw (number-back a, number-back b)
 
-three-back : (f : ℕ → ℕ → ℕ → Shape) (a b c : ℕ) → threeNumbers f (spellNumber a ∷ spellNumber b ∷ spellNumber c ∷ []) ≡ some (f a b c)
-unfolding threeNumbers next done onSome
+three-back : (f : ℕ → ℕ → ℕ → Shape) (a b c : ℕ) → readFields (threeNumbers f) (spellNumber a ∷ spellNumber b ∷ spellNumber c ∷ []) ≡ some (f a b c)
+unfolding readFields next done onSome
 three-back f a b c = rw (number-back a, number-back b, number-back c)
 
 iterate-back : (i j : ℕ) (t : Ty) (a e b : ℕ) → iterateFields (spellNumber a ∷ spellNumber i ∷ spellNumber j ∷ spellType t ∷ spellNumber e ∷ spellNumber b ∷ []) ≡ some (iterate i j t a e b)
@@ -99,7 +96,7 @@ unfolding assembleFields next atMostFour onSome
 assemble-back k es h = rw (kind-back k, numbers-back es, test-true (leb (length es) 4) h)
 
 leaf-back : (l : Leaf) → Legible l → shapeIn (leafFields l) ≡ some (leaf l)
-unfolding shapeIn leafFields numberFields shapeOf is bytes next done onSome Legible
+unfolding shapeIn leafFields numberFields shapeOf named forms readFields is bytes next done onSome Legible
 leaf-back (truth true) h = refl
 leaf-back (truth false) h = refl
 leaf-back undef h = refl
@@ -110,7 +107,7 @@ leaf-back (var i) h = rw (number-back i)
 leaf-back (all c) h = rw (number-back c)
 
 unary-back : (op : Unary) (a : ℕ) → shapeIn (unaryFields op a) ≡ some (unary op a)
-unfolding shapeIn unaryFields conversionWord shapeOf is bytes
+unfolding shapeIn unaryFields conversionWord shapeOf named forms is bytes onSome
 unary-back negation a = one-back (unary negation) a
 unary-back sizeOf a = one-back (unary sizeOf) a
 unary-back (convert set) a = one-back (unary (convert set)) a
@@ -119,7 +116,7 @@ unary-back (convert bag) a = one-back (unary (convert bag)) a
 unary-back (castTo c) a = two-back (λ e c. unary (castTo c) e) a c
 
 binary-back : (op : Binary) (a b : ℕ) → shapeOf (binaryWord op) (spellNumber a ∷ spellNumber b ∷ []) ≡ some (binary op a b)
-unfolding binaryWord arithmeticWord divisionWord shapeOf is bytes
+unfolding binaryWord arithmeticWord divisionWord shapeOf named forms is bytes onSome
 binary-back equal a b = two-back (binary equal) a b
 binary-back less a b = two-back (binary less) a b
 binary-back (arithOf plus) a b = two-back (binary (arithOf plus)) a b
@@ -133,7 +130,7 @@ binary-back including a b = two-back (binary including) a b
 binary-back union a b = two-back (binary union) a b
 
 shape-back : (x : Shape) → Few x → shapeIn (formFields x) ≡ some x
-unfolding shapeIn formFields connectiveWord quantifierWord accessWord shapeOf Few is bytes
+unfolding shapeIn formFields connectiveWord quantifierWord accessWord shapeOf named forms readFields Few is bytes onSome
 shape-back (leaf l) h = leaf-back l h
 shape-back (unary op a) h = unary-back op a
 shape-back (binary op a b) h = binary-back op a b

@@ -12,7 +12,7 @@ use Rattle.ocl.specs.Forms.{Leaf, truth, undef, number, self, var, all, Expr, D
 use Rattle.ocl.specs.Laws.{leafLiterals, literals, literalsIn, literalsOf, numberKept, numbersKept}
 use Rattle.sheet.specs.Lines.{Shape, leaf, unary, binary, connective, isUndef, conditional, letIn, attribute, call, quantified, iterate, assemble}
 use Rattle.sheet.specs.Sheet.{growAll, grow, treeOf, definitionOf}
-use Rattle.sheet.specs.Limits.{partWithin, leafWithin, formWithin}
+use Rattle.sheet.specs.Limits.{partWithin, leafHeld, heldBy, formWithin}
 
 -- ---- a value
 
@@ -39,8 +39,8 @@ value-kept v h = parts-kept v h
 abbrev pub AllKept : List Number → Type 0
 AllKept = Each (λ x. T (kept x))
 
-leaf-kept : (l : Leaf) → T (leafWithin l) → AllKept (leafLiterals l)
-unfolding leafLiterals leafWithin
+leaf-kept : (l : Leaf) → T (leafHeld l .within) → AllKept (leafLiterals l)
+unfolding leafLiterals leafHeld
 leaf-kept (truth b) h = each-nil
 leaf-kept undef h = each-nil
 leaf-kept (number x) h = each-cons h each-nil
@@ -68,7 +68,7 @@ module _ (f : ℕ → Expr) (h : (a : ℕ) → AllKept (literals (f a))) (g : �
   all-grown (a ∷ es) = each-append (h a) (all-grown es)
 
   pub grown-kept : (x : Shape) → T (formWithin x) → AllKept (literalsIn (grow f g x))
-  unfolding grow literals formWithin
+  unfolding grow literals heldBy formWithin
   grown-kept (leaf l) t = leaf-kept l t
   grown-kept (unary op a) t = h a
   grown-kept (binary op a b) t = each-append (h a) (h b)

@@ -47,7 +47,7 @@ node-on-sheet s g r x e q (reached-node d m h) =
 
 -- ---- the lines
 
-traced-outcome : (s : Sheet) (x : Rule) (o : ℕ) → untraced (traceOf s x o) ≡ outcomeOf s x o
+pub traced-outcome : (s : Sheet) (x : Rule) (o : ℕ) → untraced (traceOf s x o) ≡ outcomeOf s x o
 unfolding traceOf traceRule outcomeOf evaluateRule
 traced-outcome s x o = origin (modelOf s) (marksOf s) (x .body) (start (obj o)) 0 .same-outcome
 

@@ -146,7 +146,7 @@ said text s e = record {
 
 -- ---- the call and the program
 
-fits : (room : ℕ) (b : Bytes) → fitting room b .number ≡ 0 → fitting room b .output ≡ b
+pub fits : (room : ℕ) (b : Bytes) → fitting room b .number ≡ 0 → fitting room b .output ≡ b
 unfolding fitting answer refusal refusalAt
 fits room b e = by-if (λ (v : Verdict). v .number ≡ 0 → v .output ≡ b) (ltb room (length b)) (refusal 18) (answer b) (λ t q. absurd (omega arith)) (λ t q. refl) e
 

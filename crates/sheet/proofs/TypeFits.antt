@@ -15,7 +15,7 @@ use Rattle.ocl.specs.Forms.{Leaf, truth, undef, number, self, var, all, Unary, 
 use Rattle.ocl.proofs.Answered.{leafNames, unaryNames, Named, NamedIn, NamedOf, Closed}
 use Rattle.sheet.specs.Lines.{Shape, leaf, unary, binary, connective, isUndef, conditional, letIn, attribute, call, quantified, iterate, assemble}
 use Rattle.sheet.specs.Sheet.{growAll, grow, treeOf, definitionOf}
-use Rattle.sheet.specs.Limits.{simpleClassBelow, classBelow, isClass, isVariable, typeWithin, leafWithin, unaryWithin, formWithin}
+use Rattle.sheet.specs.Limits.{simpleClassBelow, classBelow, isClass, isVariable, typeWithin, leafHeld, unaryHeld, heldBy, formWithin}
 
 -- at most n letters deep, and a class in it is below 64
 pub record Fits (n : ℕ) (t : Ty) : Type 0 where
@@ -89,8 +89,8 @@ fits-closed m small rows = record {
 abbrev pub NamesFit : Expr → Type 0
 NamesFit = Named (Fits 3)
 
-leaf-names : (l : Leaf) → T (leafWithin l) → All? (Fits 3) (leafNames l)
-unfolding leafNames leafWithin
+leaf-names : (l : Leaf) → T (leafHeld l .within) → All? (Fits 3) (leafNames l)
+unfolding leafNames leafHeld
 leaf-names (truth b) h = all-none
 leaf-names undef h = all-none
 leaf-names (number x) h = all-none
@@ -98,8 +98,8 @@ leaf-names self h = all-none
 leaf-names (var i) h = all-none
 leaf-names (all c) h = all-some (class-fits 3 c h)
 
-unary-names : (op : Unary) → T (unaryWithin op) → All? (Fits 3) (unaryNames op)
-unfolding unaryNames unaryWithin
+unary-names : (op : Unary) → T (unaryHeld op .within) → All? (Fits 3) (unaryNames op)
+unfolding unaryNames unaryHeld
 unary-names negation h = all-none
 unary-names sizeOf h = all-none
 unary-names (convert k) h = all-none
@@ -126,7 +126,7 @@ module _ (f : ℕ → Expr) (h : (a : ℕ) → NamesFit (f a)) (g : ℕ → Defi
   all-names (a ∷ es) = (h a, all-names es)
 
   pub grown-names : (x : Shape) → T (formWithin x) → NamedIn (Fits 3) (grow f g x)
-  unfolding grow Named formWithin
+  unfolding grow Named heldBy formWithin
   grown-names (leaf l) t = leaf-names l t
   grown-names (unary op a) t = (unary-names op t, h a)
   grown-names (binary op a b) t = (h a, h b)

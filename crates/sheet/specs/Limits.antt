@@ -1,10 +1,11 @@
--- Document 01, Calls: when a well-spelled line is refused with 4, being outside its limits. Each test says what must hold.
+-- Document 01, Calls: when a well-spelled line is refused with 4, being outside its limits. Each test says what must hold. What is asked
+-- of a form is listed form by form, for Refusals.antt too.
 use Prim.Native.Nat.{ℕ, suc, _+_, max}
-use mathlib.Core.Bool.{Bool, true, _&&_}
+use mathlib.Core.Bool.{Bool, true, not, _&&_}
 use mathlib.Core.Option.{Option, none, some}
 use mathlib.Core.List.{List, [], _∷_}
 use lib.ListN.{length}
-use lib.Dec.{leb, ltb}
+use lib.Dec.{eqb, leb, ltb}
 use Rattle.laws.specs.Lists.{allOf}
 use Rattle.reals.specs.Reals.{kept}
 use Rattle.ocl.specs.Types.{Simple, any, boolean, integer, real, class, Ty, void, simple, around, depth}
@@ -48,8 +49,6 @@ unfoldable mutual
   nestings nil = 0
   nestings (cons v vs) = max (nesting v) (nestings vs)
 
--- ---- what a line holds
-
 -- classes 0 to 63, variables 1 to 15, nodes 0 to 767
 unfoldable pub isClass : ℕ → Bool
 isClass c = ltb c 64
@@ -70,34 +69,67 @@ typeWithin t = leb (depth t) 3 && classBelow 64 t
 unfoldable pub valueWithin : Value → Bool
 valueWithin v = everyPart partWithin v && leb (size v) 128 && leb (nesting v) 3
 
-unfoldable pub leafWithin : Leaf → Bool
-leafWithin (truth b) = true
-leafWithin undef = true
-leafWithin (number x) = kept x
-leafWithin self = true
-leafWithin (var i) = isVariable i
-leafWithin (all c) = isClass c
+-- ---- what a form holds besides its operands
 
-unfoldable pub unaryWithin : Unary → Bool
-unaryWithin negation = true
-unaryWithin sizeOf = true
-unaryWithin (convert k) = true
-unaryWithin (castTo c) = isClass c
+-- what is asked of it
+pub record Held : Type 0 where
+  -- 4: it is within its limits
+  pub within : Bool
+  -- 5: the accumulator is another variable than the member
+  pub apart : Bool
+  -- 6: a class that is named is one of n
+  pub known : ℕ → Bool
+  -- 23, 24: a definition that is called is one of the first n (document 02, F-13)
+  pub called : ℕ → Bool
 
--- what a form holds besides its operands
+-- nothing but its limits
+abbrev pub limited : Bool → Held
+limited b = record { within = b; apart = true; known = λ n. true; called = λ n. true }
+
+-- a form that holds nothing else
+abbrev pub nothing : Held
+nothing = limited true
+
+abbrev pub classHeld : ℕ → Held
+classHeld c = record { within = isClass c; apart = true; known = λ n. ltb c n; called = λ n. true }
+
+unfoldable pub leafHeld : Leaf → Held
+leafHeld (truth b) = nothing
+leafHeld undef = nothing
+leafHeld (number x) = limited (kept x)
+leafHeld self = nothing
+leafHeld (var i) = limited (isVariable i)
+leafHeld (all c) = classHeld c
+
+unfoldable pub unaryHeld : Unary → Held
+unaryHeld negation = nothing
+unaryHeld sizeOf = nothing
+unaryHeld (convert k) = nothing
+unaryHeld (castTo c) = classHeld c
+
+unfoldable pub heldBy : Shape → Held
+heldBy (leaf l) = leafHeld l
+heldBy (unary op a) = unaryHeld op
+heldBy (binary op a b) = nothing
+heldBy (connective c a b) = nothing
+heldBy (isUndef a) = nothing
+heldBy (conditional c a b) = nothing
+heldBy (letIn i a b) = limited (isVariable i)
+heldBy (attribute x name a) = limited (ltb name 256)
+heldBy (call a d) = record { within = isDefinition d; apart = true; known = λ n. true; called = λ n. ltb d n }
+heldBy (quantified q i a b) = limited (isVariable i)
+heldBy (iterate i j t a e b) = record {
+  within = isVariable i && isVariable j && typeWithin t;
+  apart = not (eqb i j);
+  known = λ n. classBelow n t;
+  called = λ n. true;
+}
+heldBy (assemble k es) = nothing
+
+-- ---- what a line holds
+
 unfoldable pub formWithin : Shape → Bool
-formWithin (leaf l) = leafWithin l
-formWithin (unary op a) = unaryWithin op
-formWithin (binary op a b) = true
-formWithin (connective c a b) = true
-formWithin (isUndef a) = true
-formWithin (conditional c a b) = true
-formWithin (letIn i a b) = isVariable i
-formWithin (attribute x name a) = ltb name 256
-formWithin (call a n) = isDefinition n
-formWithin (quantified q i a b) = isVariable i
-formWithin (iterate i j t a e b) = isVariable i && isVariable j && typeWithin t
-formWithin (assemble k es) = true
+formWithin x = heldBy x .within
 
 unfoldable pub parentWithin : Option ℕ → Bool
 parentWithin none = true

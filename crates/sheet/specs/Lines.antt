@@ -1,6 +1,7 @@
 -- Document 01, The sheet and The forms, and the X line of document 02, F-7: a line's fields, as far as spelling, field count and words
 -- go. What is not a line here is refused with 3.
 use Prim.Native.Nat.{ℕ}
+use Prim.Native.String.{String}
 use mathlib.Core.Bool.{Bool, true, false, _&&_, _||_}
 use mathlib.Core.Option.{Option, none, some}
 use mathlib.Core.List.{List, [], _∷_}
@@ -51,6 +52,14 @@ is [] (c ∷ t) = false
 is (b ∷ s) [] = false
 is (b ∷ s) (c ∷ t) = eqb b c && is s t
 
+-- words, each with what it stands for
+abbrev pub Table : Type 0 → Type 0
+Table A = List (String × A)
+
+unfoldable pub named : {A : Type 0} → Table A → Bytes → Option A
+named [] w = none
+named (x ∷ t) w = if is w (bytes (x .0)) then some (x .1) else named t w
+
 -- ---- fields from left to right
 
 -- one field more
@@ -87,14 +96,20 @@ aKind f = whole (either (literal "S" set) (either (literal "Q" sequence) (litera
 
 -- ---- the fields after a form's word
 
-unfoldable pub oneOperand : (ℕ → Shape) → List Bytes → Option Shape
-oneOperand shape = next aNumber (λ e. done (shape e))
+-- none, numbers alone, or others: what form they spell
+pub data FormFields : Type 0 where
+  noField : Shape → FormFields
+  oneNumber : (ℕ → Shape) → FormFields
+  twoNumbers : (ℕ → ℕ → Shape) → FormFields
+  threeNumbers : (ℕ → ℕ → ℕ → Shape) → FormFields
+  otherFields : (List Bytes → Option Shape) → FormFields
 
-unfoldable pub twoOperands : (ℕ → ℕ → Shape) → List Bytes → Option Shape
-twoOperands shape = next aNumber (λ e. next aNumber (λ f. done (shape e f)))
-
-unfoldable pub threeNumbers : (ℕ → ℕ → ℕ → Shape) → List Bytes → Option Shape
-threeNumbers shape = next aNumber (λ a. next aNumber (λ b. next aNumber (λ c. done (shape a b c))))
+unfoldable pub readFields : FormFields → List Bytes → Option Shape
+readFields (noField shape) = done shape
+readFields (oneNumber shape) = next aNumber (λ a. done (shape a))
+readFields (twoNumbers shape) = next aNumber (λ a. next aNumber (λ b. done (shape a b)))
+readFields (threeNumbers shape) = next aNumber (λ a. next aNumber (λ b. next aNumber (λ c. done (shape a b c))))
+readFields (otherFields read) = read
 
 -- `s i j T e b`
 unfoldable pub iterateFields : List Bytes → Option Shape
@@ -109,47 +124,50 @@ atMostFour k es = if leb (length es) 4 then some (assemble k es) else none
 unfoldable pub assembleFields : List Bytes → Option Shape
 assembleFields = next aKind (λ k fs. onSome (each aNumber fs) (atMostFour k))
 
--- a form's word and the fields after it
+-- each form's word and the fields after it
+unfoldable pub forms : Table FormFields
+forms =
+    ("true", noField (leaf (truth true)))
+    ∷ ("false", noField (leaf (truth false)))
+    ∷ ("undef", noField (leaf undef))
+    ∷ ("int", otherFields (next anInteger (λ z. done (leaf (number (int z))))))
+    ∷ ("real", otherFields (next aReal (λ r. done (leaf (number (real r))))))
+    ∷ ("self", noField (leaf self))
+    ∷ ("var", oneNumber (λ i. leaf (var i)))
+    ∷ ("coll", otherFields assembleFields)
+    ∷ ("let", threeNumbers letIn)
+    ∷ ("if", threeNumbers conditional)
+    ∷ ("and", twoNumbers (connective and))
+    ∷ ("or", twoNumbers (connective or))
+    ∷ ("not", oneNumber (unary negation))
+    ∷ ("isUndef", oneNumber isUndef)
+    ∷ ("eq", twoNumbers (binary equal))
+    ∷ ("less", twoNumbers (binary less))
+    ∷ ("plus", twoNumbers (binary (arith plus)))
+    ∷ ("minus", twoNumbers (binary (arith minus)))
+    ∷ ("times", twoNumbers (binary (arith times)))
+    ∷ ("div", twoNumbers (binary (divide div)))
+    ∷ ("mod", twoNumbers (binary (divide modulo)))
+    ∷ ("over", twoNumbers (binary over))
+    ∷ ("attr", twoNumbers (λ e name. attribute ofObject name e))
+    ∷ ("collect", twoNumbers (λ s name. attribute ofMembers name s))
+    ∷ ("call", twoNumbers call)
+    ∷ ("all", oneNumber (λ c. leaf (all c)))
+    ∷ ("as", twoNumbers (λ e c. unary (castTo c) e))
+    ∷ ("size", oneNumber (unary sizeOf))
+    ∷ ("includes", twoNumbers (binary includes))
+    ∷ ("asSet", oneNumber (unary (convert set)))
+    ∷ ("asBag", oneNumber (unary (convert bag)))
+    ∷ ("asSequence", oneNumber (unary (convert sequence)))
+    ∷ ("including", twoNumbers (binary including))
+    ∷ ("union", twoNumbers (binary union))
+    ∷ ("iter", otherFields iterateFields)
+    ∷ ("forAll", threeNumbers (λ s i b. quantified forAll i s b))
+    ∷ ("exists", threeNumbers (λ s i b. quantified exists i s b))
+    ∷ []
+
 unfoldable pub shapeOf : Bytes → List Bytes → Option Shape
-shapeOf w fs =
-    if is w (bytes "true") then done (leaf (truth true)) fs
-    else if is w (bytes "false") then done (leaf (truth false)) fs
-    else if is w (bytes "undef") then done (leaf undef) fs
-    else if is w (bytes "int") then next anInteger (λ z. done (leaf (number (int z)))) fs
-    else if is w (bytes "real") then next aReal (λ r. done (leaf (number (real r)))) fs
-    else if is w (bytes "self") then done (leaf self) fs
-    else if is w (bytes "var") then next aNumber (λ i. done (leaf (var i))) fs
-    else if is w (bytes "coll") then assembleFields fs
-    else if is w (bytes "let") then threeNumbers letIn fs
-    else if is w (bytes "if") then threeNumbers conditional fs
-    else if is w (bytes "and") then twoOperands (connective and) fs
-    else if is w (bytes "or") then twoOperands (connective or) fs
-    else if is w (bytes "not") then oneOperand (unary negation) fs
-    else if is w (bytes "isUndef") then oneOperand isUndef fs
-    else if is w (bytes "eq") then twoOperands (binary equal) fs
-    else if is w (bytes "less") then twoOperands (binary less) fs
-    else if is w (bytes "plus") then twoOperands (binary (arith plus)) fs
-    else if is w (bytes "minus") then twoOperands (binary (arith minus)) fs
-    else if is w (bytes "times") then twoOperands (binary (arith times)) fs
-    else if is w (bytes "div") then twoOperands (binary (divide div)) fs
-    else if is w (bytes "mod") then twoOperands (binary (divide modulo)) fs
-    else if is w (bytes "over") then twoOperands (binary over) fs
-    else if is w (bytes "attr") then twoOperands (λ e name. attribute ofObject name e) fs
-    else if is w (bytes "collect") then twoOperands (λ s name. attribute ofMembers name s) fs
-    else if is w (bytes "call") then twoOperands call fs
-    else if is w (bytes "all") then next aNumber (λ c. done (leaf (all c))) fs
-    else if is w (bytes "as") then twoOperands (λ e c. unary (castTo c) e) fs
-    else if is w (bytes "size") then oneOperand (unary sizeOf) fs
-    else if is w (bytes "includes") then twoOperands (binary includes) fs
-    else if is w (bytes "asSet") then oneOperand (unary (convert set)) fs
-    else if is w (bytes "asBag") then oneOperand (unary (convert bag)) fs
-    else if is w (bytes "asSequence") then oneOperand (unary (convert sequence)) fs
-    else if is w (bytes "including") then twoOperands (binary including) fs
-    else if is w (bytes "union") then twoOperands (binary union) fs
-    else if is w (bytes "iter") then iterateFields fs
-    else if is w (bytes "forAll") then threeNumbers (λ s i b. quantified forAll i s b) fs
-    else if is w (bytes "exists") then threeNumbers (λ s i b. quantified exists i s b) fs
-    else none
+shapeOf w fs = onSome (named forms w) (λ fields. readFields fields fs)
 
 -- any field, as it stands
 unfoldable pub aWord : Bytes → Option Bytes

@@ -10,11 +10,10 @@ use Rattle.reals.specs.Reals.{isLess}
 use Rattle.ocl.specs.Types.{class, Kind, set, sequence, bag, Ty}
 use Rattle.ocl.specs.Values.{Value, bool, num, obj, coll, Values, nil, cons, everyPart, order}
 use Rattle.ocl.specs.Model.{Row, isA, belongs}
-use Rattle.ocl.specs.Forms.{Leaf, truth, undef, number, self, var, all, Unary, negation, sizeOf, convert, castTo}
-use Rattle.sheet.specs.Lines.{Shape, leaf, unary, binary, connective, isUndef, conditional, letIn, attribute, call, quantified, iterate, assemble, Line, classLine, rowLine, objectLine, valueLine, definitionLine, ruleLine, nodeLine, textLine}
+use Rattle.sheet.specs.Lines.{Shape, Line, classLine, rowLine, objectLine, valueLine, definitionLine, ruleLine, nodeLine, textLine}
 use Rattle.sheet.specs.Texts.{nodesOf}
 use Rattle.sheet.specs.Sheet.{Slot, Current, Sheet, modelOf, operandsOf}
-use Rattle.sheet.specs.Limits.{classBelow}
+use Rattle.sheet.specs.Limits.{classBelow, heldBy}
 
 -- ---- 5: blocks, numbers and members in order; a name once in a class; two variables of `iter`
 
@@ -82,18 +81,7 @@ mayBeText (some c) = not (hasType (c .result)) && not (c .text) && eqb (length (
 
 -- the accumulator is another variable than the member
 unfoldable pub twoVariables : Shape → Bool
-twoVariables (leaf l) = true
-twoVariables (unary op a) = true
-twoVariables (binary op a b) = true
-twoVariables (connective c a b) = true
-twoVariables (isUndef a) = true
-twoVariables (conditional c a b) = true
-twoVariables (letIn i a b) = true
-twoVariables (attribute x name a) = true
-twoVariables (call a n) = true
-twoVariables (quantified q i a b) = true
-twoVariables (iterate i j t a e b) = not (eqb i j)
-twoVariables (assemble k es) = true
+twoVariables x = heldBy x .apart
 
 unfoldable pub numbered : Sheet → Line → Bool
 numbered s (classLine n p) = eqb n (length (s .parents))
@@ -121,34 +109,9 @@ unfoldable pub parentSmaller : ℕ → Option ℕ → Bool
 parentSmaller n none = true
 parentSmaller n (some p) = ltb p n
 
-unfoldable pub leafKnown : ℕ → Leaf → Bool
-leafKnown n (truth b) = true
-leafKnown n undef = true
-leafKnown n (number x) = true
-leafKnown n self = true
-leafKnown n (var i) = true
-leafKnown n (all c) = ltb c n
-
-unfoldable pub unaryKnown : ℕ → Unary → Bool
-unaryKnown n negation = true
-unaryKnown n sizeOf = true
-unaryKnown n (convert k) = true
-unaryKnown n (castTo c) = ltb c n
-
 -- the class after `all` and `as` and in the type of `iter`, of n classes
 unfoldable pub formKnown : ℕ → Shape → Bool
-formKnown n (leaf l) = leafKnown n l
-formKnown n (unary op a) = unaryKnown n op
-formKnown n (binary op a b) = true
-formKnown n (connective c a b) = true
-formKnown n (isUndef a) = true
-formKnown n (conditional c a b) = true
-formKnown n (letIn i a b) = true
-formKnown n (attribute x name a) = true
-formKnown n (call a d) = true
-formKnown n (quantified q i a b) = true
-formKnown n (iterate i j t a e b) = classBelow n t
-formKnown n (assemble k es) = true
+formKnown n x = heldBy x .known n
 
 unfoldable pub partsKnown : Sheet → Line → Bool
 partsKnown s (classLine n p) = parentSmaller n p
@@ -165,18 +128,7 @@ partsKnown s (textLine x) = allOf (formKnown (length (s .parents))) (nodesOf x)
 
 -- the definition that a form calls is below n
 unfoldable pub callBelow : ℕ → Shape → Bool
-callBelow n (leaf l) = true
-callBelow n (unary op a) = true
-callBelow n (binary op a b) = true
-callBelow n (connective c a b) = true
-callBelow n (isUndef a) = true
-callBelow n (conditional c a b) = true
-callBelow n (letIn i a b) = true
-callBelow n (attribute x name a) = true
-callBelow n (call a d) = ltb d n
-callBelow n (quantified q i a b) = true
-callBelow n (iterate i j t a e b) = true
-callBelow n (assemble k es) = true
+callBelow n x = heldBy x .called n
 
 unfoldable pub inDefinition : Option Current → Bool
 inDefinition none = false

@@ -7,7 +7,7 @@ pub mod TurnLaws
 pub mod BeginLaws
 pub mod OrderLaws
 pub mod ObjectLaws
-pub mod ClimbLaws
+pub mod BaseLaws
 pub mod SuitLaws
 pub mod SlotLaws
 pub mod PutLaws

@@ -51,7 +51,7 @@ unfolding lineOf is bytes
 value-fields [] h = absurd (true≢false (sym h))
 value-fields (w ∷ fs) h = rw (word-is w (bytes "V") h)
 
-value-plain : (o a : ℕ) (v : Value) (test : Bytes → Bool) → onText (valueLine o a v) test ≡ true
+pub value-plain : (o a : ℕ) (v : Value) (test : Bytes → Bool) → onText (valueLine o a v) test ≡ true
 unfolding onText
 value-plain o a v test = refl
 
@@ -129,6 +129,7 @@ module _ {st : Counts} {n : ℕ} (A B : List ℕ) (front : take (2400 + n) A ≡
         counted = h .counted;
         tables = record {
           parents = low-tab 0 (length (s .parents)) (omega (arith, c .classes, fine .classes)) ∙ h .tables .parents;
+          smaller = h .tables .smaller;
           owners = low-tab 64 (length (s .rows)) (omega (arith, c .rows, fine .rows)) ∙ h .tables .owners;
           names = low-tab 128 (length (s .rows)) (omega (arith, c .rows, fine .rows)) ∙ h .tables .names;
           types = ap (map typeIn) (low-tab 192 (length (s .rows)) (omega (arith, c .rows, fine .rows))) ∙ h .tables .types;

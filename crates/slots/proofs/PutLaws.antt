@@ -17,6 +17,7 @@ use Rattle.sheet.specs.Lines.{valueLine}
 use Rattle.sheet.specs.Sheet.{Slot, Sheet, added}
 use Rattle.sheet.specs.Limits.{totalSize, valueWithin, withinLimits}
 use Rattle.sheet.specs.Refusals.{objectBelow, inOrder, partsKnown, callsSmaller, callsKnown, suits, treeHolds}
+use Rattle.sheet.proofs.SlotSizes.{size-more}
 use Rattle.values.specs.Cells.{enc}
 use Rattle.tables.specs.declared.Counts.{Counts}
 use Rattle.tables.specs.declared.Step.the-variants.{Next, Stop}
@@ -32,11 +33,6 @@ starts-more : (n : ℕ) (xs : List Slot) (x : Slot) → startsFrom n (xs ++ (x �
 unfolding startsFrom totalSize
 starts-more n [] x = ap (λ (m : ℕ). m ∷ []) (omega arith)
 starts-more n (y ∷ xs) x = ap (λ (l : List ℕ). n ∷ l) (starts-more (n + size (y .value)) xs x ∙ ap (λ (m : ℕ). startsFrom (n + size (y .value)) xs ++ (m ∷ [])) (omega arith))
-
-size-more : (xs : List Slot) (x : Slot) → totalSize (xs ++ (x ∷ [])) ≡ totalSize xs + size (x .value)
-unfolding totalSize
-size-more [] x = omega arith
-size-more (y ∷ xs) x = let e = size-more xs x in omega arith
 
 cells-more : (xs : List Slot) (x : Slot) → cellsOf (xs ++ (x ∷ [])) ≡ cellsOf xs ++ enc (x .value)
 unfolding cellsOf concat
@@ -93,6 +89,7 @@ module _ (st : Counts) (k o a n : ℕ) (w0 w1 : List ℕ) (room : 8192 ≤ lengt
         };
         tables = record {
           parents = g .tables .parents;
+          smaller = g .tables .smaller;
           owners = g .tables .owners;
           names = g .tables .names;
           types = g .tables .types;

@@ -19,19 +19,19 @@ use Rattle.ocl.specs.Model.{Row, isA, belongs}
 use Rattle.sheet.specs.Text.{Bytes}
 use Rattle.sheet.specs.Sheet.{Slot, Sheet, noRow, modelOf}
 use Rattle.sheet.specs.Refusals.{afterSlots, objectBelow, blockOf, numbered, inOrder, partsKnown, suits}
-use Rattle.types.specs.Flat.{tyOf}
+use Rattle.types.specs.Flat.{parentsIn, tyOf}
 use Rattle.types.specs.declared.FlatType.{FlatType}
 use Rattle.types.specs.Word.{typeIn}
 use Rattle.values.specs.Cells.{enc}
 use Rattle.tables.specs.declared.Counts.{Counts}
 use Rattle.tables.specs.Layout.{tab, slotKey, Holds, Fine}
-use Rattle.tables.proofs.Tables.{tab-length, tab-at}
+use Rattle.tables.proofs.Tables.{tab-length, tab-at, parents-held}
 use Rattle.tables.proofs.Entries.{tab-next}
 use Rattle.slots.specs.declared.reader.Read.{Read}
 use Rattle.slots.specs.Machine.{ReadIs}
 use Rattle.slots.specs.Order.{OrderIs}
 use Rattle.slots.specs.Objects.{KnownIs}
-use Rattle.slots.specs.Suits.{simpleBy, Seen, ObjectSuits, BelongsAt}
+use Rattle.slots.specs.Suits.{Seen, ObjectSuits, BelongsAt}
 use Rattle.slots.specs.Slots.{SmallRows, ReadInto, lastBefore, ValueAt, SlotAnswer}
 
 -- ---- the cells behind the first n
@@ -184,16 +184,14 @@ module _ {st : Counts} {w0 w1 : List ℕ} {s : Sheet} (room : 8192 ≤ length w0
 seen : {st : Counts} {w0 w1 : List ℕ} {s : Sheet} {P Q : List ℕ} → Holds st w0 w1 s → P ≡ tab 0 (st .classes) w0 → Q ≡ tab 256 (st .objects) w0 → Seen P Q (modelOf s)
 unfolding modelOf
 seen {st} {w0} {w1} {s} h p q = record {
-  list = s .parents;
-  words = p ∙ ap (λ (n : ℕ). tab 0 n w0) (h .counted .classes) ∙ h .tables .parents;
-  parent = refl;
+  parent = parents-held (h .tables) (st .classes) (h .counted .classes) ∙ ap parentsIn (sym p);
   classOf = ap getElem? (sym (q ∙ ap (λ (n : ℕ). tab 256 n w0) (h .counted .objects) ∙ h .tables .objects));
 }
 
 module _ {st : Counts} {w0 P Q : List ℕ} {o a i : ℕ} (room : 8192 ≤ length w0) (fine : Fine st) (p : P ≡ tab 0 (st .classes) w0) (q : Q ≡ tab 256 (st .objects) w0) (e : i ≡ a)
-    {b : Bool} (ob : ObjectSuits P Q o 5 (getD w0 (64 + i) 0) b) where
+    {b : Bool} (ob : ObjectSuits P Q o (getD w0 (64 + i) 0) b) where
   pub its-object : {w1 : List ℕ} {s : Sheet} → a < st .rows → Holds st w0 w1 s → b ≡ isA (modelOf s) o (class (modelOf s .row a .owner))
-  unfolding modelOf simpleBy
+  unfolding modelOf
   its-object {w1} {s} known h = ob .is (modelOf s) (seen h p q) ∙ ap (λ (c : ℕ). isA (modelOf s) o (class c)) (ap (λ (j : ℕ). getD w0 (64 + j) 0) e ∙ owner-at room fine h known)
 
   pub suits-object : {n : ℕ} → b ≡ false → a < st .rows → SlotAnswer suits st w0 o a n false

@@ -1,4 +1,4 @@
--- Which values belong to a type: simple values, letters, members. Assumes nothing.
+-- Which values belong to a type: letters and members. Assumes nothing.
 use mathlib.Core.Path.{_≡_, refl, sym, ap, _∙_}
 use mathlib.Core.Bool.{Bool, true, false, _&&_}
 use mathlib.Core.List.{List, [], _∷_}
@@ -8,139 +8,17 @@ use lib.ListN.{length, getD}
 use lib.Seq.{slice, slice-cons}
 use lib.Dec.{eqb}
 use Rattle.laws.proofs.Slices.{split-right}
-use Rattle.ocl.specs.Types.{any, integer, Kind, set, sequence, bag, kindCode, sameKind, Letter, collection, exactly, Ty, simple, around, up, height, simpleCode, sameSimple, climbs, simpleSubtype, letterSubtype}
+use Rattle.ocl.specs.Types.{Kind, set, sequence, bag, kindCode, sameKind, Letter, collection, exactly, Ty, around, letterSubtype}
 use Rattle.ocl.specs.Values.{Value, bool, num, obj, coll, Values, sort, members}
-use Rattle.ocl.specs.Operations.{isInt}
-use Rattle.reals.specs.Reals.{Number, int, real}
-use Rattle.ocl.specs.Model.{Model, numberType, every, belongs}
-use Rattle.types.specs.declared.Base.{Base}
-use Rattle.types.specs.declared.Base.the-variants as base
+use Rattle.ocl.specs.Model.{Model, every, belongs}
 use Rattle.types.specs.declared.FlatType.{FlatType}
-use Rattle.types.specs.Flat.{baseType, baseTag, baseClass, letterOf, tyOf, under}
+use Rattle.types.specs.Flat.{letterOf, tyOf, under}
 use Rattle.types.proofs.Members.{ends, goes-on}
-use Rattle.values.specs.Cells.{payload, head, enc, encs, Fits}
-use Rattle.values.specs.Contracts.{SortOf, PayloadOf, IntegerTest, Skips}
+use Rattle.values.specs.Cells.{head, enc, encs, Fits}
+use Rattle.values.specs.Contracts.{SortOf, Skips}
 use Rattle.values.proofs.Heads.{enc-parts, members-fit, sort-kind}
 use Rattle.values.proofs.Members.{Left, next-member, none-left}
-use Rattle.types.proofs.Cases.{is-void, is-any}
-use Rattle.ocl.proofs.SimpleTypes.{boolean-not-class, integer-not-class, real-not-class}
-use Rattle.laws.proofs.Tests.{test-fails}
-use Rattle.slots.specs.Suits.{simpleBy, Seen, ObjectSuits, BaseSuits, kindBelow, LetterSuits, BelongsAt}
-
--- ---- a simple value, by the sort of its cell
-
-simple-of : (b : Base) → (baseTag b ≡ 0 → ⊥) → baseType b ≡ simple (simpleBy (baseTag b) (baseClass b))
-unfolding simpleBy
-simple-of base.Void h = absurd (h refl)
-simple-of base.Bool h = refl
-simple-of base.Int h = refl
-simple-of base.Any h = refl
-simple-of base.Real h = refl
-simple-of (base.Class c) h = refl
-
-some-base : (b : Base) {y : ℕ} → y ≡ baseTag b → (y ≡ 0 → ⊥) → baseType b ≡ simple (simpleBy y (baseClass b))
-some-base b ye n = simple-of b (λ z. n (ye ∙ z)) ∙ ap (λ (k : ℕ). simple (simpleBy k (baseClass b))) (sym ye)
-
-truth-other : (b : Base) → (baseTag b ≡ 0 → ⊥) → (baseTag b ≡ 3 → ⊥) → (m : Model) (x : Bool) → eqb (baseTag b) 1 ≡ belongs m (baseType b) (bool x)
-unfolding belongs simpleSubtype climbs height up sameSimple simpleCode
-truth-other base.Void n a m x = absurd (n refl)
-truth-other base.Bool n a m x = refl
-truth-other base.Int n a m x = refl
-truth-other base.Any n a m x = absurd (a refl)
-truth-other base.Real n a m x = refl
-truth-other (base.Class c) n a m x = sym (test-fails _ (boolean-not-class (m .parent) c))
-
-number-other : (b : Base) → (baseTag b ≡ 0 → ⊥) → (baseTag b ≡ 3 → ⊥) → (baseTag b ≡ 2 → ⊥) → (m : Model) (x : Number) → eqb (baseTag b) 4 ≡ belongs m (baseType b) (num x)
-unfolding belongs numberType simpleSubtype climbs height up sameSimple simpleCode
-number-other base.Void n a i m x = absurd (n refl)
-number-other base.Bool n a i m (int z) = refl
-number-other base.Bool n a i m (real r) = refl
-number-other base.Int n a i m x = absurd (i refl)
-number-other base.Any n a i m x = absurd (a refl)
-number-other base.Real n a i m (int z) = refl
-number-other base.Real n a i m (real r) = refl
-number-other (base.Class c) n a i m (int z) = sym (test-fails _ (integer-not-class (m .parent) c))
-number-other (base.Class c) n a i m (real r) = sym (test-fails _ (real-not-class (m .parent) c))
-
--- the Integers are the values of Int
-integer-law : (m : Model) (v : Value) → sort v ≡ 1 → isInt v ≡ belongs m (simple integer) v
-unfolding belongs numberType sort simpleSubtype climbs height up sameSimple simpleCode
-integer-law m (bool x) e = absurd (omega arith)
-integer-law m (num (int z)) e = refl
-integer-law m (num (real r)) e = refl
-integer-law m (obj x) e = absurd (omega arith)
-integer-law m (coll k vs) e = absurd (let q = sort-kind k vs in omega arith)
-
-low-any : (m : Model) (v : Value) → sort v < 2 → true ≡ belongs m (simple any) v
-unfolding belongs numberType sort simpleSubtype climbs height up sameSimple simpleCode
-low-any m (bool x) h = refl
-low-any m (num (int z)) h = refl
-low-any m (num (real r)) h = refl
-low-any m (obj x) h = absurd (omega arith)
-low-any m (coll k vs) h = absurd (let q = sort-kind k vs in omega arith)
-
-module _ {parents objects : List ℕ} (b : Base) {cell y : ℕ} (ye : y ≡ baseTag b) where
-  pub base-void : y ≡ 0 → BaseSuits parents objects b cell false
-  unfolding belongs
-  base-void z = record { is = λ m v sn f ce. ap (λ (u : Ty). belongs m u v) (sym (is-void b (sym ye ∙ z))) }
-
-  module _ {t : ℕ} (n : y ≡ 0 → ⊥) (so : SortOf cell t) where
-    pub base-object : {o d : ℕ} {r : Bool} → t ≡ 2 → PayloadOf cell o → d ≡ baseClass b → ObjectSuits parents objects o y d r → BaseSuits parents objects b cell r
-    unfolding belongs sort payload
-    base-object {o} {d} {r} z po de ob = record { is = λ m v sn f ce. go m sn v (sym (so .is v f ce) ∙ z) (po .is v f (λ e. let q = so .is v f ce in omega arith) ce) ∙ ap (λ (u : Ty). belongs m u v) (sym (some-base b ye n)) }
-      where
-        go : (m : Model) → Seen parents objects m → (v : Value) → sort v ≡ 2 → o ≡ payload v → r ≡ belongs m (simple (simpleBy y (baseClass b))) v
-        go m sn (bool x) e p = absurd (omega arith)
-        go m sn (num x) e p = absurd (omega arith)
-        go m sn (obj x) e p = ob .is m sn ∙ rw (p, de)
-        go m sn (coll k vs) e p = absurd (let q = sort-kind k vs in omega arith)
-
-    pub base-high : 2 < t → BaseSuits parents objects b cell false
-    unfolding belongs sort
-    base-high z = record { is = λ m v sn f ce. go m v (let q = so .is v f ce in omega arith) ∙ ap (λ (u : Ty). belongs m u v) (sym (some-base b ye n)) }
-      where
-        go : (m : Model) (v : Value) → 2 < sort v → false ≡ belongs m (simple (simpleBy y (baseClass b))) v
-        go m (bool x) e = absurd (omega arith)
-        go m (num x) e = absurd (omega arith)
-        go m (obj x) e = absurd (omega arith)
-        go m (coll k vs) e = refl
-
-    pub base-any : t < 2 → y ≡ 3 → BaseSuits parents objects b cell true
-    base-any h z = record { is = λ m v sn f ce. low-any m v (let q = so .is v f ce in omega arith) ∙ ap (λ (u : Ty). belongs m u v) (sym (is-any b (sym ye ∙ z))) }
-
-    module _ (z : y ≡ 3 → ⊥) where
-      pub base-truth : t ≡ 0 → BaseSuits parents objects b cell (eqb y 1)
-      unfolding sort
-      base-truth h = record { is = λ m v sn f ce. ap (λ (i : ℕ). eqb i 1) ye ∙ go m v (sym (so .is v f ce) ∙ h) }
-        where
-          go : (m : Model) (v : Value) → sort v ≡ 0 → eqb (baseTag b) 1 ≡ belongs m (baseType b) v
-          go m (bool x) e = truth-other b (λ x. n (ye ∙ x)) (λ x. z (ye ∙ x)) m x
-          go m (num x) e = absurd (omega arith)
-          go m (obj x) e = absurd (omega arith)
-          go m (coll k vs) e = absurd (let q = sort-kind k vs in omega arith)
-
-      module _ (l : t < 2) (h : t ≡ 0 → ⊥) where
-        pub base-integer : {r : Bool} → y ≡ 2 → IntegerTest cell r → BaseSuits parents objects b cell r
-        unfolding simpleBy
-        base-integer e i = record {
-          is = λ m v sn f ce.
-              i .is v f ce
-              ∙ integer-law m v (let q = so .is v f ce in omega arith)
-              ∙ ap (λ (u : Ty). belongs m u v) (sym (some-base b ye n ∙ ap (λ (k : ℕ). simple (simpleBy k (baseClass b))) e));
-        }
-
-        pub base-number : (y ≡ 2 → ⊥) → BaseSuits parents objects b cell (eqb y 4)
-        unfolding sort
-        base-number i = record { is = λ m v sn f ce. ap (λ (k : ℕ). eqb k 4) ye ∙ go m v (let q = so .is v f ce in omega arith) }
-          where
-            go : (m : Model) (v : Value) → sort v ≡ 1 → eqb (baseTag b) 4 ≡ belongs m (baseType b) v
-            go m (bool x) e = absurd (omega arith)
-            go m (num x) e = number-other b (λ x. n (ye ∙ x)) (λ x. z (ye ∙ x)) (λ x. i (ye ∙ x)) m x
-            go m (obj x) e = absurd (omega arith)
-            go m (coll k vs) e = absurd (let q = sort-kind k vs in omega arith)
-
-pub low-sort : {t : ℕ} → (t ≡ 2 → ⊥) → t ≤ 2 → t < 2
-low-sort n h = omega arith
+use Rattle.slots.specs.Suits.{Seen, BaseSuits, kindBelow, LetterSuits, BelongsAt}
 
 -- ---- a letter
 

@@ -97,7 +97,7 @@ fn slot_suits(w0: &[u64], st: Counts, o: u64, a: u64, size: usize) -> bool
     let parents = &w0[..classes];
     let objects = &w0[256..objects_end];
     let i = wide(a);
-    if !object_suits(parents, objects, o, 5, w0[64 + i]) {
+    if !object_suits(parents, objects, o, w0[64 + i]) {
         return false;
     }
     let t = unpack(w0[192 + i]);

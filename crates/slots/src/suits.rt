@@ -1,12 +1,10 @@
-// Which values belong to a type, and which objects to a class. Word c of `parents` is 0, or one more than the parent of
-// class c, whatever classes these are: a climb takes no more steps than the definition allows.
-ghost use mathlib.Core.Path.{_≡_};
+// Which values belong to a type, and which objects to a class.
 ghost use Prim.Native.Nat.{_<_, _≤_};
-ghost use lib.ListN.{length, getD};
-ghost use Rattle.ocl.specs.Types.{sameSimple, class};
-ghost use Rattle.slots.specs.Suits.{simpleBy, ClimbsIs, ObjectSuits, BaseSuits, LetterSuits, BelongsAt};
+ghost use lib.ListN.{length};
+ghost use Rattle.slots.specs.Suits.{ObjectSuits, ObjectIn, BaseSuits, LetterSuits, BelongsAt};
 use types::Base;
 use types::FlatType;
+use types::classes::class_below;
 use types::classes::wide;
 use types::order::class_in;
 use types::order::tag;
@@ -16,84 +14,43 @@ use values::cells::payload_of;
 use values::cells::skip;
 use values::cells::sort_of;
 
-// One more than the parent of class c, or 0.
-fn parent_word(parents: &[u64], c: u64) -> u64
-    ensures { λ r. ⌜ r ≡ getD (now (parents .entry)) c 0 ⌝ }
-{
-    let at = wide(c);
-    if at < parents.len() {
-        return parents[at];
-    }
-    0
-}
-
-// Whether the base with this tag and class is the class x.
-fn same_class(tag: u64, d: u64, x: u64) -> bool
-    ensures { λ r. ⌜ r ≡ sameSimple (class x) (simpleBy tag d) ⌝ }
-{
-    if tag == 1 {
-        return false;
-    }
-    if tag == 2 {
-        return false;
-    }
-    if tag == 3 {
-        return false;
-    }
-    if tag == 4 {
-        return false;
-    }
-    x == d
-}
-
-// Whether class c is the base or below it, climbing at most one step more than its number.
-fn climbs(parents: &[u64], c: u64, tag: u64, d: u64) -> bool
-    ensures { λ r. ⌜ ClimbsIs (now (parents .entry)) c tag d r ⌝ }
-{
-    let mut x = c;
-    let mut left = c;
-    loop {
-        if same_class(tag, d, x) {
-            return true;
-        }
-        let q = parent_word(parents, x);
-        if q == 0 {
-            return tag == 3;
-        }
-        x = q - 1;
-        if left == 0 {
-            return same_class(tag, d, x);
-        }
-        left -= 1;
-    }
-}
-
-// Whether object o, if there is such an object, belongs to the base.
-pub fn object_suits(parents: &[u64], objects: &[u64], o: u64, tag: u64, d: u64) -> bool
-    ensures { λ r. ⌜ ObjectSuits (now (parents .entry)) (now (objects .entry)) o tag d r ⌝ }
+// Whether object o, if there is such an object, is of class d or below.
+pub fn object_suits(parents: &[u64], objects: &[u64], o: u64, d: u64) -> bool
+    ensures { λ r. ⌜ ObjectSuits (now (parents .entry)) (now (objects .entry)) o d r ⌝ }
 {
     let at = wide(o);
     if at < objects.len() {
-        return climbs(parents, objects[at], tag, d);
+        return class_below(parents, objects[at], d);
     }
     false
+}
+
+// Whether object o, if there is such an object, belongs to the base.
+fn object_in(parents: &[u64], objects: &[u64], o: u64, base: Base) -> bool
+    ensures { λ r. ⌜ ObjectIn (now (parents .entry)) (now (objects .entry)) o base r ⌝ }
+{
+    let y = tag(base);
+    if y == 5 {
+        return object_suits(parents, objects, o, class_in(base) as u64);
+    }
+    if y != 3 {
+        return false;
+    }
+    wide(o) < objects.len()
 }
 
 // Whether the value with this first cell belongs to a base.
 fn base_suits(parents: &[u64], objects: &[u64], base: Base, cell: u64) -> bool
     ensures { λ r. ⌜ BaseSuits (now (parents .entry)) (now (objects .entry)) base cell r ⌝ }
 {
-    let y = tag(base);
-    if y == 0 {
-        return false;
-    }
     let sort = sort_of(cell);
     if sort == 2 {
-        return object_suits(parents, objects, payload_of(cell), y, class_in(base) as u64);
+        return object_in(parents, objects, payload_of(cell), base);
     }
     if 2 < sort {
         return false;
     }
+    let y = tag(base);
     if y == 3 {
         return true;
     }

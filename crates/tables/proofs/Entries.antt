@@ -51,6 +51,7 @@ module _ {w0 : List ℕ} {s : Sheet} {i : ℕ} (x : ℕ) (away : Spare i s) wher
   pub tables-kept : HoldsTables w0 s → HoldsTables (set w0 i x) s
   tables-kept h = record {
     parents = tab-away _ _ w0 i x (away .parents) ∙ h .parents;
+    smaller = h .smaller;
     owners = tab-away _ _ w0 i x (away .owners) ∙ h .owners;
     names = tab-away _ _ w0 i x (away .names) ∙ h .names;
     types = ap (map typeIn) (tab-away _ _ w0 i x (away .types)) ∙ h .types;
@@ -156,6 +157,7 @@ pub tables-same : {w0 : List ℕ} {s u : Sheet} → u .parents ≡ s .parents �
     → HoldsTables w0 s → HoldsTables w0 u
 tables-same p a o v r h = record {
   parents = rw p (h .parents);
+  smaller = rw p (h .smaller);
   owners = rw a (h .owners);
   names = rw a (h .names);
   types = rw a (h .types);

@@ -1,13 +1,20 @@
--- A table at an offset of the words: one entry more, entries elsewhere, and what stays. Assumes nothing.
-use mathlib.Core.Path.{_≡_, refl, sym, ap, _∙_, subst}
+-- A table at an offset of the words: one entry more, entries elsewhere, the classes' parents, and what stays. Assumes nothing.
+use mathlib.Core.Path.{_≡_, refl, sym, ap, _∙_, subst, fun-ext}
+use mathlib.Core.Option.{Option, none, some}
 use mathlib.Core.List.{List, map}
 use Prim.Native.Nat.{ℕ, zero, suc, _+_, _-_, _≤_, _<_}
 use native.Mathlib.Omega.{arith}
 use lib.ListN.{length, getD, take, drop, set, length-set, length-drop, List·getD-map}
 use lib.Seq.{length-take-le, take-set-le, drop-set-lt, drop-set-add, getD-take, getD-drop}
+use lib.Dec.{leb}
+use borrow.Author.Tests.{le-leb}
+use Rattle.laws.specs.Choice.{if_then_else_}
 use Rattle.laws.specs.Lists.{Each, each-nil, each-cons}
 use Rattle.laws.proofs.Elements.{getD-map}
-use Rattle.tables.specs.Layout.{tab, Kept}
+use Rattle.ocl.specs.Laws.{Small}
+use Rattle.sheet.specs.Sheet.{Sheet}
+use Rattle.types.specs.Flat.{parentWord, parentOf, parentsIn}
+use Rattle.tables.specs.Layout.{tab, parentCode, HoldsTables, Kept}
 
 module _ (off n : ℕ) (w : List ℕ) where
   pub tab-length : off + n ≤ length w → length (tab off n w) ≡ n
@@ -49,6 +56,22 @@ each-getD (each-cons p q) (suc i) h = each-getD q i (omega arith)
 
 pub entry-each : {P : ℕ → Type 0} (off n : ℕ) (w : List ℕ) → off + n ≤ length w → Each P (tab off n w) → (i : ℕ) → i < n → P (getD w (off + i) 0)
 entry-each {P} off n w room q i h = subst P (tab-at off n w i h) (each-getD q i (let e = tab-length off n w room in omega arith))
+
+-- ---- parents: each is smaller, so that the guard of a parent's word never acts
+
+parent-back : (c : ℕ) (o : Option ℕ) → ((p : ℕ) → o ≡ some p → p < c) → o ≡ parentOf (if leb (parentCode o) c then parentCode o else 0)
+unfolding parentCode
+parent-back c none h = rw (le-leb 0 c (omega arith))
+parent-back c (some p) h = rw (le-leb (suc p) c (h p refl))
+
+parents-back : (ps : List (Option ℕ)) → Small (λ c. getD ps c none) → (c : ℕ) → getD ps c none ≡ parentsIn (map parentCode ps) c
+unfolding parentsIn parentWord parentCode
+parents-back ps h c =
+    let e : getD (map parentCode ps) c 0 ≡ parentCode (getD ps c none) = List·getD-map parentCode ps c none in
+    rw e (parent-back c (getD ps c none) (h c))
+
+pub parents-held : {w0 : List ℕ} {s : Sheet} → HoldsTables w0 s → (n : ℕ) → n ≡ length (s .parents) → (λ c. getD (s .parents) c none) ≡ parentsIn (tab 0 n w0)
+parents-held {s = s} h n e = rw (e, h .parents) (fun-ext (parents-back (s .parents) (h .smaller)))
 
 -- ---- the words from 8,192 on
 

@@ -7,6 +7,7 @@ use mathlib.Core.List.{List, [], _∷_, _++_, map}
 use Prim.Native.Nat.{ℕ, zero, suc, _+_, _*_, _/_, _≤_, _<_}
 use lib.ListN.{length, getD, take, drop}
 use Rattle.laws.specs.Lists.{member, concat, Each}
+use Rattle.ocl.specs.Laws.{Small}
 use Rattle.ocl.specs.Values.{size}
 use Rattle.ocl.specs.Model.{Row}
 use Rattle.ocl.specs.Types.{Ty}
@@ -50,6 +51,8 @@ cellsOf xs = concat (map (λ (x : Slot). enc (x .value)) xs)
 -- 4608 types of definitions (32), 4640 roots of definitions (32)
 pub record HoldsTables (w0 : List ℕ) (s : Sheet) : Type 0 where
   pub parents : tab 0 (length (s .parents)) w0 ≡ map parentCode (s .parents)
+  -- document 01: "parent p is `-` or a smaller class"
+  pub smaller : Small (λ c. getD (s .parents) c none)
   pub owners : tab 64 (length (s .rows)) w0 ≡ map (λ (r : Row). r .owner) (s .rows)
   pub names : tab 128 (length (s .rows)) w0 ≡ map (λ (r : Row). r .name) (s .rows)
   pub types : map typeIn (tab 192 (length (s .rows)) w0) ≡ map (λ (r : Row). r .type) (s .rows)

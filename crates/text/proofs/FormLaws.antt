@@ -2,6 +2,7 @@
 use Prim.Native.Nat.{ℕ, suc, _+_, _-_, _*_, _<_, _≤_}
 use mathlib.Core.Path.{_≡_, refl, sym, ap, _∙_}
 use mathlib.Core.Bool.{Bool, true, false, true≢false}
+use mathlib.Core.Option.{some}
 use mathlib.Core.List.{List, [], _∷_}
 use native.Mathlib.Nat.{suc-mul}
 use native.Mathlib.Omega.{arith}
@@ -14,25 +15,25 @@ use Rattle.laws.specs.Lists.{allOf, member}
 use Rattle.laws.proofs.Tests.{and-true}
 use Rattle.laws.proofs.Parts.{at-next}
 use Rattle.sheet.specs.Text.{Bytes, bytes}
-use Rattle.sheet.specs.Lines.{is}
-use Rattle.text.specs.Words.{codeAmong, formCode}
+use Rattle.sheet.specs.Lines.{is, Table, named, forms}
+use Rattle.text.specs.Words.{codeAmong, formCodes, codedWords, orCode, formCode}
 use Rattle.text.proofs.WordLaws.{other-length}
 
--- a table of words with their codes, and the code of the first word that w is
-abbrev pub Table : Type 0
-Table = List (Bytes × ℕ)
+-- words with their codes, and the code of the first word that w is
+abbrev pub Rows : Type 0
+Rows = List (Bytes × ℕ)
 
-unfoldable pub codeIn : Bytes → Table → ℕ
+unfoldable pub codeIn : Bytes → Rows → ℕ
 codeIn w [] = 99
 codeIn w (x ∷ t) = if is w (x .0) then x .1 else codeIn w t
 
 -- the rows whose word has n bytes
-unfoldable pub ofLength : ℕ → Table → Table
+unfoldable pub ofLength : ℕ → Rows → Rows
 ofLength n [] = []
 ofLength n (x ∷ t) = if eqb (length (x .0)) n then x ∷ ofLength n t else ofLength n t
 
 -- no other row can be meant
-pub by-length : (w : Bytes) (t : Table) → codeIn w (ofLength (length w) t) ≡ codeIn w t
+pub by-length : (w : Bytes) (t : Rows) → codeIn w (ofLength (length w) t) ≡ codeIn w t
 unfolding codeIn ofLength
 by-length w [] = refl
 by-length w (x ∷ t) = go (eqb (length (x .0)) (length w)) (by-length w t) refl
@@ -41,21 +42,28 @@ by-length w (x ∷ t) = go (eqb (length (x .0)) (length w)) (by-length w t) refl
     go true ih e = ap (λ (k : ℕ). if is w (x .0) then x .1 else k) ih
     go false ih e = rw (← other-length w (x .0) (λ q. eqb-false _ _ (sym e) (sym q))) ih
 
-unfoldable pub forms : Table
-forms =
-    (bytes "true", 1) ∷ (bytes "false", 0) ∷ (bytes "undef", 2) ∷ (bytes "int", 3) ∷ (bytes "real", 38) ∷ (bytes "self", 4)
-    ∷ (bytes "var", 5) ∷ (bytes "coll", 27) ∷ (bytes "let", 32) ∷ (bytes "if", 31) ∷ (bytes "and", 23) ∷ (bytes "or", 24) ∷ (bytes "not", 7)
-    ∷ (bytes "isUndef", 30) ∷ (bytes "eq", 13) ∷ (bytes "less", 14) ∷ (bytes "plus", 15) ∷ (bytes "minus", 16)
-    ∷ (bytes "times", 17) ∷ (bytes "div", 18) ∷ (bytes "mod", 19) ∷ (bytes "over", 37) ∷ (bytes "attr", 33) ∷ (bytes "collect", 34) ∷ (bytes "call", 36) ∷ (bytes "all", 6) ∷ (bytes "as", 12)
-    ∷ (bytes "size", 8) ∷ (bytes "includes", 20) ∷ (bytes "asSet", 9) ∷ (bytes "asBag", 11) ∷ (bytes "asSequence", 10)
-    ∷ (bytes "including", 21) ∷ (bytes "union", 22) ∷ (bytes "iter", 35) ∷ (bytes "forAll", 25) ∷ (bytes "exists", 26) ∷ []
+unfoldable pub rows : Table ℕ → Rows
+rows [] = []
+rows (x ∷ t) = (bytes (x .0), x .1) ∷ rows t
 
-pub forms-code : (w : Bytes) → formCode w ≡ codeIn w forms
-unfolding formCode codeIn forms
-forms-code w = refl
+pub named-rows : (t : Table ℕ) (w : Bytes) → codeIn w (rows t) ≡ orCode 99 (named t w)
+unfolding named orCode codeIn rows
+named-rows [] w = refl
+named-rows (x ∷ t) w = go (is w (bytes (x .0))) (named-rows t w)
+  where
+    go : (b : Bool) → codeIn w (rows t) ≡ orCode 99 (named t w) → (if b then x .1 else codeIn w (rows t)) ≡ orCode 99 (if b then some (x .1) else named t w)
+    go true ih = refl
+    go false ih = ih
+
+abbrev pub formRows : Rows
+formRows = rows (codedWords forms formCodes)
+
+forms-code : (w : Bytes) → codeIn w formRows ≡ formCode w
+unfolding formCode
+forms-code w = named-rows (codedWords forms formCodes) w
 
 -- the rows of words of n bytes with a byte after each
-unfoldable pub rowsOf : ℕ → Bytes → Bytes → Table
+unfoldable pub rowsOf : ℕ → Bytes → Bytes → Rows
 rowsOf n words [] = []
 rowsOf n words (c ∷ codes) = (take n words, c) ∷ rowsOf n (drop (n + 1) words) codes
 
@@ -66,17 +74,17 @@ among-rows w words (c ∷ codes) = ap (λ (k : ℕ). if is w (take (length w) wo
 
 -- the words of the length of w
 module _ (w words codes : Bytes) (n : ℕ) where
-  pub in-length : (t : Table) {r : ℕ} → length w ≡ n → ofLength n t ≡ rowsOf n words codes → r ≡ codeAmong w words codes → r ≡ codeIn w t
+  pub in-length : (t : Rows) {r : ℕ} → length w ≡ n → ofLength n t ≡ rowsOf n words codes → r ≡ codeAmong w words codes → r ≡ codeIn w t
   in-length t e q h = h ∙ among-rows w words codes ∙ rw (e, ← q, ← e) (by-length w t)
 
-  pub of-length : {r : ℕ} → length w ≡ n → ofLength n forms ≡ rowsOf n words codes → r ≡ codeAmong w words codes → r ≡ formCode w
-  of-length e q h = in-length forms e q h ∙ sym (forms-code w)
+  pub of-length : {r : ℕ} → length w ≡ n → ofLength n formRows ≡ rowsOf n words codes → r ≡ codeAmong w words codes → r ≡ formCode w
+  of-length e q h = in-length formRows e q h ∙ forms-code w
 
 -- each word's length is one of these
-unfoldable pub lengthsIn : List ℕ → Table → Bool
+unfoldable pub lengthsIn : List ℕ → Rows → Bool
 lengthsIn ls t = allOf (λ x. member (length (x .0)) ls) t
 
-none-such : (ls : List ℕ) (n : ℕ) (t : Table) → lengthsIn ls t ≡ true → member n ls ≡ false → ofLength n t ≡ []
+none-such : (ls : List ℕ) (n : ℕ) (t : Rows) → lengthsIn ls t ≡ true → member n ls ≡ false → ofLength n t ≡ []
 unfolding lengthsIn allOf ofLength
 none-such ls n [] m h = refl
 none-such ls n (x ∷ t) m h =
@@ -84,7 +92,7 @@ none-such ls n (x ∷ t) m h =
     rw (ne-eqb (length (x .0)) n (λ e. true≢false (sym (p .0) ∙ ap (λ (k : ℕ). member k ls) e ∙ h))) (none-such ls n t (p .1) h)
 
 -- no word has the length of w
-pub other-lengths : (w : Bytes) (ls : List ℕ) (t : Table) → lengthsIn ls t ≡ true → member (length w) ls ≡ false → 99 ≡ codeIn w t
+pub other-lengths : (w : Bytes) (ls : List ℕ) (t : Rows) → lengthsIn ls t ≡ true → member (length w) ls ≡ false → 99 ≡ codeIn w t
 unfolding codeIn
 other-lengths w ls t m h = sym (sym (by-length w t) ∙ ap (codeIn w) (none-such ls (length w) t m h))
 
@@ -93,11 +101,11 @@ pub above : {n k : ℕ} → k ≤ n → (n ≡ k → ⊥) → k + 1 ≤ n
 above p h = omega arith
 
 pub no-length : (w : Bytes) → (length w ≡ 2 → ⊥) → (length w ≡ 3 → ⊥) → (length w ≡ 4 → ⊥) → (length w ≡ 5 → ⊥) → (length w ≡ 6 → ⊥) → (length w ≡ 7 → ⊥) → (length w ≡ 8 → ⊥) → (length w ≡ 9 → ⊥) → (length w ≡ 10 → ⊥) → 99 ≡ formCode w
-unfolding lengthsIn allOf forms bytes member
+unfolding lengthsIn allOf rows codedWords forms formCodes bytes member
 no-length w a b c d e f g h i =
-    other-lengths w (2 ∷ 3 ∷ 4 ∷ 5 ∷ 6 ∷ 7 ∷ 8 ∷ 9 ∷ 10 ∷ []) forms refl
+    other-lengths w (2 ∷ 3 ∷ 4 ∷ 5 ∷ 6 ∷ 7 ∷ 8 ∷ 9 ∷ 10 ∷ []) formRows refl
     (simp (ne-eqb _ _ a, ne-eqb _ _ b, ne-eqb _ _ c, ne-eqb _ _ d, ne-eqb _ _ e, ne-eqb _ _ f, ne-eqb _ _ g, ne-eqb _ _ h, ne-eqb _ _ i))
-    ∙ sym (forms-code w)
+    ∙ forms-code w
 
 -- the turns of `among`: the words and codes that are left, and room for a word to each code
 pub record WordsLeft (w words codes : Bytes) (at k : ℕ) : Type 0 where

@@ -1,92 +1,105 @@
 -- A form's code tells its fields: what `shapeOf` reads after a word is what `shapeBy` reads after the word's code. Assumes
 -- nothing.
-use Prim.Native.Nat.{ℕ}
-use mathlib.Core.Path.{_≡_, refl, sym, ap, _∙_}
-use mathlib.Core.Bool.{Bool, true, false, not, _&&_, true≢false}
-use mathlib.Core.Option.{Option, none}
+use Prim.Native.Nat.{ℕ, _<_, _≤_}
+use mathlib.Core.Path.{_≡_, refl, ap}
+use mathlib.Core.Bool.{Bool, true, false, not, _&&_}
+use mathlib.Core.Option.{Option, none, some}
 use mathlib.Core.List.{List, [], _∷_}
-use borrow.Author.Tests.{eq-eqb, not-true}
-use lib.Dec.{eqb}
-use Rattle.laws.specs.Choice.{if_then_else_}
+use native.Mathlib.Omega.{arith}
+use borrow.Author.Tests.{eq-eqb, ne-eqb, ltb-true, not-true}
+use lib.Dec.{eqb, ltb}
+use lib.ListN.{length}
+use Rattle.laws.specs.Choice.{if_then_else_, onSome}
+use Rattle.laws.specs.Lists.{allOf}
+use Rattle.laws.proofs.Cases.{AllBelow, from-below}
+use Rattle.laws.proofs.Tests.{and-true}
 use Rattle.reals.specs.Reals.{int, real}
-use Rattle.ocl.specs.Types.{set, sequence, bag}
-use Rattle.ocl.specs.Forms.{plus, minus, times, div, modulo, and, or, forAll, exists, ofObject, ofMembers, truth, undef, self, var, all, number, negation, sizeOf, convert, castTo, equal, less, arith, divide, over, includes, including, union}
-use Rattle.sheet.specs.Text.{Bytes}
-use Rattle.sheet.specs.Lines.{Shape, leaf, unary, binary, connective, isUndef, conditional, letIn, attribute, call, quantified, is, next, done, aNumber, anInteger, aReal, oneOperand, twoOperands, threeNumbers, iterateFields, assembleFields, shapeOf}
-use Rattle.text.specs.Words.{formCode}
-use Rattle.text.specs.Forms.{shapeBy}
-use Rattle.text.proofs.FormLaws.{Table, codeIn, forms, forms-code}
+use Rattle.ocl.specs.Forms.{number}
+use Rattle.sheet.specs.Text.{Bytes, bytes}
+use Rattle.sheet.specs.Lines.{leaf, is, Table, named, next, done, anInteger, aReal, FormFields, readFields, iterateFields, assembleFields, forms, shapeOf}
+use Rattle.text.specs.Words.{formCodes, codedWords, orCode, formCode}
+use Rattle.text.specs.Forms.{withCode, fieldsBy, shapeBy}
 
--- what the rows of a table of words lead to, by the word and by the code
-unfoldable byWord : Table → List (Option Shape) → Bytes → Option Shape
-byWord [] xs w = none
-byWord (r ∷ t) [] w = none
-byWord (r ∷ t) (x ∷ xs) w = if is w (r .0) then x else byWord t xs w
-
-unfoldable byCode : Table → List (Option Shape) → ℕ → Option Shape
-byCode [] xs k = none
-byCode (r ∷ t) [] k = none
-byCode (r ∷ t) (x ∷ xs) k = if eqb k (r .1) then x else byCode t xs k
-
--- c is neither a code of the table nor the code of no word
-unfoldable fresh : ℕ → Table → Bool
+-- c is neither one of the codes nor the code of no word
+unfoldable fresh : ℕ → List ℕ → Bool
 fresh c [] = not (eqb 99 c)
-fresh c (r ∷ t) = not (eqb (r .1) c) && fresh c t
+fresh c (d ∷ cs) = not (eqb d c) && fresh c cs
 
 -- no code twice
-unfoldable apart : Table → Bool
+unfoldable apart : List ℕ → Bool
 apart [] = true
-apart (r ∷ t) = fresh (r .1) t && apart t
+apart (c ∷ cs) = fresh c cs && apart cs
 
-fresh-code : (c : ℕ) (t : Table) (w : Bytes) → fresh c t ≡ true → eqb (codeIn w t) c ≡ false
-unfolding fresh codeIn
-fresh-code c [] w h = not-true (eqb 99 c) h
-fresh-code c (r ∷ t) w h = go (is w (r .0)) (eqb (r .1) c) refl (fresh-code c t w) h
-  where
-    go : (a b : Bool) → b ≡ eqb (r .1) c → (fresh c t ≡ true → eqb (codeIn w t) c ≡ false) → (not b && fresh c t) ≡ true → eqb (if a then r .1 else codeIn w t) c ≡ false
-    go a true e ih h = absurd (true≢false (sym h))
-    go true false e ih h = sym e
-    go false false e ih h = ih h
+fresh-none : (c : ℕ) (cs : List ℕ) → fresh c cs ≡ true → eqb 99 c ≡ false
+unfolding fresh
+fresh-none c [] h = not-true (eqb 99 c) h
+fresh-none c (d ∷ cs) h = fresh-none c cs (and-true (not (eqb d c)) (fresh c cs) h .1)
 
--- where no code comes twice, the code of a word leads where the word leads
-by-code : (t : Table) (xs : List (Option Shape)) (w : Bytes) → apart t ≡ true → byWord t xs w ≡ byCode t xs (codeIn w t)
-unfolding byWord byCode codeIn apart
-by-code [] xs w h = refl
-by-code (r ∷ t) [] w h = refl
-by-code (r ∷ t) (x ∷ xs) w h = go (is w (r .0)) (fresh (r .1) t) refl (by-code t xs w) h
-  where
-    go : (a f : Bool) → f ≡ fresh (r .1) t → (apart t ≡ true → byWord t xs w ≡ byCode t xs (codeIn w t)) → (f && apart t) ≡ true
-        → (if a then x else byWord t xs w) ≡ (if eqb (if a then r .1 else codeIn w t) (r .1) then x else byCode t xs (if a then r .1 else codeIn w t))
-    go a false e ih h = absurd (true≢false (sym h))
-    go true true e ih h = rw (eq-eqb (r .1) (r .1) refl)
-    go false true e ih h = rw (fresh-code (r .1) t w (sym e)) (ih h)
+module _ {A : Type 0} where
+  fresh-code : (t : Table A) (c : ℕ) (cs : List ℕ) (w : Bytes) → fresh c cs ≡ true → eqb (orCode 99 (named (codedWords t cs) w)) c ≡ false
+  unfolding fresh orCode named codedWords
+  fresh-code [] c cs w h = fresh-none c cs h
+  fresh-code (x ∷ t) c [] w h = fresh-none c [] h
+  fresh-code (x ∷ t) c (d ∷ cs) w h = let p = and-true (not (eqb d c)) (fresh c cs) h in go (is w (bytes (x .0))) (not-true (eqb d c) (p .0)) (fresh-code t c cs w (p .1))
+    where
+      go : (b : Bool) → eqb d c ≡ false → eqb (orCode 99 (named (codedWords t cs) w)) c ≡ false → eqb (orCode 99 (if b then some d else named (codedWords t cs) w)) c ≡ false
+      go true e ih = e
+      go false e ih = ih
 
--- what the forms' words lead to, in the order of the table `forms`
-unfoldable shapes : List Bytes → List (Option Shape)
-shapes fs =
-    done (leaf (truth true)) fs ∷ done (leaf (truth false)) fs ∷ done (leaf undef) fs ∷ next anInteger (λ z. done (leaf (number (int z)))) fs
-    ∷ next aReal (λ r. done (leaf (number (real r)))) fs ∷ done (leaf self) fs ∷ next aNumber (λ i. done (leaf (var i))) fs ∷ assembleFields fs ∷ threeNumbers letIn fs ∷ threeNumbers conditional fs
-    ∷ twoOperands (connective and) fs ∷ twoOperands (connective or) fs ∷ oneOperand (unary negation) fs ∷ oneOperand isUndef fs
-    ∷ twoOperands (binary equal) fs ∷ twoOperands (binary less) fs ∷ twoOperands (binary (arith plus)) fs ∷ twoOperands (binary (arith minus)) fs
-    ∷ twoOperands (binary (arith times)) fs ∷ twoOperands (binary (divide div)) fs ∷ twoOperands (binary (divide modulo)) fs ∷ twoOperands (binary over) fs
-    ∷ twoOperands (λ e name. attribute ofObject name e) fs ∷ twoOperands (λ s name. attribute ofMembers name s) fs ∷ twoOperands call fs ∷ next aNumber (λ c. done (leaf (all c))) fs ∷ twoOperands (λ e c. unary (castTo c) e) fs
-    ∷ oneOperand (unary sizeOf) fs ∷ twoOperands (binary includes) fs ∷ oneOperand (unary (convert set)) fs ∷ oneOperand (unary (convert bag)) fs
-    ∷ oneOperand (unary (convert sequence)) fs ∷ twoOperands (binary including) fs ∷ twoOperands (binary union) fs ∷ iterateFields fs
-    ∷ threeNumbers (λ s i b. quantified forAll i s b) fs ∷ threeNumbers (λ s i b. quantified exists i s b) fs ∷ []
+  -- where no code comes twice, the code of a word leads where the word leads
+  by-code : (t : Table A) (cs : List ℕ) (w : Bytes) → length t ≡ length cs → apart cs ≡ true → named t w ≡ withCode t cs (orCode 99 (named (codedWords t cs) w))
+  unfolding named withCode codedWords orCode apart
+  by-code [] cs w l h = refl
+  by-code (x ∷ t) [] w l h = absurd (omega arith)
+  by-code (x ∷ t) (c ∷ cs) w l h =
+      let p = and-true (fresh c cs) (apart cs) h in
+      go (is w (bytes (x .0))) (fresh-code t c cs w (p .0)) (by-code t cs w (omega arith) (p .1))
+    where
+      go : (b : Bool) → eqb (orCode 99 (named (codedWords t cs) w)) c ≡ false → named t w ≡ withCode t cs (orCode 99 (named (codedWords t cs) w))
+          → (if b then some (x .1) else named t w) ≡ withCode (x ∷ t) (c ∷ cs) (orCode 99 (if b then some c else named (codedWords t cs) w))
+      go true e ih = rw (eq-eqb c c refl)
+      go false e ih = rw e ih
 
-forms-apart : apart forms ≡ true
-unfolding apart fresh forms
-forms-apart = refl
+  -- a number over all codes is none
+  over-codes : (t : Table A) (cs : List ℕ) (n k : ℕ) → allOf (λ c. ltb c n) cs ≡ true → n ≤ k → withCode t cs k ≡ none
+  unfolding withCode allOf
+  over-codes [] cs n k h l = refl
+  over-codes (x ∷ t) [] n k h l = refl
+  over-codes (x ∷ t) (c ∷ cs) n k h l =
+      let p = and-true (ltb c n) (allOf (λ c. ltb c n) cs) h in
+      rw (ne-eqb k c (λ e. omega (arith, ltb-true c n (p .0)))) (over-codes t cs n k (p .1) l)
 
-by-words : (w : Bytes) (fs : List Bytes) → shapeOf w fs ≡ byWord forms (shapes fs) w
-unfolding shapeOf byWord forms shapes
-by-words w fs = refl
+pub over-forms : (k : ℕ) → 39 ≤ k → fieldsBy k ≡ none
+unfolding fieldsBy formCodes allOf
+over-forms k l = over-codes forms formCodes 39 k refl l
 
-by-codes : (k : ℕ) (fs : List Bytes) → byCode forms (shapes fs) k ≡ shapeBy k fs
-unfolding shapeBy byCode forms shapes
-by-codes k fs = refl
+-- codes between others that are none
+pub between-forms : (k : ℕ) → 28 ≤ k → k < 30 → fieldsBy k ≡ none
+unfolding fieldsBy withCode forms formCodes AllBelow
+between-forms k l h = from-below (λ k. fieldsBy k ≡ none) 28 2 ((tt, refl), refl) k l h
+
+pub no-shape : (k : ℕ) (fs : List Bytes) → fieldsBy k ≡ none → shapeBy k fs ≡ none
+unfolding shapeBy onSome
+no-shape k fs e = rw e
+
+-- the forms whose fields are not numbers alone
+module _ (fs : List Bytes) where
+  pub integer-shape : shapeBy 3 fs ≡ next anInteger (λ z. done (leaf (number (int z)))) fs
+  unfolding shapeBy fieldsBy withCode forms formCodes readFields onSome
+  integer-shape = refl
+
+  pub real-shape : shapeBy 38 fs ≡ next aReal (λ r. done (leaf (number (real r)))) fs
+  unfolding shapeBy fieldsBy withCode forms formCodes readFields onSome
+  real-shape = refl
+
+  pub assemble-shape : shapeBy 27 fs ≡ assembleFields fs
+  unfolding shapeBy fieldsBy withCode forms formCodes readFields onSome
+  assemble-shape = refl
+
+  pub iterate-shape : shapeBy 35 fs ≡ iterateFields fs
+  unfolding shapeBy fieldsBy withCode forms formCodes readFields onSome
+  iterate-shape = refl
 
 pub shape-code : (w : Bytes) (fs : List Bytes) → shapeOf w fs ≡ shapeBy (formCode w) fs
-shape-code w fs =
-    by-words w fs ∙ by-code forms (shapes fs) w forms-apart ∙ by-codes (codeIn w forms) fs
-    ∙ ap (λ (k : ℕ). shapeBy k fs) (sym (forms-code w))
+unfolding shapeOf shapeBy fieldsBy formCode forms formCodes fresh apart
+shape-code w fs = ap (λ (o : Option FormFields). onSome o (λ fields. readFields fields fs)) (by-code forms formCodes w refl refl)

@@ -2,36 +2,22 @@
 use mathlib.Core.Path.{_≡_, refl, sym, ap, _∙_}
 use mathlib.Core.Logic.{_≢_}
 use mathlib.Core.Bool.{Bool, true, false, not, _||_, true≢false}
-use mathlib.Core.Option.{none, some}
+use mathlib.Core.Option.{none}
 use mathlib.Core.List.{[], _∷_}
 use Prim.Native.Nat.{ℕ, _<_, _≤_}
 use native.Mathlib.Omega.{arith}
 use borrow.Author.Tests.{ne-eqb, le-leb}
 use lib.Dec.{eqb}
 use lib.ListN.{length, getD}
-use Rattle.laws.specs.Choice.{if_then_else_}
 use Rattle.laws.specs.Lists.{allOf, member}
 use Rattle.laws.proofs.Tests.{and-true}
 use Rattle.sheet.specs.Text.{Bytes, bytes, isDigit}
 use Rattle.sheet.specs.Lines.{is}
 use Rattle.sheet.specs.Grammar.Words.{Table, named}
 use Rattle.text.specs.Words.{codeAmong}
-use Rattle.text.proofs.FormLaws.{Table as Rows, codeIn, ofLength, rowsOf, in-length, by-length, lengthsIn, other-lengths}
+use Rattle.text.proofs.FormLaws.{codeIn, ofLength, rows, named-rows, rowsOf, in-length, by-length, lengthsIn, other-lengths}
 use Rattle.tokens.specs.Codes.{codes, orCode, codeOf}
 use Rattle.tokens.proofs.CodeLaws.{other-code}
-
-unfoldable pub rows : Table ℕ → Rows
-rows [] = []
-rows (x ∷ t) = (bytes (x .0), x .1) ∷ rows t
-
-named-rows : (t : Table ℕ) (w : Bytes) → codeIn w (rows t) ≡ orCode 99 (named t w)
-unfolding named orCode codeIn rows
-named-rows [] w = refl
-named-rows (x ∷ t) w = go (is w (bytes (x .0))) (named-rows t w)
-  where
-    go : (b : Bool) → codeIn w (rows t) ≡ orCode 99 (named t w) → (if b then x .1 else codeIn w (rows t)) ≡ orCode 99 (if b then some (x .1) else named t w)
-    go true ih = refl
-    go false ih = ih
 
 pub word-length : (w words cs : Bytes) (n : ℕ) {r : ℕ} → length w ≡ n → ofLength n (rows codes) ≡ rowsOf n words cs → r ≡ codeAmong w words cs → r ≡ orCode 99 (named codes w)
 word-length w words cs n e q h = in-length w words cs n (rows codes) e q h ∙ named-rows codes w

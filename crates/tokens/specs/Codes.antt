@@ -8,6 +8,7 @@ use Rattle.laws.specs.Choice.{if_then_else_}
 use Rattle.sheet.specs.Text.{Bytes}
 use Rattle.sheet.specs.Grammar.Tokens.{Tokens}
 use Rattle.sheet.specs.Grammar.Words.{Table, named}
+unfoldable pub use Rattle.text.specs.Words.{orCode}
 
 unfoldable pub codes : Table ℕ
 codes =
@@ -19,10 +20,6 @@ codes =
     ∷ (";", 45) ∷ (":", 46) ∷ ("|", 47) ∷ (".", 48) ∷ ("->", 49) ∷ ("in", 50) ∷ ("then", 51) ∷ ("else", 52)
     ∷ ("endif", 53) ∷ ("Void", 54) ∷ ("Bool", 55) ∷ ("Int", 56) ∷ ("Real", 57) ∷ ("Any", 58) ∷ ("S", 59) ∷ ("Q", 60)
     ∷ ("B", 61) ∷ ("C", 62) ∷ []
-
-unfoldable pub orCode : ℕ → Option ℕ → ℕ
-orCode d none = d
-orCode d (some k) = k
 
 -- 64 for every other token: a number, `v1`, or what stands nowhere in the grammar
 unfoldable pub codeOf : Bytes → ℕ

@@ -12,9 +12,10 @@ use lib.ListN.{length, getD, take, drop}
 use Rattle.laws.specs.Choice.{if_then_else_}
 use Rattle.laws.proofs.Cases.{zero-least}
 use Rattle.ocl.specs.Types.{Kind, set, sequence, bag}
-use Rattle.ocl.specs.Forms.{Access, ofObject, ofMembers, Unary, negation, sizeOf, convert, castTo, Definition, levels}
+use Rattle.ocl.specs.Forms.{Access, ofObject, ofMembers, Leaf, truth, undef, number, self, var, all, Unary, negation, sizeOf, convert, castTo, Definition, levels}
 use Rattle.sheet.specs.Lines.{Shape, leaf, unary, binary, connective, isUndef, conditional, letIn, attribute, call, quantified, iterate, assemble}
 use Rattle.sheet.specs.Sheet.{Sheet, operandsOf, definitionOf}
+use Rattle.sheet.specs.Limits.{leafHeld, unaryHeld, heldBy}
 use Rattle.sheet.specs.Refusals.{callBelow}
 use Rattle.types.specs.Word.{typeIn}
 use Rattle.nodes.specs.Nodes.{Called, CallSaid, classIn, treeAt, unaryWords, accessCode, assembleCode, shapeWords}
@@ -115,6 +116,23 @@ pub data CallCase : Shape → Type 0 where
   a-call : (a n : ℕ) → CallCase (call a n)
   no-call : {x : Shape} → NoCall x → CallCase x
 
+-- no leaf calls, and nothing of one operand but `call` does
+leaf-calls : (l : Leaf) (n : ℕ) → leafHeld l .called n ≡ true
+unfolding leafHeld
+leaf-calls (truth b) n = refl
+leaf-calls undef n = refl
+leaf-calls (number x) n = refl
+leaf-calls self n = refl
+leaf-calls (var i) n = refl
+leaf-calls (all c) n = refl
+
+unary-calls : (op : Unary) (n : ℕ) → unaryHeld op .called n ≡ true
+unfolding unaryHeld
+unary-calls negation n = refl
+unary-calls sizeOf n = refl
+unary-calls (convert k) n = refl
+unary-calls (castTo c) n = refl
+
 unary-code : (op : Unary) → eqb (unaryWords op .0) 36 ≡ false
 unfolding unaryWords
 unary-code negation = refl
@@ -136,9 +154,9 @@ assemble-code sequence = refl
 assemble-code bag = refl
 
 pub call-case : (x : Shape) → CallCase x
-unfolding callBelow bodyLevels shapeWords isCall operandsOf
-call-case (leaf l) = no-call (record { below = λ n. refl; depth = λ ds. refl; words = λ f t d e k. refl; off = λ t d k. refl })
-call-case (unary op a) = no-call (record { below = λ n. refl; depth = λ ds. refl; words = λ f t d e k. refl; off = λ t d k. unary-code op })
+unfolding heldBy callBelow bodyLevels shapeWords isCall operandsOf
+call-case (leaf l) = no-call (record { below = leaf-calls l; depth = λ ds. refl; words = λ f t d e k. refl; off = λ t d k. refl })
+call-case (unary op a) = no-call (record { below = unary-calls op; depth = λ ds. refl; words = λ f t d e k. refl; off = λ t d k. unary-code op })
 call-case (binary op a b) = no-call (record { below = λ n. refl; depth = λ ds. refl; words = λ f t d e k. refl; off = λ t d k. refl })
 call-case (connective c a b) = no-call (record { below = λ n. refl; depth = λ ds. refl; words = λ f t d e k. refl; off = λ t d k. refl })
 call-case (isUndef a) = no-call (record { below = λ n. refl; depth = λ ds. refl; words = λ f t d e k. refl; off = λ t d k. refl })
@@ -152,7 +170,7 @@ call-case (assemble m es) = no-call {x = assemble m es} (record { below = λ n. 
 
 module _ (type line : ℕ) where
   pub calls-shape : (m : ℕ) (x : Shape) → leb (callsIn (shapeWords 0 type (calledBy byNumber x) line x) (length (operandsOf x))) m ≡ callBelow m x
-  unfolding callsIn isCall shapeWords operandsOf calledBy callBelow
+  unfolding callsIn isCall shapeWords operandsOf calledBy heldBy callBelow
   calls-shape m x = go (call-case x)
     where
       go : {x : Shape} → CallCase x → leb (callsIn (shapeWords 0 type (calledBy byNumber x) line x) (length (operandsOf x))) m ≡ callBelow m x
@@ -195,7 +213,7 @@ module _ {w0 w1 : List ℕ} {s : Sheet} (h : HoldsDefinitions w0 w1 s) (long : 8
   -- of the one that is called
   pub call-said : (f : ℕ → _) (x : Shape) → callBelow (length (s .definitions)) x ≡ true → ((r : ℕ) → r < length (s .lines) → f r ≡ treeAt w1 r)
       → CallSaid f (definitionOf (s .definitions)) (calledBy (calledAt w0) x) x
-  unfolding calledBy callBelow
+  unfolding calledBy heldBy callBelow
   call-said f x there same = record {
     context = λ a n e. rw e (class-at n (low a n e));
     type = λ a n e. rw e (type-at n (low a n e));
@@ -207,7 +225,7 @@ module _ {w0 w1 : List ℕ} {s : Sheet} (h : HoldsDefinitions w0 w1 s) (long : 8
 
   pub depth-shape : (type line : ℕ) (x : Shape) → length (s .lines) ≤ 768 → callBelow (length (s .definitions)) x ≡ true
       → bodyDepth w1 (shapeWords 0 type (calledBy (calledAt w0) x) line x) (length (operandsOf x)) ≡ bodyLevels (definitionOf (s .definitions)) x
-  unfolding bodyDepth isCall shapeWords operandsOf calledBy callBelow bodyLevels
+  unfolding bodyDepth isCall shapeWords operandsOf calledBy heldBy callBelow bodyLevels
   depth-shape type line x small = go (call-case x)
     where
       go : {x : Shape} → CallCase x → callBelow (length (s .definitions)) x ≡ true

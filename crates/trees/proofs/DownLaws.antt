@@ -71,6 +71,7 @@ module _ (st : Counts) (w0 : List ℕ) (long : 8192 ≤ length w0) (fine : Fine 
       };
       tables = record {
         parents = old .tables .parents;
+        smaller = old .tables .smaller;
         owners = old .tables .owners;
         names = old .tables .names;
         types = old .tables .types;

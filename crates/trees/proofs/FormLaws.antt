@@ -1,7 +1,7 @@
 -- The form that fields spell, from code to code: what the code's words stand for. Assumes nothing.
 use mathlib.Core.Path.{_≡_, refl, sym, ap, _∙_}
 use mathlib.Core.Bool.{Bool, true, false, _&&_, true≢false}
-use mathlib.Core.Option.{none}
+use mathlib.Core.Option.{none, some}
 use mathlib.Core.List.{List, [], _∷_, map}
 use Prim.Native.Nat.{ℕ, _+_, _<_, _≤_}
 use native.Mathlib.Nat.{zero-add}
@@ -15,15 +15,17 @@ use Rattle.laws.specs.Lists.{allOf}
 use Rattle.laws.proofs.Cases.{AllBelow, all-below, from-below, zero-least}
 use Rattle.ocl.specs.Types.{set, sequence, bag}
 use Rattle.ocl.specs.Forms.{plus, minus, times, div, modulo, Connective, and, or, Leaf, truth, undef, self, Unary, negation, sizeOf, convert, Binary, equal, less, arith as calculation, divide, over, includes, including, union}
-use Rattle.sheet.specs.Lines.{Shape, leaf, unary, binary, connective, isUndef, conditional, letIn, attribute, call, quantified, iterate, assemble}
+use Rattle.sheet.specs.Lines.{Shape, leaf, unary, binary, connective, isUndef, conditional, letIn, attribute, call, quantified, iterate, assemble, noField, oneNumber, twoNumbers, forms}
 use Rattle.sheet.specs.Sheet.{operandsOf}
-use Rattle.sheet.specs.Limits.{isNode, isVariable, leafWithin, unaryWithin, formWithin}
-use Rattle.sheet.specs.Refusals.{twoVariables, leafKnown, unaryKnown, formKnown}
-use Rattle.nodes.specs.Nodes.{Called, unaryOf, binaryOf, arithByCode, divisionByCode, connectiveOf, TypeSaid, leafWords, unaryWords, binaryCode, arithCode, divisionCode, connectiveCode, shapeWords}
+use Rattle.sheet.specs.Limits.{isNode, isVariable, Held, nothing, leafHeld, unaryHeld, heldBy, formWithin}
+use Rattle.sheet.specs.Refusals.{twoVariables, formKnown}
+use Rattle.text.specs.Words.{formCodes}
+use Rattle.text.specs.Forms.{withCode, fieldsBy}
+use Rattle.nodes.specs.Nodes.{Called, TypeSaid, leafWords, unaryWords, binaryCode, arithCode, divisionCode, connectiveCode, shapeWords}
 use Rattle.trees.specs.Fields.{cut, four}
 use Rattle.trees.specs.Calls.{calledBy, byNumber}
 use Rattle.trees.specs.Forms.{StandsFor, misspelled, FormRead, PlainCode, constant, itself, one, two, undefTest, conditional as conditionalCode, quotient}
-use Rattle.trees.specs.Built.{classCount, numbersOf, shapeFrom, shapeIn, Builds}
+use Rattle.trees.specs.Built.{classCount, countOf, formWith, numbersOf, shapeIn, Builds}
 
 -- ---- tests that do not see the cut
 
@@ -84,9 +86,7 @@ no-form line = record { is = misspelled refl; few = omega arith; size = refl; lo
 -- ---- nothing but operands
 
 record Plain (code : ℕ) (l : List ℕ) (x : Shape) : Type 0 where
-  within : formWithin x ≡ true
-  apart : twoVariables x ≡ true
-  known : (n : ℕ) → formKnown n x ≡ true
+  bare : heldBy x ≡ nothing
   operands : operandsOf x ≡ l
   words : (d : Called) (line : ℕ) → shapeWords 0 0 d line x ≡ code ∷ getD l 0 0 ∷ getD l 1 0 ∷ getD l 2 0 ∷ 0 ∷ 0 ∷ 0 ∷ line ∷ []
   said : TypeSaid 0 x
@@ -95,9 +95,6 @@ record Plain (code : ℕ) (l : List ℕ) (x : Shape) : Type 0 where
 record PlainForm (code m : ℕ) : Type 0 where
   counts : numbersOf code ≡ m
   is : (l : List ℕ) → length l ≡ m → Plain code l (shapeIn code l)
-
-plain-as : {code : ℕ} {l : List ℕ} {x y : Shape} → x ≡ y → Plain code l y → Plain code l x
-plain-as e p = rw e p
 
 plain-operands : (l : List ℕ) (d : ℕ) → length l ≤ 3 → take (length l) (getD (map cut l) 0 0 ∷ getD (map cut l) 1 0 ∷ getD (map cut l) 2 0 ∷ 0 ∷ 0 ∷ 0 ∷ d ∷ []) ≡ map cut l
 plain-operands [] d h = refl
@@ -108,10 +105,11 @@ plain-operands (x ∷ y ∷ z ∷ w ∷ l) d h = absurd (omega arith)
 
 plain-stands : {code line m : ℕ} {at : List ℕ} (l : List ℕ) {x : Shape} → Plain code l x → length l ≡ m → m ≤ 3 → at ≡ four (map cut l)
     → StandsFor line x (record { spelled = true; words = code ∷ getD at 0 0 ∷ getD at 1 0 ∷ getD at 2 0 ∷ 0 ∷ 0 ∷ 0 ∷ line ∷ []; count = m; within = true; apart = true; classes = 0 })
+unfolding formWithin twoVariables formKnown
 plain-stands {code} {line} {m} l {x} is n few e = record {
-  within = sym (is .within);
-  apart = λ h. sym (is .apart);
-  known = λ h n l. zero-least n ∙ sym (is .known n);
+  within = ap (λ (h : Held). h .within) (sym (is .bare));
+  apart = λ h. ap (λ (h : Held). h .apart) (sym (is .bare));
+  known = λ h n l. zero-least n ∙ ap (λ (h : Held). h .known n) (sym (is .bare));
   counted = sym n ∙ ap length (sym (is .operands));
   operands = rw (← n, e, is .operands) (plain-operands l line (omega arith));
   type = 0;
@@ -138,78 +136,76 @@ unfolding isIterate
 no-type x h = record { said = λ i j t a e b q. absurd (true≢false (sym (ap isIterate q) ∙ h)) }
 
 module _ (code : ℕ) where
-  leaf-plain : (l : Leaf) → leafWithin l ≡ true → ((n : ℕ) → leafKnown n l ≡ true) → leafWords l ≡ (code, 0) → numbersOf code ≡ 0 → ((a b c : ℕ) → shapeFrom code a b c ≡ leaf l) → PlainForm code 0
-  unfolding formWithin twoVariables formKnown operandsOf shapeWords isIterate
-  leaf-plain l w k e m r = record { counts = m; is = is }
+  leaf-plain : (l : Leaf) → leafHeld l ≡ nothing → leafWords l ≡ (code, 0) → fieldsBy code ≡ some (noField (leaf l)) → PlainForm code 0
+  unfolding heldBy operandsOf shapeWords isIterate countOf formWith
+  leaf-plain l bare e r = record { counts = rw r; is = is }
     where
       is : (es : List ℕ) → length es ≡ 0 → Plain code es (shapeIn code es)
-      is [] h = plain-as (r _ _ _) (record { within = w; apart = refl; known = k; operands = refl; words = λ d line. rw e; said = no-type (leaf l) refl })
+      is [] h = rw r (record { bare = bare; operands = refl; words = λ d line. rw e; said = no-type (leaf l) refl })
       is (a ∷ es) h = absurd (omega arith)
 
   -- a form of one operand and nothing else
-  one-plain : (f : ℕ → Shape) → ((a : ℕ) → Plain code (a ∷ []) (f a)) → numbersOf code ≡ 1 → ((a b c : ℕ) → shapeFrom code a b c ≡ f a) → PlainForm code 1
-  one-plain f p m r = record { counts = m; is = is }
+  one-plain : (f : ℕ → Shape) → ((a : ℕ) → Plain code (a ∷ []) (f a)) → fieldsBy code ≡ some (oneNumber f) → PlainForm code 1
+  unfolding countOf formWith
+  one-plain f p r = record { counts = rw r; is = is }
     where
       is : (es : List ℕ) → length es ≡ 1 → Plain code es (shapeIn code es)
       is [] h = absurd (omega arith)
-      is (a ∷ []) h = plain-as (r _ _ _) (p a)
+      is (a ∷ []) h = rw r (p a)
       is (a ∷ b ∷ es) h = absurd (omega arith)
 
-  unary-plain : (op : Unary) → unaryWithin op ≡ true → ((n : ℕ) → unaryKnown n op ≡ true) → unaryWords op ≡ (code, 0) → numbersOf code ≡ 1 → ((a b c : ℕ) → shapeFrom code a b c ≡ unary op a) → PlainForm code 1
-  unfolding formWithin twoVariables formKnown operandsOf shapeWords isIterate
-  unary-plain op w k e = one-plain (unary op) (λ a.
-      record { within = w; apart = refl; known = k; operands = refl; words = λ d line. simp (e, zero-add); said = no-type (unary op a) refl })
+  unary-plain : (op : Unary) → unaryHeld op ≡ nothing → unaryWords op ≡ (code, 0) → fieldsBy code ≡ some (oneNumber (unary op)) → PlainForm code 1
+  unfolding heldBy operandsOf shapeWords isIterate
+  unary-plain op bare e = one-plain (unary op) (λ a. record { bare = bare; operands = refl; words = λ d line. simp (e, zero-add); said = no-type (unary op a) refl })
 
   -- of two
-  two-plain : (f : ℕ → ℕ → Shape) → ((a b : ℕ) → Plain code (a ∷ b ∷ []) (f a b)) → numbersOf code ≡ 2 → ((a b c : ℕ) → shapeFrom code a b c ≡ f a b) → PlainForm code 2
-  two-plain f p m r = record { counts = m; is = is }
+  two-plain : (f : ℕ → ℕ → Shape) → ((a b : ℕ) → Plain code (a ∷ b ∷ []) (f a b)) → fieldsBy code ≡ some (twoNumbers f) → PlainForm code 2
+  unfolding countOf formWith
+  two-plain f p r = record { counts = rw r; is = is }
     where
       is : (es : List ℕ) → length es ≡ 2 → Plain code es (shapeIn code es)
       is [] h = absurd (omega arith)
       is (a ∷ []) h = absurd (omega arith)
-      is (a ∷ b ∷ []) h = plain-as (r _ _ _) (p a b)
+      is (a ∷ b ∷ []) h = rw r (p a b)
       is (a ∷ b ∷ c ∷ es) h = absurd (omega arith)
 
-  binary-plain : (op : Binary) → binaryCode op ≡ code → numbersOf code ≡ 2 → ((a b c : ℕ) → shapeFrom code a b c ≡ binary op a b) → PlainForm code 2
-  unfolding formWithin twoVariables formKnown operandsOf shapeWords isIterate
-  binary-plain op e = two-plain (binary op) (λ a b.
-      record { within = refl; apart = refl; known = λ n. refl; operands = refl; words = λ d line. simp (e, zero-add); said = no-type (binary op a b) refl })
+  binary-plain : (op : Binary) → binaryCode op ≡ code → fieldsBy code ≡ some (twoNumbers (binary op)) → PlainForm code 2
+  unfolding heldBy operandsOf shapeWords isIterate
+  binary-plain op e = two-plain (binary op) (λ a b. record { bare = refl; operands = refl; words = λ d line. simp (e, zero-add); said = no-type (binary op a b) refl })
 
-  connective-plain : (op : Connective) → connectiveCode op ≡ code → numbersOf code ≡ 2 → ((a b c : ℕ) → shapeFrom code a b c ≡ connective op a b) → PlainForm code 2
-  unfolding formWithin twoVariables formKnown operandsOf shapeWords isIterate
-  connective-plain op e = two-plain (connective op) (λ a b.
-      record { within = refl; apart = refl; known = λ n. refl; operands = refl; words = λ d line. simp (e, zero-add); said = no-type (connective op a b) refl })
+  connective-plain : (op : Connective) → connectiveCode op ≡ code → fieldsBy code ≡ some (twoNumbers (connective op)) → PlainForm code 2
+  unfolding heldBy operandsOf shapeWords isIterate
+  connective-plain op e = two-plain (connective op) (λ a b. record { bare = refl; operands = refl; words = λ d line. simp (e, zero-add); said = no-type (connective op a b) refl })
 
 isUndef-plain : PlainForm 30 1
-unfolding formWithin twoVariables formKnown operandsOf shapeWords isIterate numbersOf shapeFrom
-isUndef-plain = one-plain 30 isUndef (λ a.
-    record { within = refl; apart = refl; known = λ n. refl; operands = refl; words = λ d line. simp zero-add; said = no-type (isUndef a) refl }) refl (λ a b c. refl)
+unfolding heldBy operandsOf shapeWords isIterate fieldsBy withCode forms formCodes
+isUndef-plain = one-plain 30 isUndef (λ a. record { bare = refl; operands = refl; words = λ d line. simp zero-add; said = no-type (isUndef a) refl }) refl
 
 conditional-plain : PlainForm 31 3
-unfolding formWithin twoVariables formKnown operandsOf shapeWords isIterate numbersOf shapeFrom
+unfolding heldBy operandsOf shapeWords isIterate countOf formWith fieldsBy withCode forms formCodes
 conditional-plain = record { counts = refl; is = is }
   where
     is : (es : List ℕ) → length es ≡ 3 → Plain 31 es (conditional (getD es 0 0) (getD es 1 0) (getD es 2 0))
     is [] h = absurd (omega arith)
     is (a ∷ []) h = absurd (omega arith)
     is (a ∷ b ∷ []) h = absurd (omega arith)
-    is (a ∷ b ∷ c ∷ []) h = record { within = refl; apart = refl; known = λ n. refl; operands = refl; words = λ d line. simp zero-add; said = no-type (conditional a b c) refl }
+    is (a ∷ b ∷ c ∷ []) h = record { bare = refl; operands = refl; words = λ d line. simp zero-add; said = no-type (conditional a b c) refl }
     is (a ∷ b ∷ c ∷ d ∷ es) h = absurd (omega arith)
 
 plain-code : {code m : ℕ} → PlainCode code m → PlainForm code m
-unfolding numbersOf shapeFrom unaryOf binaryOf arithByCode divisionByCode connectiveOf leafWithin leafKnown leafWords unaryWithin unaryKnown unaryWords binaryCode arithCode divisionCode connectiveCode AllBelow
+unfolding fieldsBy withCode forms formCodes leafHeld leafWords unaryHeld unaryWords binaryCode arithCode divisionCode connectiveCode AllBelow
 plain-code (constant {k} h) =
     all-below (λ k. PlainForm k 0) 3
-    (((tt, leaf-plain 0 (truth false) refl (λ n. refl) refl refl (λ a b c. refl)), leaf-plain 1 (truth true) refl (λ n. refl) refl refl (λ a b c. refl)), leaf-plain 2 undef refl (λ n. refl) refl refl (λ a b c. refl))
+    (((tt, leaf-plain 0 (truth false) refl refl refl), leaf-plain 1 (truth true) refl refl refl), leaf-plain 2 undef refl refl refl)
     k h
-plain-code itself = leaf-plain 4 self refl (λ n. refl) refl refl (λ a b c. refl)
+plain-code itself = leaf-plain 4 self refl refl refl
 plain-code (one {k} l h) =
     from-below (λ k. PlainForm k 1) 7 5 (
       (
-        (((tt, unary-plain 7 negation refl (λ n. refl) refl refl (λ a b c. refl)), unary-plain 8 sizeOf refl (λ n. refl) refl refl (λ a b c. refl)), unary-plain 9 (convert set) refl (λ n. refl) refl refl (λ a b c. refl)),
-        unary-plain 10 (convert sequence) refl (λ n. refl) refl refl (λ a b c. refl),
+        (((tt, unary-plain 7 negation refl refl refl), unary-plain 8 sizeOf refl refl refl), unary-plain 9 (convert set) refl refl refl),
+        unary-plain 10 (convert sequence) refl refl refl,
       ),
-      unary-plain 11 (convert bag) refl (λ n. refl) refl refl (λ a b c. refl),
+      unary-plain 11 (convert bag) refl refl refl,
     )
     k l (omega arith)
 plain-code (two {k} l h) =
@@ -221,27 +217,27 @@ plain-code (two {k} l h) =
               (
                 (
                   (
-                    ((((tt, binary-plain 13 equal refl refl (λ a b c. refl)), binary-plain 14 less refl refl (λ a b c. refl)), binary-plain 15 (calculation plus) refl refl (λ a b c. refl)), binary-plain 16 (calculation minus) refl refl (λ a b c. refl)),
-                    binary-plain 17 (calculation times) refl refl (λ a b c. refl),
+                    ((((tt, binary-plain 13 equal refl refl), binary-plain 14 less refl refl), binary-plain 15 (calculation plus) refl refl), binary-plain 16 (calculation minus) refl refl),
+                    binary-plain 17 (calculation times) refl refl,
                   ),
-                  binary-plain 18 (divide div) refl refl (λ a b c. refl),
+                  binary-plain 18 (divide div) refl refl,
                 ),
-                binary-plain 19 (divide modulo) refl refl (λ a b c. refl),
+                binary-plain 19 (divide modulo) refl refl,
               ),
-              binary-plain 20 includes refl refl (λ a b c. refl),
+              binary-plain 20 includes refl refl,
             ),
-            binary-plain 21 including refl refl (λ a b c. refl),
+            binary-plain 21 including refl refl,
           ),
-          binary-plain 22 union refl refl (λ a b c. refl),
+          binary-plain 22 union refl refl,
         ),
-        connective-plain 23 and refl refl (λ a b c. refl),
+        connective-plain 23 and refl refl,
       ),
-      connective-plain 24 or refl refl (λ a b c. refl),
+      connective-plain 24 or refl refl,
     )
     k l (omega arith)
 plain-code undefTest = isUndef-plain
 plain-code conditionalCode = conditional-plain
-plain-code quotient = binary-plain 37 over refl refl (λ a b c. refl)
+plain-code quotient = binary-plain 37 over refl refl
 
 plain-few : {code m : ℕ} → PlainCode code m → m ≤ 3
 plain-few (constant h) = omega arith

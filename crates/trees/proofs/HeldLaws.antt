@@ -11,15 +11,17 @@ use Rattle.laws.specs.Lists.{allOf}
 use Rattle.laws.proofs.Bounds.{cut-lt}
 use Rattle.laws.proofs.Cases.{AllBelow, from-below, zero-least}
 use Rattle.ocl.specs.Forms.{Quantifier, forAll, exists, Access, ofObject, ofMembers, var, all, castTo}
-use Rattle.sheet.specs.Lines.{leaf, unary, letIn, attribute, call, quantified}
+use Rattle.sheet.specs.Lines.{leaf, unary, letIn, attribute, call, quantified, forms}
 use Rattle.sheet.specs.Sheet.{operandsOf}
-use Rattle.sheet.specs.Limits.{isNode, isClass, isVariable, isDefinition, leafWithin, unaryWithin, formWithin}
-use Rattle.sheet.specs.Refusals.{twoVariables, leafKnown, unaryKnown, formKnown}
-use Rattle.nodes.specs.Nodes.{quantifierOf, accessOf, leafWords, unaryWords, quantifierCode, accessCode, shapeWords}
+use Rattle.sheet.specs.Limits.{isNode, isClass, isVariable, isDefinition, leafHeld, unaryHeld, heldBy, formWithin}
+use Rattle.sheet.specs.Refusals.{twoVariables, formKnown}
+use Rattle.text.specs.Words.{formCodes}
+use Rattle.text.specs.Forms.{withCode, fieldsBy}
+use Rattle.nodes.specs.Nodes.{leafWords, unaryWords, quantifierCode, accessCode, shapeWords}
 use Rattle.trees.specs.Fields.{cut, four}
 use Rattle.trees.specs.Calls.{calledBy}
 use Rattle.trees.specs.Forms.{StandsFor, QuantifierCode, AccessCode}
-use Rattle.trees.specs.Built.{classCount, shapeFrom, Builds}
+use Rattle.trees.specs.Built.{classCount, formWith, shapeFrom, Builds}
 use Rattle.trees.proofs.FormLaws.{cut-variable, variable-small, below-small, class-known, class-low, nodes-small, isIterate, no-type}
 
 -- ---- the numbers that were read
@@ -46,7 +48,7 @@ module _ (at l : List ℕ) (e : at ≡ four (map cut l)) where
 
   variable-stands : {line : ℕ} {w : Bool} → w ≡ isVariable (getD at 0 0)
       → StandsFor line (leaf (var (getD l 0 0))) (record { spelled = true; words = 5 ∷ getD at 0 0 ∷ 0 ∷ 0 ∷ 0 ∷ 0 ∷ 0 ∷ line ∷ []; count = 0; within = w; apart = true; classes = 0 })
-  unfolding formWithin leafWithin twoVariables formKnown leafKnown operandsOf shapeWords leafWords isIterate
+  unfolding heldBy leafHeld formWithin twoVariables formKnown operandsOf shapeWords leafWords isIterate
   variable-stands v = record {
     within = v ∙ ap isVariable first ∙ cut-variable (getD l 0 0);
     apart = λ h. refl;
@@ -59,7 +61,7 @@ module _ (at l : List ℕ) (e : at ≡ four (map cut l)) where
   }
 
   all-stands : {line : ℕ} → StandsFor line (leaf (all (getD l 0 0))) (record { spelled = true; words = 6 ∷ getD at 0 0 ∷ 0 ∷ 0 ∷ 0 ∷ 0 ∷ 0 ∷ line ∷ []; count = 0; within = ltb (getD at 0 0) 64; apart = true; classes = classCount (getD at 0 0) })
-  unfolding formWithin leafWithin isClass twoVariables formKnown leafKnown operandsOf shapeWords leafWords isIterate
+  unfolding heldBy leafHeld formWithin isClass twoVariables formKnown operandsOf shapeWords leafWords isIterate
   all-stands = record {
     within = ap (λ (c : ℕ). ltb c 64) first ∙ cut-lt (getD l 0 0) 1000000 64 (omega arith);
     apart = λ h. refl;
@@ -72,7 +74,7 @@ module _ (at l : List ℕ) (e : at ≡ four (map cut l)) where
   }
 
   cast-stands : {line : ℕ} → StandsFor line (unary (castTo (getD l 1 0)) (getD l 0 0)) (record { spelled = true; words = 12 ∷ getD at 0 0 ∷ getD at 1 0 ∷ 0 ∷ 0 ∷ 0 ∷ 0 ∷ line ∷ []; count = 1; within = ltb (getD at 1 0) 64; apart = true; classes = classCount (getD at 1 0) })
-  unfolding formWithin unaryWithin isClass twoVariables formKnown unaryKnown operandsOf shapeWords unaryWords isIterate
+  unfolding heldBy unaryHeld formWithin isClass twoVariables formKnown operandsOf shapeWords unaryWords isIterate
   cast-stands = record {
     within = ap (λ (c : ℕ). ltb c 64) second ∙ cut-lt (getD l 1 0) 1000000 64 (omega arith);
     apart = λ h. refl;
@@ -85,7 +87,7 @@ module _ (at l : List ℕ) (e : at ≡ four (map cut l)) where
   }
 
   attribute-stands : {line code : ℕ} (x : Access) → accessCode x ≡ code → StandsFor line (attribute x (getD l 1 0) (getD l 0 0)) (record { spelled = true; words = code ∷ getD at 0 0 ∷ getD at 1 0 ∷ 0 ∷ 0 ∷ 0 ∷ 0 ∷ line ∷ []; count = 1; within = ltb (getD at 1 0) 256; apart = true; classes = 0 })
-  unfolding formWithin twoVariables formKnown operandsOf shapeWords isIterate
+  unfolding heldBy formWithin twoVariables formKnown operandsOf shapeWords isIterate
   attribute-stands x c = record {
     within = ap (λ (c : ℕ). ltb c 256) second ∙ cut-lt (getD l 1 0) 1000000 256 (omega arith);
     apart = λ h. refl;
@@ -98,7 +100,7 @@ module _ (at l : List ℕ) (e : at ≡ four (map cut l)) where
   }
 
   call-stands : {line : ℕ} → StandsFor line (call (getD l 0 0) (getD l 1 0)) (record { spelled = true; words = 36 ∷ getD at 0 0 ∷ getD at 1 0 ∷ 0 ∷ 0 ∷ 0 ∷ 0 ∷ line ∷ []; count = 1; within = ltb (getD at 1 0) 32; apart = true; classes = 0 })
-  unfolding formWithin isDefinition twoVariables formKnown operandsOf shapeWords isIterate calledBy
+  unfolding heldBy formWithin isDefinition twoVariables formKnown operandsOf shapeWords isIterate calledBy
   call-stands = record {
     within = ap (λ (c : ℕ). ltb c 32) second ∙ cut-lt (getD l 1 0) 1000000 32 (omega arith);
     apart = λ h. refl;
@@ -112,7 +114,7 @@ module _ (at l : List ℕ) (e : at ≡ four (map cut l)) where
 
   let-stands : {line : ℕ} {w : Bool} → w ≡ isVariable (getD at 0 0)
       → StandsFor line (letIn (getD l 0 0) (getD l 1 0) (getD l 2 0)) (record { spelled = true; words = 32 ∷ getD at 1 0 ∷ getD at 2 0 ∷ getD at 0 0 ∷ 0 ∷ 0 ∷ 0 ∷ line ∷ []; count = 2; within = w; apart = true; classes = 0 })
-  unfolding formWithin twoVariables formKnown operandsOf shapeWords isIterate
+  unfolding heldBy formWithin twoVariables formKnown operandsOf shapeWords isIterate
   let-stands v = record {
     within = v ∙ ap isVariable first ∙ cut-variable (getD l 0 0);
     apart = λ h. refl;
@@ -126,7 +128,7 @@ module _ (at l : List ℕ) (e : at ≡ four (map cut l)) where
 
   quantifier-stands : {line code : ℕ} {w : Bool} (q : Quantifier) → quantifierCode q ≡ code → w ≡ isVariable (getD at 1 0)
       → StandsFor line (quantified q (getD l 1 0) (getD l 0 0) (getD l 2 0)) (record { spelled = true; words = code ∷ getD at 0 0 ∷ getD at 2 0 ∷ getD at 1 0 ∷ 0 ∷ 0 ∷ 0 ∷ line ∷ []; count = 2; within = w; apart = true; classes = 0 })
-  unfolding formWithin twoVariables formKnown operandsOf shapeWords isIterate
+  unfolding heldBy formWithin twoVariables formKnown operandsOf shapeWords isIterate
   quantifier-stands q c v = record {
     within = v ∙ ap isVariable second ∙ cut-variable (getD l 1 0);
     apart = λ h. refl;
@@ -146,7 +148,7 @@ record QuantifierForm (code : ℕ) : Type 0 where
   shape : (a b c : ℕ) → shapeFrom code a b c ≡ quantified which b a c
 
 quantifier-form : {code : ℕ} → QuantifierCode code → QuantifierForm code
-unfolding shapeFrom quantifierOf quantifierCode AllBelow
+unfolding formWith fieldsBy withCode forms formCodes quantifierCode AllBelow
 quantifier-form {code} c =
     from-below QuantifierForm 25 2
     ((tt, record { which = forAll; says = refl; shape = λ a b c. refl }), record { which = exists; says = refl; shape = λ a b c. refl })
@@ -158,7 +160,7 @@ record AccessForm (code : ℕ) : Type 0 where
   shape : (a b c : ℕ) → shapeFrom code a b c ≡ attribute which b a
 
 access-form : {code : ℕ} → AccessCode code → AccessForm code
-unfolding shapeFrom accessOf accessCode AllBelow
+unfolding formWith fieldsBy withCode forms formCodes accessCode AllBelow
 access-form {code} c =
     from-below AccessForm 33 2
     ((tt, record { which = ofObject; says = refl; shape = λ a b c. refl }), record { which = ofMembers; says = refl; shape = λ a b c. refl })
@@ -167,17 +169,17 @@ access-form {code} c =
 module _ {line : ℕ} {at : List ℕ} where
   pub variable-built : {w : Bool} → w ≡ isVariable (getD at 0 0)
       → Builds 5 at line (record { spelled = true; words = 5 ∷ getD at 0 0 ∷ 0 ∷ 0 ∷ 0 ∷ 0 ∷ 0 ∷ line ∷ []; count = 0; within = w; apart = true; classes = 0 })
-  unfolding shapeFrom
+  unfolding formWith fieldsBy withCode forms formCodes
   variable-built v = record { is = λ l s n e. variable-stands at l e v; fine = record { spelled = refl; few = omega arith; size = refl; classes = omega arith } }
 
   pub all-built : {n : ℕ} → n ≡ classCount (getD at 0 0)
       → Builds 6 at line (record { spelled = true; words = 6 ∷ getD at 0 0 ∷ 0 ∷ 0 ∷ 0 ∷ 0 ∷ 0 ∷ line ∷ []; count = 0; within = ltb (getD at 0 0) 64; apart = true; classes = n })
-  unfolding shapeFrom
+  unfolding formWith fieldsBy withCode forms formCodes
   all-built c = rw c (record { is = λ l s n e. all-stands at l e; fine = record { spelled = refl; few = omega arith; size = refl; classes = class-low (getD at 0 0) } })
 
   pub cast-built : {n : ℕ} → n ≡ classCount (getD at 1 0)
       → Builds 12 at line (record { spelled = true; words = 12 ∷ getD at 0 0 ∷ getD at 1 0 ∷ 0 ∷ 0 ∷ 0 ∷ 0 ∷ line ∷ []; count = 1; within = ltb (getD at 1 0) 64; apart = true; classes = n })
-  unfolding shapeFrom
+  unfolding formWith fieldsBy withCode forms formCodes
   cast-built c = rw c (record { is = λ l s n e. cast-stands at l e; fine = record { spelled = refl; few = omega arith; size = refl; classes = class-low (getD at 1 0) } })
 
   pub attribute-built : {code : ℕ} → AccessCode code
@@ -190,12 +192,12 @@ module _ {line : ℕ} {at : List ℕ} where
       }
 
   pub call-built : Builds 36 at line (record { spelled = true; words = 36 ∷ getD at 0 0 ∷ getD at 1 0 ∷ 0 ∷ 0 ∷ 0 ∷ 0 ∷ line ∷ []; count = 1; within = ltb (getD at 1 0) 32; apart = true; classes = 0 })
-  unfolding shapeFrom
+  unfolding formWith fieldsBy withCode forms formCodes
   call-built = record { is = λ l s n e. call-stands at l e; fine = record { spelled = refl; few = omega arith; size = refl; classes = omega arith } }
 
   pub let-built : {w : Bool} → w ≡ isVariable (getD at 0 0)
       → Builds 32 at line (record { spelled = true; words = 32 ∷ getD at 1 0 ∷ getD at 2 0 ∷ getD at 0 0 ∷ 0 ∷ 0 ∷ 0 ∷ line ∷ []; count = 2; within = w; apart = true; classes = 0 })
-  unfolding shapeFrom
+  unfolding formWith fieldsBy withCode forms formCodes
   let-built v = record { is = λ l s n e. let-stands at l e v; fine = record { spelled = refl; few = omega arith; size = refl; classes = omega arith } }
 
   pub quantifier-built : {code : ℕ} {w : Bool} → QuantifierCode code → w ≡ isVariable (getD at 1 0)

@@ -20,7 +20,7 @@ use Rattle.sheet.specs.Text.{Bytes, fieldsOf}
 use Rattle.sheet.specs.Spelling.{readType}
 use Rattle.sheet.specs.Lines.{iterate, next, done, each, aNumber, iterateFields}
 use Rattle.sheet.specs.Sheet.{operandsOf}
-use Rattle.sheet.specs.Limits.{isVariable, simpleClassBelow, classBelow, typeWithin, formWithin}
+use Rattle.sheet.specs.Limits.{isVariable, simpleClassBelow, classBelow, typeWithin, heldBy, formWithin}
 use Rattle.sheet.specs.Refusals.{twoVariables, formKnown}
 use Rattle.types.specs.Flat.{baseType, baseClass, tyOf}
 use Rattle.types.specs.Word.{typeIn}
@@ -32,6 +32,7 @@ use Rattle.types.specs.declared.FlatType.{FlatType}
 use Rattle.types.specs.declared.GotType.{GotType}
 use Rattle.types.specs.declared.GotType.the-variants as g
 use Rattle.text.specs.Forms.{shapeBy}
+use Rattle.text.proofs.ShapeLaws.{iterate-shape}
 use Rattle.text.specs.Parts.{Cut}
 use Rattle.text.specs.declared.parts.Fields.{Fields}
 use Rattle.nodes.specs.Nodes.{shapeWords}
@@ -97,17 +98,20 @@ module _ {r : GotType} where
 
 -- ---- the six fields
 
-pub iterate-not : (fs : List Bytes) → (length fs ≡ 6 → ⊥) → shapeBy 35 fs ≡ none
-unfolding shapeBy iterateFields next done
-iterate-not [] h = refl
-iterate-not (a ∷ []) h = nowhere _ _ (λ s. refl)
-iterate-not (a ∷ b ∷ []) h = nowhere _ _ (λ s. nowhere _ _ (λ i. refl))
-iterate-not (a ∷ b ∷ c ∷ []) h = nowhere _ _ (λ s. nowhere _ _ (λ i. nowhere _ _ (λ j. refl)))
-iterate-not (a ∷ b ∷ c ∷ d ∷ []) h = nowhere _ _ (λ s. nowhere _ _ (λ i. nowhere _ _ (λ j. nowhere _ _ (λ t. refl))))
-iterate-not (a ∷ b ∷ c ∷ d ∷ e ∷ []) h = nowhere _ _ (λ s. nowhere _ _ (λ i. nowhere _ _ (λ j. nowhere _ _ (λ t. nowhere _ _ (λ e. refl)))))
-iterate-not (a ∷ b ∷ c ∷ d ∷ e ∷ f ∷ []) h = absurd (h refl)
-iterate-not (a ∷ b ∷ c ∷ d ∷ e ∷ f ∷ g ∷ fs) h =
+not-six : (fs : List Bytes) → (length fs ≡ 6 → ⊥) → iterateFields fs ≡ none
+unfolding iterateFields next done
+not-six [] h = refl
+not-six (a ∷ []) h = nowhere _ _ (λ s. refl)
+not-six (a ∷ b ∷ []) h = nowhere _ _ (λ s. nowhere _ _ (λ i. refl))
+not-six (a ∷ b ∷ c ∷ []) h = nowhere _ _ (λ s. nowhere _ _ (λ i. nowhere _ _ (λ j. refl)))
+not-six (a ∷ b ∷ c ∷ d ∷ []) h = nowhere _ _ (λ s. nowhere _ _ (λ i. nowhere _ _ (λ j. nowhere _ _ (λ t. refl))))
+not-six (a ∷ b ∷ c ∷ d ∷ e ∷ []) h = nowhere _ _ (λ s. nowhere _ _ (λ i. nowhere _ _ (λ j. nowhere _ _ (λ t. nowhere _ _ (λ e. refl)))))
+not-six (a ∷ b ∷ c ∷ d ∷ e ∷ f ∷ []) h = absurd (h refl)
+not-six (a ∷ b ∷ c ∷ d ∷ e ∷ f ∷ g ∷ fs) h =
     nowhere _ _ (λ s. nowhere _ _ (λ i. nowhere _ _ (λ j. nowhere _ _ (λ t. nowhere _ _ (λ e. nowhere _ _ (λ b. refl))))))
+
+pub iterate-not : (fs : List Bytes) → (length fs ≡ 6 → ⊥) → shapeBy 35 fs ≡ none
+iterate-not fs h = iterate-shape fs ∙ not-six fs h
 
 -- what the code makes of them: s, i, j in h, the type in y, e and b in t
 abbrev pub parsed : List ℕ → TypeRead → List ℕ → Bool → ℕ → Parsed
@@ -123,7 +127,7 @@ parsed h y t within line = record {
 module _ (h : List ℕ) (y : TypeRead) (t : List ℕ) {within : Bool} (line : ℕ)
     (w : within ≡ (isVariable (getD h 1 0) && isVariable (getD h 2 0) && y .within)) (low : y .classes ≤ 65) where
   iterate-stands : (s i j e b : ℕ) (u : Ty) → h ≡ four (map cut (s ∷ i ∷ j ∷ [])) → t ≡ four (map cut (e ∷ b ∷ [])) → HoldsType u y → StandsFor line (iterate i j u s e b) (parsed h y t within line)
-  unfolding formWithin twoVariables formKnown operandsOf shapeWords
+  unfolding heldBy formWithin twoVariables formKnown operandsOf shapeWords
   iterate-stands s i j e b u p q of = record {
     within = w ∙ rw (p, cut-variable i, cut-variable j, of .within);
     apart = λ k. rw (p, variable-small i (member k), variable-small j (accumulator k));
@@ -185,8 +189,8 @@ module _ (h t : Numbers) (y : TypeRead) {good : Bool} {line : ℕ} {p : Parsed} 
       spelled (told ∙ on-all f k g) (stands (on-all f k g) s i j e b u x q of)
 
   six-read : (fs : List Bytes) → length fs ≡ 6 → NumbersRead (each aNumber (take 3 fs)) h → TypeSpelled (readType (getD fs 3 [])) y → NumbersRead (each aNumber (take 2 (drop 4 fs))) t
-      → FormRead line (shapeBy 35 fs) p
-  unfolding shapeBy iterateFields next done each
+      → FormRead line (iterateFields fs) p
+  unfolding iterateFields next done each
   six-read [] n hd ty tl = absurd (omega arith)
   six-read (p ∷ []) n hd ty tl = absurd (omega arith)
   six-read (p ∷ q ∷ []) n hd ty tl = absurd (omega arith)
@@ -200,7 +204,8 @@ module _ (h t : Numbers) (y : TypeRead) {good : Bool} {line : ℕ} {p : Parsed} 
   fields-read : {text : Bytes} {f : Fields} → Cut text f → f .count ≡ 9 → NumbersRead (each aNumber (take (6 - 3) (drop 3 (fieldsOf text)))) h → TypeSpelled (readType (getD (fieldsOf text) 6 [])) y
       → NumbersRead (each aNumber (take (9 - 7) (drop 7 (fieldsOf text)))) t → FormRead line (shapeBy 35 (drop 3 (fieldsOf text))) p
   fields-read {text} cut-up n hd ty tl =
-      six-read (drop 3 (fieldsOf text)) (rest-exact cut-up 6 (omega arith) n) hd (rw (getD-drop 3 (fieldsOf text) 3 []) ty) (rw (drop-drop 4 3 (fieldsOf text)) tl)
+      rw (iterate-shape (drop 3 (fieldsOf text)))
+      (six-read (drop 3 (fieldsOf text)) (rest-exact cut-up 6 (omega arith) n) hd (rw (getD-drop 3 (fieldsOf text) 3 []) ty) (rw (drop-drop 4 3 (fieldsOf text)) tl))
 
 -- nine fields: one of them is spelled badly, or all are spelled well
 module _ {h t : Numbers} {y : TypeRead} {good : Bool} {line : ℕ} {p : Parsed} {text : Bytes} {f : Fields} (all : good ≡ (h .good && y .spelled && t .good)) (cut-up : Cut text f) (n : f .count ≡ 9)

@@ -10,7 +10,7 @@ use borrow.Author.Tests.{eq-eqb, ne-eqb, eqb-true, eqb-false, le-leb, lt-leb, no
 use lib.Dec.{eqb}
 use lib.ListN.{length, getD, take}
 use Rattle.laws.specs.Choice.{if_then_else_, orElse, onSome, mapSome}
-use Rattle.laws.proofs.Cases.{AllBelow, from-below, zero-least}
+use Rattle.laws.proofs.Cases.{zero-least}
 use Rattle.laws.proofs.Options.{nowhere}
 use Rattle.laws.proofs.Tests.{Any?, any-some}
 use Rattle.ocl.specs.Types.{Kind, set, sequence, bag}
@@ -20,12 +20,13 @@ use Rattle.ocl.specs.Forms.{number}
 use Rattle.sheet.specs.Text.{Bytes, bytes, after, literal, _or_, whole, atEnd}
 use Rattle.sheet.specs.Lines.{Shape, leaf, assemble, next, done, each, aNumber, anInteger, aReal, aKind, atMostFour, assembleFields}
 use Rattle.sheet.specs.Sheet.{operandsOf}
-use Rattle.sheet.specs.Limits.{leafWithin, formWithin}
-use Rattle.sheet.specs.Refusals.{twoVariables, leafKnown, formKnown}
+use Rattle.sheet.specs.Limits.{leafHeld, heldBy, formWithin}
+use Rattle.sheet.specs.Refusals.{twoVariables, formKnown}
 use Rattle.text.specs.Forms.{shapeBy}
 use Rattle.text.specs.Literals.{literalOf}
 use Rattle.text.specs.Words.{onlyByte}
 use Rattle.text.specs.declared.literals.Literal.the-variants.{Bad, Over, Is}
+use Rattle.text.proofs.ShapeLaws.{over-forms, between-forms, no-shape, integer-shape, real-shape, assemble-shape}
 use Rattle.text.proofs.LiteralLaws.{literal-bad, literal-over, literal-is}
 use Rattle.nodes.specs.Nodes.{Called, leafWords, assembleCode, operandWord, shapeWords}
 use Rattle.trees.specs.declared.Parsed.{Parsed}
@@ -61,20 +62,16 @@ one-field p c (f ∷ g ∷ fs) h = absurd (omega arith)
 
 module _ (fs : List Bytes) where
   pub integer-not : (length fs ≡ 1 → ⊥) → shapeBy 3 fs ≡ none
-  unfolding shapeBy
-  integer-not h = other-fields anInteger int fs h
+  integer-not h = integer-shape fs ∙ other-fields anInteger int fs h
 
   pub real-not : (length fs ≡ 1 → ⊥) → shapeBy 38 fs ≡ none
-  unfolding shapeBy
-  real-not h = other-fields aReal real fs h
+  real-not h = real-shape fs ∙ other-fields aReal real fs h
 
   pub integer-one : length fs ≡ 1 → shapeBy 3 fs ≡ mapSome (λ x. leaf (number x)) (mapSome int (anInteger (getD fs 0 [])))
-  unfolding shapeBy
-  integer-one h = one-field anInteger int fs h
+  integer-one h = integer-shape fs ∙ one-field anInteger int fs h
 
   pub real-one : length fs ≡ 1 → shapeBy 38 fs ≡ mapSome (λ x. leaf (number x)) (mapSome real (aReal (getD fs 0 [])))
-  unfolding shapeBy
-  real-one h = one-field aReal real fs h
+  real-one h = real-shape fs ∙ one-field aReal real fs h
 
 -- what `number_form` answers
 module _ (o : Option Number) where
@@ -84,7 +81,7 @@ module _ (o : Option Number) where
 
   pub number-over : {line : ℕ} → Over ≡ literalOf o
       → FormRead line (mapSome (λ x. leaf (number x)) o) (record { spelled = true; words = 3 ∷ 0 ∷ 0 ∷ 0 ∷ 0 ∷ 0 ∷ 0 ∷ line ∷ []; count = 0; within = false; apart = true; classes = 0 })
-  unfolding mapSome formWithin leafWithin twoVariables operandsOf isIterate
+  unfolding mapSome heldBy leafHeld formWithin twoVariables operandsOf isIterate
   number-over {line} h = record { is = go (literal-over o h); few = omega arith; size = refl; low = omega arith }
     where
       p : Parsed
@@ -106,7 +103,7 @@ module _ (o : Option Number) where
 
   pub number-is : {line w : ℕ} → Is w ≡ literalOf o
       → FormRead line (mapSome (λ x. leaf (number x)) o) (record { spelled = true; words = 3 ∷ w ∷ 0 ∷ 0 ∷ 0 ∷ 0 ∷ 0 ∷ line ∷ []; count = 0; within = true; apart = true; classes = 0 })
-  unfolding mapSome formWithin leafWithin twoVariables formKnown leafKnown operandsOf shapeWords leafWords isIterate
+  unfolding mapSome heldBy leafHeld formWithin twoVariables formKnown operandsOf shapeWords leafWords isIterate
   number-is {line} {w} h = record { is = go (literal-is o h); few = omega arith; size = refl; low = omega arith }
     where
       p : Parsed
@@ -201,7 +198,7 @@ assemble-words k (w ∷ x ∷ y ∷ z ∷ v ∷ es) d line h = absurd (omega ari
 
 assemble-stands : {line m code : ℕ} {at : List ℕ} (k : Kind) (es : List ℕ) → code ≡ assembleCode k → length es ≡ m → m ≤ 4 → at ≡ four (map cut es)
     → StandsFor line (assemble k es) (record { spelled = true; words = code ∷ getD at 0 0 ∷ getD at 1 0 ∷ getD at 2 0 ∷ getD at 3 0 ∷ m ∷ 0 ∷ line ∷ []; count = m; within = true; apart = true; classes = 0 })
-unfolding formWithin twoVariables formKnown operandsOf isIterate
+unfolding heldBy formWithin twoVariables formKnown operandsOf isIterate
 assemble-stands {line} k es c n few e = record {
   within = refl;
   apart = λ h. refl;
@@ -223,22 +220,22 @@ assemble-many k gs h = go (each aNumber gs) refl
     go (some es) e = rw (lt-leb (length es) 4 (omega (arith, each-length gs es e)))
 
 pub assemble-none : (fs : List Bytes) → length fs ≡ 0 → shapeBy 27 fs ≡ none
-unfolding shapeBy assembleFields next
-assemble-none [] h = refl
+unfolding assembleFields next
+assemble-none [] h = assemble-shape []
 assemble-none (f ∷ fs) h = absurd (omega arith)
 
 pub assemble-over : (fs : List Bytes) → 5 < length fs → shapeBy 27 fs ≡ none
-unfolding shapeBy assembleFields next onSome
+unfolding assembleFields next onSome
 assemble-over [] h = absurd (omega arith)
-assemble-over (f ∷ gs) h = go (aKind f)
+assemble-over (f ∷ gs) h = assemble-shape (f ∷ gs) ∙ go (aKind f)
   where
     go : (o : Option Kind) → onSome o (λ k. onSome (each aNumber gs) (atMostFour k)) ≡ none
     go none = refl
     go (some k) = assemble-many k gs (omega arith)
 
 pub assemble-other : {code : ℕ} (f : Bytes) (gs : List Bytes) → code ≡ kindByteCode (onlyByte f) → code ≡ 0 → shapeBy 27 (f ∷ gs) ≡ none
-unfolding shapeBy assembleFields next onSome assembleCode
-assemble-other {code} f gs c z = go (kind-said f) (sym c ∙ z)
+unfolding assembleFields next onSome assembleCode
+assemble-other {code} f gs c z = assemble-shape (f ∷ gs) ∙ go (kind-said f) (sym c ∙ z)
   where
     never : (k : Kind) → assembleCode k ≡ 0 → ⊥
     never set e = omega arith
@@ -259,8 +256,8 @@ assemble-built few = record {
 module _ {m code : ℕ} {r : Numbers} (f : Bytes) (gs : List Bytes) (c : code ≡ kindByteCode (onlyByte f)) (z : code ≡ 0 → ⊥) (n : length gs ≡ m) (few : m ≤ 4) (is : NumbersRead (each aNumber gs) r) where
   -- a member that is no number, and members that are
   pub assemble-bad : not (r .good) ≡ true → shapeBy 27 (f ∷ gs) ≡ none
-  unfolding shapeBy assembleFields next onSome
-  assemble-bad b = go (aKind f) (each aNumber gs) (is .is)
+  unfolding assembleFields next onSome
+  assemble-bad b = assemble-shape (f ∷ gs) ∙ go (aKind f) (each aNumber gs) (is .is)
     where
       go : (o : Option Kind) (q : Option (List ℕ)) → Read q r → onSome o (λ k. onSome q (atMostFour k)) ≡ none
       go none q x = refl
@@ -268,8 +265,8 @@ module _ {m code : ℕ} {r : Numbers} (f : Bytes) (gs : List Bytes) (c : code �
       go (some k) (some es) (read e a) = absurd (true≢false (sym e ∙ not-true (r .good) b))
 
   pub assemble-read : {line : ℕ} {p : Parsed} → not (r .good) ≡ false → Assembles code (r .at) m line p → FormRead line (shapeBy 27 (f ∷ gs)) p
-  unfolding shapeBy assembleFields next onSome atMostFour
-  assemble-read {line} {p} b y = record { is = go (kind-said f) c; few = y .fine .few; size = y .fine .size; low = y .fine .classes }
+  unfolding assembleFields next onSome atMostFour
+  assemble-read {line} {p} b y = rw (assemble-shape (f ∷ gs)) (record { is = go (kind-said f) c; few = y .fine .few; size = y .fine .size; low = y .fine .classes })
     where
       members : (k : Kind) → code ≡ assembleCode k → (o : Option (List ℕ)) → each aNumber gs ≡ o → Read o r → Spelled line (onSome o (atMostFour k)) p
       members k c none e (unread x) = absurd (true≢false (sym (not-false (r .good) b) ∙ x))
@@ -284,13 +281,7 @@ module _ {m code : ℕ} {r : Numbers} (f : Bytes) (gs : List Bytes) (c : code �
 -- ---- codes of no form
 
 pub no-code : (k : ℕ) (fs : List Bytes) → 38 < k → shapeBy k fs ≡ none
-unfolding shapeBy
-no-code k fs h =
-    rw (off 1 (omega arith), off 0 (omega arith), off 2 (omega arith), off 3 (omega arith), off 38 (omega arith), off 4 (omega arith), off 5 (omega arith), off 27 (omega arith), off 32 (omega arith), off 31 (omega arith), off 23 (omega arith), off 24 (omega arith), off 7 (omega arith), off 30 (omega arith), off 13 (omega arith), off 14 (omega arith), off 15 (omega arith), off 16 (omega arith), off 17 (omega arith), off 18 (omega arith), off 19 (omega arith), off 37 (omega arith), off 33 (omega arith), off 34 (omega arith), off 36 (omega arith), off 6 (omega arith), off 12 (omega arith), off 8 (omega arith), off 20 (omega arith), off 9 (omega arith), off 11 (omega arith), off 10 (omega arith), off 21 (omega arith), off 22 (omega arith), off 35 (omega arith), off 25 (omega arith), off 26 (omega arith))
-  where
-    off : (j : ℕ) → j < 39 → eqb k j ≡ false
-    off j l = ne-eqb k j (λ e. omega arith)
+no-code k fs h = no-shape k fs (over-forms k (omega arith))
 
 pub gap-code : (k : ℕ) (fs : List Bytes) → 28 ≤ k → k < 30 → shapeBy k fs ≡ none
-unfolding shapeBy AllBelow
-gap-code k fs = from-below (λ k. shapeBy k fs ≡ none) 28 2 ((tt, refl), refl) k
+gap-code k fs l h = no-shape k fs (between-forms k l h)

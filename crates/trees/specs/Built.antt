@@ -1,57 +1,47 @@
--- A form by its code and its numbers, in the order of a node line's fields. proofs/BuiltLaws.antt ties it to crates/text's `shapeBy`.
+-- A form by its code and its numbers, in the order of a node line's fields, by crates/text's `fieldsBy`.
 use mathlib.Core.Path.{_≡_}
-use mathlib.Core.Bool.{true, false}
+use mathlib.Core.Bool.{true}
+use mathlib.Core.Option.{Option, none, some}
 use mathlib.Core.List.{List, [], _∷_, map}
 use Prim.Native.Nat.{ℕ, _+_, _≤_}
 use lib.ListN.{length, getD}
-use lib.Dec.{eqb, ltb}
+use lib.Dec.{ltb}
 use Rattle.laws.specs.Choice.{if_then_else_}
 use Rattle.ocl.specs.Types.{Kind, Ty}
-use Rattle.ocl.specs.Forms.{truth, undef, self, var, all, castTo}
-use Rattle.sheet.specs.Lines.{Shape, leaf, unary, binary, connective, isUndef, conditional, letIn, attribute, call, quantified, iterate, assemble}
-use Rattle.nodes.specs.Nodes.{unaryOf, binaryOf, connectiveOf, quantifierOf, accessOf, assembleCode}
+use Rattle.ocl.specs.Forms.{undef}
+use Rattle.sheet.specs.Lines.{Shape, leaf, iterate, assemble, FormFields, noField, oneNumber, twoNumbers, threeNumbers, otherFields}
+use Rattle.text.specs.Forms.{fieldsBy}
+use Rattle.nodes.specs.Nodes.{assembleCode}
 use Rattle.trees.specs.declared.Parsed.{Parsed}
 use Rattle.trees.specs.declared.iterate.TypeRead.{TypeRead}
 use Rattle.trees.specs.Fields.{cut, four}
 use Rattle.trees.specs.Forms.{StandsFor}
 use Rattle.trees.specs.Iterate.{HoldsType}
 
--- how many numbers the form with this code holds; 9 for a code of a form that holds other things, and of no form
-unfoldable pub numbersOf : ℕ → ℕ
-numbersOf k =
-    if eqb k 3 then 9
-    else if ltb k 5 then 0
-    else if ltb k 12 then 1
-    else if ltb k 25 then 2
-    else if ltb k 27 then 3
-    else if ltb k 30 then 9
-    else if eqb k 30 then 1
-    else if ltb k 33 then 3
-    else if ltb k 35 then 2
-    else if eqb k 35 then 9
-    else if ltb k 38 then 2
-    else 9
+-- how many numbers a form's fields are; 9 for other fields, and for no form
+unfoldable pub countOf : Option FormFields → ℕ
+countOf none = 9
+countOf (some (noField shape)) = 0
+countOf (some (oneNumber shape)) = 1
+countOf (some (twoNumbers shape)) = 2
+countOf (some (threeNumbers shape)) = 3
+countOf (some (otherFields read)) = 9
 
--- of numbers a, b and c
-unfoldable pub shapeFrom : ℕ → ℕ → ℕ → ℕ → Shape
-shapeFrom k a b c =
-    if eqb k 0 then leaf (truth false)
-    else if eqb k 1 then leaf (truth true)
-    else if eqb k 2 then leaf undef
-    else if eqb k 4 then leaf self
-    else if eqb k 5 then leaf (var a)
-    else if eqb k 6 then leaf (all a)
-    else if eqb k 12 then unary (castTo b) a
-    else if ltb k 12 then unary (unaryOf k (λ j. 0)) a
-    else if ltb k 23 then binary (binaryOf k) a b
-    else if ltb k 25 then connective (connectiveOf k) a b
-    else if ltb k 27 then quantified (quantifierOf k) b a c
-    else if eqb k 30 then isUndef a
-    else if eqb k 31 then conditional a b c
-    else if eqb k 32 then letIn a b c
-    else if ltb k 35 then attribute (accessOf k) b a
-    else if eqb k 36 then call a b
-    else binary (binaryOf k) a b
+-- the form of numbers a, b and c; other fields are never asked for
+unfoldable pub formWith : Option FormFields → ℕ → ℕ → ℕ → Shape
+formWith none a b c = leaf undef
+formWith (some (noField shape)) a b c = shape
+formWith (some (oneNumber shape)) a b c = shape a
+formWith (some (twoNumbers shape)) a b c = shape a b
+formWith (some (threeNumbers shape)) a b c = shape a b c
+formWith (some (otherFields read)) a b c = leaf undef
+
+-- of the form with this code
+abbrev pub numbersOf : ℕ → ℕ
+numbersOf k = countOf (fieldsBy k)
+
+abbrev pub shapeFrom : ℕ → ℕ → ℕ → ℕ → Shape
+shapeFrom k = formWith (fieldsBy k)
 
 abbrev pub shapeIn : ℕ → List ℕ → Shape
 shapeIn k l = shapeFrom k (getD l 0 0) (getD l 1 0) (getD l 2 0)

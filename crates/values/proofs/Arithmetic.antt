@@ -9,20 +9,20 @@ use lib.Dec.{T, ltb, leb}
 use borrow.Author.Tests.{lt-ltb, le-ltb, lt-leb, le-leb}
 use Rattle.laws.proofs.Integers.{Diff, add-diff, neg-diff}
 use Rattle.reals.specs.Reals.{inRange, Result, noResult}
+use Rattle.reals.proofs.Widening.{neg-range}
 use Rattle.ocl.specs.Forms.{Arith, plus, minus, times, Division, div, modulo}
 use Rattle.ocl.specs.Operations.{ranged, unlessZero, quotient, remainder, arithmetic, division}
 use Rattle.values.specs.Cells.{bias}
 use Rattle.values.specs.Integers.{numOf, Calculates, Divides, distance, alike, side, arithOf, divisionOf}
 use Rattle.values.specs.declared.Computed.{Computed}
 use Rattle.values.specs.declared.Computed.the-variants as num
-use Rattle.values.proofs.Heads.{range-neg}
 
 -- ---- in range, too low, too high
 
 bias-diff : (x : ℤ) → T (inRange x) → Diff x (bias x) 2147483648
 unfolding bias
 bias-diff (pos n) h = omega arith
-bias-diff (negsuc n) h = let l = range-neg n h in omega arith
+bias-diff (negsuc n) h = let l = neg-range n h in omega arith
 
 is-ranged : (z : ℤ) (p q r : ℕ) → Diff z p q → q ≤ p + 2147483648 → p < q + 2147483648 → r + q ≡ p + 2147483648 → num.Is r ≡ numOf (ranged z)
 unfolding numOf ranged inRange bias
@@ -115,7 +115,7 @@ data Sign (a : ℕ) : ℤ → Type 0 where
 sign : {a : ℕ} (x : ℤ) → T (inRange x) → a ≡ bias x → Sign a x
 unfolding bias distance
 sign (pos n) g e = plus-sign {n = n} (omega arith) (omega arith)
-sign (negsuc n) g e = let l = range-neg n g in minus-sign {n = n} (omega arith) (omega arith)
+sign (negsuc n) g e = let l = neg-range n g in minus-sign {n = n} (omega arith) (omega arith)
 
 sign-distance : {a : ℕ} {x : ℤ} → Sign a x → natAbs x ≡ distance a
 sign-distance (minus-sign h u) = sym u

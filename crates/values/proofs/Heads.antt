@@ -5,8 +5,8 @@ use mathlib.Core.Bool.{Bool, true, false}
 use mathlib.Core.List.{_∷_}
 use Prim.Native.Nat.{ℕ, zero, suc, _+_, _*_, _%_, _<_, _≤_, compare, Ordering, Ordering·lt, Ordering·eq, Ordering·gt}
 use native.Mathlib.Omega.{arith}
-use lib.IntN.{ℤ, negsuc}
-use lib.Dec.{T, ltb→lt}
+use lib.IntN.{ℤ}
+use lib.Dec.{T}
 use borrow.Author.Tests.{lt-ltb, le-ltb}
 use Rattle.laws.proofs.Tests.{test-true}
 use Rattle.laws.proofs.Orders.{compare-lt, compare-eq, compare-gt, Three, less, same, over, three, compare-like}
@@ -18,10 +18,6 @@ use Rattle.ocl.proofs.Ranges.{bias-small as ranged-small}
 use Rattle.values.specs.Cells.{bit, bias, payload, head, enc, encs, Fits, fits-bool, fits-num, fits-obj, fits-coll, AllFit, fit-nil, kids}
 
 -- ---- Integers
-
-pub range-neg : (n : ℕ) → T (inRange (negsuc n)) → n < 2147483648
-unfolding inRange
-range-neg n h = ltb→lt n 2147483648 h
 
 pub bias-small : (z : ℤ) → T (inRange z) → bias z < 4294967296
 bias-small z h = ranged-small z (test-true (inRange z) h)

@@ -48,26 +48,12 @@ impl Lent {
     }
 }
 
-/// Nanoseconds of processor time for one run of a job.
-fn time(mut job: impl FnMut()) -> f64 {
-    let start = clock::now();
-    let mut runs = 0;
-    loop {
-        job();
-        runs += 1;
-        let passed = clock::now() - start;
-        if passed >= ENOUGH {
-            return passed.as_nanos() as f64 / f64::from(runs);
-        }
-    }
-}
-
 /// The best time of two jobs that take turns: the second evaluator's and the product's.
 fn best(mut job: impl FnMut(usize)) -> [f64; 2] {
     let mut best = [f64::INFINITY; 2];
     for _ in 0..ROUNDS {
         for (whose, best) in best.iter_mut().enumerate() {
-            *best = best.min(time(|| job(whose)));
+            *best = best.min(clock::time(ENOUGH, || job(whose)));
         }
     }
     best
@@ -157,7 +143,7 @@ fn correct(lent: &mut Lent, edits: &Edits) -> bool {
         for (boards, best) in BOARDS.into_iter().zip(&mut times) {
             // The board of one is none of the other's.
             assert_eq!(lent.make(boards, text).number, 0, "{name}");
-            let passed = time(|| {
+            let passed = clock::time(ENOUGH, || {
                 for edit in &edits.edits {
                     assert_eq!(lent.edit(boards, text, edit).number, 0, "{name}");
                 }

@@ -32,20 +32,6 @@ fn run(lines: usize) -> Vec<u8> {
     format!("20\n{}", lines.collect::<String>()).into_bytes()
 }
 
-/// Nanoseconds of processor time for one run of a job.
-fn time(mut job: impl FnMut()) -> f64 {
-    let start = clock::now();
-    let mut runs = 0;
-    loop {
-        job();
-        runs += 1;
-        let passed = clock::now() - start;
-        if passed >= ENOUGH {
-            return passed.as_nanos() as f64 / f64::from(runs);
-        }
-    }
-}
-
 /// The best times for a line, the second implementation's and the product's.
 fn best(lines: usize) -> [f64; 2] {
     let text = run(lines);
@@ -54,10 +40,10 @@ fn best(lines: usize) -> [f64; 2] {
     assert_eq!(&output[..length], program(&text).as_bytes());
     let mut best = [f64::INFINITY; 2];
     for _ in 0..ROUNDS {
-        best[0] = best[0].min(time(|| {
+        best[0] = best[0].min(clock::time(ENOUGH, || {
             let _ = black_box(thread_load(black_box(&text)));
         }));
-        best[1] = best[1].min(time(|| {
+        best[1] = best[1].min(clock::time(ENOUGH, || {
             black_box(Linked.print(black_box(&text), &mut output));
         }));
     }

@@ -28,3 +28,18 @@ pub fn now() -> Duration {
     assert_eq!(failed, 0, "the thread has a clock");
     Duration::new(time.seconds as u64, time.nanoseconds as u32)
 }
+
+/// Nanoseconds of processor time for one run of a job, which is repeated until
+/// enough time has passed.
+pub fn time(enough: Duration, mut job: impl FnMut()) -> f64 {
+    let start = now();
+    let mut runs = 0;
+    loop {
+        job();
+        runs += 1;
+        let passed = now() - start;
+        if passed >= enough {
+            return passed.as_nanos() as f64 / f64::from(runs);
+        }
+    }
+}

@@ -16,7 +16,9 @@ abbrev μ-loop : tie.MeasureT-loop
 μ-loop words₀ at room table n i₀ words i = room - i
 
 loop-holds : tie.Need-loop-holds Inv-loop μ-loop
-loop-holds c = (paste-zero (c .before .before .args .words .now) (c .before .before .args .at) (padded (c .before .before .args .room) (take (c .before .before .args .n) (c .before .before .args .table .now))), zero-le, refl)
+loop-holds c =
+    let at-start = c .before .before in
+    (paste-zero (at-start .args .words .now) (at-start .args .at) (padded (at-start .args .room) (take (at-start .args .n) (at-start .args .table .now))), zero-le, refl)
 
 word-or-requires : tie.Need-word-or-requires Inv-loop μ-loop
 word-or-requires c κs = c .before .before .before .before .pre .1
@@ -37,13 +39,20 @@ loop-less : tie.Need-loop-less Inv-loop μ-loop
 loop-less c = omega arith
 
 loop-again : tie.Need-loop-again Inv-loop μ-loop
-loop-again c = (put-more (c .before .before .before .before .before .args .words .now) (c .before .before .before .before .before .args .table .now) (c .before .before .before .before .before .args .at) (c .before .before .before .before .before .args .room) (c .before .before .before .before .before .args .n) (c .before .before .loop .i) (c .before .before .loop .inv .0) (c .before .before .before .before .before .pre .0) (c .before .before .before .before .before .pre .1) (c .before .loop-test .taken) (c .word-or .ensures), omega arith, simp length-set (c .before .before .loop .inv .2))
+loop-again c =
+    let at-loop-test = c .before in
+    let at-loop = at-loop-test .before in
+    let at-start = at-loop .before .before .before in
+    (put-more (at-start .args .words .now) (at-start .args .table .now) (at-start .args .at) (at-start .args .room) (at-start .args .n) (at-loop .loop .i) (at-loop .loop .inv .0) (at-start .pre .0) (at-start .pre .1) (at-loop-test .loop-test .taken) (c .word-or .ensures), omega arith, simp length-set (at-loop .loop .inv .2))
 
 same-length : tie.Need-same-length Inv-loop μ-loop
 same-length c = c .before .loop .inv .2
 
 returns : tie.Need-returns Inv-loop μ-loop
-returns c = put-done (c .before .before .before .before .args .words .now) (padded (c .before .before .before .before .args .room) (take (c .before .before .before .before .args .n) (c .before .before .before .before .args .table .now))) (c .before .before .before .before .args .at) (c .before .before .before .before .args .room) (c .before .loop .i) (c .before .loop .inv .0) (omega arith) (c .before .loop .inv .1)
+returns c =
+    let at-loop = c .before in
+    let at-start = at-loop .before .before .before in
+    put-done (at-start .args .words .now) (padded (at-start .args .room) (take (at-start .args .n) (at-start .args .table .now))) (at-start .args .at) (at-start .args .room) (at-loop .loop .i) (at-loop .loop .inv .0) (omega arith) (at-loop .loop .inv .1)
 
 pub put-table-spec : {M : Type 1} → statement M
 put-table-spec =

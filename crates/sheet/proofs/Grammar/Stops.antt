@@ -1,6 +1,6 @@
 -- Which words go on with an expression of a level, and which one may begin it. Assumes nothing.
 use mathlib.Core.Path.{_≡_, refl}
-use mathlib.Core.Bool.{Bool, true, false, _||_, true≢false}
+use mathlib.Core.Bool.{Bool, false, _||_, true≢false}
 use mathlib.Core.Option.{Option, none, some}
 use mathlib.Core.List.{[], _∷_}
 use Prim.Native.Nat.{_<_}
@@ -8,6 +8,7 @@ use Prim.Native.String.{String}
 use lib.ListN.{length}
 use native.Mathlib.Omega.{arith}
 use Rattle.laws.specs.Choice.{orElse, mapSome}
+use Rattle.laws.proofs.Tests.{or-false}
 use Rattle.ocl.specs.Types.{Ty}
 use Rattle.sheet.specs.Text.{Bytes, bytes, after as afterBytes, behind, numberParser, realParser, whole as wholeField, digits, plain as plainDigits, isDigit}
 use Rattle.sheet.specs.Lines.{is, aNumber, aReal}
@@ -54,10 +55,6 @@ continues primary w = false
 pub data Stops (l : Level) : Tokens → Type 0 where
   stops-end : Stops l []
   stops-word : {w : Bytes} {s : Tokens} → continues l w ≡ false → Stops l (w ∷ s)
-
-or-false : (a b : Bool) → a || b ≡ false → (a ≡ false) × (b ≡ false)
-or-false true b e = absurd (true≢false e)
-or-false false b e = (refl, e)
 
 continues-tighter : (l : Level) (w : Bytes) → continues l w ≡ false → continues (tighter l) w ≡ false
 unfolding continues tighter disjunctionWord conjunctionWord comparisonWord sumWord productWord

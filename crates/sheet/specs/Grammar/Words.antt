@@ -1,26 +1,18 @@
 -- Document 02, F-7: what single words stand for.
 use mathlib.Core.Bool.{true, false}
-use mathlib.Core.Option.{Option, none, some}
-use mathlib.Core.List.{List, [], _∷_}
+use mathlib.Core.Option.{Option, none}
+use mathlib.Core.List.{[], _∷_}
 use Prim.Native.Nat.{ℕ}
-use Prim.Native.String.{String}
 use lib.IntN.{pos}
 use lib.Dec.{eqb}
 use Rattle.laws.specs.Choice.{if_then_else_, orElse, mapSome}
 use Rattle.reals.specs.Reals.{int, real}
 use Rattle.ocl.specs.Types.{Kind, set, sequence, bag, Letter, collection, exactly, Ty, void, Any, Boolean, Integer, Real, Class}
 use Rattle.ocl.specs.Forms.{Quantifier, forAll, exists, Leaf, truth, undef, number, self, var, plus, minus, times, div, modulo, and, or, sizeOf, convert, equal, less, arith, divide, over, includes, including, union}
-use Rattle.sheet.specs.Text.{Bytes, byte, bytes}
-use Rattle.sheet.specs.Lines.{is, aNumber, aReal}
+use Rattle.sheet.specs.Text.{Bytes, byte}
+use Rattle.sheet.specs.Lines.{aNumber, aReal}
+unfoldable pub use Rattle.sheet.specs.Lines.{Table, named}
 use Rattle.sheet.specs.Grammar.Trees.{One, unary, Two, binary, connective}
-
--- words, each with what it stands for
-abbrev pub Table : Type 0 → Type 0
-Table A = List (String × A)
-
-unfoldable pub named : {A : Type 0} → Table A → Bytes → Option A
-named [] w = none
-named (x ∷ t) w = if is w (bytes (x .0)) then some (x .1) else named t w
 
 -- a number behind a letter
 unfoldable pub labelled : ℕ → Bytes → Option ℕ

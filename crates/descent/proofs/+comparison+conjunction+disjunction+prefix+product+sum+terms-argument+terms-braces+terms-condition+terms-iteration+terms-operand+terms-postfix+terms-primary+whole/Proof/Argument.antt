@@ -14,7 +14,7 @@ module _ (t : ℕ) where
   calls = (operand-below t, operand.Post, put-two-reads.Asked, put-two-reads.Learnt)
 
   operand-requires : argument-lts.Need-operand-requires calls (argument-at t) argument.Post
-  operand-requires c κs = (let m = c .before .before .before .pre .0 in omega arith, (c .before .before .before .pre .1 .0, λ e. omega arith))
+  operand-requires c κs = search needs
 
   enum-known-inside : argument-lts.Need-enum-known-inside calls (argument-at t) argument.Post
   enum-known-inside c = search needs
@@ -26,19 +26,27 @@ module _ (t : ℕ) where
   same-length c = search needs
 
   returns : argument-lts.Need-returns calls (argument-at t) argument.Post
-  returns c = λ g z. argument-fails (c .before .before .before .before .operand .ensures) (c .enum-told .given .1)
+  returns c = search argument-fails
 
   put-two-requires : argument-lts.Need-put-two-requires calls (argument-at t) argument.Post
-  put-two-requires c κs = (room-closed (c .before .before .before .before .before .before .before .before .before .before .pre .1 .0) (one-operand (c .before .before .before .before .before .before .operand .ensures) (c .before .before .inside .given .1)) .long, c .before .before .before .before .before .before .before .before .before .before .pre .1 .1, more-nodes (one-operand (c .before .before .before .before .before .before .operand .ensures) (c .before .before .inside .given .1)))
+  put-two-requires c κs = (search (room-closed, one-operand, needs), search (needs), more-nodes (one-operand (c .before .before .before .before .before .before .operand .ensures) (c .before .before .inside .given .1)))
 
   add-t17 : argument-lts.Need-add-t17 calls (argument-at t) argument.Post
-  add-t17 c = omega (arith, c .before .before .before .before .before .before .before .before .before .before .before .before .before .good, closed-small (c .before .before .before .before .before .before .before .before .before .before .before .before .before .pre .1 .0) (one-operand (c .before .before .before .before .before .before .before .before .before .operand .ensures) (c .before .before .before .before .before .inside .given .1)))
+  add-t17 c =
+      let at-inside = c .before .before .before .before .before in
+      let at-operand = at-inside .before .before .before .before in
+      let at-start = at-operand .before .before .before .before in
+      omega (arith, closed-small (at-start .pre .1 .0) (one-operand (at-operand .operand .ensures) (at-inside .inside .given .1)))
 
   same-length-2 : argument-lts.Need-same-length-2 calls (argument-at t) argument.Post
   same-length-2 c = search needs
 
   returns-2 : argument-lts.Need-returns-2 calls (argument-at t) argument.Post
-  returns-2 c = λ g z. argument-found (c .before .before .before .before .before .before .before .before .before .operand .ensures) (c .before .before .before .before .before .inside .given .1) (c .before .before .put-two .ensures g z)
+  returns-2 c =
+      let at-put-two = c .before .before in
+      let at-inside = at-put-two .before .before .before in
+      let at-operand = at-inside .before .before .before .before in
+      λ g z. argument-found (at-operand .operand .ensures) (at-inside .inside .given .1) (at-put-two .put-two .ensures g z)
 
   pub closed : {M : Type 1} → argument-lts.Closed calls (argument-at t) argument.Post M
   closed = argument-lts.spec calls (argument-at t) argument.Post operand-requires enum-known-inside enum-told same-length returns put-two-requires add-t17 same-length-2 returns-2

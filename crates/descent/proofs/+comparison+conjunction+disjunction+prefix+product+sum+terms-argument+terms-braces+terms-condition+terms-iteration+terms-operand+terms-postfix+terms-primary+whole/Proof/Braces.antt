@@ -25,10 +25,10 @@ module _ (t : ℕ) where
   calls = (whole-below t, whole.Post, after-reads.Asked, after-reads.Learnt, assembled-reads.Asked, assembled-reads.Learnt, emit-reads.Asked, emit-reads.Learnt)
 
   loop-holds : braces-lts.Need-loop-holds calls (braces-at t) braces.Post Inv-loop μ-loop
-  loop-holds c = gathering-start (c .before .before .pre .1)
+  loop-holds c = search gathering-start
 
   whole-requires : braces-lts.Need-whole-requires calls (braces-at t) braces.Post Inv-loop μ-loop
-  whole-requires c κs = (let m = c .before .before .before .before .before .pre .0 in let a = (c .before .before .loop .inv) .from in omega arith, room-gathering (c .before .before .loop .inv) (c .before .before .before .before .before .pre .1))
+  whole-requires c κs = search (room-gathering, needs)
 
   enum-known-member : braces-lts.Need-enum-known-member calls (braces-at t) braces.Post Inv-loop μ-loop
   enum-known-member c = search needs
@@ -37,22 +37,22 @@ module _ (t : ℕ) where
   enum-told c = search needs
 
   same-length : braces-lts.Need-same-length calls (braces-at t) braces.Post Inv-loop μ-loop
-  same-length c = found-kept (c .before .before .before .before .whole .ensures) .size ∙ gathering-kept (c .before .before .before .before .before .before .before .loop .inv) .size
+  same-length c = search (found-kept, gathering-kept)
 
   returns : braces-lts.Need-returns calls (braces-at t) braces.Post Inv-loop μ-loop
-  returns c = λ a z. member-fails (c .before .before .before .before .before .before .before .loop .inv) (c .before .before .before .before .before .before .loop-test .taken) (c .before .before .before .before .whole .ensures) (c .enum-told .given .1)
+  returns c = search member-fails
 
   sub-at : braces-lts.Need-sub-at calls (braces-at t) braces.Post Inv-loop μ-loop
   sub-at c = omega (arith, found-some (one-found (c .before .before .before .before .before .whole .ensures) (c .before .member .given .1)))
 
   mul-at : braces-lts.Need-mul-at calls (braces-at t) braces.Post Inv-loop μ-loop
-  mul-at c = omega (arith, (c .before .before .before .before .before .before .before .loop-test .taken))
+  mul-at c = omega arith
 
   array-write-at : braces-lts.Need-array-write-at calls (braces-at t) braces.Post Inv-loop μ-loop
-  array-write-at c = omega (arith, (c .before .before .before .before .before .before .before .loop-test .taken), (c .before .before .before .before .before .before .before .before .loop .inv) .long)
+  array-write-at c = omega arith
 
   add-m : braces-lts.Need-add-m calls (braces-at t) braces.Post Inv-loop μ-loop
-  add-m c = omega (arith, c .before .before .before .before .before .before .before .before .before .before .before .good, (c .before .before .before .before .before .before .before .loop-test .taken))
+  add-m c = omega arith
 
   after-requires : braces-lts.Need-after-requires calls (braces-at t) braces.Post Inv-loop μ-loop
   after-requires c κs = ((one-found (c .before .before .before .before .before .whole .ensures) (c .before .member .given .1)) .ahead, λ e. omega arith)
@@ -61,25 +61,44 @@ module _ (t : ℕ) where
   enum-known-closed c = search needs
 
   assembled-requires : braces-lts.Need-assembled-requires calls (braces-at t) braces.Post Inv-loop μ-loop
-  assembled-requires c κs = (omega (arith, (c .before .before .before .before .before .before .before .before .before .before .before .before .loop-test .taken)), gathering-long (c .before .before .before .before .before .before .before .before .before .before .before .before .before .loop .inv) _)
+  assembled-requires c κs = search (gathering-long, needs)
 
   emit-requires : braces-lts.Need-emit-requires calls (braces-at t) braces.Post Inv-loop μ-loop
-  emit-requires c κs = ((room-after (room-gathering (c .before .before .before .before .before .before .before .before .before .before .before .before .before .before .loop .inv) (c .before .before .before .before .before .before .before .before .before .before .before .before .before .before .before .before .before .pre .1)) (one-found (c .before .before .before .before .before .before .before .before .before .before .before .whole .ensures) (c .before .before .before .before .before .before .before .member .given .1))) .long, c .assembled .ensures .fine .size, c .assembled .ensures .fine .few, c .assembled .ensures .fine .classes)
+  emit-requires c κs =
+      let at-member = c .before .before .before .before .before .before .before in
+      let at-whole = at-member .before .before .before .before in
+      let at-loop = at-whole .before .before .before in
+      let at-start = at-loop .before .before .before in
+      ((room-after (room-gathering (at-loop .loop .inv) (at-start .pre .1)) (one-found (at-whole .whole .ensures) (at-member .member .given .1))) .long, c .assembled .ensures .fine .size, c .assembled .ensures .fine .few, c .assembled .ensures .fine .classes)
 
   add-t32 : braces-lts.Need-add-t32 calls (braces-at t) braces.Post Inv-loop μ-loop
-  add-t32 c = omega (arith, c .before .before .before .before .before .before .before .before .before .before .before .before .before .before .before .before .before .before .before .before .good, room-more (room-after (room-gathering (c .before .before .before .before .before .before .before .before .before .before .before .before .before .before .before .before .before .loop .inv) (c .before .before .before .before .before .before .before .before .before .before .before .before .before .before .before .before .before .before .before .before .pre .1)) (one-found (c .before .before .before .before .before .before .before .before .before .before .before .before .before .before .whole .ensures) (c .before .before .before .before .before .before .before .before .before .before .member .given .1))) (after-further (c .before .before .before .before .before .before .before .before .after .ensures) (c .before .before .before .before .before .before .closed .given .1)))
+  add-t32 c =
+      let at-closed = c .before .before .before .before .before .before in
+      let at-after = at-closed .before .before in
+      let at-member = at-after .before .before in
+      let at-whole = at-member .before .before .before .before in
+      let at-loop = at-whole .before .before .before in
+      let at-start = at-loop .before .before .before in
+      omega (arith, at-start .good, room-more (room-after (room-gathering (at-loop .loop .inv) (at-start .pre .1)) (one-found (at-whole .whole .ensures) (at-member .member .given .1))) (after-further (at-after .after .ensures) (at-closed .closed .given .1)))
 
   same-length-2 : braces-lts.Need-same-length-2 calls (braces-at t) braces.Post Inv-loop μ-loop
-  same-length-2 c = c .before .before .emit .ensures .kept .kept .size ∙ found-kept (c .before .before .before .before .before .before .before .before .before .before .before .before .before .before .whole .ensures) .size ∙ gathering-kept (c .before .before .before .before .before .before .before .before .before .before .before .before .before .before .before .before .before .loop .inv) .size
+  same-length-2 c =
+      let at-emit = c .before .before in
+      let at-whole = at-emit .before .before .before .before .before .before .before .before .before .before .before .before in
+      let at-loop = at-whole .before .before .before in
+      at-emit .emit .ensures .kept .kept .size ∙ found-kept (at-whole .whole .ensures) .size ∙ gathering-kept (at-loop .loop .inv) .size
 
   returns-2 : braces-lts.Need-returns-2 calls (braces-at t) braces.Post Inv-loop μ-loop
-  returns-2 c = members-end (c .before .before .before .before .before .before .before .before .before .before .before .before .before .before .before .before .before .loop .inv) (c .before .before .before .before .before .before .before .before .before .before .before .before .before .before .before .before .loop-test .taken) (c .before .before .before .before .before .before .before .before .before .before .before .before .before .before .whole .ensures) (c .before .before .before .before .before .before .before .before .before .before .member .given .1) (c .before .before .before .before .before .before .before .before .after .ensures) (c .before .before .before .before .before .before .closed .given .1) (c .before .before .before .assembled .ensures) (c .before .before .emit .ensures)
+  returns-2 c = search members-end
 
   enum-told-2 : braces-lts.Need-enum-told-2 calls (braces-at t) braces.Post Inv-loop μ-loop
   enum-told-2 c = search needs
 
   after-requires-2 : braces-lts.Need-after-requires-2 calls (braces-at t) braces.Post Inv-loop μ-loop
-  after-requires-2 c κs = ((one-found (c .before .before .before .before .before .before .before .before .whole .ensures) (c .before .before .before .before .member .given .1)) .ahead, λ e. omega arith)
+  after-requires-2 c κs =
+      let at-member = c .before .before .before .before in
+      let at-whole = at-member .before .before .before .before in
+      ((one-found (at-whole .whole .ensures) (at-member .member .given .1)) .ahead, λ e. omega arith)
 
   enum-known-comma : braces-lts.Need-enum-known-comma calls (braces-at t) braces.Post Inv-loop μ-loop
   enum-known-comma c = search needs
@@ -88,22 +107,22 @@ module _ (t : ℕ) where
   enum-told-3 c = search needs
 
   same-length-3 : braces-lts.Need-same-length-3 calls (braces-at t) braces.Post Inv-loop μ-loop
-  same-length-3 c = found-kept (c .before .before .before .before .before .before .before .before .before .before .before .whole .ensures) .size ∙ gathering-kept (c .before .before .before .before .before .before .before .before .before .before .before .before .before .before .loop .inv) .size
+  same-length-3 c = search (found-kept, gathering-kept)
 
   returns-3 : braces-lts.Need-returns-3 calls (braces-at t) braces.Post Inv-loop μ-loop
-  returns-3 c = λ a z. members-open (c .before .before .before .before .before .before .before .before .before .before .before .before .before .before .loop .inv) (c .before .before .before .before .before .before .before .before .before .before .before .before .before .loop-test .taken) (c .before .before .before .before .before .before .before .before .before .before .before .whole .ensures) (c .before .before .before .before .before .before .before .member .given .1) (c .before .before .before .before .before .after .ensures) (c .before .before .before .enum-told2 .given .1) (c .before .before .after2 .ensures) (c .enum-told3 .given .1)
+  returns-3 c = search members-open
 
   loop-less : braces-lts.Need-loop-less calls (braces-at t) braces.Post Inv-loop μ-loop
-  loop-less c = omega (arith, (c .before .before .before .before .before .before .before .before .before .before .before .before .before .before .loop-test .taken))
+  loop-less c = omega arith
 
   loop-again : braces-lts.Need-loop-again calls (braces-at t) braces.Post Inv-loop μ-loop
-  loop-again c = members-go (c .before .before .before .before .before .before .before .before .before .before .before .before .before .before .before .loop .inv) (c .before .before .before .before .before .before .before .before .before .before .before .before .before .before .loop-test .taken) (c .before .before .before .before .before .before .before .before .before .before .before .before .whole .ensures) (c .before .before .before .before .before .before .before .before .member .given .1) (c .before .before .before .before .before .before .after .ensures) (c .before .before .before .before .enum-told2 .given .1) (c .before .before .before .after2 .ensures) (c .before .comma .given .1)
+  loop-again c = search members-go
 
   same-length-4 : braces-lts.Need-same-length-4 calls (braces-at t) braces.Post Inv-loop μ-loop
-  same-length-4 c = gathering-kept (c .before .loop .inv) .size
+  same-length-4 c = search gathering-kept
 
   returns-4 : braces-lts.Need-returns-4 calls (braces-at t) braces.Post Inv-loop μ-loop
-  returns-4 c = λ a z. too-many (c .before .loop .inv) (c .loop-test .left)
+  returns-4 c = search too-many
 
   pub closed : {M : Type 1} → braces-lts.Closed calls (braces-at t) braces.Post M
   closed = braces-lts.spec calls (braces-at t) braces.Post Inv-loop μ-loop loop-holds whole-requires enum-known-member enum-told same-length returns sub-at mul-at array-write-at add-m after-requires enum-known-closed assembled-requires emit-requires add-t32 same-length-2 returns-2 enum-told-2 after-requires-2 enum-known-comma enum-told-3 same-length-3 returns-3 loop-less loop-again same-length-4 returns-4

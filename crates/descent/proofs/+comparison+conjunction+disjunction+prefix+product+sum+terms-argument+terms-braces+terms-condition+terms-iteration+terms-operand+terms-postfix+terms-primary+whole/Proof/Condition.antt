@@ -15,7 +15,7 @@ module _ (t : ℕ) where
   calls = (operand-below t, operand.Post, put-condition-reads.Asked, put-condition-reads.Learnt)
 
   operand-requires : condition-lts.Need-operand-requires calls (condition-at t) condition.Post
-  operand-requires c κs = (let m = c .before .before .before .pre .0 in omega arith, (c .before .before .before .pre .1, λ e. omega arith))
+  operand-requires c κs = search needs
 
   enum-known-test : condition-lts.Need-enum-known-test calls (condition-at t) condition.Post
   enum-known-test c = search needs
@@ -27,10 +27,14 @@ module _ (t : ℕ) where
   same-length c = search needs
 
   returns : condition-lts.Need-returns calls (condition-at t) condition.Post
-  returns c = test-fails (c .before .before .before .before .operand .ensures) (c .enum-told .given .1)
+  returns c = search test-fails
 
   operand-requires-2 : condition-lts.Need-operand-requires-2 calls (condition-at t) condition.Post
-  operand-requires-2 c κs = (let m = c .before .before .before .before .before .before .before .before .before .before .pre .0 in let f = closed-further (one-operand (c .before .before .before .before .before .before .operand .ensures) (c .before .before .test .given .1)) in omega arith, (room-closed (c .before .before .before .before .before .before .before .before .before .before .pre .1) (one-operand (c .before .before .before .before .before .before .operand .ensures) (c .before .before .test .given .1)), λ e. omega arith))
+  operand-requires-2 c κs =
+      let at-test = c .before .before in
+      let at-operand = at-test .before .before .before .before in
+      let at-start = at-operand .before .before .before .before in
+      (let f = closed-further (one-operand (at-operand .operand .ensures) (at-test .test .given .1)) in omega arith, (room-closed (at-start .pre .1) (one-operand (at-operand .operand .ensures) (at-test .test .given .1)), λ e. omega arith))
 
   enum-known-first : condition-lts.Need-enum-known-first calls (condition-at t) condition.Post
   enum-known-first c = search needs
@@ -42,10 +46,16 @@ module _ (t : ℕ) where
   same-length-2 c = search needs
 
   returns-2 : condition-lts.Need-returns-2 calls (condition-at t) condition.Post
-  returns-2 c = then-fails (c .before .before .before .before .before .before .before .before .before .before .before .operand .ensures) (c .before .before .before .before .before .before .before .test .given .1) (c .before .before .before .before .operand2 .ensures) (c .enum-told2 .given .1)
+  returns-2 c = search then-fails
 
   operand-requires-3 : condition-lts.Need-operand-requires-3 calls (condition-at t) condition.Post
-  operand-requires-3 c κs = (let m = c .before .before .before .before .before .before .before .before .before .before .before .before .before .before .before .before .before .pre .0 in let f = closed-further (one-operand (c .before .before .before .before .before .before .before .before .before .before .before .before .before .operand .ensures) (c .before .before .before .before .before .before .before .before .before .test .given .1)) in let g = closed-further (one-operand (c .before .before .before .before .before .before .operand2 .ensures) (c .before .before .first .given .1)) in omega arith, (room-closed (room-closed (c .before .before .before .before .before .before .before .before .before .before .before .before .before .before .before .before .before .pre .1) (one-operand (c .before .before .before .before .before .before .before .before .before .before .before .before .before .operand .ensures) (c .before .before .before .before .before .before .before .before .before .test .given .1))) (one-operand (c .before .before .before .before .before .before .operand2 .ensures) (c .before .before .first .given .1)), λ e. omega arith))
+  operand-requires-3 c κs =
+      let at-first = c .before .before in
+      let at-operand2 = at-first .before .before .before .before in
+      let at-test = at-operand2 .before .before .before in
+      let at-operand = at-test .before .before .before .before in
+      let at-start = at-operand .before .before .before .before in
+      (let f = closed-further (one-operand (at-operand .operand .ensures) (at-test .test .given .1)) in let g = closed-further (one-operand (at-operand2 .operand2 .ensures) (at-first .first .given .1)) in omega arith, (room-closed (room-closed (at-start .pre .1) (one-operand (at-operand .operand .ensures) (at-test .test .given .1))) (one-operand (at-operand2 .operand2 .ensures) (at-first .first .given .1)), λ e. omega arith))
 
   enum-known-second : condition-lts.Need-enum-known-second calls (condition-at t) condition.Post
   enum-known-second c = search needs
@@ -57,19 +67,48 @@ module _ (t : ℕ) where
   same-length-3 c = search needs
 
   returns-3 : condition-lts.Need-returns-3 calls (condition-at t) condition.Post
-  returns-3 c = else-fails (c .before .before .before .before .before .before .before .before .before .before .before .before .before .before .before .before .before .before .operand .ensures) (c .before .before .before .before .before .before .before .before .before .before .before .before .before .before .test .given .1) (c .before .before .before .before .before .before .before .before .before .before .before .operand2 .ensures) (c .before .before .before .before .before .before .before .first .given .1) (c .before .before .before .before .operand3 .ensures) (c .enum-told3 .given .1)
+  returns-3 c = search else-fails
 
   put-condition-requires : condition-lts.Need-put-condition-requires calls (condition-at t) condition.Post
-  put-condition-requires c κs = (room-closed (room-closed (room-closed (c .before .before .before .before .before .before .before .before .before .before .before .before .before .before .before .before .before .before .before .before .before .before .before .before .pre .1) (one-operand (c .before .before .before .before .before .before .before .before .before .before .before .before .before .before .before .before .before .before .before .before .operand .ensures) (c .before .before .before .before .before .before .before .before .before .before .before .before .before .before .before .before .test .given .1))) (one-operand (c .before .before .before .before .before .before .before .before .before .before .before .before .before .operand2 .ensures) (c .before .before .before .before .before .before .before .before .before .first .given .1))) (one-operand (c .before .before .before .before .before .before .operand3 .ensures) (c .before .before .second .given .1)) .long, omega (arith, more-nodes (one-operand (c .before .before .before .before .before .before .before .before .before .before .before .before .before .before .before .before .before .before .before .before .operand .ensures) (c .before .before .before .before .before .before .before .before .before .before .before .before .before .before .before .before .test .given .1))), more-nodes (one-operand (c .before .before .before .before .before .before .before .before .before .before .before .before .before .operand2 .ensures) (c .before .before .before .before .before .before .before .before .before .first .given .1)), more-nodes (one-operand (c .before .before .before .before .before .before .operand3 .ensures) (c .before .before .second .given .1)))
+  put-condition-requires c κs =
+      let at-second = c .before .before in
+      let at-operand3 = at-second .before .before .before .before in
+      let at-first = at-operand3 .before .before .before in
+      let at-operand2 = at-first .before .before .before .before in
+      let at-test = at-operand2 .before .before .before in
+      let at-operand = at-test .before .before .before .before in
+      let at-start = at-operand .before .before .before .before in
+      (room-closed (room-closed (room-closed (at-start .pre .1) (one-operand (at-operand .operand .ensures) (at-test .test .given .1))) (one-operand (at-operand2 .operand2 .ensures) (at-first .first .given .1))) (one-operand (at-operand3 .operand3 .ensures) (at-second .second .given .1)) .long, omega (arith, more-nodes (one-operand (at-operand .operand .ensures) (at-test .test .given .1))), more-nodes (one-operand (at-operand2 .operand2 .ensures) (at-first .first .given .1)), more-nodes (one-operand (at-operand3 .operand3 .ensures) (at-second .second .given .1)))
 
   add-t25 : condition-lts.Need-add-t25 calls (condition-at t) condition.Post
-  add-t25 c = omega (arith, c .before .before .before .before .before .before .before .before .before .before .before .before .before .before .before .before .before .before .before .before .before .before .before .before .before .before .before .good, closed-small (room-closed (room-closed (c .before .before .before .before .before .before .before .before .before .before .before .before .before .before .before .before .before .before .before .before .before .before .before .before .before .before .before .pre .1) (one-operand (c .before .before .before .before .before .before .before .before .before .before .before .before .before .before .before .before .before .before .before .before .before .before .before .operand .ensures) (c .before .before .before .before .before .before .before .before .before .before .before .before .before .before .before .before .before .before .before .test .given .1))) (one-operand (c .before .before .before .before .before .before .before .before .before .before .before .before .before .before .before .before .operand2 .ensures) (c .before .before .before .before .before .before .before .before .before .before .before .before .first .given .1))) (one-operand (c .before .before .before .before .before .before .before .before .before .operand3 .ensures) (c .before .before .before .before .before .second .given .1)))
+  add-t25 c =
+      let at-second = c .before .before .before .before .before in
+      let at-operand3 = at-second .before .before .before .before in
+      let at-first = at-operand3 .before .before .before in
+      let at-operand2 = at-first .before .before .before .before in
+      let at-test = at-operand2 .before .before .before in
+      let at-operand = at-test .before .before .before .before in
+      let at-start = at-operand .before .before .before .before in
+      omega (arith, at-start .good, closed-small (room-closed (room-closed (at-start .pre .1) (one-operand (at-operand .operand .ensures) (at-test .test .given .1))) (one-operand (at-operand2 .operand2 .ensures) (at-first .first .given .1))) (one-operand (at-operand3 .operand3 .ensures) (at-second .second .given .1)))
 
   same-length-4 : condition-lts.Need-same-length-4 calls (condition-at t) condition.Post
-  same-length-4 c = c .before .before .put-condition .ensures .kept .kept .size ∙ closed-kept (c .before .before .before .before .before .before .before .before .before .operand3 .ensures) .size ∙ closed-kept (c .before .before .before .before .before .before .before .before .before .before .before .before .before .before .before .before .operand2 .ensures) .size ∙ closed-kept (c .before .before .before .before .before .before .before .before .before .before .before .before .before .before .before .before .before .before .before .before .before .before .before .operand .ensures) .size
+  same-length-4 c =
+      let at-put-condition = c .before .before in
+      let at-operand3 = at-put-condition .before .before .before .before .before .before .before in
+      let at-operand2 = at-operand3 .before .before .before .before .before .before .before in
+      let at-operand = at-operand2 .before .before .before .before .before .before .before in
+      at-put-condition .put-condition .ensures .kept .kept .size ∙ closed-kept (at-operand3 .operand3 .ensures) .size ∙ closed-kept (at-operand2 .operand2 .ensures) .size ∙ closed-kept (at-operand .operand .ensures) .size
 
   returns-4 : condition-lts.Need-returns-4 calls (condition-at t) condition.Post
-  returns-4 c = condition-found (c .before .before .before .before .before .before .before .before .before .before .before .before .before .before .before .before .before .before .before .before .before .before .before .operand .ensures) (c .before .before .before .before .before .before .before .before .before .before .before .before .before .before .before .before .before .before .before .test .given .1) (c .before .before .before .before .before .before .before .before .before .before .before .before .before .before .before .before .operand2 .ensures) (c .before .before .before .before .before .before .before .before .before .before .before .before .first .given .1) (c .before .before .before .before .before .before .before .before .before .operand3 .ensures) (c .before .before .before .before .before .second .given .1) (c .before .before .put-condition .ensures)
+  returns-4 c =
+      let at-put-condition = c .before .before in
+      let at-second = at-put-condition .before .before .before in
+      let at-operand3 = at-second .before .before .before .before in
+      let at-first = at-operand3 .before .before .before in
+      let at-operand2 = at-first .before .before .before .before in
+      let at-test = at-operand2 .before .before .before in
+      let at-operand = at-test .before .before .before .before in
+      condition-found (at-operand .operand .ensures) (at-test .test .given .1) (at-operand2 .operand2 .ensures) (at-first .first .given .1) (at-operand3 .operand3 .ensures) (at-second .second .given .1) (at-put-condition .put-condition .ensures)
 
   pub closed : {M : Type 1} → condition-lts.Closed calls (condition-at t) condition.Post M
   closed = condition-lts.spec calls (condition-at t) condition.Post operand-requires enum-known-test enum-told same-length returns operand-requires-2 enum-known-first enum-told-2 same-length-2 returns-2 operand-requires-3 enum-known-second enum-told-3 same-length-3 returns-3 put-condition-requires add-t25 same-length-4 returns-4

@@ -27,10 +27,10 @@ module _ (t : ℕ) where
   calls = (comparison-below t, comparison.Post, sign-reads.Asked, sign-reads.Learnt, joined-reads.Asked, joined-reads.Learnt)
 
   comparison-requires : conjunction-lts.Need-comparison-requires calls (conjunction-at t) conjunction.Post Inv-loop μ-loop
-  comparison-requires c κs = (let m = c .before .before .before .pre .0 in omega arith, c .before .before .before .pre .1)
+  comparison-requires c κs = search needs
 
   loop-holds : conjunction-lts.Need-loop-holds calls (conjunction-at t) conjunction.Post Inv-loop μ-loop
-  loop-holds c = growing-start (c .before .before .comparison .ensures)
+  loop-holds c = search growing-start
 
   enum-known-found : conjunction-lts.Need-enum-known-found calls (conjunction-at t) conjunction.Post Inv-loop μ-loop
   enum-known-found c = search needs
@@ -43,10 +43,15 @@ module _ (t : ℕ) where
 
   returns : conjunction-lts.Need-returns calls (conjunction-at t) conjunction.Post Inv-loop μ-loop
   unfolding tighter
-  returns c = level-fails and-leans (c .before .before .loop .inv) (c .before .before .before .before .before .comparison .ensures) (c .enum-told .given .1)
+  returns c = search (level-fails, and-leans)
 
   sign-requires : conjunction-lts.Need-sign-requires calls (conjunction-at t) conjunction.Post Inv-loop μ-loop
-  sign-requires c κs = ((room-growing (c .before .before .before .loop .inv) (c .before .before .before .before .before .before .comparison .ensures) (c .before .found .given .1) (c .before .before .before .before .before .before .before .before .before .before .pre .1)) .ahead, omega arith)
+  sign-requires c κs =
+      let at-found = c .before in
+      let at-loop = at-found .before .before in
+      let at-comparison = at-loop .before .before .before in
+      let at-start = at-comparison .before .before .before .before in
+      ((room-growing (at-loop .loop .inv) (at-comparison .comparison .ensures) (at-found .found .given .1) (at-start .pre .1)) .ahead, omega arith)
 
   enum-known-code : conjunction-lts.Need-enum-known-code calls (conjunction-at t) conjunction.Post Inv-loop μ-loop
   enum-known-code c = search needs
@@ -55,24 +60,42 @@ module _ (t : ℕ) where
   enum-told-2 c = search needs
 
   same-length-2 : conjunction-lts.Need-same-length-2 calls (conjunction-at t) conjunction.Post Inv-loop μ-loop
-  same-length-2 c = growing-kept (c .before .before .before .before .before .before .loop .inv) (c .before .before .before .before .before .before .before .before .before .comparison .ensures) .size
+  same-length-2 c =
+      let at-loop = c .before .before .before .before .before .before in
+      let at-comparison = at-loop .before .before .before in
+      growing-kept (at-loop .loop .inv) (at-comparison .comparison .ensures) .size
 
   returns-2 : conjunction-lts.Need-returns-2 calls (conjunction-at t) conjunction.Post Inv-loop μ-loop
   unfolding tighter levelOf
-  returns-2 c = level-ends and-leans (c .before .before .before .before .before .before .loop .inv) (c .before .before .before .before .before .before .before .before .before .comparison .ensures) (c .before .before .before .before .found .given .1) (c .before .before .sign .ensures) (c .enum-told2 .given .1)
+  returns-2 c = search (level-ends, and-leans)
 
   comparison-requires-2 : conjunction-lts.Need-comparison-requires-2 calls (conjunction-at t) conjunction.Post Inv-loop μ-loop
-  comparison-requires-2 c κs = (let m = c .before .before .before .before .before .before .before .before .before .before .before .before .before .before .before .pre .0 in let a = growing-further (c .before .before .before .before .before .before .before .before .loop .inv) (c .before .before .before .before .before .before .before .before .before .before .before .comparison .ensures) (c .before .before .before .before .before .before .found .given .1) in let b = (sign-further (c .before .before .before .before .sign .ensures) (c .before .before .code .given .1)) .from in let o = (sign-further (c .before .before .before .before .sign .ensures) (c .before .before .code .given .1)) .ahead .order in let i = (sign-further (c .before .before .before .before .sign .ensures) (c .before .before .code .given .1)) .ahead .within in omega arith, room-further (room-growing (c .before .before .before .before .before .before .before .before .loop .inv) (c .before .before .before .before .before .before .before .before .before .before .before .comparison .ensures) (c .before .before .before .before .before .before .found .given .1) (c .before .before .before .before .before .before .before .before .before .before .before .before .before .before .before .pre .1)) (sign-further (c .before .before .before .before .sign .ensures) (c .before .before .code .given .1)))
+  comparison-requires-2 c κs =
+      let at-code = c .before .before in
+      let at-sign = at-code .before .before in
+      let at-found = at-sign .before .before in
+      let at-loop = at-found .before .before in
+      let at-comparison = at-loop .before .before .before in
+      let at-start = at-comparison .before .before .before .before in
+      (let a = growing-further (at-loop .loop .inv) (at-comparison .comparison .ensures) (at-found .found .given .1) in let b = (sign-further (at-sign .sign .ensures) (at-code .code .given .1)) .from in let o = (sign-further (at-sign .sign .ensures) (at-code .code .given .1)) .ahead .order in let i = (sign-further (at-sign .sign .ensures) (at-code .code .given .1)) .ahead .within in omega arith, room-further (room-growing (at-loop .loop .inv) (at-comparison .comparison .ensures) (at-found .found .given .1) (at-start .pre .1)) (sign-further (at-sign .sign .ensures) (at-code .code .given .1)))
 
   joined-requires : conjunction-lts.Need-joined-requires calls (conjunction-at t) conjunction.Post Inv-loop μ-loop
-  joined-requires c κs = (right-long (c .before .before .before .comparison2 .ensures) (room-growing (c .before .before .before .before .before .before .before .before .before .before .before .before .loop .inv) (c .before .before .before .before .before .before .before .before .before .before .before .before .before .before .before .comparison .ensures) (c .before .before .before .before .before .before .before .before .before .before .found .given .1) (c .before .before .before .before .before .before .before .before .before .before .before .before .before .before .before .before .before .before .before .pre .1)), growing-some (c .before .before .before .before .before .before .before .before .before .before .before .before .loop .inv) (c .before .before .before .before .before .before .before .before .before .before .before .before .before .before .before .comparison .ensures) (c .before .before .before .before .before .before .before .before .before .before .found .given .1), right-behind (c .before .before .before .comparison2 .ensures) (room-growing (c .before .before .before .before .before .before .before .before .before .before .before .before .loop .inv) (c .before .before .before .before .before .before .before .before .before .before .before .before .before .before .before .comparison .ensures) (c .before .before .before .before .before .before .before .before .before .before .found .given .1) (c .before .before .before .before .before .before .before .before .before .before .before .before .before .before .before .before .before .before .before .pre .1)) (sign-further (c .before .before .before .before .before .before .before .before .sign .ensures) (c .before .before .before .before .before .before .code .given .1)) (omega (arith, c .before .before .before .before .before .before .before .before .before .before .before .before .before .before .before .before .before .before .before .good)))
+  joined-requires c κs =
+      let at-comparison2 = c .before .before .before in
+      let at-code = at-comparison2 .before .before .before in
+      let at-sign = at-code .before .before in
+      let at-found = at-sign .before .before in
+      let at-loop = at-found .before .before in
+      let at-comparison = at-loop .before .before .before in
+      let at-start = at-comparison .before .before .before .before in
+      (right-long (at-comparison2 .comparison2 .ensures) (room-growing (at-loop .loop .inv) (at-comparison .comparison .ensures) (at-found .found .given .1) (at-start .pre .1)), search growing-some, right-behind (at-comparison2 .comparison2 .ensures) (room-growing (at-loop .loop .inv) (at-comparison .comparison .ensures) (at-found .found .given .1) (at-start .pre .1)) (sign-further (at-sign .sign .ensures) (at-code .code .given .1)) (omega (arith, at-start .good)))
 
   loop-less : conjunction-lts.Need-loop-less calls (conjunction-at t) conjunction.Post Inv-loop μ-loop
-  loop-less c = less-left _ _ (c .before .before .before .before .before .before .before .before .before .before .before .before .before .found .given .1) (joined-less (c .before .before .before .before .before .before .comparison2 .ensures) (sign-further (c .before .before .before .before .before .before .before .before .before .before .before .sign .ensures) (c .before .before .before .before .before .before .before .before .before .code .given .1)) (c .before .before .joined .ensures))
+  loop-less c = search (less-left, joined-less, sign-further)
 
   loop-again : conjunction-lts.Need-loop-again calls (conjunction-at t) conjunction.Post Inv-loop μ-loop
   unfolding tighter levelOf
-  loop-again c = level-turn (c .before .before .before .before .before .before .before .before .before .before .before .before .before .before .before .loop .inv) (c .before .before .before .before .before .before .before .before .before .before .before .before .before .found .given .1) (c .before .before .before .before .before .before .before .before .before .before .before .sign .ensures) (c .before .before .before .before .before .before .before .before .before .code .given .1) (c .before .before .before .before .before .before .comparison2 .ensures) (c .before .before .joined .ensures)
+  loop-again c = search level-turn
 
   pub closed : {M : Type 1} → conjunction-lts.Closed calls (conjunction-at t) conjunction.Post M
   closed = conjunction-lts.spec calls (conjunction-at t) conjunction.Post Inv-loop μ-loop comparison-requires loop-holds enum-known-found enum-told same-length returns sign-requires enum-known-code enum-told-2 same-length-2 returns-2 comparison-requires-2 joined-requires loop-less loop-again

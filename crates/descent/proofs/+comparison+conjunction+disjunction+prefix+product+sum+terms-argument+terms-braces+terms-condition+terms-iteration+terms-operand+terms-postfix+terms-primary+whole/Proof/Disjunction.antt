@@ -27,10 +27,10 @@ module _ (t : ℕ) where
   calls = (conjunction-below t, conjunction.Post, sign-reads.Asked, sign-reads.Learnt, joined-reads.Asked, joined-reads.Learnt)
 
   conjunction-requires : disjunction-lts.Need-conjunction-requires calls (disjunction-at t) disjunction.Post Inv-loop μ-loop
-  conjunction-requires c κs = (let m = c .before .before .before .pre .0 in omega arith, c .before .before .before .pre .1)
+  conjunction-requires c κs = search needs
 
   loop-holds : disjunction-lts.Need-loop-holds calls (disjunction-at t) disjunction.Post Inv-loop μ-loop
-  loop-holds c = growing-start (c .before .before .conjunction .ensures)
+  loop-holds c = search growing-start
 
   enum-known-found : disjunction-lts.Need-enum-known-found calls (disjunction-at t) disjunction.Post Inv-loop μ-loop
   enum-known-found c = search needs
@@ -43,10 +43,15 @@ module _ (t : ℕ) where
 
   returns : disjunction-lts.Need-returns calls (disjunction-at t) disjunction.Post Inv-loop μ-loop
   unfolding tighter
-  returns c = level-fails or-leans (c .before .before .loop .inv) (c .before .before .before .before .before .conjunction .ensures) (c .enum-told .given .1)
+  returns c = search (level-fails, or-leans)
 
   sign-requires : disjunction-lts.Need-sign-requires calls (disjunction-at t) disjunction.Post Inv-loop μ-loop
-  sign-requires c κs = ((room-growing (c .before .before .before .loop .inv) (c .before .before .before .before .before .before .conjunction .ensures) (c .before .found .given .1) (c .before .before .before .before .before .before .before .before .before .before .pre .1)) .ahead, omega arith)
+  sign-requires c κs =
+      let at-found = c .before in
+      let at-loop = at-found .before .before in
+      let at-conjunction = at-loop .before .before .before in
+      let at-start = at-conjunction .before .before .before .before in
+      ((room-growing (at-loop .loop .inv) (at-conjunction .conjunction .ensures) (at-found .found .given .1) (at-start .pre .1)) .ahead, omega arith)
 
   enum-known-code : disjunction-lts.Need-enum-known-code calls (disjunction-at t) disjunction.Post Inv-loop μ-loop
   enum-known-code c = search needs
@@ -55,24 +60,42 @@ module _ (t : ℕ) where
   enum-told-2 c = search needs
 
   same-length-2 : disjunction-lts.Need-same-length-2 calls (disjunction-at t) disjunction.Post Inv-loop μ-loop
-  same-length-2 c = growing-kept (c .before .before .before .before .before .before .loop .inv) (c .before .before .before .before .before .before .before .before .before .conjunction .ensures) .size
+  same-length-2 c =
+      let at-loop = c .before .before .before .before .before .before in
+      let at-conjunction = at-loop .before .before .before in
+      growing-kept (at-loop .loop .inv) (at-conjunction .conjunction .ensures) .size
 
   returns-2 : disjunction-lts.Need-returns-2 calls (disjunction-at t) disjunction.Post Inv-loop μ-loop
   unfolding tighter levelOf
-  returns-2 c = level-ends or-leans (c .before .before .before .before .before .before .loop .inv) (c .before .before .before .before .before .before .before .before .before .conjunction .ensures) (c .before .before .before .before .found .given .1) (c .before .before .sign .ensures) (c .enum-told2 .given .1)
+  returns-2 c = search (level-ends, or-leans)
 
   conjunction-requires-2 : disjunction-lts.Need-conjunction-requires-2 calls (disjunction-at t) disjunction.Post Inv-loop μ-loop
-  conjunction-requires-2 c κs = (let m = c .before .before .before .before .before .before .before .before .before .before .before .before .before .before .before .pre .0 in let a = growing-further (c .before .before .before .before .before .before .before .before .loop .inv) (c .before .before .before .before .before .before .before .before .before .before .before .conjunction .ensures) (c .before .before .before .before .before .before .found .given .1) in let b = (sign-further (c .before .before .before .before .sign .ensures) (c .before .before .code .given .1)) .from in let o = (sign-further (c .before .before .before .before .sign .ensures) (c .before .before .code .given .1)) .ahead .order in let i = (sign-further (c .before .before .before .before .sign .ensures) (c .before .before .code .given .1)) .ahead .within in omega arith, room-further (room-growing (c .before .before .before .before .before .before .before .before .loop .inv) (c .before .before .before .before .before .before .before .before .before .before .before .conjunction .ensures) (c .before .before .before .before .before .before .found .given .1) (c .before .before .before .before .before .before .before .before .before .before .before .before .before .before .before .pre .1)) (sign-further (c .before .before .before .before .sign .ensures) (c .before .before .code .given .1)))
+  conjunction-requires-2 c κs =
+      let at-code = c .before .before in
+      let at-sign = at-code .before .before in
+      let at-found = at-sign .before .before in
+      let at-loop = at-found .before .before in
+      let at-conjunction = at-loop .before .before .before in
+      let at-start = at-conjunction .before .before .before .before in
+      (let a = growing-further (at-loop .loop .inv) (at-conjunction .conjunction .ensures) (at-found .found .given .1) in let b = (sign-further (at-sign .sign .ensures) (at-code .code .given .1)) .from in let o = (sign-further (at-sign .sign .ensures) (at-code .code .given .1)) .ahead .order in let i = (sign-further (at-sign .sign .ensures) (at-code .code .given .1)) .ahead .within in omega arith, room-further (room-growing (at-loop .loop .inv) (at-conjunction .conjunction .ensures) (at-found .found .given .1) (at-start .pre .1)) (sign-further (at-sign .sign .ensures) (at-code .code .given .1)))
 
   joined-requires : disjunction-lts.Need-joined-requires calls (disjunction-at t) disjunction.Post Inv-loop μ-loop
-  joined-requires c κs = (right-long (c .before .before .before .conjunction2 .ensures) (room-growing (c .before .before .before .before .before .before .before .before .before .before .before .before .loop .inv) (c .before .before .before .before .before .before .before .before .before .before .before .before .before .before .before .conjunction .ensures) (c .before .before .before .before .before .before .before .before .before .before .found .given .1) (c .before .before .before .before .before .before .before .before .before .before .before .before .before .before .before .before .before .before .before .pre .1)), growing-some (c .before .before .before .before .before .before .before .before .before .before .before .before .loop .inv) (c .before .before .before .before .before .before .before .before .before .before .before .before .before .before .before .conjunction .ensures) (c .before .before .before .before .before .before .before .before .before .before .found .given .1), right-behind (c .before .before .before .conjunction2 .ensures) (room-growing (c .before .before .before .before .before .before .before .before .before .before .before .before .loop .inv) (c .before .before .before .before .before .before .before .before .before .before .before .before .before .before .before .conjunction .ensures) (c .before .before .before .before .before .before .before .before .before .before .found .given .1) (c .before .before .before .before .before .before .before .before .before .before .before .before .before .before .before .before .before .before .before .pre .1)) (sign-further (c .before .before .before .before .before .before .before .before .sign .ensures) (c .before .before .before .before .before .before .code .given .1)) (omega (arith, c .before .before .before .before .before .before .before .before .before .before .before .before .before .before .before .before .before .before .before .good)))
+  joined-requires c κs =
+      let at-conjunction2 = c .before .before .before in
+      let at-code = at-conjunction2 .before .before .before in
+      let at-sign = at-code .before .before in
+      let at-found = at-sign .before .before in
+      let at-loop = at-found .before .before in
+      let at-conjunction = at-loop .before .before .before in
+      let at-start = at-conjunction .before .before .before .before in
+      (right-long (at-conjunction2 .conjunction2 .ensures) (room-growing (at-loop .loop .inv) (at-conjunction .conjunction .ensures) (at-found .found .given .1) (at-start .pre .1)), search growing-some, right-behind (at-conjunction2 .conjunction2 .ensures) (room-growing (at-loop .loop .inv) (at-conjunction .conjunction .ensures) (at-found .found .given .1) (at-start .pre .1)) (sign-further (at-sign .sign .ensures) (at-code .code .given .1)) (omega (arith, at-start .good)))
 
   loop-less : disjunction-lts.Need-loop-less calls (disjunction-at t) disjunction.Post Inv-loop μ-loop
-  loop-less c = less-left _ _ (c .before .before .before .before .before .before .before .before .before .before .before .before .before .found .given .1) (joined-less (c .before .before .before .before .before .before .conjunction2 .ensures) (sign-further (c .before .before .before .before .before .before .before .before .before .before .before .sign .ensures) (c .before .before .before .before .before .before .before .before .before .code .given .1)) (c .before .before .joined .ensures))
+  loop-less c = search (less-left, joined-less, sign-further)
 
   loop-again : disjunction-lts.Need-loop-again calls (disjunction-at t) disjunction.Post Inv-loop μ-loop
   unfolding tighter levelOf
-  loop-again c = level-turn (c .before .before .before .before .before .before .before .before .before .before .before .before .before .before .before .loop .inv) (c .before .before .before .before .before .before .before .before .before .before .before .before .before .found .given .1) (c .before .before .before .before .before .before .before .before .before .before .before .sign .ensures) (c .before .before .before .before .before .before .before .before .before .code .given .1) (c .before .before .before .before .before .before .conjunction2 .ensures) (c .before .before .joined .ensures)
+  loop-again c = search level-turn
 
   pub closed : {M : Type 1} → disjunction-lts.Closed calls (disjunction-at t) disjunction.Post M
   closed = disjunction-lts.spec calls (disjunction-at t) disjunction.Post Inv-loop μ-loop conjunction-requires loop-holds enum-known-found enum-told same-length returns sign-requires enum-known-code enum-told-2 same-length-2 returns-2 conjunction-requires-2 joined-requires loop-less loop-again

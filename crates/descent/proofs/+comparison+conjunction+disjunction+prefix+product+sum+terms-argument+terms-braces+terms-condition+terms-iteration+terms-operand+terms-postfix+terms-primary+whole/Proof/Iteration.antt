@@ -14,7 +14,7 @@ module _ (t : ℕ) where
   calls = (operand-below t, operand.Post, put-iteration-reads.Asked, put-iteration-reads.Learnt)
 
   operand-requires : iteration-lts.Need-operand-requires calls (iteration-at t) iteration.Post
-  operand-requires c κs = (let m = c .before .before .before .pre .0 in omega arith, (c .before .before .before .pre .1 .0, λ e. omega arith))
+  operand-requires c κs = search needs
 
   enum-known-begun : iteration-lts.Need-enum-known-begun calls (iteration-at t) iteration.Post
   enum-known-begun c = search needs
@@ -26,10 +26,14 @@ module _ (t : ℕ) where
   same-length c = search needs
 
   returns : iteration-lts.Need-returns calls (iteration-at t) iteration.Post
-  returns c = λ x y a e q z. iteration-fails (c .before .before .before .before .operand .ensures) (c .enum-told .given .1)
+  returns c = search iteration-fails
 
   operand-requires-2 : iteration-lts.Need-operand-requires-2 calls (iteration-at t) iteration.Post
-  operand-requires-2 c κs = (let m = c .before .before .before .before .before .before .before .before .before .before .pre .0 in let f = closed-further (one-operand (c .before .before .before .before .before .before .operand .ensures) (c .before .before .begun .given .1)) in omega arith, (room-closed (c .before .before .before .before .before .before .before .before .before .before .pre .1 .0) (one-operand (c .before .before .before .before .before .before .operand .ensures) (c .before .before .begun .given .1)), λ e. omega arith))
+  operand-requires-2 c κs =
+      let at-begun = c .before .before in
+      let at-operand = at-begun .before .before .before .before in
+      let at-start = at-operand .before .before .before .before in
+      (let f = closed-further (one-operand (at-operand .operand .ensures) (at-begun .begun .given .1)) in omega arith, (room-closed (at-start .pre .1 .0) (one-operand (at-operand .operand .ensures) (at-begun .begun .given .1)), λ e. omega arith))
 
   enum-known-inside : iteration-lts.Need-enum-known-inside calls (iteration-at t) iteration.Post
   enum-known-inside c = search needs
@@ -41,19 +45,31 @@ module _ (t : ℕ) where
   same-length-2 c = search needs
 
   returns-2 : iteration-lts.Need-returns-2 calls (iteration-at t) iteration.Post
-  returns-2 c = λ x y a e q z. second-fails (c .before .before .before .before .before .before .before .before .before .before .before .operand .ensures) (c .before .before .before .before .before .before .before .begun .given .1) (c .before .before .before .before .operand2 .ensures) (c .enum-told2 .given .1)
+  returns-2 c = search second-fails
 
   put-iteration-requires : iteration-lts.Need-put-iteration-requires calls (iteration-at t) iteration.Post
-  put-iteration-requires c κs = (room-closed (room-closed (c .before .before .before .before .before .before .before .before .before .before .before .before .before .before .before .before .before .pre .1 .0) (one-operand (c .before .before .before .before .before .before .before .before .before .before .before .before .before .operand .ensures) (c .before .before .before .before .before .before .before .before .before .begun .given .1))) (one-operand (c .before .before .before .before .before .before .operand2 .ensures) (c .before .before .inside .given .1)) .long, c .before .before .before .before .before .before .before .before .before .before .before .before .before .before .before .before .before .pre .1 .1, more-nodes (one-operand (c .before .before .before .before .before .before .before .before .before .before .before .before .before .operand .ensures) (c .before .before .before .before .before .before .before .before .before .begun .given .1)), more-nodes (one-operand (c .before .before .before .before .before .before .operand2 .ensures) (c .before .before .inside .given .1)), c .before .before .before .before .before .before .before .before .before .before .before .before .before .before .before .before .before .pre .1 .2)
+  put-iteration-requires c κs = (search (room-closed, one-operand, needs), search (needs), more-nodes (one-operand (c .before .before .before .before .before .before .before .before .before .before .before .before .before .operand .ensures) (c .before .before .before .before .before .before .before .before .before .begun .given .1)), more-nodes (one-operand (c .before .before .before .before .before .before .operand2 .ensures) (c .before .before .inside .given .1)), search (needs))
 
   add-t23 : iteration-lts.Need-add-t23 calls (iteration-at t) iteration.Post
-  add-t23 c = omega (arith, c .before .before .before .before .before .before .before .before .before .before .before .before .before .before .before .before .before .before .before .before .good, closed-small (room-closed (c .before .before .before .before .before .before .before .before .before .before .before .before .before .before .before .before .before .before .before .before .pre .1 .0) (one-operand (c .before .before .before .before .before .before .before .before .before .before .before .before .before .before .before .before .operand .ensures) (c .before .before .before .before .before .before .before .before .before .before .before .before .begun .given .1))) (one-operand (c .before .before .before .before .before .before .before .before .before .operand2 .ensures) (c .before .before .before .before .before .inside .given .1)))
+  add-t23 c =
+      let at-inside = c .before .before .before .before .before in
+      let at-operand2 = at-inside .before .before .before .before in
+      let at-begun = at-operand2 .before .before .before in
+      let at-operand = at-begun .before .before .before .before in
+      let at-start = at-operand .before .before .before .before in
+      omega (arith, at-start .good, closed-small (room-closed (at-start .pre .1 .0) (one-operand (at-operand .operand .ensures) (at-begun .begun .given .1))) (one-operand (at-operand2 .operand2 .ensures) (at-inside .inside .given .1)))
 
   same-length-3 : iteration-lts.Need-same-length-3 calls (iteration-at t) iteration.Post
   same-length-3 c = search needs
 
   returns-3 : iteration-lts.Need-returns-3 calls (iteration-at t) iteration.Post
-  returns-3 c = λ x y a e q z. iteration-found (c .before .before .before .before .before .before .before .before .before .before .before .before .before .before .before .before .operand .ensures) (c .before .before .before .before .before .before .before .before .before .before .before .before .begun .given .1) (c .before .before .before .before .before .before .before .before .before .operand2 .ensures) (c .before .before .before .before .before .inside .given .1) (c .before .before .put-iteration .ensures x y a e q z)
+  returns-3 c =
+      let at-put-iteration = c .before .before in
+      let at-inside = at-put-iteration .before .before .before in
+      let at-operand2 = at-inside .before .before .before .before in
+      let at-begun = at-operand2 .before .before .before in
+      let at-operand = at-begun .before .before .before .before in
+      λ x y a e q z. iteration-found (at-operand .operand .ensures) (at-begun .begun .given .1) (at-operand2 .operand2 .ensures) (at-inside .inside .given .1) (at-put-iteration .put-iteration .ensures x y a e q z)
 
   pub closed : {M : Type 1} → iteration-lts.Closed calls (iteration-at t) iteration.Post M
   closed = iteration-lts.spec calls (iteration-at t) iteration.Post operand-requires enum-known-begun enum-told same-length returns operand-requires-2 enum-known-inside enum-told-2 same-length-2 returns-2 put-iteration-requires add-t23 same-length-3 returns-3

@@ -3,7 +3,6 @@ use Rattle.descent.proofs.OperandLaws.{operand-none, operand-open, oper
 use Rattle.descent.proofs.FoundLaws.{one-found}
 use Prim.Native.Nat.{ℕ}
 use borrow.Author.Needs.{needs}
-use native.Mathlib.Omega.{arith}
 use Rattle.descent.proofs.terms.operand.Reads as operand
 use Rattle.descent.proofs.whole.Reads as whole
 use Rattle.phrases.proofs.words.after.Reads as after-reads
@@ -15,7 +14,7 @@ module _ (t : ℕ) where
   calls = (whole-below t, whole.Post, after-reads.Asked, after-reads.Learnt)
 
   whole-requires : operand-lts.Need-whole-requires calls (operand-at t) operand.Post
-  whole-requires c κs = (let m = c .before .before .before .pre .0 in omega arith, c .before .before .before .pre .1 .0)
+  whole-requires c κs = search needs
 
   enum-known-inside : operand-lts.Need-enum-known-inside calls (operand-at t) operand.Post
   enum-known-inside c = search needs
@@ -27,10 +26,10 @@ module _ (t : ℕ) where
   same-length c = search needs
 
   returns : operand-lts.Need-returns calls (operand-at t) operand.Post
-  returns c = operand-none (c .before .before .before .before .whole .ensures) (c .enum-told .given .1)
+  returns c = search operand-none
 
   after-requires : operand-lts.Need-after-requires calls (operand-at t) operand.Post
-  after-requires c κs = (one-found (c .before .before .before .before .before .whole .ensures) (c .before .inside .given .1) .ahead, c .before .before .before .before .before .before .before .before .before .pre .1 .1)
+  after-requires c κs = (one-found (c .before .before .before .before .before .whole .ensures) (c .before .inside .given .1) .ahead, search (needs))
 
   enum-known-closed : operand-lts.Need-enum-known-closed calls (operand-at t) operand.Post
   enum-known-closed c = search needs
@@ -42,13 +41,13 @@ module _ (t : ℕ) where
   same-length-2 c = search needs
 
   returns-2 : operand-lts.Need-returns-2 calls (operand-at t) operand.Post
-  returns-2 c = operand-open (c .before .before .before .before .before .before .before .before .whole .ensures) (c .before .before .before .before .inside .given .1) (c .before .before .after .ensures) (c .enum-told2 .given .1)
+  returns-2 c = search operand-open
 
   same-length-3 : operand-lts.Need-same-length-3 calls (operand-at t) operand.Post
   same-length-3 c = search needs
 
   returns-3 : operand-lts.Need-returns-3 calls (operand-at t) operand.Post
-  returns-3 c = operand-one (c .before .before .before .before .before .before .before .before .before .whole .ensures) (c .before .before .before .before .before .inside .given .1) (c .before .before .before .after .ensures) (c .before .closed .given .1)
+  returns-3 c = search operand-one
 
   pub closed : {M : Type 1} → operand-lts.Closed calls (operand-at t) operand.Post M
   closed = operand-lts.spec calls (operand-at t) operand.Post whole-requires enum-known-inside enum-told same-length returns after-requires enum-known-closed enum-told-2 same-length-2 returns-2 same-length-3 returns-3

@@ -16,10 +16,10 @@ module _ (t : ℕ) where
   calls = (nots-reads.Asked, nots-reads.Learnt, postfix-below t, postfix.Post, negate-reads.Asked, negate-reads.Learnt)
 
   nots-requires : prefix-lts.Need-nots-requires calls (prefix-at t) prefix.Post
-  nots-requires c κs = c .before .before .pre .1 .ahead
+  nots-requires c κs = search needs
 
   postfix-requires : prefix-lts.Need-postfix-requires calls (prefix-at t) prefix.Post
-  postfix-requires c κs = (let m = c .before .before .before .before .pre .0 in let a = (c .before .nots .ensures) .from in omega arith, nots-room (c .before .before .before .before .pre .1) (c .before .nots .ensures))
+  postfix-requires c κs = search (nots-room, needs)
 
   enum-known-operand : prefix-lts.Need-enum-known-operand calls (prefix-at t) prefix.Post
   enum-known-operand c = search needs
@@ -31,19 +31,29 @@ module _ (t : ℕ) where
   same-length c = search needs
 
   returns : prefix-lts.Need-returns calls (prefix-at t) prefix.Post
-  returns c = prefix-none (c .before .before .before .before .before .before .nots .ensures) (c .before .before .before .before .postfix .ensures) (c .enum-told .given .1)
+  returns c = search prefix-none
 
   negate-requires : prefix-lts.Need-negate-requires calls (prefix-at t) prefix.Post
-  negate-requires c κs = (room-after (nots-room (c .before .before .before .before .before .before .before .before .before .before .before .pre .1) (c .before .before .before .before .before .before .before .before .nots .ensures)) (one-found (c .before .before .before .before .before .before .postfix .ensures) (c .before .before .operand .given .1)) .long, omega (arith, found-some (one-found (c .before .before .before .before .before .before .postfix .ensures) (c .before .before .operand .given .1))), omega (arith, nots-small (c .before .before .before .before .before .before .before .before .before .before .before .pre .1) (c .before .before .before .before .before .before .before .before .nots .ensures) (one-found (c .before .before .before .before .before .before .postfix .ensures) (c .before .before .operand .given .1))))
+  negate-requires c κs =
+      let at-operand = c .before .before in
+      let at-postfix = at-operand .before .before .before .before in
+      let at-nots = at-postfix .before .before in
+      let at-start = at-nots .before .before .before in
+      (search (room-after, nots-room, one-found, needs), omega (arith, found-some (one-found (at-postfix .postfix .ensures) (at-operand .operand .given .1))), omega (arith, nots-small (at-start .pre .1) (at-nots .nots .ensures) (one-found (at-postfix .postfix .ensures) (at-operand .operand .given .1))))
 
   add-t16 : prefix-lts.Need-add-t16 calls (prefix-at t) prefix.Post
-  add-t16 c = omega (arith, c .before .before .before .before .before .before .before .before .before .before .before .before .before .before .before .good, nots-small (c .before .before .before .before .before .before .before .before .before .before .before .before .before .before .before .pre .1) (c .before .before .before .before .before .before .before .before .before .before .before .before .nots .ensures) (one-found (c .before .before .before .before .before .before .before .before .before .before .postfix .ensures) (c .before .before .before .before .before .before .operand .given .1)))
+  add-t16 c =
+      let at-operand = c .before .before .before .before .before .before in
+      let at-postfix = at-operand .before .before .before .before in
+      let at-nots = at-postfix .before .before in
+      let at-start = at-nots .before .before .before in
+      omega (arith, nots-small (at-start .pre .1) (at-nots .nots .ensures) (one-found (at-postfix .postfix .ensures) (at-operand .operand .given .1)))
 
   same-length-2 : prefix-lts.Need-same-length-2 calls (prefix-at t) prefix.Post
   same-length-2 c = search needs
 
   returns-2 : prefix-lts.Need-returns-2 calls (prefix-at t) prefix.Post
-  returns-2 c = prefix-one (c .before .before .before .before .before .before .before .before .before .before .before .before .nots .ensures) (c .before .before .before .before .before .before .before .before .before .before .postfix .ensures) (c .before .before .before .before .before .before .operand .given .1) (c .before .before .before .negate .ensures)
+  returns-2 c = search prefix-one
 
   pub closed : {M : Type 1} → prefix-lts.Closed calls (prefix-at t) prefix.Post M
   closed = prefix-lts.spec calls (prefix-at t) prefix.Post nots-requires postfix-requires enum-known-operand enum-told same-length returns negate-requires add-t16 same-length-2 returns-2

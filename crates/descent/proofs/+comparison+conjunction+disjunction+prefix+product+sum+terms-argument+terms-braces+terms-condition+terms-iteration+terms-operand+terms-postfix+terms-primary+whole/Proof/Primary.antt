@@ -17,7 +17,7 @@ module _ (t : ℕ) where
   calls = (begin-reads.Asked, begin-reads.Learnt, operand-below t, operand.Post, condition-below t, condition.Post, braces-below t, braces.Post)
 
   begin-requires : primary-lts.Need-begin-requires calls (primary-at t) primary.Post
-  begin-requires c κs = (c .before .before .before .pre .1 .ahead, c .before .before .before .pre .1 .long)
+  begin-requires c κs = search needs
 
   enum-told : primary-lts.Need-enum-told calls (primary-at t) primary.Post
   enum-told c = search needs
@@ -26,55 +26,64 @@ module _ (t : ℕ) where
   enum-known-begun c = search needs
 
   add-t16 : primary-lts.Need-add-t16 calls (primary-at t) primary.Post
-  add-t16 c = omega (arith, c .before .before .before .before .before .before .before .before .before .good, room-more (c .before .before .before .before .before .before .before .before .before .pre .1) (done-further (c .before .before .before .before .before .begin .ensures) (c .before .begun .given .1)))
+  add-t16 c = search (room-more, done-further, needs)
 
   enum-known-begun-2 : primary-lts.Need-enum-known-begun-2 calls (primary-at t) primary.Post
   enum-known-begun-2 c = search needs
 
   operand-requires : primary-lts.Need-operand-requires calls (primary-at t) primary.Post
-  operand-requires c κs = (let m = c .before .before .before .before .before .before .before .before .before .before .pre .0 in let a = (bracket-further (c .before .before .before .before .before .before .begin .ensures) (c .before .before .begun2 .given .1)) .from in let o = (bracket-further (c .before .before .before .before .before .before .begin .ensures) (c .before .before .begun2 .given .1)) .ahead .order in let i = (bracket-further (c .before .before .before .before .before .before .begin .ensures) (c .before .before .begun2 .given .1)) .ahead .within in omega arith, (room-bracket (c .before .before .before .before .before .before .begin .ensures) (c .before .before .begun2 .given .1) (c .before .before .before .before .before .before .before .before .before .before .pre .1), λ e. omega arith))
+  operand-requires c κs =
+      let at-begun2 = c .before .before in
+      let at-begin = at-begun2 .before .before .before .before in
+      (let a = (bracket-further (at-begin .begin .ensures) (at-begun2 .begun2 .given .1)) .from in let o = (bracket-further (at-begin .begin .ensures) (at-begun2 .begun2 .given .1)) .ahead .order in let i = (bracket-further (at-begin .begin .ensures) (at-begun2 .begun2 .given .1)) .ahead .within in omega arith, search (room-bracket, needs))
 
   enum-known-begun-3 : primary-lts.Need-enum-known-begun-3 calls (primary-at t) primary.Post
   enum-known-begun-3 c = search needs
 
   condition-requires : primary-lts.Need-condition-requires calls (primary-at t) primary.Post
-  condition-requires c κs = (let m = c .before .before .before .before .before .before .before .before .before .before .pre .0 in let a = (condition-further (c .before .before .before .before .before .before .begin .ensures) (c .before .before .begun3 .given .1)) .from in let o = (condition-further (c .before .before .before .before .before .before .begin .ensures) (c .before .before .begun3 .given .1)) .ahead .order in let i = (condition-further (c .before .before .before .before .before .before .begin .ensures) (c .before .before .begun3 .given .1)) .ahead .within in omega arith, room-condition (c .before .before .before .before .before .before .begin .ensures) (c .before .before .begun3 .given .1) (c .before .before .before .before .before .before .before .before .before .before .pre .1))
+  condition-requires c κs =
+      let at-begun3 = c .before .before in
+      let at-begin = at-begun3 .before .before .before .before in
+      (let a = (condition-further (at-begin .begin .ensures) (at-begun3 .begun3 .given .1)) .from in let o = (condition-further (at-begin .begin .ensures) (at-begun3 .begun3 .given .1)) .ahead .order in let i = (condition-further (at-begin .begin .ensures) (at-begun3 .begun3 .given .1)) .ahead .within in omega arith, search room-condition)
 
   enum-known-begun-4 : primary-lts.Need-enum-known-begun-4 calls (primary-at t) primary.Post
   enum-known-begun-4 c = search needs
 
   braces-requires : primary-lts.Need-braces-requires calls (primary-at t) primary.Post
-  braces-requires c κs = (let m = c .before .before .before .before .before .before .before .before .before .before .pre .0 in let a = (members-further (c .before .before .before .before .before .before .begin .ensures) (c .before .before .begun4 .given .1)) .from in let o = (members-further (c .before .before .before .before .before .before .begin .ensures) (c .before .before .begun4 .given .1)) .ahead .order in let i = (members-further (c .before .before .before .before .before .before .begin .ensures) (c .before .before .begun4 .given .1)) .ahead .within in omega arith, room-members (c .before .before .before .before .before .before .begin .ensures) (c .before .before .begun4 .given .1) (c .before .before .before .before .before .before .before .before .before .before .pre .1))
+  braces-requires c κs =
+      let at-begun4 = c .before .before in
+      let at-begin = at-begun4 .before .before .before .before in
+      (let a = (members-further (at-begin .begin .ensures) (at-begun4 .begun4 .given .1)) .from in let o = (members-further (at-begin .begin .ensures) (at-begun4 .begun4 .given .1)) .ahead .order in let i = (members-further (at-begin .begin .ensures) (at-begun4 .begun4 .given .1)) .ahead .within in omega arith, search room-members)
 
   same-length : primary-lts.Need-same-length calls (primary-at t) primary.Post
   same-length c = search needs
 
   returns : primary-lts.Need-returns calls (primary-at t) primary.Post
-  returns c = primary-none (c .before .before .before .before .begin .ensures) (c .enum-told .given .1)
+  returns c = search primary-none
 
   same-length-2 : primary-lts.Need-same-length-2 calls (primary-at t) primary.Post
   same-length-2 c = search needs
 
   returns-2 : primary-lts.Need-returns-2 calls (primary-at t) primary.Post
-  returns-2 c = primary-one (c .before .before .before .before .before .begin .ensures) (c .before .begun .given .1)
+  returns-2 c = search primary-one
 
   same-length-3 : primary-lts.Need-same-length-3 calls (primary-at t) primary.Post
   same-length-3 c = search needs
 
   returns-3 : primary-lts.Need-returns-3 calls (primary-at t) primary.Post
-  returns-3 c = primary-bracket (c .before .before .before .before .before .before .before .before .before .begin .ensures) (c .before .before .before .before .before .begun2 .given .1) (c .before .before .operand .ensures)
+  returns-3 c = search primary-bracket
 
   same-length-4 : primary-lts.Need-same-length-4 calls (primary-at t) primary.Post
   same-length-4 c = search needs
 
   returns-4 : primary-lts.Need-returns-4 calls (primary-at t) primary.Post
-  returns-4 c = primary-condition (c .before .before .before .before .before .before .before .before .before .begin .ensures) (c .before .before .before .before .before .begun3 .given .1) (c .before .before .condition .ensures)
+  returns-4 c = search primary-condition
 
   same-length-5 : primary-lts.Need-same-length-5 calls (primary-at t) primary.Post
   same-length-5 c = search needs
 
   returns-5 : primary-lts.Need-returns-5 calls (primary-at t) primary.Post
-  returns-5 c = primary-members (c .before .before .before .before .before .before .before .before .before .begin .ensures) (c .before .before .before .before .before .begun4 .given .1) (c .before .before .braces .ensures)
+  returns-5 c = search primary-members
 
   pub closed : {M : Type 1} → primary-lts.Closed calls (primary-at t) primary.Post M
   closed = primary-lts.spec calls (primary-at t) primary.Post begin-requires enum-told enum-known-begun add-t16 enum-known-begun-2 operand-requires enum-known-begun-3 condition-requires enum-known-begun-4 braces-requires same-length returns same-length-2 returns-2 same-length-3 returns-3 same-length-4 returns-4 same-length-5 returns-5

@@ -27,10 +27,10 @@ module _ (t : ℕ) where
   calls = (prefix-below t, prefix.Post, sign-reads.Asked, sign-reads.Learnt, joined-reads.Asked, joined-reads.Learnt)
 
   prefix-requires : product-lts.Need-prefix-requires calls (product-at t) product.Post Inv-loop μ-loop
-  prefix-requires c κs = (let m = c .before .before .before .pre .0 in omega arith, c .before .before .before .pre .1)
+  prefix-requires c κs = search needs
 
   loop-holds : product-lts.Need-loop-holds calls (product-at t) product.Post Inv-loop μ-loop
-  loop-holds c = growing-start (c .before .before .prefix .ensures)
+  loop-holds c = search growing-start
 
   enum-known-found : product-lts.Need-enum-known-found calls (product-at t) product.Post Inv-loop μ-loop
   enum-known-found c = search needs
@@ -43,10 +43,15 @@ module _ (t : ℕ) where
 
   returns : product-lts.Need-returns calls (product-at t) product.Post Inv-loop μ-loop
   unfolding tighter
-  returns c = level-fails product-leans (c .before .before .loop .inv) (c .before .before .before .before .before .prefix .ensures) (c .enum-told .given .1)
+  returns c = search (level-fails, product-leans)
 
   sign-requires : product-lts.Need-sign-requires calls (product-at t) product.Post Inv-loop μ-loop
-  sign-requires c κs = ((room-growing (c .before .before .before .loop .inv) (c .before .before .before .before .before .before .prefix .ensures) (c .before .found .given .1) (c .before .before .before .before .before .before .before .before .before .before .pre .1)) .ahead, omega arith)
+  sign-requires c κs =
+      let at-found = c .before in
+      let at-loop = at-found .before .before in
+      let at-prefix = at-loop .before .before .before in
+      let at-start = at-prefix .before .before .before .before in
+      ((room-growing (at-loop .loop .inv) (at-prefix .prefix .ensures) (at-found .found .given .1) (at-start .pre .1)) .ahead, omega arith)
 
   enum-known-code : product-lts.Need-enum-known-code calls (product-at t) product.Post Inv-loop μ-loop
   enum-known-code c = search needs
@@ -55,24 +60,42 @@ module _ (t : ℕ) where
   enum-told-2 c = search needs
 
   same-length-2 : product-lts.Need-same-length-2 calls (product-at t) product.Post Inv-loop μ-loop
-  same-length-2 c = growing-kept (c .before .before .before .before .before .before .loop .inv) (c .before .before .before .before .before .before .before .before .before .prefix .ensures) .size
+  same-length-2 c =
+      let at-loop = c .before .before .before .before .before .before in
+      let at-prefix = at-loop .before .before .before in
+      growing-kept (at-loop .loop .inv) (at-prefix .prefix .ensures) .size
 
   returns-2 : product-lts.Need-returns-2 calls (product-at t) product.Post Inv-loop μ-loop
   unfolding tighter levelOf
-  returns-2 c = level-ends product-leans (c .before .before .before .before .before .before .loop .inv) (c .before .before .before .before .before .before .before .before .before .prefix .ensures) (c .before .before .before .before .found .given .1) (c .before .before .sign .ensures) (c .enum-told2 .given .1)
+  returns-2 c = search (level-ends, product-leans)
 
   prefix-requires-2 : product-lts.Need-prefix-requires-2 calls (product-at t) product.Post Inv-loop μ-loop
-  prefix-requires-2 c κs = (let m = c .before .before .before .before .before .before .before .before .before .before .before .before .before .before .before .pre .0 in let a = growing-further (c .before .before .before .before .before .before .before .before .loop .inv) (c .before .before .before .before .before .before .before .before .before .before .before .prefix .ensures) (c .before .before .before .before .before .before .found .given .1) in let b = (sign-further (c .before .before .before .before .sign .ensures) (c .before .before .code .given .1)) .from in let o = (sign-further (c .before .before .before .before .sign .ensures) (c .before .before .code .given .1)) .ahead .order in let i = (sign-further (c .before .before .before .before .sign .ensures) (c .before .before .code .given .1)) .ahead .within in omega arith, room-further (room-growing (c .before .before .before .before .before .before .before .before .loop .inv) (c .before .before .before .before .before .before .before .before .before .before .before .prefix .ensures) (c .before .before .before .before .before .before .found .given .1) (c .before .before .before .before .before .before .before .before .before .before .before .before .before .before .before .pre .1)) (sign-further (c .before .before .before .before .sign .ensures) (c .before .before .code .given .1)))
+  prefix-requires-2 c κs =
+      let at-code = c .before .before in
+      let at-sign = at-code .before .before in
+      let at-found = at-sign .before .before in
+      let at-loop = at-found .before .before in
+      let at-prefix = at-loop .before .before .before in
+      let at-start = at-prefix .before .before .before .before in
+      (let a = growing-further (at-loop .loop .inv) (at-prefix .prefix .ensures) (at-found .found .given .1) in let b = (sign-further (at-sign .sign .ensures) (at-code .code .given .1)) .from in let o = (sign-further (at-sign .sign .ensures) (at-code .code .given .1)) .ahead .order in let i = (sign-further (at-sign .sign .ensures) (at-code .code .given .1)) .ahead .within in omega arith, room-further (room-growing (at-loop .loop .inv) (at-prefix .prefix .ensures) (at-found .found .given .1) (at-start .pre .1)) (sign-further (at-sign .sign .ensures) (at-code .code .given .1)))
 
   joined-requires : product-lts.Need-joined-requires calls (product-at t) product.Post Inv-loop μ-loop
-  joined-requires c κs = (right-long (c .before .before .before .prefix2 .ensures) (room-growing (c .before .before .before .before .before .before .before .before .before .before .before .before .loop .inv) (c .before .before .before .before .before .before .before .before .before .before .before .before .before .before .before .prefix .ensures) (c .before .before .before .before .before .before .before .before .before .before .found .given .1) (c .before .before .before .before .before .before .before .before .before .before .before .before .before .before .before .before .before .before .before .pre .1)), growing-some (c .before .before .before .before .before .before .before .before .before .before .before .before .loop .inv) (c .before .before .before .before .before .before .before .before .before .before .before .before .before .before .before .prefix .ensures) (c .before .before .before .before .before .before .before .before .before .before .found .given .1), right-behind (c .before .before .before .prefix2 .ensures) (room-growing (c .before .before .before .before .before .before .before .before .before .before .before .before .loop .inv) (c .before .before .before .before .before .before .before .before .before .before .before .before .before .before .before .prefix .ensures) (c .before .before .before .before .before .before .before .before .before .before .found .given .1) (c .before .before .before .before .before .before .before .before .before .before .before .before .before .before .before .before .before .before .before .pre .1)) (sign-further (c .before .before .before .before .before .before .before .before .sign .ensures) (c .before .before .before .before .before .before .code .given .1)) (omega (arith, c .before .before .before .before .before .before .before .before .before .before .before .before .before .before .before .before .before .before .before .good)))
+  joined-requires c κs =
+      let at-prefix2 = c .before .before .before in
+      let at-code = at-prefix2 .before .before .before in
+      let at-sign = at-code .before .before in
+      let at-found = at-sign .before .before in
+      let at-loop = at-found .before .before in
+      let at-prefix = at-loop .before .before .before in
+      let at-start = at-prefix .before .before .before .before in
+      (right-long (at-prefix2 .prefix2 .ensures) (room-growing (at-loop .loop .inv) (at-prefix .prefix .ensures) (at-found .found .given .1) (at-start .pre .1)), search growing-some, right-behind (at-prefix2 .prefix2 .ensures) (room-growing (at-loop .loop .inv) (at-prefix .prefix .ensures) (at-found .found .given .1) (at-start .pre .1)) (sign-further (at-sign .sign .ensures) (at-code .code .given .1)) (omega (arith, at-start .good)))
 
   loop-less : product-lts.Need-loop-less calls (product-at t) product.Post Inv-loop μ-loop
-  loop-less c = less-left _ _ (c .before .before .before .before .before .before .before .before .before .before .before .before .before .found .given .1) (joined-less (c .before .before .before .before .before .before .prefix2 .ensures) (sign-further (c .before .before .before .before .before .before .before .before .before .before .before .sign .ensures) (c .before .before .before .before .before .before .before .before .before .code .given .1)) (c .before .before .joined .ensures))
+  loop-less c = search (less-left, joined-less, sign-further)
 
   loop-again : product-lts.Need-loop-again calls (product-at t) product.Post Inv-loop μ-loop
   unfolding tighter levelOf
-  loop-again c = level-turn (c .before .before .before .before .before .before .before .before .before .before .before .before .before .before .before .loop .inv) (c .before .before .before .before .before .before .before .before .before .before .before .before .before .found .given .1) (c .before .before .before .before .before .before .before .before .before .before .before .sign .ensures) (c .before .before .before .before .before .before .before .before .before .code .given .1) (c .before .before .before .before .before .before .prefix2 .ensures) (c .before .before .joined .ensures)
+  loop-again c = search level-turn
 
   pub closed : {M : Type 1} → product-lts.Closed calls (product-at t) product.Post M
   closed = product-lts.spec calls (product-at t) product.Post Inv-loop μ-loop prefix-requires loop-holds enum-known-found enum-told same-length returns sign-requires enum-known-code enum-told-2 same-length-2 returns-2 prefix-requires-2 joined-requires loop-less loop-again

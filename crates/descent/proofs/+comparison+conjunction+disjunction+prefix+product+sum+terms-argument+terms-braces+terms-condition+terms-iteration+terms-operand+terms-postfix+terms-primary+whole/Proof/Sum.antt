@@ -27,10 +27,10 @@ module _ (t : ℕ) where
   calls = (product-below t, product.Post, sign-reads.Asked, sign-reads.Learnt, joined-reads.Asked, joined-reads.Learnt)
 
   product-requires : sum-lts.Need-product-requires calls (sum-at t) sum.Post Inv-loop μ-loop
-  product-requires c κs = (let m = c .before .before .before .pre .0 in omega arith, c .before .before .before .pre .1)
+  product-requires c κs = search needs
 
   loop-holds : sum-lts.Need-loop-holds calls (sum-at t) sum.Post Inv-loop μ-loop
-  loop-holds c = growing-start (c .before .before .product .ensures)
+  loop-holds c = search growing-start
 
   enum-known-found : sum-lts.Need-enum-known-found calls (sum-at t) sum.Post Inv-loop μ-loop
   enum-known-found c = search needs
@@ -43,10 +43,15 @@ module _ (t : ℕ) where
 
   returns : sum-lts.Need-returns calls (sum-at t) sum.Post Inv-loop μ-loop
   unfolding tighter
-  returns c = level-fails sum-leans (c .before .before .loop .inv) (c .before .before .before .before .before .product .ensures) (c .enum-told .given .1)
+  returns c = search (level-fails, sum-leans)
 
   sign-requires : sum-lts.Need-sign-requires calls (sum-at t) sum.Post Inv-loop μ-loop
-  sign-requires c κs = ((room-growing (c .before .before .before .loop .inv) (c .before .before .before .before .before .before .product .ensures) (c .before .found .given .1) (c .before .before .before .before .before .before .before .before .before .before .pre .1)) .ahead, omega arith)
+  sign-requires c κs =
+      let at-found = c .before in
+      let at-loop = at-found .before .before in
+      let at-product = at-loop .before .before .before in
+      let at-start = at-product .before .before .before .before in
+      ((room-growing (at-loop .loop .inv) (at-product .product .ensures) (at-found .found .given .1) (at-start .pre .1)) .ahead, omega arith)
 
   enum-known-code : sum-lts.Need-enum-known-code calls (sum-at t) sum.Post Inv-loop μ-loop
   enum-known-code c = search needs
@@ -55,24 +60,42 @@ module _ (t : ℕ) where
   enum-told-2 c = search needs
 
   same-length-2 : sum-lts.Need-same-length-2 calls (sum-at t) sum.Post Inv-loop μ-loop
-  same-length-2 c = growing-kept (c .before .before .before .before .before .before .loop .inv) (c .before .before .before .before .before .before .before .before .before .product .ensures) .size
+  same-length-2 c =
+      let at-loop = c .before .before .before .before .before .before in
+      let at-product = at-loop .before .before .before in
+      growing-kept (at-loop .loop .inv) (at-product .product .ensures) .size
 
   returns-2 : sum-lts.Need-returns-2 calls (sum-at t) sum.Post Inv-loop μ-loop
   unfolding tighter levelOf
-  returns-2 c = level-ends sum-leans (c .before .before .before .before .before .before .loop .inv) (c .before .before .before .before .before .before .before .before .before .product .ensures) (c .before .before .before .before .found .given .1) (c .before .before .sign .ensures) (c .enum-told2 .given .1)
+  returns-2 c = search (level-ends, sum-leans)
 
   product-requires-2 : sum-lts.Need-product-requires-2 calls (sum-at t) sum.Post Inv-loop μ-loop
-  product-requires-2 c κs = (let m = c .before .before .before .before .before .before .before .before .before .before .before .before .before .before .before .pre .0 in let a = growing-further (c .before .before .before .before .before .before .before .before .loop .inv) (c .before .before .before .before .before .before .before .before .before .before .before .product .ensures) (c .before .before .before .before .before .before .found .given .1) in let b = (sign-further (c .before .before .before .before .sign .ensures) (c .before .before .code .given .1)) .from in let o = (sign-further (c .before .before .before .before .sign .ensures) (c .before .before .code .given .1)) .ahead .order in let i = (sign-further (c .before .before .before .before .sign .ensures) (c .before .before .code .given .1)) .ahead .within in omega arith, room-further (room-growing (c .before .before .before .before .before .before .before .before .loop .inv) (c .before .before .before .before .before .before .before .before .before .before .before .product .ensures) (c .before .before .before .before .before .before .found .given .1) (c .before .before .before .before .before .before .before .before .before .before .before .before .before .before .before .pre .1)) (sign-further (c .before .before .before .before .sign .ensures) (c .before .before .code .given .1)))
+  product-requires-2 c κs =
+      let at-code = c .before .before in
+      let at-sign = at-code .before .before in
+      let at-found = at-sign .before .before in
+      let at-loop = at-found .before .before in
+      let at-product = at-loop .before .before .before in
+      let at-start = at-product .before .before .before .before in
+      (let a = growing-further (at-loop .loop .inv) (at-product .product .ensures) (at-found .found .given .1) in let b = (sign-further (at-sign .sign .ensures) (at-code .code .given .1)) .from in let o = (sign-further (at-sign .sign .ensures) (at-code .code .given .1)) .ahead .order in let i = (sign-further (at-sign .sign .ensures) (at-code .code .given .1)) .ahead .within in omega arith, room-further (room-growing (at-loop .loop .inv) (at-product .product .ensures) (at-found .found .given .1) (at-start .pre .1)) (sign-further (at-sign .sign .ensures) (at-code .code .given .1)))
 
   joined-requires : sum-lts.Need-joined-requires calls (sum-at t) sum.Post Inv-loop μ-loop
-  joined-requires c κs = (right-long (c .before .before .before .product2 .ensures) (room-growing (c .before .before .before .before .before .before .before .before .before .before .before .before .loop .inv) (c .before .before .before .before .before .before .before .before .before .before .before .before .before .before .before .product .ensures) (c .before .before .before .before .before .before .before .before .before .before .found .given .1) (c .before .before .before .before .before .before .before .before .before .before .before .before .before .before .before .before .before .before .before .pre .1)), growing-some (c .before .before .before .before .before .before .before .before .before .before .before .before .loop .inv) (c .before .before .before .before .before .before .before .before .before .before .before .before .before .before .before .product .ensures) (c .before .before .before .before .before .before .before .before .before .before .found .given .1), right-behind (c .before .before .before .product2 .ensures) (room-growing (c .before .before .before .before .before .before .before .before .before .before .before .before .loop .inv) (c .before .before .before .before .before .before .before .before .before .before .before .before .before .before .before .product .ensures) (c .before .before .before .before .before .before .before .before .before .before .found .given .1) (c .before .before .before .before .before .before .before .before .before .before .before .before .before .before .before .before .before .before .before .pre .1)) (sign-further (c .before .before .before .before .before .before .before .before .sign .ensures) (c .before .before .before .before .before .before .code .given .1)) (omega (arith, c .before .before .before .before .before .before .before .before .before .before .before .before .before .before .before .before .before .before .before .good)))
+  joined-requires c κs =
+      let at-product2 = c .before .before .before in
+      let at-code = at-product2 .before .before .before in
+      let at-sign = at-code .before .before in
+      let at-found = at-sign .before .before in
+      let at-loop = at-found .before .before in
+      let at-product = at-loop .before .before .before in
+      let at-start = at-product .before .before .before .before in
+      (right-long (at-product2 .product2 .ensures) (room-growing (at-loop .loop .inv) (at-product .product .ensures) (at-found .found .given .1) (at-start .pre .1)), search growing-some, right-behind (at-product2 .product2 .ensures) (room-growing (at-loop .loop .inv) (at-product .product .ensures) (at-found .found .given .1) (at-start .pre .1)) (sign-further (at-sign .sign .ensures) (at-code .code .given .1)) (omega (arith, at-start .good)))
 
   loop-less : sum-lts.Need-loop-less calls (sum-at t) sum.Post Inv-loop μ-loop
-  loop-less c = less-left _ _ (c .before .before .before .before .before .before .before .before .before .before .before .before .before .found .given .1) (joined-less (c .before .before .before .before .before .before .product2 .ensures) (sign-further (c .before .before .before .before .before .before .before .before .before .before .before .sign .ensures) (c .before .before .before .before .before .before .before .before .before .code .given .1)) (c .before .before .joined .ensures))
+  loop-less c = search (less-left, joined-less, sign-further)
 
   loop-again : sum-lts.Need-loop-again calls (sum-at t) sum.Post Inv-loop μ-loop
   unfolding tighter levelOf
-  loop-again c = level-turn (c .before .before .before .before .before .before .before .before .before .before .before .before .before .before .before .loop .inv) (c .before .before .before .before .before .before .before .before .before .before .before .before .before .found .given .1) (c .before .before .before .before .before .before .before .before .before .before .before .sign .ensures) (c .before .before .before .before .before .before .before .before .before .code .given .1) (c .before .before .before .before .before .before .product2 .ensures) (c .before .before .joined .ensures)
+  loop-again c = search level-turn
 
   pub closed : {M : Type 1} → sum-lts.Closed calls (sum-at t) sum.Post M
   closed = sum-lts.spec calls (sum-at t) sum.Post Inv-loop μ-loop product-requires loop-holds enum-known-found enum-told same-length returns sign-requires enum-known-code enum-told-2 same-length-2 returns-2 product-requires-2 joined-requires loop-less loop-again

@@ -1,5 +1,4 @@
 -- The needs of `whole`.
-use mathlib.Core.Path.{_∙_}
 use native.Mathlib.Nat.{pos-of-ne-zero}
 use Rattle.descent.proofs.LoopLaws.{room-inside, inside-fails, turn-kept, whole-ends, in-missing, body-next}
 use Rattle.descent.proofs.WaitingLaws.{Waiting, waiting-start, room-waiting, waiting-few, head-kept, waiting-broken, head-further, waiting-head}
@@ -29,40 +28,49 @@ module _ (t : ℕ) where
   calls = (let-head-reads.Asked, let-head-reads.Learnt, disjunction-below t, disjunction.Post, close-lets-reads.Asked, close-lets-reads.Learnt, after-reads.Asked, after-reads.Learnt, end-value-reads.Asked, end-value-reads.Learnt)
 
   loop-holds : whole-lts.Need-loop-holds calls (whole-at t) whole.Post Inv-loop μ-loop
-  loop-holds c = waiting-start (c .before .before .pre .1)
+  loop-holds c = search waiting-start
 
   let-head-requires : whole-lts.Need-let-head-requires calls (whole-at t) whole.Post Inv-loop μ-loop
-  let-head-requires c κs = ((c .before .loop .inv) .ahead, room-waiting (c .before .loop .inv) (c .before .before .before .before .pre .1) .long)
+  let-head-requires c κs = search (room-waiting, needs)
 
   enum-told : whole-lts.Need-enum-told calls (whole-at t) whole.Post Inv-loop μ-loop
   enum-told c = search needs
 
   same-length : whole-lts.Need-same-length calls (whole-at t) whole.Post Inv-loop μ-loop
-  same-length c = head-kept (c .before .before .before .before .before .before .loop .inv) (c .before .before .before .before .let-head .ensures) .size ∙ (c .before .before .before .before .before .before .loop .inv) .kept .size
+  same-length c = search head-kept
 
   returns : whole-lts.Need-returns calls (whole-at t) whole.Post Inv-loop μ-loop
-  returns c = waiting-broken (c .before .before .before .before .before .before .loop .inv) (c .before .before .before .before .let-head .ensures) (c .enum-told .given .1)
+  returns c = search waiting-broken
 
   enum-known-next : whole-lts.Need-enum-known-next calls (whole-at t) whole.Post Inv-loop μ-loop
   enum-known-next c = search needs
 
   add-lets : whole-lts.Need-add-lets calls (whole-at t) whole.Post Inv-loop μ-loop
-  add-lets c = omega (arith, c .before .before .before .before .before .before .before .before .before .before .good, waiting-few (waiting-head (c .before .before .before .before .before .before .before .loop .inv) (c .before .before .before .before .before .let-head .ensures) (c .before .next .given .1)) (c .before .before .before .before .before .before .before .before .before .before .pre .1) .0)
+  add-lets c = search (waiting-few, waiting-head, needs)
 
   add-unread : whole-lts.Need-add-unread calls (whole-at t) whole.Post Inv-loop μ-loop
-  add-unread c = omega (arith, c .before .before .before .before .before .before .before .before .before .before .good, waiting-few (waiting-head (c .before .before .before .before .before .before .before .loop .inv) (c .before .before .before .before .before .let-head .ensures) (c .before .next .given .1)) (c .before .before .before .before .before .before .before .before .before .before .pre .1) .1)
+  add-unread c = search (waiting-few, waiting-head, needs)
 
   loop-less : whole-lts.Need-loop-less calls (whole-at t) whole.Post Inv-loop μ-loop
-  loop-less c = omega (arith, (head-further (c .before .before .before .before .before .before .before .loop .inv) (c .before .before .before .before .before .let-head .ensures) (c .before .next .given .1)) .from, (head-further (c .before .before .before .before .before .before .before .loop .inv) (c .before .before .before .before .before .let-head .ensures) (c .before .next .given .1)) .ahead .order, (head-further (c .before .before .before .before .before .before .before .loop .inv) (c .before .before .before .before .before .let-head .ensures) (c .before .next .given .1)) .ahead .within)
+  loop-less c =
+      let at-next = c .before in
+      let at-let-head = at-next .before .before .before .before in
+      let at-loop = at-let-head .before .before in
+      omega (arith, (head-further (at-loop .loop .inv) (at-let-head .let-head .ensures) (at-next .next .given .1)) .from, (head-further (at-loop .loop .inv) (at-let-head .let-head .ensures) (at-next .next .given .1)) .ahead .order, (head-further (at-loop .loop .inv) (at-let-head .let-head .ensures) (at-next .next .given .1)) .ahead .within)
 
   loop-again : whole-lts.Need-loop-again calls (whole-at t) whole.Post Inv-loop μ-loop
-  loop-again c = waiting-head (c .before .before .before .before .before .before .before .loop .inv) (c .before .before .before .before .before .let-head .ensures) (c .before .next .given .1)
+  loop-again c = search waiting-head
 
   enum-told-2 : whole-lts.Need-enum-told-2 calls (whole-at t) whole.Post Inv-loop μ-loop
   enum-told-2 c = search needs
 
   disjunction-requires : whole-lts.Need-disjunction-requires calls (whole-at t) whole.Post Inv-loop μ-loop
-  disjunction-requires c κs = (let m = c .before .before .before .before .before .before .before .before .before .before .pre .0 in let a = (c .before .before .before .before .before .before .before .loop .inv) .from in omega arith, room-inside (c .before .before .before .before .before .before .before .loop .inv) (c .before .before .before .before .before .let-head .ensures) (c .before .enum-told2 .given .1) (c .before .before .before .before .before .before .before .before .before .before .pre .1))
+  disjunction-requires c κs =
+      let at-enum-told2 = c .before in
+      let at-let-head = at-enum-told2 .before .before .before .before in
+      let at-loop = at-let-head .before .before in
+      let at-start = at-loop .before .before .before in
+      (omega arith, room-inside (at-loop .loop .inv) (at-let-head .let-head .ensures) (at-enum-told2 .enum-told2 .given .1) (at-start .pre .1))
 
   enum-known-next-2 : whole-lts.Need-enum-known-next-2 calls (whole-at t) whole.Post Inv-loop μ-loop
   enum-known-next-2 c = search needs
@@ -71,28 +79,38 @@ module _ (t : ℕ) where
   enum-told-3 c = search needs
 
   same-length-2 : whole-lts.Need-same-length-2 calls (whole-at t) whole.Post Inv-loop μ-loop
-  same-length-2 c = found-kept (c .before .before .before .before .disjunction .ensures) .size ∙ head-kept (c .before .before .before .before .before .before .before .before .before .before .before .before .loop .inv) (c .before .before .before .before .before .before .before .before .before .before .let-head .ensures) .size ∙ (c .before .before .before .before .before .before .before .before .before .before .before .before .loop .inv) .kept .size
+  same-length-2 c = search (found-kept, head-kept)
 
   returns-2 : whole-lts.Need-returns-2 calls (whole-at t) whole.Post Inv-loop μ-loop
-  returns-2 c = inside-fails (c .before .before .before .before .before .before .before .before .before .before .before .before .loop .inv) (c .before .before .before .before .before .before .before .before .before .before .let-head .ensures) (c .before .before .before .before .before .before .enum-told2 .given .1) (c .before .before .before .before .disjunction .ensures) (c .enum-told3 .given .1)
+  returns-2 c = search inside-fails
 
   close-lets-requires : whole-lts.Need-close-lets-requires calls (whole-at t) whole.Post Inv-loop μ-loop
-  close-lets-requires c κs = let r = room-after (room-inside (c .before .before .before .before .before .before .before .before .before .before .before .before .before .before .loop .inv) (c .before .before .before .before .before .before .before .before .before .before .before .before .let-head .ensures) (c .before .before .before .before .before .before .before .before .enum-told2 .given .1) (c .before .before .before .before .before .before .before .before .before .before .before .before .before .before .before .before .before .pre .1)) (one-found (c .before .before .before .before .before .before .disjunction .ensures) (c .before .before .next2 .given .1)) in (r .long, omega (arith, (c .before .before .before .before .before .before .before .before .before .before .before .before .before .before .loop .inv) .least), omega (arith, found-some (one-found (c .before .before .before .before .before .before .disjunction .ensures) (c .before .before .next2 .given .1))), omega (arith, c .before .before .before .before .before .before .before .before .before .before .before .before .before .before .before .before .before .good, r .few, r .ahead .order, r .ahead .within))
+  close-lets-requires c κs =
+      let at-next2 = c .before .before in
+      let at-disjunction = at-next2 .before .before .before .before in
+      let at-enum-told2 = at-disjunction .before .before in
+      let at-let-head = at-enum-told2 .before .before .before .before in
+      let at-loop = at-let-head .before .before in
+      let at-start = at-loop .before .before .before in
+      let r = room-after (room-inside (at-loop .loop .inv) (at-let-head .let-head .ensures) (at-enum-told2 .enum-told2 .given .1) (at-start .pre .1)) (one-found (at-disjunction .disjunction .ensures) (at-next2 .next2 .given .1)) in (r .long, omega (arith, (at-loop .loop .inv) .least), omega (arith, found-some (one-found (at-disjunction .disjunction .ensures) (at-next2 .next2 .given .1))), omega (arith, at-start .good, r .few, r .ahead .order, r .ahead .within))
 
   sub-m : whole-lts.Need-sub-m calls (whole-at t) whole.Post Inv-loop μ-loop
-  sub-m c = (c .before .before .before .close-lets .ensures) .least
+  sub-m c = search needs
 
   add-m : whole-lts.Need-add-m calls (whole-at t) whole.Post Inv-loop μ-loop
-  add-m c = omega (arith, c .before .before .before .before .before .before .before .before .before .before .before .before .before .before .before .before .before .before .before .before .before .good, (c .before .before .before .close-lets .ensures) .sum, (c .before .before .before .close-lets .ensures) .least, room-small (room-after (room-inside (c .before .before .before .before .before .before .before .before .before .before .before .before .before .before .before .before .before .before .loop .inv) (c .before .before .before .before .before .before .before .before .before .before .before .before .before .before .before .before .let-head .ensures) (c .before .before .before .before .before .before .before .before .before .before .before .before .enum-told2 .given .1) (c .before .before .before .before .before .before .before .before .before .before .before .before .before .before .before .before .before .before .before .before .before .pre .1)) (one-found (c .before .before .before .before .before .before .before .before .before .before .disjunction .ensures) (c .before .before .before .before .before .before .next2 .given .1))))
+  add-m c = omega (arith, room-small (room-after (room-inside (c .before .before .before .before .before .before .before .before .before .before .before .before .before .before .before .before .before .before .loop .inv) (c .before .before .before .before .before .before .before .before .before .before .before .before .before .before .before .before .let-head .ensures) (c .before .before .before .before .before .before .before .before .before .before .before .before .enum-told2 .given .1) (c .before .before .before .before .before .before .before .before .before .before .before .before .before .before .before .before .before .before .before .before .before .pre .1)) (one-found (c .before .before .before .before .before .before .before .before .before .before .disjunction .ensures) (c .before .before .before .before .before .before .next2 .given .1))))
 
   same-length-3 : whole-lts.Need-same-length-3 calls (whole-at t) whole.Post Inv-loop μ-loop
-  same-length-3 c = turn-kept (c .before .before .before .before .before .before .before .before .before .before .before .before .before .before .before .before .before .before .loop .inv) (c .before .before .before .before .before .before .before .before .before .before .before .before .before .before .before .before .let-head .ensures) (c .before .before .before .before .before .before .before .before .before .before .before .before .enum-told2 .given .1) (c .before .before .before .before .before .before .before .before .before .before .disjunction .ensures) (c .before .before .before .before .before .before .next2 .given .1) (c .before .before .before .close-lets .ensures) .size
+  same-length-3 c = search (turn-kept, needs)
 
   returns-3 : whole-lts.Need-returns-3 calls (whole-at t) whole.Post Inv-loop μ-loop
-  returns-3 c = whole-ends (c .before .before .before .before .before .before .before .before .before .before .before .before .before .before .before .before .before .before .loop .inv) (c .before .before .before .before .before .before .before .before .before .before .before .before .before .before .before .before .let-head .ensures) (c .before .before .before .before .before .before .before .before .before .before .before .before .enum-told2 .given .1) (c .before .before .before .before .before .before .before .before .before .before .disjunction .ensures) (c .before .before .before .before .before .before .next2 .given .1) (c .before .before .before .close-lets .ensures) (c .if1 .taken)
+  returns-3 c = search whole-ends
 
   after-requires : whole-lts.Need-after-requires calls (whole-at t) whole.Post Inv-loop μ-loop
-  after-requires c κs = ((one-found (c .before .before .before .before .before .before .before .before .before .before .disjunction .ensures) (c .before .before .before .before .before .before .next2 .given .1)) .ahead, λ e. omega arith)
+  after-requires c κs =
+      let at-next2 = c .before .before .before .before .before .before in
+      let at-disjunction = at-next2 .before .before .before .before in
+      ((one-found (at-disjunction .disjunction .ensures) (at-next2 .next2 .given .1)) .ahead, λ e. omega arith)
 
   enum-known-v : whole-lts.Need-enum-known-v calls (whole-at t) whole.Post Inv-loop μ-loop
   enum-known-v c = search needs
@@ -101,22 +119,53 @@ module _ (t : ℕ) where
   enum-told-4 c = search needs
 
   same-length-4 : whole-lts.Need-same-length-4 calls (whole-at t) whole.Post Inv-loop μ-loop
-  same-length-4 c = turn-kept (c .before .before .before .before .before .before .before .before .before .before .before .before .before .before .before .before .before .before .before .before .before .loop .inv) (c .before .before .before .before .before .before .before .before .before .before .before .before .before .before .before .before .before .before .before .let-head .ensures) (c .before .before .before .before .before .before .before .before .before .before .before .before .before .before .before .enum-told2 .given .1) (c .before .before .before .before .before .before .before .before .before .before .before .before .before .disjunction .ensures) (c .before .before .before .before .before .before .before .before .before .next2 .given .1) (c .before .before .before .before .before .before .close-lets .ensures) .size
+  same-length-4 c =
+      let at-close-lets = c .before .before .before .before .before .before in
+      let at-next2 = at-close-lets .before .before .before in
+      let at-disjunction = at-next2 .before .before .before .before in
+      let at-enum-told2 = at-disjunction .before .before in
+      let at-let-head = at-enum-told2 .before .before .before .before in
+      let at-loop = at-let-head .before .before in
+      turn-kept (at-loop .loop .inv) (at-let-head .let-head .ensures) (at-enum-told2 .enum-told2 .given .1) (at-disjunction .disjunction .ensures) (at-next2 .next2 .given .1) (at-close-lets .close-lets .ensures) .size
 
   returns-4 : whole-lts.Need-returns-4 calls (whole-at t) whole.Post Inv-loop μ-loop
-  returns-4 c = in-missing (c .before .before .before .before .before .before .before .before .before .before .before .before .before .before .before .before .before .before .before .before .before .loop .inv) (c .before .before .before .before .before .before .before .before .before .before .before .before .before .before .before .before .before .before .before .let-head .ensures) (c .before .before .before .before .before .before .before .before .before .before .before .before .before .before .before .enum-told2 .given .1) (c .before .before .before .before .before .before .before .before .before .before .before .before .before .disjunction .ensures) (c .before .before .before .before .before .before .before .before .before .next2 .given .1) (c .before .before .before .before .before .before .close-lets .ensures) (c .before .before .before .if1 .left) (c .before .before .after .ensures) (c .enum-told4 .given .1)
+  returns-4 c = search in-missing
 
   end-value-requires : whole-lts.Need-end-value-requires calls (whole-at t) whole.Post Inv-loop μ-loop
-  end-value-requires c κs = omega (arith, (c .before .before .before .before .before .before .before .before .before .before .before .before .before .before .before .before .before .before .before .before .before .before .before .before .before .before .pre .1) .long, turn-kept (c .before .before .before .before .before .before .before .before .before .before .before .before .before .before .before .before .before .before .before .before .before .before .before .loop .inv) (c .before .before .before .before .before .before .before .before .before .before .before .before .before .before .before .before .before .before .before .before .before .let-head .ensures) (c .before .before .before .before .before .before .before .before .before .before .before .before .before .before .before .before .before .enum-told2 .given .1) (c .before .before .before .before .before .before .before .before .before .before .before .before .before .before .before .disjunction .ensures) (c .before .before .before .before .before .before .before .before .before .before .before .next2 .given .1) (c .before .before .before .before .before .before .before .before .close-lets .ensures) .size)
+  end-value-requires c κs =
+      let at-close-lets = c .before .before .before .before .before .before .before .before in
+      let at-next2 = at-close-lets .before .before .before in
+      let at-disjunction = at-next2 .before .before .before .before in
+      let at-enum-told2 = at-disjunction .before .before in
+      let at-let-head = at-enum-told2 .before .before .before .before in
+      let at-loop = at-let-head .before .before in
+      let at-start = at-loop .before .before .before in
+      omega (arith, (at-start .pre .1) .long, turn-kept (at-loop .loop .inv) (at-let-head .let-head .ensures) (at-enum-told2 .enum-told2 .given .1) (at-disjunction .disjunction .ensures) (at-next2 .next2 .given .1) (at-close-lets .close-lets .ensures) .size)
 
   sub-unread : whole-lts.Need-sub-unread calls (whole-at t) whole.Post Inv-loop μ-loop
-  sub-unread c = pos-of-ne-zero (c .before .before .before .before .before .before .before .before .if1 .left)
+  sub-unread c = search pos-of-ne-zero
 
   loop-less-2 : whole-lts.Need-loop-less-2 calls (whole-at t) whole.Post Inv-loop μ-loop
-  loop-less-2 c = omega (arith, found-further (one-found (c .before .before .before .before .before .before .before .before .before .before .before .before .before .before .before .before .before .before .disjunction .ensures) (c .before .before .before .before .before .before .before .before .before .before .before .before .before .before .next2 .given .1)), (after-further (c .before .before .before .before .before .before .before .after .ensures) (c .before .before .before .before .before .v .given .1)) .from, (after-further (c .before .before .before .before .before .before .before .after .ensures) (c .before .before .before .before .before .v .given .1)) .ahead .order, (after-further (c .before .before .before .before .before .before .before .after .ensures) (c .before .before .before .before .before .v .given .1)) .ahead .within)
+  loop-less-2 c =
+      let at-v = c .before .before .before .before .before in
+      let at-after = at-v .before .before in
+      let at-next2 = at-after .before .before .before .before .before .before .before in
+      let at-disjunction = at-next2 .before .before .before .before in
+      omega (arith, found-further (one-found (at-disjunction .disjunction .ensures) (at-next2 .next2 .given .1)), (after-further (at-after .after .ensures) (at-v .v .given .1)) .from, (after-further (at-after .after .ensures) (at-v .v .given .1)) .ahead .order, (after-further (at-after .after .ensures) (at-v .v .given .1)) .ahead .within)
 
   loop-again-2 : whole-lts.Need-loop-again-2 calls (whole-at t) whole.Post Inv-loop μ-loop
-  loop-again-2 c = body-next (c .before .before .before .before .before .before .before .before .before .before .before .before .before .before .before .before .before .before .before .before .before .before .before .before .before .before .loop .inv) (c .before .before .before .before .before .before .before .before .before .before .before .before .before .before .before .before .before .before .before .before .before .before .before .before .let-head .ensures) (c .before .before .before .before .before .before .before .before .before .before .before .before .before .before .before .before .before .before .before .before .enum-told2 .given .1) (c .before .before .before .before .before .before .before .before .before .before .before .before .before .before .before .before .before .before .disjunction .ensures) (c .before .before .before .before .before .before .before .before .before .before .before .before .before .before .next2 .given .1) (c .before .before .before .before .before .before .before .before .before .before .before .close-lets .ensures) (c .before .before .before .before .before .before .before .before .if1 .left) (c .before .before .before .before .before .before .before .after .ensures) (c .before .before .before .before .before .v .given .1) (c .before .before .end-value .ensures)
+  loop-again-2 c =
+      let at-end-value = c .before .before in
+      let at-v = at-end-value .before .before .before in
+      let at-after = at-v .before .before in
+      let at-if1 = at-after .before in
+      let at-close-lets = at-if1 .before .before .before in
+      let at-next2 = at-close-lets .before .before .before in
+      let at-disjunction = at-next2 .before .before .before .before in
+      let at-enum-told2 = at-disjunction .before .before in
+      let at-let-head = at-enum-told2 .before .before .before .before in
+      let at-loop = at-let-head .before .before in
+      body-next (at-loop .loop .inv) (at-let-head .let-head .ensures) (at-enum-told2 .enum-told2 .given .1) (at-disjunction .disjunction .ensures) (at-next2 .next2 .given .1) (at-close-lets .close-lets .ensures) (at-if1 .if1 .left) (at-after .after .ensures) (at-v .v .given .1) (at-end-value .end-value .ensures)
 
   pub closed : {M : Type 1} → whole-lts.Closed calls (whole-at t) whole.Post M
   closed = whole-lts.spec calls (whole-at t) whole.Post Inv-loop μ-loop loop-holds let-head-requires enum-told same-length returns enum-known-next add-lets add-unread loop-less loop-again enum-told-2 disjunction-requires enum-known-next-2 enum-told-3 same-length-2 returns-2 close-lets-requires sub-m add-m same-length-3 returns-3 after-requires enum-known-v enum-told-4 same-length-4 returns-4 end-value-requires sub-unread loop-less-2 loop-again-2

@@ -27,7 +27,13 @@ module _ (t : ℕ) where
   wide-requires c κs = search needs
 
   word-requires : lts.Need-word-requires calls (below-at t) below.Post
-  word-requires c κs = omega (arith, c .before .before .before .before .before .before .before .before .pre, c .before .before .before .before .if1 .left, below-levels (c .before .before .before .before .before .before .before .before .args .nodes .now) (c .before .before .before .before .before .before .before .before .args .n) (c .before .before .before .before .before .before .before .before .args .k) (c .before .before .wide .result) (c .before .before .wide .ensures ∙ c .before .before .before .node-word .ensures) (c .before .if2 .taken))
+  word-requires c κs =
+      let at-if2 = c .before in
+      let at-wide = at-if2 .before in
+      let at-node-word = at-wide .before in
+      let at-if1 = at-node-word .before in
+      let at-start = at-if1 .before .before .before .before in
+      omega (arith, at-start .pre, at-if1 .if1 .left, below-levels (at-start .args .nodes .now) (at-start .args .n) (at-start .args .k) (at-wide .wide .result) (at-wide .wide .ensures ∙ at-node-word .node-word .ensures) (at-if2 .if2 .taken))
 
   unpack-requires : lts.Need-unpack-requires calls (below-at t) below.Post
   unpack-requires c κs = search needs
@@ -36,7 +42,12 @@ module _ (t : ℕ) where
   same-length c = search needs
 
   returns-2 : lts.Need-returns-2 calls (below-at t) below.Post
-  returns-2 c = rw (c .unpack .ensures) (below-done _ _ _ _ (c .before .before .before .before .before .before .wide .ensures ∙ c .before .before .before .before .before .before .before .node-word .ensures) (c .before .before .before .before .before .if2 .taken) (c .before .before .before .word .ensures))
+  returns-2 c =
+      let at-word = c .before .before .before in
+      let at-if2 = at-word .before .before in
+      let at-wide = at-if2 .before in
+      let at-node-word = at-wide .before in
+      rw (c .unpack .ensures) (below-done _ _ _ _ (at-wide .wide .ensures ∙ at-node-word .node-word .ensures) (at-if2 .if2 .taken) (at-word .word .ensures))
 
   add-began : lts.Need-add-began calls (below-at t) below.Post
   add-began c = search needs
@@ -45,7 +56,12 @@ module _ (t : ℕ) where
   place-of-requires c κs = search needs
 
   returns-3 : lts.Need-returns-3 calls (below-at t) below.Post
-  returns-3 c = below-late _ _ _ _ (c .before .before .wide .ensures ∙ c .before .before .before .node-word .ensures) (c .before .if2 .left) (c .before .before .before .before .if1 .left) (c .place-of .ensures)
+  returns-3 c =
+      let at-if2 = c .before in
+      let at-wide = at-if2 .before in
+      let at-node-word = at-wide .before in
+      let at-if1 = at-node-word .before in
+      below-late _ _ _ _ (at-wide .wide .ensures ∙ at-node-word .node-word .ensures) (at-if2 .if2 .left) (at-if1 .if1 .left) (c .place-of .ensures)
 
   pub closed : {M : Type 1} → lts.Closed calls (below-at t) below.Post M
   closed = lts.spec calls (below-at t) below.Post returns node-word-requires wide-requires word-requires unpack-requires same-length returns-2 add-began place-of-requires returns-3

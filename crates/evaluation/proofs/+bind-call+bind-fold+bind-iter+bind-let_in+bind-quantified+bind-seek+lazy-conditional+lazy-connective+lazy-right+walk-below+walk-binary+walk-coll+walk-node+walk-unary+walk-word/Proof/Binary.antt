@@ -36,7 +36,7 @@ module _ (t : ℕ) where
   same-length c = search needs
 
   returns : lts.Need-returns calls (binary-at t) binary.Post
-  returns c = binary-first _ _ _ (c .before .before .before .below .ensures) (c .match .keys2)
+  returns c = search binary-first
 
   mul-left-fits : lts.Need-mul-left-fits calls (binary-at t) binary.Post
   mul-left-fits c = search needs
@@ -48,10 +48,18 @@ module _ (t : ℕ) where
   left-fits-requires c κs = search needs
 
   add-below : lts.Need-add-below calls (binary-at t) binary.Post
-  add-below c = omega (arith, bounds (c .before .before .before .before .before .before .before .before .before .below .ensures .small) (c .before .before .before .before .before .first .given .1), c .before .before .before .before .before .before .before .before .before .before .before .before .before .before .before .pre)
+  add-below c =
+      let at-first = c .before .before .before .before .before in
+      let at-below = at-first .before .before .before .before in
+      let at-start = at-below .before .before .before .before .before .before in
+      omega (arith, bounds (at-below .below .ensures .small) (at-first .first .given .1), at-start .pre)
 
   below-requires-2 : lts.Need-below-requires-2 calls (binary-at t) binary.Post
-  below-requires-2 c κs = omega (arith, bounds (c .before .before .before .before .before .before .before .before .before .below .ensures .small) (c .before .before .before .before .before .first .given .1), c .before .before .before .before .before .before .before .before .before .before .before .before .before .before .before .pre, c .before .before .before .before .before .before .before .before .before .below .kept)
+  below-requires-2 c κs =
+      let at-first = c .before .before .before .before .before in
+      let at-below = at-first .before .before .before .before in
+      let at-start = at-below .before .before .before .before .before .before in
+      omega (arith, bounds (at-below .below .ensures .small) (at-first .first .given .1), at-start .pre, at-below .below .kept)
 
   enum-known-second : lts.Need-enum-known-second calls (binary-at t) binary.Post
   enum-known-second c = search needs
@@ -60,10 +68,16 @@ module _ (t : ℕ) where
   same-length-2 c = search needs
 
   returns-2 : lts.Need-returns-2 calls (binary-at t) binary.Post
-  returns-2 c = binary-second _ _ _ (c .before .before .before .before .before .before .before .before .before .before .before .before .before .below .ensures) (c .before .before .before .before .before .before .before .before .before .before .before .before .before .before .before .before .before .before .before .pre .1 .0 .node) (c .before .before .before .before .before .before .before .before .before .first .given .1) (c .before .before .before .before .before .before .left-fits .ensures) (c .before .before .before .before .before .if1 .taken) (c .before .before .before .below2 .ensures) (c .match2 .keys2)
+  returns-2 c = search binary-second
 
   binary-apply-requires : lts.Need-binary-apply-requires calls (binary-at t) binary.Post
-  binary-apply-requires c κs = omega (arith, bounds (c .before .before .before .before .before .before .before .before .before .before .before .before .before .before .before .before .below .ensures .small) (c .before .before .before .before .before .before .before .before .before .before .before .before .first .given .1), bounds (c .before .before .before .before .before .before .below2 .ensures .small) (c .before .before .second .given .1), c .before .before .before .before .before .before .before .before .before .before .before .before .before .before .before .before .before .before .before .before .before .before .pre, c .before .before .before .before .before .before .before .before .before .before .before .before .before .before .before .before .below .kept, c .before .before .before .before .before .before .below2 .kept)
+  binary-apply-requires c κs =
+      let at-second = c .before .before in
+      let at-below2 = at-second .before .before .before .before in
+      let at-first = at-below2 .before .before .before .before .before .before in
+      let at-below = at-first .before .before .before .before in
+      let at-start = at-below .before .before .before .before .before .before in
+      omega (arith, bounds (at-below .below .ensures .small) (at-first .first .given .1), bounds (at-below2 .below2 .ensures .small) (at-second .second .given .1), at-start .pre, at-below .below .kept, at-below2 .below2 .kept)
 
   place-of-requires : lts.Need-place-of-requires calls (binary-at t) binary.Post
   place-of-requires c κs = omega (arith, c .before .before .before .before .before .before .before .before .before .before .before .before .before .before .before .before .before .before .before .before .before .before .before .before .before .pre)
@@ -75,13 +89,23 @@ module _ (t : ℕ) where
   same-length-3 c = search needs
 
   returns-3 : lts.Need-returns-3 calls (binary-at t) binary.Post
-  returns-3 c = binary-done _ _ _ (c .before .before .before .before .before .before .before .before .before .before .before .before .before .before .before .before .before .before .before .before .before .below .ensures) (c .before .before .before .before .before .before .before .before .before .before .before .before .before .before .before .before .before .before .before .before .before .before .before .before .before .before .before .pre .1 .0 .node) (c .before .before .before .before .before .before .before .before .before .before .before .before .before .before .before .before .before .first .given .1) (c .before .before .before .before .before .before .before .before .before .before .before .before .before .before .left-fits .ensures) (c .before .before .before .before .before .before .before .before .before .before .before .before .before .if1 .taken) (c .before .before .before .before .before .before .before .before .before .before .before .below2 .ensures) (c .before .before .before .before .before .before .before .second .given .1) (c .before .before .before .before .before .before .before .before .before .before .before .before .before .before .before .before .before .before .before .before .before .before .before .before .before .before .before .pre .1 .1 .1) (c .before .before .before .before .before .before .before .before .before .before .before .before .before .before .before .before .before .before .before .before .before .before .before .before .before .before .before .pre .1 .1 .2) (c .before .before .before .before .binary-apply .ensures) (c .before .place-of .ensures) (c .arose .ensures)
+  returns-3 c =
+      let at-place-of = c .before in
+      let at-binary-apply = at-place-of .before .before .before in
+      let at-second = at-binary-apply .before .before .before in
+      let at-below2 = at-second .before .before .before .before in
+      let at-if1 = at-below2 .before .before in
+      let at-left-fits = at-if1 .before in
+      let at-first = at-left-fits .before .before .before in
+      let at-below = at-first .before .before .before .before in
+      let at-start = at-below .before .before .before .before .before .before in
+      binary-done _ _ _ (at-below .below .ensures) (at-start .pre .1 .0 .node) (at-first .first .given .1) (at-left-fits .left-fits .ensures) (at-if1 .if1 .taken) (at-below2 .below2 .ensures) (at-second .second .given .1) (at-start .pre .1 .1 .1) (at-start .pre .1 .1 .2) (at-binary-apply .binary-apply .ensures) (at-place-of .place-of .ensures) (c .arose .ensures)
 
   same-length-4 : lts.Need-same-length-4 calls (binary-at t) binary.Post
   same-length-4 c = search needs
 
   returns-4 : lts.Need-returns-4 calls (binary-at t) binary.Post
-  returns-4 c = binary-stuck _ _ _ (c .before .before .before .before .before .before .before .before .below .ensures) (c .before .before .before .before .before .before .before .before .before .before .before .before .before .before .pre .1 .0 .node) (c .before .before .before .before .first .given .1) (c .before .left-fits .ensures) (c .if1 .left)
+  returns-4 c = search binary-stuck
 
   pub closed : {M : Type 1} → lts.Closed calls (binary-at t) binary.Post M
   closed = lts.spec calls (binary-at t) binary.Post add-mark mul-mark shared-slice-read-mark below-requires enum-known-first same-length returns mul-left-fits slice-read-left-fits left-fits-requires add-below below-requires-2 enum-known-second same-length-2 returns-2 binary-apply-requires place-of-requires arose-requires same-length-3 returns-3 same-length-4 returns-4

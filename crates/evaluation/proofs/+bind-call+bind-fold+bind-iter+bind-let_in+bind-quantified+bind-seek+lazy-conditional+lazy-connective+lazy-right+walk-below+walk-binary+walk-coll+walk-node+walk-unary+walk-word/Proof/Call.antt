@@ -42,7 +42,11 @@ module _ (t : ℕ) where
   is-object-requires c κs = search needs
 
   add-top : lts.Need-add-top calls (call-at t) call.Post
-  add-top c = omega (arith, bounds (c .before .before .before .before .before .before .before .before .before .below .ensures .small) (c .before .before .before .before .before .first .given .1), c .before .before .before .before .before .before .before .before .before .before .before .before .before .before .pre)
+  add-top c =
+      let at-first = c .before .before .before .before .before in
+      let at-below = at-first .before .before .before .before in
+      let at-start = at-below .before .before .before .before .before in
+      omega (arith, bounds (at-below .below .ensures .small) (at-first .first .given .1), at-start .pre)
 
   add-inner : lts.Need-add-inner calls (call-at t) call.Post
   add-inner c = search needs
@@ -51,7 +55,11 @@ module _ (t : ℕ) where
   array-write-inner c = search needs
 
   below-requires-2 : lts.Need-below-requires-2 calls (call-at t) call.Post
-  below-requires-2 c κs = omega (arith, bounds (c .before .before .before .before .before .before .before .before .before .before .before .below .ensures .small) (c .before .before .before .before .before .before .before .first .given .1), c .before .before .before .before .before .before .before .before .before .before .before .before .before .before .before .before .pre, c .before .before .before .before .before .before .before .before .before .before .before .below .kept)
+  below-requires-2 c κs =
+      let at-first = c .before .before .before .before .before .before .before in
+      let at-below = at-first .before .before .before .before in
+      let at-start = at-below .before .before .before .before .before in
+      omega (arith, bounds (at-below .below .ensures .small) (at-first .first .given .1), at-start .pre, at-below .below .kept)
 
   enum-known-body : lts.Need-enum-known-body calls (call-at t) call.Post
   enum-known-body c = search needs
@@ -63,13 +71,29 @@ module _ (t : ℕ) where
   returns-2 c = search call-second
 
   slide-requires : lts.Need-slide-requires calls (call-at t) call.Post
-  slide-requires c κs = (omega (arith, bounds (c .before .before .before .before .before .before .before .before .before .before .before .before .before .before .before .before .before .before .below .ensures .small) (c .before .before .before .before .before .before .before .before .before .before .before .before .before .before .first .given .1), bounds (c .before .before .before .before .before .before .below2 .ensures .small) (c .before .before .body .given .1), c .before .before .before .before .before .before .before .before .before .before .before .before .before .before .before .before .before .before .before .before .before .before .before .pre, c .before .before .before .before .before .before .before .before .before .before .before .before .before .before .before .before .before .before .below .kept, c .before .before .before .before .before .before .below2 .kept), inl (omega (arith, bounds (c .before .before .before .before .before .before .before .before .before .before .before .before .before .before .before .before .before .before .below .ensures .small) (c .before .before .before .before .before .before .before .before .before .before .before .before .before .before .first .given .1))))
+  slide-requires c κs =
+      let at-body = c .before .before in
+      let at-below2 = at-body .before .before .before .before in
+      let at-first = at-below2 .before .before .before .before .before .before .before .before in
+      let at-below = at-first .before .before .before .before in
+      let at-start = at-below .before .before .before .before .before in
+      (omega (arith, bounds (at-below .below .ensures .small) (at-first .first .given .1), bounds (at-below2 .below2 .ensures .small) (at-body .body .given .1), at-start .pre, at-below .below .kept, at-below2 .below2 .kept), inl (omega (arith, bounds (at-below .below .ensures .small) (at-first .first .given .1))))
 
   same-length-3 : lts.Need-same-length-3 calls (call-at t) call.Post
   same-length-3 c = search needs
 
   returns-3 : lts.Need-returns-3 calls (call-at t) call.Post
-  returns-3 c = call-done _ _ (c .before .before .before .before .before .before .before .before .before .before .before .before .before .before .before .before .before .before .before .before .before .below .ensures) (c .before .before .before .before .before .before .before .before .before .before .before .before .before .before .before .before .before .first .given .1) (c .before .before .before .before .before .before .before .before .before .before .before .before .before .before .before .node-word .ensures) (c .before .before .before .before .before .before .before .before .before .before .before .before .before .is-object .ensures) (c .before .before .before .before .before .before .before .before .before .before .before .before .if1 .taken) (c .before .before .before .before .before .before .before .before .before .below2 .ensures) (c .before .before .before .before .before .body .given .1) (omega (arith, bounds (c .before .before .before .before .before .before .before .before .before .before .before .before .before .before .before .before .before .before .before .before .before .below .ensures .small) (c .before .before .before .before .before .before .before .before .before .before .before .before .before .before .before .before .before .first .given .1), c .before .before .before .before .before .before .before .before .before .before .before .before .before .before .before .before .before .before .before .before .before .before .before .before .before .before .pre, c .before .before .before .before .before .before .before .before .before .before .before .before .before .before .before .before .before .before .before .before .before .below .kept, c .before .before .before .before .before .before .before .before .before .below2 .kept)) (c .before .before .slide .ensures .front)
+  returns-3 c =
+      let at-slide = c .before .before in
+      let at-body = at-slide .before .before .before in
+      let at-below2 = at-body .before .before .before .before in
+      let at-if1 = at-below2 .before .before .before in
+      let at-is-object = at-if1 .before in
+      let at-node-word = at-is-object .before .before in
+      let at-first = at-node-word .before .before in
+      let at-below = at-first .before .before .before .before in
+      let at-start = at-below .before .before .before .before .before in
+      call-done _ _ (at-below .below .ensures) (at-first .first .given .1) (at-node-word .node-word .ensures) (at-is-object .is-object .ensures) (at-if1 .if1 .taken) (at-below2 .below2 .ensures) (at-body .body .given .1) (omega (arith, bounds (at-below .below .ensures .small) (at-first .first .given .1), at-start .pre, at-below .below .kept, at-below2 .below2 .kept)) (at-slide .slide .ensures .front)
 
   same-length-4 : lts.Need-same-length-4 calls (call-at t) call.Post
   same-length-4 c = search needs

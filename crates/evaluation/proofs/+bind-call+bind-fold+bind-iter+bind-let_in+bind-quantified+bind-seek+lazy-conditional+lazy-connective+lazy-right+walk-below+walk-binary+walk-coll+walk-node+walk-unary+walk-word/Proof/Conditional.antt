@@ -22,7 +22,7 @@ module _ (t : ℕ) where
   same-length c = search needs
 
   returns : lts.Need-returns calls (conditional-at t) conditional.Post
-  returns c = conditional-first _ _ (c .before .before .before .below .ensures) (c .match .keys2)
+  returns c = search conditional-first
 
   mul-truth : lts.Need-mul-truth calls (conditional-at t) conditional.Post
   mul-truth c = search needs
@@ -40,7 +40,7 @@ module _ (t : ℕ) where
   same-length-2 c = search needs
 
   returns-2 : lts.Need-returns-2 calls (conditional-at t) conditional.Post
-  returns-2 c = conditional-then _ _ (c .before .before .before .before .before .before .before .before .before .before .before .before .below .ensures) (c .before .before .before .before .before .before .before .before .first .given .1) (c .before .before .before .before .before .truth .ensures) (c .before .before .before .before .if1 .taken) (c .before .before .below2 .ensures)
+  returns-2 c = search conditional-then
 
   below-requires-3 : lts.Need-below-requires-3 calls (conditional-at t) conditional.Post
   below-requires-3 c κs = search needs
@@ -49,13 +49,13 @@ module _ (t : ℕ) where
   same-length-3 c = search needs
 
   returns-3 : lts.Need-returns-3 calls (conditional-at t) conditional.Post
-  returns-3 c = conditional-else _ _ (c .before .before .before .before .before .before .before .before .before .before .before .before .before .below .ensures) (c .before .before .before .before .before .before .before .before .before .first .given .1) (c .before .before .before .before .before .before .truth .ensures) (c .before .before .before .before .if2 .taken) (c .before .before .below3 .ensures)
+  returns-3 c = search conditional-else
 
   same-length-4 : lts.Need-same-length-4 calls (conditional-at t) conditional.Post
   same-length-4 c = search needs
 
   returns-4 : lts.Need-returns-4 calls (conditional-at t) conditional.Post
-  returns-4 c = conditional-stuck _ _ (c .before .before .before .before .before .before .before .before .before .below .ensures) (c .before .before .before .before .before .first .given .1) (c .before .before .truth .ensures) (c .before .if1 .left) (c .if2 .left)
+  returns-4 c = search conditional-stuck
 
   pub closed : {M : Type 1} → lts.Closed calls (conditional-at t) conditional.Post M
   closed = lts.spec calls (conditional-at t) conditional.Post below-requires enum-known-first same-length returns mul-truth slice-read-truth truth-requires below-requires-2 same-length-2 returns-2 below-requires-3 same-length-3 returns-3 same-length-4 returns-4

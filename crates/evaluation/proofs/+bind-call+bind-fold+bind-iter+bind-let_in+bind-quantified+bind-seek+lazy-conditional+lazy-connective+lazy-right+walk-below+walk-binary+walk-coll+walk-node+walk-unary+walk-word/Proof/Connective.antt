@@ -35,7 +35,7 @@ module _ (t : ℕ) where
   same-length c = search needs
 
   returns : lts.Need-returns calls (connective-at t) connective.Post
-  returns c = connective-stuck _ _ _ (c .before .before .before .before .before .before .before .before .below .ensures) (c .before .before .before .before .first .given .1) (c .before .truth .ensures) (c .if1 .taken)
+  returns c = search connective-stuck
 
   sub-if2 : lts.Need-sub-if2 calls (connective-at t) connective.Post
   sub-if2 c = search needs
@@ -44,16 +44,23 @@ module _ (t : ℕ) where
   same-length-2 c = search needs
 
   returns-2 : lts.Need-returns-2 calls (connective-at t) connective.Post
-  returns-2 c = connective-decided _ _ _ (c .before .before .before .before .before .before .before .before .before .below .ensures) (c .before .before .before .before .before .first .given .1) (c .before .before .truth .ensures) (c .before .if1 .left) (omega (arith, c .before .before .before .before .before .before .before .before .before .before .before .before .before .before .pre)) (omega (arith, c .before .before .before .before .before .before .before .before .before .before .before .before .before .before .pre)) (c .if2 .taken)
+  returns-2 c = search connective-decided
 
   right-requires : lts.Need-right-requires calls (connective-at t) connective.Post
-  right-requires c κs = (omega (arith, c .before .before .before .before .before .before .before .before .before .before .before .before .before .before .before .pre), (omega (arith, c .before .before .before .before .before .before .before .before .before .before .before .before .before .before .before .pre, c .before .before .before .before .before .before .before .before .before .before .below .kept), (omega (arith, c .before .before .before .before .before .before .before .before .before .before .before .before .before .before .before .pre), no-place)))
+  right-requires c κs =
+      let at-below = c .before .before .before .before .before .before .before .before .before .before in
+      let at-start = at-below .before .before .before .before .before in
+      (omega (arith, at-start .pre), (omega (arith, at-start .pre, at-below .below .kept), (omega (arith, at-start .pre), no-place)))
 
   enum-known-first-2 : lts.Need-enum-known-first-2 calls (connective-at t) connective.Post
   enum-known-first-2 c = search needs
 
   right-requires-2 : lts.Need-right-requires-2 calls (connective-at t) connective.Post
-  right-requires-2 c κs = (omega (arith, c .before .before .before .before .before .before .before .before .before .before .before .pre), (omega (arith, c .before .before .before .before .before .before .before .before .before .before .before .pre, c .before .before .before .before .before .before .below .kept), (omega (arith, c .before .before .before .before .before .before .before .before .before .before .before .pre), a-place (its-place (c .before .before .before .before .before .before .below .ensures .small) (c .before .before .first2 .given .1)))))
+  right-requires-2 c κs =
+      let at-first2 = c .before .before in
+      let at-below = at-first2 .before .before .before .before in
+      let at-start = at-below .before .before .before .before .before in
+      (omega (arith, at-start .pre), (omega (arith, at-start .pre, at-below .below .kept), (omega (arith, at-start .pre), a-place (its-place (at-below .below .ensures .small) (at-first2 .first2 .given .1)))))
 
   enum-told : lts.Need-enum-told calls (connective-at t) connective.Post
   enum-told c = search needs
@@ -65,25 +72,25 @@ module _ (t : ℕ) where
   same-length-3 c = search needs
 
   returns-3 : lts.Need-returns-3 calls (connective-at t) connective.Post
-  returns-3 c = connective-known _ _ _ (c .before .before .before .before .before .before .before .before .before .before .before .before .before .below .ensures) (c .before .before .before .before .before .before .before .before .before .first .given .1) (c .before .before .before .before .before .before .truth .ensures) (c .before .before .before .before .before .if1 .left) (omega (arith, c .before .before .before .before .before .before .before .before .before .before .before .before .before .before .before .before .before .before .pre)) (omega (arith, c .before .before .before .before .before .before .before .before .before .before .before .before .before .before .before .before .before .before .pre)) (c .before .before .before .before .if2 .left) (c .before .before .right .ensures)
+  returns-3 c = search connective-known
 
   same-length-4 : lts.Need-same-length-4 calls (connective-at t) connective.Post
   same-length-4 c = search needs
 
   returns-4 : lts.Need-returns-4 calls (connective-at t) connective.Post
-  returns-4 c = connective-unknown _ _ _ (c .before .before .before .before .before .before .before .before .before .below .ensures) (c .before .before .before .before .before .first2 .given .1) (c .before .before .right2 .ensures)
+  returns-4 c = search connective-unknown
 
   same-length-5 : lts.Need-same-length-5 calls (connective-at t) connective.Post
   same-length-5 c = search needs
 
   returns-5 : lts.Need-returns-5 calls (connective-at t) connective.Post
-  returns-5 c = connective-ends _ _ _ (c .before .before .before .before .below .ensures) (c .enum-told .given .1)
+  returns-5 c = search connective-ends
 
   same-length-6 : lts.Need-same-length-6 calls (connective-at t) connective.Post
   same-length-6 c = search needs
 
   returns-6 : lts.Need-returns-6 calls (connective-at t) connective.Post
-  returns-6 c = connective-stops _ _ _ (c .before .before .before .before .before .below .ensures) (c .before .first3 .given .1)
+  returns-6 c = search connective-stops
 
   pub closed : {M : Type 1} → lts.Closed calls (connective-at t) connective.Post M
   closed = lts.spec calls (connective-at t) connective.Post below-requires enum-known-first mul-truth slice-read-truth truth-requires same-length returns sub-if2 same-length-2 returns-2 right-requires enum-known-first-2 right-requires-2 enum-told enum-known-first-3 same-length-3 returns-3 same-length-4 returns-4 same-length-5 returns-5 same-length-6 returns-6

@@ -1,6 +1,5 @@
 -- The needs of `fold`.
 use mathlib.Core.Logic.{inl}
-use mathlib.Core.Path.{_∙_}
 use Prim.Native.Nat.{_+_, _-_, ℕ}
 use Rattle.nodes.specs.Nodes.{word, variable}
 use Rattle.evaluation.specs.Evaluating.{ReadsWorld, operandFor}
@@ -32,7 +31,9 @@ module _ (t : ℕ) where
   add-p c = search needs
 
   loop-holds : lts.Need-loop-holds calls (fold-at t) fold.Post Inv μ
-  loop-holds c = fold-starts (omega (arith, c .before .before .before .before .pre)) (omega (arith, c .before .before .before .before .pre)) (omega (arith, c .before .before .before .before .pre))
+  loop-holds c =
+      let at-start = c .before .before .before .before in
+      fold-starts (omega (arith, at-start .pre)) (omega (arith, at-start .pre)) (omega (arith, at-start .pre))
 
   add-inner : lts.Need-add-inner calls (fold-at t) fold.Post Inv μ
   add-inner c = search needs
@@ -53,43 +54,70 @@ module _ (t : ℕ) where
   array-write-inner-2 c = search needs
 
   add-below : lts.Need-add-below calls (fold-at t) fold.Post Inv μ
-  add-below c = omega (arith, c .before .before .before .before .before .before .before .before .pre, c .before .before .before .loop .inv .small)
+  add-below c = omega arith
 
   below-requires : lts.Need-below-requires calls (fold-at t) fold.Post Inv μ
-  below-requires c κs = omega (arith, c .before .before .before .before .before .before .before .before .pre, c .before .before .before .loop .inv .long, c .before .before .before .loop .inv .small)
+  below-requires c κs = omega arith
 
   enum-known-turn : lts.Need-enum-known-turn calls (fold-at t) fold.Post Inv μ
   enum-known-turn c = search needs
 
   same-length : lts.Need-same-length calls (fold-at t) fold.Post Inv μ
-  same-length c = (c .before .before .before .below .kept .1 .1 .1 .1 .1 .1 .0) ∙ c .before .before .before .before .before .before .before .loop .inv .long
+  same-length c = search needs
 
   returns : lts.Need-returns calls (fold-at t) fold.Post Inv μ
-  returns c = fold-early (c .before .before .before .before .before .before .before .loop .inv) (omega (arith, c .before .before .before .before .before .before .before .before .before .before .before .before .pre)) (c .before .before .before .before .before .before .before .before .before .before .before .before .pre .1 .1 .1 .0) (c .before .before .before .before .before .before .before .before .before .before .before .before .pre .1 .1 .1 .1) (omega (arith, c .before .before .before .before .before .before .before .before .before .before .before .before .pre .1 .1 .1 .0)) (omega (arith, c .before .before .before .before .before .before .before .before .before .before .before .before .pre .1 .1 .1 .1)) (omega (arith, c .before .before .before .before .before .before .before .before .before .before .before .before .pre)) (c .before .before .before .before .before .before .loop-test .taken) (c .before .before .before .below .ensures) (c .match .keys2)
+  returns c =
+      let at-below = c .before .before .before in
+      let at-loop-test = at-below .before .before .before in
+      let at-loop = at-loop-test .before in
+      let at-start = at-loop .before .before .before .before .before in
+      fold-early (at-loop .loop .inv) (omega (arith, at-start .pre)) (at-start .pre .1 .1 .1 .0) (at-start .pre .1 .1 .1 .1) (omega (arith, at-start .pre .1 .1 .1 .0)) (omega (arith, at-start .pre .1 .1 .1 .1)) (omega (arith, at-start .pre)) (at-loop-test .loop-test .taken) (at-below .below .ensures) (c .match .keys2)
 
   add-slide : lts.Need-add-slide calls (fold-at t) fold.Post Inv μ
-  add-slide c = omega (arith, c .before .before .before .before .before .before .before .before .before .before .before .before .before .before .before .pre, c .before .before .before .before .before .before .before .before .before .before .loop .inv .small)
+  add-slide c = omega arith
 
   slide-requires : lts.Need-slide-requires calls (fold-at t) fold.Post Inv μ
-  slide-requires c κs = (omega (arith, c .before .before .before .before .before .before .before .before .before .before .before .before .before .before .before .pre, c .before .before .before .before .before .before .before .before .before .before .loop .inv .long, c .before .before .before .before .before .before .before .before .before .before .loop .inv .small, (c .before .before .before .before .before .before .below .kept .1 .1 .1 .1 .1 .1 .0), bounds (c .before .before .before .before .before .before .below .ensures .small) (c .before .before .turn .given .1)), inl (omega arith))
+  slide-requires c κs =
+      let at-turn = c .before .before in
+      let at-below = at-turn .before .before .before .before in
+      let at-loop = at-below .before .before .before .before in
+      let at-start = at-loop .before .before .before .before .before in
+      (omega (arith, at-start .pre, at-loop .loop .inv .long, at-loop .loop .inv .small, (at-below .below .kept .1 .1 .1 .1 .1 .1 .0), bounds (at-below .below .ensures .small) (at-turn .turn .given .1)), inl (omega arith))
 
   skip-requires : lts.Need-skip-requires calls (fold-at t) fold.Post Inv μ
-  skip-requires c κs = omega (arith, c .before .before .before .before .before .before .before .before .before .before .before .before .before .before .before .before .before .before .before .pre, c .before .before .before .before .before .before .before .before .before .before .before .before .before .before .loop .inv .long, (c .before .before .before .before .before .before .before .before .before .before .below .kept .1 .1 .1 .1 .1 .1 .0), c .before .before .before .slide .kept .0, c .before .before .before .before .before .before .before .before .before .before .before .before .before .loop-test .taken)
+  skip-requires c κs = omega arith
 
   loop-less : lts.Need-loop-less calls (fold-at t) fold.Post Inv μ
-  loop-less c = omega (arith, c .skip .ensures .up (c .before .before .before .before .before .before .before .before .before .before .before .before .before .before .loop-test .taken), c .skip .ensures .within, c .before .before .before .before .before .before .before .before .before .before .before .before .before .before .loop-test .taken)
+  loop-less c =
+      let at-loop-test = c .before .before .before .before .before .before .before .before .before .before .before .before .before .before in
+      omega (arith, c .skip .ensures .up (at-loop-test .loop-test .taken), c .skip .ensures .within, at-loop-test .loop-test .taken)
 
   loop-again : lts.Need-loop-again calls (fold-at t) fold.Post Inv μ
-  loop-again c = fold-again (c .before .before .before .before .before .before .before .before .before .before .before .before .before .before .before .loop .inv) (omega (arith, c .before .before .before .before .before .before .before .before .before .before .before .before .before .before .before .before .before .before .before .before .pre)) (c .before .before .before .before .before .before .before .before .before .before .before .before .before .before .before .before .before .before .before .before .pre .1 .1 .1 .0) (c .before .before .before .before .before .before .before .before .before .before .before .before .before .before .before .before .before .before .before .before .pre .1 .1 .1 .1) (omega (arith, c .before .before .before .before .before .before .before .before .before .before .before .before .before .before .before .before .before .before .before .before .pre .1 .1 .1 .0)) (omega (arith, c .before .before .before .before .before .before .before .before .before .before .before .before .before .before .before .before .before .before .before .before .pre .1 .1 .1 .1)) (omega (arith, c .before .before .before .before .before .before .before .before .before .before .before .before .before .before .before .before .before .before .before .before .pre)) (c .before .before .before .before .before .before .before .before .before .before .before .before .before .before .loop-test .taken) (c .before .before .before .before .before .before .before .before .before .before .before .below .ensures) (c .before .before .before .before .before .before .before .turn .given .1) (c .before .before .before .before .before .before .before .before .before .before .before .below .kept .1 .1 .1 .1 .1 .1 .0) (c .before .before .before .before .slide .kept .0) (omega (arith, c .before .before .before .before .before .before .before .before .before .before .before .before .before .before .before .before .before .before .before .before .pre, c .before .before .before .before .before .before .before .before .before .before .before .before .before .before .before .loop .inv .long, c .before .before .before .before .before .before .before .before .before .before .before .before .before .before .before .loop .inv .small, (c .before .before .before .before .before .before .before .before .before .before .before .below .kept .1 .1 .1 .1 .1 .1 .0))) (c .before .before .before .before .slide .ensures .front) (c .skip .ensures)
+  loop-again c =
+      let at-slide = c .before .before .before .before in
+      let at-turn = at-slide .before .before .before in
+      let at-below = at-turn .before .before .before .before in
+      let at-loop-test = at-below .before .before .before in
+      let at-loop = at-loop-test .before in
+      let at-start = at-loop .before .before .before .before .before in
+      fold-again (at-loop .loop .inv) (omega (arith, at-start .pre)) (at-start .pre .1 .1 .1 .0) (at-start .pre .1 .1 .1 .1) (omega (arith, at-start .pre .1 .1 .1 .0)) (omega (arith, at-start .pre .1 .1 .1 .1)) (omega (arith, at-start .pre)) (at-loop-test .loop-test .taken) (at-below .below .ensures) (at-turn .turn .given .1) (at-below .below .kept .1 .1 .1 .1 .1 .1 .0) (at-slide .slide .kept .0) (omega (arith, at-start .pre, at-loop .loop .inv .long, at-loop .loop .inv .small, (at-below .below .kept .1 .1 .1 .1 .1 .1 .0))) (at-slide .slide .ensures .front) (c .skip .ensures)
 
   slide-requires-2 : lts.Need-slide-requires-2 calls (fold-at t) fold.Post Inv μ
-  slide-requires-2 c κs = (omega (arith, c .before .before .before .before .before .before .before .pre, c .before .before .loop .inv .long, c .before .before .loop .inv .small), inl (omega arith))
+  slide-requires-2 c κs =
+      let at-loop = c .before .before in
+      let at-start = at-loop .before .before .before .before .before in
+      (omega (arith, at-start .pre, at-loop .loop .inv .long, at-loop .loop .inv .small), inl (omega arith))
 
   same-length-2 : lts.Need-same-length-2 calls (fold-at t) fold.Post Inv μ
-  same-length-2 c = c .before .before .slide2 .kept .0 ∙ c .before .before .before .before .before .loop .inv .long
+  same-length-2 c = search needs
 
   returns-2 : lts.Need-returns-2 calls (fold-at t) fold.Post Inv μ
-  returns-2 c = fold-none (c .before .before .before .before .before .loop .inv) (omega (arith, c .before .before .before .before .before .before .before .before .before .before .pre)) (c .before .before .before .before .loop-test .left) (c .before .before .slide2 .ensures .front)
+  returns-2 c =
+      let at-slide2 = c .before .before in
+      let at-loop-test = at-slide2 .before .before in
+      let at-loop = at-loop-test .before in
+      let at-start = at-loop .before .before .before .before .before in
+      fold-none (at-loop .loop .inv) (omega (arith, at-start .pre)) (at-loop-test .loop-test .left) (at-slide2 .slide2 .ensures .front)
 
   pub closed : {M : Type 1} → lts.Closed calls (fold-at t) fold.Post M
   closed = lts.spec calls (fold-at t) fold.Post Inv μ add-mid add-p loop-holds add-inner mul-inner array-write-inner add-inner-2 mul-inner-2 array-write-inner-2 add-below below-requires enum-known-turn same-length returns add-slide slide-requires skip-requires loop-less loop-again slide-requires-2 same-length-2 returns-2

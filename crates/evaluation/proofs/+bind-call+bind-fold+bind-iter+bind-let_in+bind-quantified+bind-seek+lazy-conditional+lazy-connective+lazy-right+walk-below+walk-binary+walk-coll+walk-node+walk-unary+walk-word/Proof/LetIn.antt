@@ -34,10 +34,14 @@ module _ (t : ℕ) where
   same-length c = search needs
 
   returns : lts.Need-returns calls (let-in-at t) let-in.Post
-  returns c = let-first _ _ (c .before .before .before .below .ensures) (c .match .keys2)
+  returns c = search let-first
 
   add-mid : lts.Need-add-mid calls (let-in-at t) let-in.Post
-  add-mid c = omega (arith, bounds (c .before .before .before .before .before .below .ensures .small) (c .before .bound .given .1), c .before .before .before .before .before .before .before .before .before .before .before .before .pre)
+  add-mid c =
+      let at-bound = c .before in
+      let at-below = at-bound .before .before .before .before in
+      let at-start = at-below .before .before .before .before .before .before .before in
+      omega (arith, bounds (at-below .below .ensures .small) (at-bound .bound .given .1), at-start .pre)
 
   add-inner : lts.Need-add-inner calls (let-in-at t) let-in.Post
   add-inner c = search needs
@@ -49,7 +53,11 @@ module _ (t : ℕ) where
   array-write-inner c = search needs
 
   below-requires-2 : lts.Need-below-requires-2 calls (let-in-at t) let-in.Post
-  below-requires-2 c κs = omega (arith, bounds (c .before .before .before .before .before .before .before .before .below .ensures .small) (c .before .before .before .before .bound .given .1), c .before .before .before .before .before .before .before .before .before .before .before .before .before .before .before .pre, c .before .before .before .before .before .before .before .before .below .kept)
+  below-requires-2 c κs =
+      let at-bound = c .before .before .before .before in
+      let at-below = at-bound .before .before .before .before in
+      let at-start = at-below .before .before .before .before .before .before .before in
+      omega (arith, bounds (at-below .below .ensures .small) (at-bound .bound .given .1), at-start .pre, at-below .below .kept)
 
   enum-known-second : lts.Need-enum-known-second calls (let-in-at t) let-in.Post
   enum-known-second c = search needs
@@ -58,16 +66,37 @@ module _ (t : ℕ) where
   same-length-2 c = search needs
 
   returns-2 : lts.Need-returns-2 calls (let-in-at t) let-in.Post
-  returns-2 c = let-second _ _ (c .before .before .before .before .before .before .before .before .before .before .before .before .below .ensures) (c .before .before .before .before .before .before .before .before .bound .given .1) (c .before .before .before .before .before .before .before .before .before .before .before .before .before .before .wide .ensures ∙ ap (λ (x : ℕ). x % 16) (c .before .before .before .before .before .before .before .before .before .before .before .before .before .before .before .node-word .ensures)) (c .before .before .before .below2 .ensures) (c .match2 .keys2)
+  returns-2 c =
+      let at-below2 = c .before .before .before in
+      let at-bound = at-below2 .before .before .before .before .before in
+      let at-below = at-bound .before .before .before .before in
+      let at-wide = at-below .before .before in
+      let at-node-word = at-wide .before in
+      let-second _ _ (at-below .below .ensures) (at-bound .bound .given .1) (at-wide .wide .ensures ∙ ap (λ (x : ℕ). x % 16) (at-node-word .node-word .ensures)) (at-below2 .below2 .ensures) (c .match2 .keys2)
 
   slide-requires : lts.Need-slide-requires calls (let-in-at t) let-in.Post
-  slide-requires c κs = (omega (arith, bounds (c .before .before .before .before .before .before .before .before .before .before .before .before .before .before .before .below .ensures .small) (c .before .before .before .before .before .before .before .before .before .before .before .bound .given .1), bounds (c .before .before .before .before .before .before .below2 .ensures .small) (c .before .before .second .given .1), c .before .before .before .before .before .before .before .before .before .before .before .before .before .before .before .before .before .before .before .before .before .before .pre, c .before .before .before .before .before .before .before .before .before .before .before .before .before .before .before .below .kept, c .before .before .before .before .before .before .below2 .kept), inl (omega (arith, bounds (c .before .before .before .before .before .before .before .before .before .before .before .before .before .before .before .below .ensures .small) (c .before .before .before .before .before .before .before .before .before .before .before .bound .given .1))))
+  slide-requires c κs =
+      let at-second = c .before .before in
+      let at-below2 = at-second .before .before .before .before in
+      let at-bound = at-below2 .before .before .before .before .before in
+      let at-below = at-bound .before .before .before .before in
+      let at-start = at-below .before .before .before .before .before .before .before in
+      (omega (arith, bounds (at-below .below .ensures .small) (at-bound .bound .given .1), bounds (at-below2 .below2 .ensures .small) (at-second .second .given .1), at-start .pre, at-below .below .kept, at-below2 .below2 .kept), inl (omega (arith, bounds (at-below .below .ensures .small) (at-bound .bound .given .1))))
 
   same-length-3 : lts.Need-same-length-3 calls (let-in-at t) let-in.Post
   same-length-3 c = search needs
 
   returns-3 : lts.Need-returns-3 calls (let-in-at t) let-in.Post
-  returns-3 c = let-done _ _ (c .before .before .before .before .before .before .before .before .before .before .before .before .before .before .before .before .before .before .below .ensures) (c .before .before .before .before .before .before .before .before .before .before .before .before .before .before .bound .given .1) (c .before .before .before .before .before .before .before .before .before .before .before .before .before .before .before .before .before .before .before .before .wide .ensures ∙ ap (λ (x : ℕ). x % 16) (c .before .before .before .before .before .before .before .before .before .before .before .before .before .before .before .before .before .before .before .before .before .node-word .ensures)) (c .before .before .before .before .before .before .before .before .before .below2 .ensures) (c .before .before .before .before .before .second .given .1) (omega (arith, bounds (c .before .before .before .before .before .before .before .before .before .before .before .before .before .before .before .before .before .before .below .ensures .small) (c .before .before .before .before .before .before .before .before .before .before .before .before .before .before .bound .given .1), c .before .before .before .before .before .before .before .before .before .before .before .before .before .before .before .before .before .before .before .before .before .before .before .before .before .pre, c .before .before .before .before .before .before .before .before .before .before .before .before .before .before .before .before .before .before .below .kept, c .before .before .before .before .before .before .before .before .before .below2 .kept)) (c .before .before .slide .ensures .front)
+  returns-3 c =
+      let at-slide = c .before .before in
+      let at-second = at-slide .before .before .before in
+      let at-below2 = at-second .before .before .before .before in
+      let at-bound = at-below2 .before .before .before .before .before in
+      let at-below = at-bound .before .before .before .before in
+      let at-wide = at-below .before .before in
+      let at-node-word = at-wide .before in
+      let at-start = at-node-word .before .before .before .before in
+      let-done _ _ (at-below .below .ensures) (at-bound .bound .given .1) (at-wide .wide .ensures ∙ ap (λ (x : ℕ). x % 16) (at-node-word .node-word .ensures)) (at-below2 .below2 .ensures) (at-second .second .given .1) (omega (arith, bounds (at-below .below .ensures .small) (at-bound .bound .given .1), at-start .pre, at-below .below .kept, at-below2 .below2 .kept)) (at-slide .slide .ensures .front)
 
   pub closed : {M : Type 1} → lts.Closed calls (let-in-at t) let-in.Post M
   closed = lts.spec calls (let-in-at t) let-in.Post node-word-requires wide-requires below-requires enum-known-bound same-length returns add-mid add-inner mul-inner array-write-inner below-requires-2 enum-known-second same-length-2 returns-2 slide-requires same-length-3 returns-3

@@ -32,22 +32,40 @@ module _ (t : ℕ) where
   add-s c = search needs
 
   sub-deeper : lts.Need-sub-deeper calls (node-at t) node.Post
-  sub-deeper c = omega (arith, c .before .before .before .pre, some-level (treeAt (c .before .before .before .args .nodes .now) (c .before .before .before .args .n)))
+  sub-deeper c =
+      let at-start = c .before .before .before in
+      omega (arith, at-start .pre, some-level (treeAt (at-start .args .nodes .now) (at-start .args .n)))
 
   node-word-requires : lts.Need-node-word-requires calls (node-at t) node.Post
   node-word-requires c κs = search needs
 
   conditional-requires : lts.Need-conditional-requires calls (node-at t) node.Post
-  conditional-requires c κs = omega (arith, c .before .before .before .before .before .before .pre, some-level (treeAt (c .before .before .before .before .before .before .args .nodes .now) (c .before .before .before .before .before .before .args .n)), conditional-levels (c .before .before .before .before .before .before .args .nodes .now) (c .before .before .before .before .before .before .args .n) (c .before .before .node-word .result) (c .before .before .node-word .ensures) (c .before .match .keys3))
+  conditional-requires c κs =
+      let at-match = c .before in
+      let at-node-word = at-match .before in
+      let at-start = at-node-word .before .before .before .before in
+      omega (arith, at-start .pre, some-level (treeAt (at-start .args .nodes .now) (at-start .args .n)), conditional-levels (at-start .args .nodes .now) (at-start .args .n) (at-node-word .node-word .result) (at-node-word .node-word .ensures) (at-match .match .keys3))
 
   let-in-requires : lts.Need-let-in-requires calls (node-at t) node.Post
-  let-in-requires c κs = omega (arith, c .before .before .before .before .before .before .pre, some-level (treeAt (c .before .before .before .before .before .before .args .nodes .now) (c .before .before .before .before .before .before .args .n)), let-levels (c .before .before .before .before .before .before .args .nodes .now) (c .before .before .before .before .before .before .args .n) (c .before .before .node-word .result) (c .before .before .node-word .ensures) (c .before .match .keys4))
+  let-in-requires c κs =
+      let at-match = c .before in
+      let at-node-word = at-match .before in
+      let at-start = at-node-word .before .before .before .before in
+      omega (arith, at-start .pre, some-level (treeAt (at-start .args .nodes .now) (at-start .args .n)), let-levels (at-start .args .nodes .now) (at-start .args .n) (at-node-word .node-word .result) (at-node-word .node-word .ensures) (at-match .match .keys4))
 
   iter-requires : lts.Need-iter-requires calls (node-at t) node.Post
-  iter-requires c κs = omega (arith, c .before .before .before .before .before .before .pre, some-level (treeAt (c .before .before .before .before .before .before .args .nodes .now) (c .before .before .before .before .before .before .args .n)), iterate-levels (c .before .before .before .before .before .before .args .nodes .now) (c .before .before .before .before .before .before .args .n) (c .before .before .node-word .result) (c .before .before .node-word .ensures) (c .before .match .keys5))
+  iter-requires c κs =
+      let at-match = c .before in
+      let at-node-word = at-match .before in
+      let at-start = at-node-word .before .before .before .before in
+      omega (arith, at-start .pre, some-level (treeAt (at-start .args .nodes .now) (at-start .args .n)), iterate-levels (at-start .args .nodes .now) (at-start .args .n) (at-node-word .node-word .result) (at-node-word .node-word .ensures) (at-match .match .keys5))
 
   call-requires : lts.Need-call-requires calls (node-at t) node.Post
-  call-requires c κs = omega (arith, c .before .before .before .before .before .before .pre, some-level (treeAt (c .before .before .before .before .before .before .args .nodes .now) (c .before .before .before .before .before .before .args .n)), call-levels (c .before .before .before .before .before .before .args .nodes .now) (c .before .before .before .before .before .before .args .n) (c .before .before .node-word .result) (c .before .before .node-word .ensures) (c .before .match .keys6))
+  call-requires c κs =
+      let at-match = c .before in
+      let at-node-word = at-match .before in
+      let at-start = at-node-word .before .before .before .before in
+      omega (arith, at-start .pre, some-level (treeAt (at-start .args .nodes .now) (at-start .args .n)), call-levels (at-start .args .nodes .now) (at-start .args .n) (at-node-word .node-word .result) (at-node-word .node-word .ensures) (at-match .match .keys6))
 
   node-word-requires-2 : lts.Need-node-word-requires-2 calls (node-at t) node.Post
   node-word-requires-2 c κs = search needs
@@ -62,28 +80,53 @@ module _ (t : ℕ) where
   arose-requires c κs = search needs
 
   connective-requires : lts.Need-connective-requires calls (node-at t) node.Post
-  connective-requires c κs = omega (arith, c .before .before .before .before .before .before .before .before .before .before .pre, some-level (treeAt (c .before .before .before .before .before .before .before .before .before .before .args .nodes .now) (c .before .before .before .before .before .before .before .before .before .before .args .n)), c .before .before .if3 .left, c .before .if4 .taken, connective-levels (c .before .before .before .before .before .before .before .before .before .before .args .nodes .now) (c .before .before .before .before .before .before .before .before .before .before .args .n) (c .before .before .before .before .before .before .node-word .result) (c .before .before .before .before .before .before .node-word .ensures) (c .before .before .if3 .left) (omega (arith, c .before .if4 .taken)))
+  connective-requires c κs =
+      let at-if4 = c .before in
+      let at-if3 = at-if4 .before in
+      let at-node-word = at-if3 .before .before .before .before in
+      let at-start = at-node-word .before .before .before .before in
+      omega (arith, at-start .pre, some-level (treeAt (at-start .args .nodes .now) (at-start .args .n)), at-if3 .if3 .left, at-if4 .if4 .taken, connective-levels (at-start .args .nodes .now) (at-start .args .n) (at-node-word .node-word .result) (at-node-word .node-word .ensures) (at-if3 .if3 .left) (omega (arith, at-if4 .if4 .taken)))
 
   node-word-requires-3 : lts.Need-node-word-requires-3 calls (node-at t) node.Post
-  node-word-requires-3 c κs = omega (arith, c .before .before .before .before .before .before .before .before .before .before .pre)
+  node-word-requires-3 c κs = omega arith
 
   wide-requires : lts.Need-wide-requires calls (node-at t) node.Post
   wide-requires c κs = search needs
 
   quantified-requires : lts.Need-quantified-requires calls (node-at t) node.Post
-  quantified-requires c κs = omega (arith, c .before .wide .ensures, c .before .before .node-word3 .ensures, c .before .before .before .before .before .before .before .before .before .before .before .before .before .pre, some-level (treeAt (c .before .before .before .before .before .before .before .before .before .before .before .before .before .args .nodes .now) (c .before .before .before .before .before .before .before .before .before .before .before .before .before .args .n)), c .before .before .before .before .if4 .left, c .before .before .before .if5 .taken, quantified-levels (c .before .before .before .before .before .before .before .before .before .before .before .before .before .args .nodes .now) (c .before .before .before .before .before .before .before .before .before .before .before .before .before .args .n) (c .before .before .before .before .before .before .before .before .before .node-word .result) (c .before .before .before .before .before .before .before .before .before .node-word .ensures) (c .before .before .before .before .if4 .left) (omega (arith, c .before .before .before .if5 .taken)))
+  quantified-requires c κs =
+      let at-wide = c .before in
+      let at-node-word3 = at-wide .before in
+      let at-if5 = at-node-word3 .before in
+      let at-if4 = at-if5 .before in
+      let at-node-word = at-if4 .before .before .before .before .before in
+      let at-start = at-node-word .before .before .before .before in
+      omega (arith, at-wide .wide .ensures, at-node-word3 .node-word3 .ensures, at-start .pre, some-level (treeAt (at-start .args .nodes .now) (at-start .args .n)), at-if4 .if4 .left, at-if5 .if5 .taken, quantified-levels (at-start .args .nodes .now) (at-start .args .n) (at-node-word .node-word .result) (at-node-word .node-word .ensures) (at-if4 .if4 .left) (omega (arith, at-if5 .if5 .taken)))
 
   coll-requires : lts.Need-coll-requires calls (node-at t) node.Post
-  coll-requires c κs = (omega (arith, c .before .before .before .before .before .before .before .before .before .before .before .before .pre), (omega (arith, c .before .before .before .before .before .before .before .before .before .before .before .before .pre, some-level (treeAt (c .before .before .before .before .before .before .before .before .before .before .before .before .args .nodes .now) (c .before .before .before .before .before .before .before .before .before .before .before .before .args .n))), (c .before .before .if5 .left, omega (arith, c .before .if6 .taken), omega (arith, c .before .before .before .before .before .before .before .before .before .before .before .before .pre), omega (arith, c .before .before .before .before .before .before .before .before .before .before .before .before .pre), shallow (c .before .before .before .before .before .before .before .before .before .before .before .before .args .nodes .now) (c .before .before .before .before .before .before .before .before .before .before .before .before .args .n) (c .before .before .before .before .before .before .before .before .node-word .result) (c .before .before .before .before .before .before .before .before .before .before .before .before .args .left - 1) (c .before .before .before .before .before .before .before .before .node-word .ensures) (c .before .before .if5 .left) (omega (arith, c .before .if6 .taken)) (omega (arith, c .before .before .before .before .before .before .before .before .before .before .before .before .pre, some-level (treeAt (c .before .before .before .before .before .before .before .before .before .before .before .before .args .nodes .now) (c .before .before .before .before .before .before .before .before .before .before .before .before .args .n)))))))
+  coll-requires c κs =
+      let at-if6 = c .before in
+      let at-if5 = at-if6 .before in
+      let at-node-word = at-if5 .before .before .before .before .before .before in
+      let at-start = at-node-word .before .before .before .before in
+      (omega (arith, at-start .pre), (omega (arith, at-start .pre, some-level (treeAt (at-start .args .nodes .now) (at-start .args .n))), (at-if5 .if5 .left, omega (arith, at-if6 .if6 .taken), omega (arith, at-start .pre), omega (arith, at-start .pre), shallow (at-start .args .nodes .now) (at-start .args .n) (at-node-word .node-word .result) (at-start .args .left - 1) (at-node-word .node-word .ensures) (at-if5 .if5 .left) (omega (arith, at-if6 .if6 .taken)) (omega (arith, at-start .pre, some-level (treeAt (at-start .args .nodes .now) (at-start .args .n)))))))
 
   place-of-requires-2 : lts.Need-place-of-requires-2 calls (node-at t) node.Post
   place-of-requires-2 c κs = search needs
 
   binary-requires : lts.Need-binary-requires calls (node-at t) node.Post
-  binary-requires c κs = omega (arith, c .before .before .before .before .before .before .pre, some-level (treeAt (c .before .before .before .before .before .before .args .nodes .now) (c .before .before .before .before .before .before .args .n)), two-codes (⊎-elim (λ m. inl (m .keys2)) (λ m. inr (m .2 .left, m .3 .taken)) (c .before .match .came)), binary-levels (c .before .before .before .before .before .before .args .nodes .now) (c .before .before .before .before .before .before .args .n) (c .before .before .node-word .result) (c .before .before .node-word .ensures) (⊎-elim (λ m. inl (m .keys2)) (λ m. inr (m .2 .left, m .3 .taken)) (c .before .match .came)))
+  binary-requires c κs =
+      let at-match = c .before in
+      let at-node-word = at-match .before in
+      let at-start = at-node-word .before .before .before .before in
+      omega (arith, at-start .pre, some-level (treeAt (at-start .args .nodes .now) (at-start .args .n)), two-codes (⊎-elim (λ m. inl (m .keys2)) (λ m. inr (m .2 .left, m .3 .taken)) (at-match .match .came)), binary-levels (at-start .args .nodes .now) (at-start .args .n) (at-node-word .node-word .result) (at-node-word .node-word .ensures) (⊎-elim (λ m. inl (m .keys2)) (λ m. inr (m .2 .left, m .3 .taken)) (at-match .match .came)))
 
   unary-requires : lts.Need-unary-requires calls (node-at t) node.Post
-  unary-requires c κs = omega (arith, c .before .before .before .before .before .before .pre, some-level (treeAt (c .before .before .before .before .before .before .args .nodes .now) (c .before .before .before .before .before .before .args .n)), single-codes (⊎-elim (λ m. lone-code (m .keys1)) (⊎-elim (λ m. low-code (m .1 .left) (m .2 .taken)) (λ m. high-code (from-33 _ (m .6 .left) (m .0 .rest .0 .0 .0 .0 .0 .1) (m .0 .rest .0 .0 .0 .1) (m .0 .rest .0 .0 .1)) (m .7 .taken))) (c .before .match .came)), single-levels (c .before .before .before .before .before .before .args .nodes .now) (c .before .before .before .before .before .before .args .n) (c .before .before .node-word .result) (c .before .before .node-word .ensures) (⊎-elim (λ m. lone-code (m .keys1)) (⊎-elim (λ m. low-code (m .1 .left) (m .2 .taken)) (λ m. high-code (from-33 _ (m .6 .left) (m .0 .rest .0 .0 .0 .0 .0 .1) (m .0 .rest .0 .0 .0 .1) (m .0 .rest .0 .0 .1)) (m .7 .taken))) (c .before .match .came)))
+  unary-requires c κs =
+      let at-match = c .before in
+      let at-node-word = at-match .before in
+      let at-start = at-node-word .before .before .before .before in
+      omega (arith, at-start .pre, some-level (treeAt (at-start .args .nodes .now) (at-start .args .n)), single-codes (⊎-elim (λ m. lone-code (m .keys1)) (⊎-elim (λ m. low-code (m .1 .left) (m .2 .taken)) (λ m. high-code (from-33 _ (m .6 .left) (m .0 .rest .0 .0 .0 .0 .0 .1) (m .0 .rest .0 .0 .0 .1) (m .0 .rest .0 .0 .1)) (m .7 .taken))) (at-match .match .came)), single-levels (at-start .args .nodes .now) (at-start .args .n) (at-node-word .node-word .result) (at-node-word .node-word .ensures) (⊎-elim (λ m. lone-code (m .keys1)) (⊎-elim (λ m. low-code (m .1 .left) (m .2 .taken)) (λ m. high-code (from-33 _ (m .6 .left) (m .0 .rest .0 .0 .0 .0 .0 .1) (m .0 .rest .0 .0 .0 .1) (m .0 .rest .0 .0 .1)) (m .7 .taken))) (at-match .match .came)))
 
   same-length : lts.Need-same-length calls (node-at t) node.Post
   same-length c = search needs
@@ -134,19 +177,29 @@ module _ (t : ℕ) where
   returns-8 c = search node-assemble
 
   returns-9 : lts.Need-returns-9 calls (node-at t) node.Post
-  returns-9 c = node-none _ _ _ (c .before .before .before .before .before .before .before .before .before .node-word .ensures) (c .before .before .before .before .before .before .before .before .before .before .before .before .before .pre .1 .1 .1) (over-37 _ (c .before .if7 .left) (c .before .before .before .before .before .before .before .before .match .rest .0 .0 .0 .0 .1) (c .before .before .before .before .before .before .before .before .match .rest .0 .1) (c .before .before .before .before .before .before .before .before .match .rest .1)) (c .before .before .before .before .before .before .before .before .before .before .before .before .before .pre .1 .0 .node) (c .place-of2 .ensures)
+  returns-9 c = search (node-none, over-37)
 
   same-length-9 : lts.Need-same-length-9 calls (node-at t) node.Post
   same-length-9 c = search needs
 
   returns-10 : lts.Need-returns-10 calls (node-at t) node.Post
-  returns-10 c = node-binary _ _ _ (c .before .before .before .before .before .node-word .ensures) (c .before .before .before .before .before .before .before .before .before .pre .1 .1 .1) (⊎-elim (λ m. inl (m .keys2)) (λ m. inr (m .2 .left, m .3 .taken)) (c .before .before .before .before .match .came)) (c .before .before .binary .ensures)
+  returns-10 c =
+      let at-binary = c .before .before in
+      let at-match = at-binary .before .before in
+      let at-node-word = at-match .before in
+      let at-start = at-node-word .before .before .before .before in
+      node-binary _ _ _ (at-node-word .node-word .ensures) (at-start .pre .1 .1 .1) (⊎-elim (λ m. inl (m .keys2)) (λ m. inr (m .2 .left, m .3 .taken)) (at-match .match .came)) (at-binary .binary .ensures)
 
   same-length-10 : lts.Need-same-length-10 calls (node-at t) node.Post
   same-length-10 c = search needs
 
   returns-11 : lts.Need-returns-11 calls (node-at t) node.Post
-  returns-11 c = node-unary _ _ _ (c .before .before .before .before .before .node-word .ensures) (c .before .before .before .before .before .before .before .before .before .pre .1 .1 .1) (⊎-elim (λ m. lone-code (m .keys1)) (⊎-elim (λ m. low-code (m .1 .left) (m .2 .taken)) (λ m. high-code (from-33 _ (m .6 .left) (m .0 .rest .0 .0 .0 .0 .0 .1) (m .0 .rest .0 .0 .0 .1) (m .0 .rest .0 .0 .1)) (m .7 .taken))) (c .before .before .before .before .match .came)) (c .before .before .unary .ensures)
+  returns-11 c =
+      let at-unary = c .before .before in
+      let at-match = at-unary .before .before in
+      let at-node-word = at-match .before in
+      let at-start = at-node-word .before .before .before .before in
+      node-unary _ _ _ (at-node-word .node-word .ensures) (at-start .pre .1 .1 .1) (⊎-elim (λ m. lone-code (m .keys1)) (⊎-elim (λ m. low-code (m .1 .left) (m .2 .taken)) (λ m. high-code (from-33 _ (m .6 .left) (m .0 .rest .0 .0 .0 .0 .0 .1) (m .0 .rest .0 .0 .0 .1) (m .0 .rest .0 .0 .1)) (m .7 .taken))) (at-match .match .came)) (at-unary .unary .ensures)
 
   pub closed : {M : Type 1} → lts.Closed calls (node-at t) node.Post M
   closed = lts.spec calls (node-at t) node.Post add-s sub-deeper node-word-requires conditional-requires let-in-requires iter-requires call-requires node-word-requires-2 leaf-requires place-of-requires arose-requires connective-requires node-word-requires-3 wide-requires quantified-requires coll-requires place-of-requires-2 binary-requires unary-requires same-length returns same-length-2 returns-2 same-length-3 returns-3 same-length-4 returns-4 same-length-5 returns-5 same-length-6 returns-6 same-length-7 returns-7 same-length-8 returns-8 returns-9 same-length-9 returns-10 same-length-10 returns-11

@@ -25,7 +25,7 @@ module _ (t : ℕ) where
   same-length c = search needs
 
   returns : lts.Need-returns calls (quantified-at t) quantified.Post
-  returns c = quantified-first _ _ (c .before .before .before .below .ensures) _ (c .match .keys2)
+  returns c = search quantified-first
 
   mul-sort-of : lts.Need-mul-sort-of calls (quantified-at t) quantified.Post
   mul-sort-of c = search needs
@@ -40,16 +40,27 @@ module _ (t : ℕ) where
   same-length-2 c = search needs
 
   returns-2 : lts.Need-returns-2 calls (quantified-at t) quantified.Post
-  returns-2 c = quantified-stuck _ _ (c .before .before .before .before .before .before .before .before .below .ensures) (c .before .before .before .before .first .given .1) (c .before .sort-of .ensures) _ (c .if1 .taken)
+  returns-2 c = search quantified-stuck
 
   seek-requires : lts.Need-seek-requires calls (quantified-at t) quantified.Post
-  seek-requires c κs = omega (arith, bounds (c .before .before .before .before .before .before .before .before .before .below .ensures .small) (c .before .before .before .before .before .first .given .1), c .before .before .before .before .before .before .before .before .before .before .before .before .before .before .pre, c .before .before .before .before .before .before .before .before .before .below .kept)
+  seek-requires c κs =
+      let at-first = c .before .before .before .before .before in
+      let at-below = at-first .before .before .before .before in
+      let at-start = at-below .before .before .before .before .before in
+      omega (arith, bounds (at-below .below .ensures .small) (at-first .first .given .1), at-start .pre, at-below .below .kept)
 
   same-length-3 : lts.Need-same-length-3 calls (quantified-at t) quantified.Post
   same-length-3 c = search needs
 
   returns-3 : lts.Need-returns-3 calls (quantified-at t) quantified.Post
-  returns-3 c = quantified-done _ _ (c .before .before .before .before .before .before .before .before .before .before .before .before .below .ensures) (c .before .before .before .before .before .before .before .before .first .given .1) (c .before .before .before .before .before .sort-of .ensures) (c .before .before .before .before .if1 .left) (omega (arith, bounds (c .before .before .before .before .before .before .before .before .before .before .before .before .below .ensures .small) (c .before .before .before .before .before .before .before .before .first .given .1), c .before .before .before .before .before .before .before .before .before .before .before .before .before .before .before .before .before .pre, c .before .before .before .before .before .before .before .before .before .before .before .before .below .kept)) _ (c .before .before .seek .ensures)
+  returns-3 c =
+      let at-seek = c .before .before in
+      let at-if1 = at-seek .before .before in
+      let at-sort-of = at-if1 .before in
+      let at-first = at-sort-of .before .before .before in
+      let at-below = at-first .before .before .before .before in
+      let at-start = at-below .before .before .before .before .before in
+      quantified-done _ _ (at-below .below .ensures) (at-first .first .given .1) (at-sort-of .sort-of .ensures) (at-if1 .if1 .left) (omega (arith, bounds (at-below .below .ensures .small) (at-first .first .given .1), at-start .pre, at-below .below .kept)) _ (at-seek .seek .ensures)
 
   pub closed : {M : Type 1} → lts.Closed calls (quantified-at t) quantified.Post M
   closed = lts.spec calls (quantified-at t) quantified.Post below-requires enum-known-first same-length returns mul-sort-of slice-read-sort-of sort-of-requires same-length-2 returns-2 seek-requires same-length-3 returns-3

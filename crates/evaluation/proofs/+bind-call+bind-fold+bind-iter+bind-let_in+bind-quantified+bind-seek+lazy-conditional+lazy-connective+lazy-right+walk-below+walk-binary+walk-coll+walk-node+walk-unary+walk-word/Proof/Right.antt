@@ -33,13 +33,13 @@ module _ (t : ℕ) where
   same-length c = search needs
 
   returns : lts.Need-returns calls (right-at t) right.Post
-  returns c = right-stuck _ _ (c .before .before .before .before .before .before .before .before .below .ensures) (c .before .before .before .before .second .given .1) (c .before .truth .ensures) (c .if1 .taken)
+  returns c = search right-stuck
 
   same-length-2 : lts.Need-same-length-2 calls (right-at t) right.Post
   same-length-2 c = search needs
 
   returns-2 : lts.Need-returns-2 calls (right-at t) right.Post
-  returns-2 c = right-known _ _ (c .before .before .before .before .before .before .before .before .before .below .ensures) (c .before .before .before .before .before .second .given .1) (c .before .before .truth .ensures) (c .before .if1 .left) (c .if2 .taken)
+  returns-2 c = search right-known
 
   sub-if3 : lts.Need-sub-if3 calls (right-at t) right.Post
   sub-if3 c = search needs
@@ -48,7 +48,14 @@ module _ (t : ℕ) where
   same-length-3 c = search needs
 
   returns-3 : lts.Need-returns-3 calls (right-at t) right.Post
-  returns-3 c = right-decided _ _ (c .before .before .before .before .before .before .before .before .before .before .below .ensures) (c .before .before .before .before .before .before .second .given .1) (c .before .before .before .truth .ensures) (c .before .before .if1 .left) (c .before .if2 .left) (c .if3 .taken ∙ decides-code (c .before .before .before .before .before .before .before .before .before .before .before .before .before .before .before .args .form) (c .before .before .before .before .before .before .before .before .before .before .before .before .before .before .before .pre .1 .1 .0 .0) (c .before .before .before .before .before .before .before .before .before .before .before .before .before .before .before .pre .1 .1 .0 .1))
+  returns-3 c =
+      let at-if2 = c .before in
+      let at-if1 = at-if2 .before in
+      let at-truth = at-if1 .before in
+      let at-second = at-truth .before .before .before in
+      let at-below = at-second .before .before .before .before in
+      let at-start = at-below .before .before .before .before .before in
+      right-decided _ _ (at-below .below .ensures) (at-second .second .given .1) (at-truth .truth .ensures) (at-if1 .if1 .left) (at-if2 .if2 .left) (c .if3 .taken ∙ decides-code (at-start .args .form) (at-start .pre .1 .1 .0 .0) (at-start .pre .1 .1 .0 .1))
 
   enum-known-second-2 : lts.Need-enum-known-second-2 calls (right-at t) right.Post
   enum-known-second-2 c = search needs
@@ -66,25 +73,32 @@ module _ (t : ℕ) where
   same-length-4 c = search needs
 
   returns-4 : lts.Need-returns-4 calls (right-at t) right.Post
-  returns-4 c = right-undecided _ _ (c .before .before .before .before .before .before .before .before .before .before .below .ensures) (c .before .before .before .before .before .before .second .given .1) (c .before .before .before .truth .ensures) (c .before .before .if1 .left) (c .before .if2 .left) (c .before .before .before .before .before .before .before .before .before .before .before .before .before .before .before .pre .1 .1 .1) (λ e. c .if3 .left (e ∙ sym (decides-code (c .before .before .before .before .before .before .before .before .before .before .before .before .before .before .before .args .form) (c .before .before .before .before .before .before .before .before .before .before .before .before .before .before .before .pre .1 .1 .0 .0) (c .before .before .before .before .before .before .before .before .before .before .before .before .before .before .before .pre .1 .1 .0 .1))))
+  returns-4 c =
+      let at-if2 = c .before in
+      let at-if1 = at-if2 .before in
+      let at-truth = at-if1 .before in
+      let at-second = at-truth .before .before .before in
+      let at-below = at-second .before .before .before .before in
+      let at-start = at-below .before .before .before .before .before in
+      right-undecided _ _ (at-below .below .ensures) (at-second .second .given .1) (at-truth .truth .ensures) (at-if1 .if1 .left) (at-if2 .if2 .left) (at-start .pre .1 .1 .1) (λ e. c .if3 .left (e ∙ sym (decides-code (at-start .args .form) (at-start .pre .1 .1 .0 .0) (at-start .pre .1 .1 .0 .1))))
 
   same-length-5 : lts.Need-same-length-5 calls (right-at t) right.Post
   same-length-5 c = search needs
 
   returns-5 : lts.Need-returns-5 calls (right-at t) right.Post
-  returns-5 c = right-undefined _ _ (c .before .before .before .before .before .before .below .ensures) (c .before .before .before .before .before .before .before .before .before .before .before .pre .1 .1 .1) (c .before .before .second2 .given .1) (c .earlier .ensures)
+  returns-5 c = search right-undefined
 
   same-length-6 : lts.Need-same-length-6 calls (right-at t) right.Post
   same-length-6 c = search needs
 
   returns-6 : lts.Need-returns-6 calls (right-at t) right.Post
-  returns-6 c = right-ends _ _ (c .before .before .before .before .below .ensures) (c .enum-told .given .1)
+  returns-6 c = search right-ends
 
   same-length-7 : lts.Need-same-length-7 calls (right-at t) right.Post
   same-length-7 c = search needs
 
   returns-7 : lts.Need-returns-7 calls (right-at t) right.Post
-  returns-7 c = right-stops _ _ (c .before .before .before .before .before .below .ensures) (c .before .second3 .given .1)
+  returns-7 c = search right-stops
 
   pub closed : {M : Type 1} → lts.Closed calls (right-at t) right.Post M
   closed = lts.spec calls (right-at t) right.Post below-requires enum-known-second mul-truth slice-read-truth truth-requires same-length returns same-length-2 returns-2 sub-if3 same-length-3 returns-3 enum-known-second-2 earlier-requires enum-told enum-known-second-3 same-length-4 returns-4 same-length-5 returns-5 same-length-6 returns-6 same-length-7 returns-7

@@ -1,5 +1,4 @@
 -- The needs of `seek`.
-use mathlib.Core.Path.{_∙_}
 use Prim.Native.Nat.{_+_, _-_, ℕ}
 use Rattle.nodes.specs.Nodes.{word, variable, quantifierOf}
 use Rattle.evaluation.specs.Evaluating.{ReadsWorld, operandFor}
@@ -44,10 +43,10 @@ module _ (t : ℕ) where
   array-write-inner c = search needs
 
   below-requires : lts.Need-below-requires calls (seek-at t) seeking.Post Inv μ
-  below-requires c κs = omega (arith, c .before .before .before .before .before .before .before .before .pre, c .before .before .before .loop .inv .long)
+  below-requires c κs = omega arith
 
   skip-requires : lts.Need-skip-requires calls (seek-at t) seeking.Post Inv μ
-  skip-requires c κs = omega (arith, c .before .before .before .before .before .before .before .before .before .before .before .before .pre, c .before .before .before .before .before .before .before .loop .inv .long, c .before .before .before .below .kept .1 .1 .1 .1 .1 .1 .0, c .before .before .before .before .before .before .loop-test .taken)
+  skip-requires c κs = omega arith
 
   enum-known-turn : lts.Need-enum-known-turn calls (seek-at t) seeking.Post Inv μ
   enum-known-turn c = search needs
@@ -56,7 +55,10 @@ module _ (t : ℕ) where
   earlier-requires c κs = search needs
 
   loop-less : lts.Need-loop-less calls (seek-at t) seeking.Post Inv μ
-  loop-less c = omega (arith, c .before .before .before .before .skip .ensures .up (c .before .before .before .before .before .before .before .before .before .before .before .loop-test .taken), c .before .before .before .before .skip .ensures .within, c .before .before .before .before .before .before .before .before .before .before .before .loop-test .taken)
+  loop-less c =
+      let at-skip = c .before .before .before .before in
+      let at-loop-test = at-skip .before .before .before .before .before .before .before in
+      omega (arith, at-skip .skip .ensures .up (at-loop-test .loop-test .taken), at-skip .skip .ensures .within, at-loop-test .loop-test .taken)
 
   loop-again : lts.Need-loop-again calls (seek-at t) seeking.Post Inv μ
   loop-again c = search seek-past
@@ -65,7 +67,7 @@ module _ (t : ℕ) where
   enum-known-turn-2 c = search needs
 
   same-length : lts.Need-same-length calls (seek-at t) seeking.Post Inv μ
-  same-length c = (c .before .before .before .before .before .before .below .kept .1 .1 .1 .1 .1 .1 .0) ∙ c .before .before .before .before .before .before .before .before .before .before .loop .inv .long
+  same-length c = search needs
 
   returns : lts.Need-returns calls (seek-at t) seeking.Post Inv μ
   returns c = search seek-early
@@ -74,46 +76,75 @@ module _ (t : ℕ) where
   mul-truth c = search needs
 
   slice-read-truth : lts.Need-slice-read-truth calls (seek-at t) seeking.Post Inv μ
-  slice-read-truth c = omega (arith, c .before .before .before .before .before .before .before .before .before .before .before .before .before .before .before .before .before .before .pre, c .before .before .before .before .before .before .before .before .before .before .before .before .before .loop .inv .long, c .before .before .before .before .before .before .before .before .before .below .kept .1 .1 .1 .1 .1 .1 .0)
+  slice-read-truth c = omega arith
 
   truth-requires : lts.Need-truth-requires calls (seek-at t) seeking.Post Inv μ
   truth-requires c κs = search needs
 
   same-length-2 : lts.Need-same-length-2 calls (seek-at t) seeking.Post Inv μ
-  same-length-2 c = (c .before .before .before .before .before .before .before .before .before .before .before .below .kept .1 .1 .1 .1 .1 .1 .0) ∙ c .before .before .before .before .before .before .before .before .before .before .before .before .before .before .before .loop .inv .long
+  same-length-2 c = search needs
 
   returns-2 : lts.Need-returns-2 calls (seek-at t) seeking.Post Inv μ
-  returns-2 c = seek-stuck _ _ (c .before .before .before .before .before .before .before .before .before .before .before .before .before .before .before .loop .inv) (c .before .before .before .before .before .before .before .before .before .before .before .before .before .before .before .before .before .before .before .before .pre .1 .0) (c .before .before .before .before .before .before .before .before .before .before .before .before .before .before .before .before .before .before .before .before .pre .1 .1 .0 .4) (c .before .before .before .before .before .before .before .before .before .before .before .before .before .before .before .before .before .before .before .before .pre .1 .1 .1) (c .before .before .before .before .before .before .before .before .before .before .before .before .before .before .loop-test .taken) (c .before .before .before .before .before .before .before .before .before .before .before .below .ensures) (c .before .before .before .before .turn2 .given .1) (c .before .truth .ensures) (c .if1 .taken)
+  returns-2 c =
+      let at-truth = c .before in
+      let at-turn2 = at-truth .before .before .before in
+      let at-below = at-turn2 .before .before .before .before .before .before .before in
+      let at-loop-test = at-below .before .before .before in
+      let at-loop = at-loop-test .before in
+      let at-start = at-loop .before .before .before .before .before in
+      seek-stuck _ _ (at-loop .loop .inv) (at-start .pre .1 .0) (at-start .pre .1 .1 .0 .4) (at-start .pre .1 .1 .1) (at-loop-test .loop-test .taken) (at-below .below .ensures) (at-turn2 .turn2 .given .1) (at-truth .truth .ensures) (c .if1 .taken)
 
   sub-if2 : lts.Need-sub-if2 calls (seek-at t) seeking.Post Inv μ
   sub-if2 c = search needs
 
   push-requires : lts.Need-push-requires calls (seek-at t) seeking.Post Inv μ
-  push-requires c κs = (tt, omega (arith, c .before .before .before .before .before .before .before .before .before .before .before .before .before .before .before .before .before .before .before .before .before .before .pre, c .before .before .before .before .before .before .before .before .before .before .before .before .before .before .before .before .before .loop .inv .long, c .before .before .before .before .before .before .before .before .before .before .before .before .before .below .kept .1 .1 .1 .1 .1 .1 .0))
+  push-requires c κs = search needs
 
   same-length-3 : lts.Need-same-length-3 calls (seek-at t) seeking.Post Inv μ
-  same-length-3 c = c .before .before .push .kept .0 ∙ (c .before .before .before .before .before .before .before .before .before .before .before .before .before .before .before .before .below .kept .1 .1 .1 .1 .1 .1 .0) ∙ c .before .before .before .before .before .before .before .before .before .before .before .before .before .before .before .before .before .before .before .before .loop .inv .long
+  same-length-3 c = search needs
 
   returns-3 : lts.Need-returns-3 calls (seek-at t) seeking.Post Inv μ
-  returns-3 c = seek-ends _ _ (c .before .before .before .before .before .before .before .before .before .before .before .before .before .before .before .before .before .before .before .before .loop .inv) (c .before .before .before .before .before .before .before .before .before .before .before .before .before .before .before .before .before .before .before .before .before .before .before .before .before .pre .1 .0) (c .before .before .before .before .before .before .before .before .before .before .before .before .before .before .before .before .before .before .before .before .before .before .before .before .before .pre .1 .1 .0 .4) (c .before .before .before .before .before .before .before .before .before .before .before .before .before .before .before .before .before .before .before .before .before .before .before .before .before .pre .1 .1 .1) (c .before .before .before .before .before .before .before .before .before .before .before .before .before .before .before .before .before .before .before .loop-test .taken) (c .before .before .before .before .before .before .before .before .before .before .before .before .before .before .before .before .below .ensures) (c .before .before .before .before .before .before .before .before .before .turn2 .given .1) (c .before .before .before .before .before .before .truth .ensures) (c .before .before .before .before .before .before .before .before .before .before .before .before .before .before .before .before .before .before .before .before .before .before .before .before .before .pre .1 .1 .0 .0) (c .before .before .before .before .before .before .before .before .before .before .before .before .before .before .before .before .before .before .before .before .before .before .before .before .before .pre .1 .1 .0 .1) (c .before .before .before .before .before .if1 .left) (c .before .before .before .before .if2 .taken) (c .before .before .before .before .before .before .before .before .before .before .before .before .before .before .before .before .below .kept .1 .1 .1 .1 .1 .1 .0) (c .before .before .push .ensures)
+  returns-3 c =
+      let at-push = c .before .before in
+      let at-if2 = at-push .before .before in
+      let at-if1 = at-if2 .before in
+      let at-truth = at-if1 .before in
+      let at-turn2 = at-truth .before .before .before in
+      let at-below = at-turn2 .before .before .before .before .before .before .before in
+      let at-loop-test = at-below .before .before .before in
+      let at-loop = at-loop-test .before in
+      let at-start = at-loop .before .before .before .before .before in
+      seek-ends _ _ (at-loop .loop .inv) (at-start .pre .1 .0) (at-start .pre .1 .1 .0 .4) (at-start .pre .1 .1 .1) (at-loop-test .loop-test .taken) (at-below .below .ensures) (at-turn2 .turn2 .given .1) (at-truth .truth .ensures) (at-start .pre .1 .1 .0 .0) (at-start .pre .1 .1 .0 .1) (at-if1 .if1 .left) (at-if2 .if2 .taken) (at-below .below .kept .1 .1 .1 .1 .1 .1 .0) (at-push .push .ensures)
 
   loop-less-2 : lts.Need-loop-less-2 calls (seek-at t) seeking.Post Inv μ
-  loop-less-2 c = omega (arith, c .before .before .before .before .before .before .before .before .skip .ensures .up (c .before .before .before .before .before .before .before .before .before .before .before .before .before .before .before .loop-test .taken), c .before .before .before .before .before .before .before .before .skip .ensures .within, c .before .before .before .before .before .before .before .before .before .before .before .before .before .before .before .loop-test .taken)
+  loop-less-2 c =
+      let at-skip = c .before .before .before .before .before .before .before .before in
+      let at-loop-test = at-skip .before .before .before .before .before .before .before in
+      omega (arith, at-skip .skip .ensures .up (at-loop-test .loop-test .taken), at-skip .skip .ensures .within, at-loop-test .loop-test .taken)
 
   loop-again-2 : lts.Need-loop-again-2 calls (seek-at t) seeking.Post Inv μ
-  loop-again-2 c = seek-again _ _ (c .before .before .before .before .before .before .before .before .before .before .before .before .before .before .before .before .loop .inv) (c .before .before .before .before .before .before .before .before .before .before .before .before .before .before .before .before .before .before .before .before .before .pre .1 .0) (c .before .before .before .before .before .before .before .before .before .before .before .before .before .before .before .before .before .before .before .before .before .pre .1 .1 .0 .4) (c .before .before .before .before .before .before .before .before .before .before .before .before .before .before .before .before .before .before .before .before .before .pre .1 .1 .1) (c .before .before .before .before .before .before .before .before .before .before .before .before .before .before .before .loop-test .taken) (c .before .before .before .before .before .before .before .before .before .before .before .before .below .ensures) (c .before .before .before .before .before .turn2 .given .1) (c .before .before .truth .ensures) (c .before .before .before .before .before .before .before .before .before .before .before .before .before .before .before .before .before .before .before .before .before .pre .1 .1 .0 .0) (c .before .before .before .before .before .before .before .before .before .before .before .before .before .before .before .before .before .before .before .before .before .pre .1 .1 .0 .1) (c .before .if1 .left) (c .if2 .left) (c .before .before .before .before .before .before .before .before .before .before .before .before .below .kept .1 .1 .1 .1 .1 .1 .0) (c .before .before .before .before .before .before .before .before .skip .ensures)
+  loop-again-2 c =
+      let at-if1 = c .before in
+      let at-truth = at-if1 .before in
+      let at-turn2 = at-truth .before .before .before in
+      let at-skip = at-turn2 .before .before .before in
+      let at-below = at-skip .before .before .before .before in
+      let at-loop-test = at-below .before .before .before in
+      let at-loop = at-loop-test .before in
+      let at-start = at-loop .before .before .before .before .before in
+      seek-again _ _ (at-loop .loop .inv) (at-start .pre .1 .0) (at-start .pre .1 .1 .0 .4) (at-start .pre .1 .1 .1) (at-loop-test .loop-test .taken) (at-below .below .ensures) (at-turn2 .turn2 .given .1) (at-truth .truth .ensures) (at-start .pre .1 .1 .0 .0) (at-start .pre .1 .1 .0 .1) (at-if1 .if1 .left) (c .if2 .left) (at-below .below .kept .1 .1 .1 .1 .1 .1 .0) (at-skip .skip .ensures)
 
   same-length-4 : lts.Need-same-length-4 calls (seek-at t) seeking.Post Inv μ
-  same-length-4 c = c .before .before .loop .inv .long
+  same-length-4 c = search needs
 
   returns-4 : lts.Need-returns-4 calls (seek-at t) seeking.Post Inv μ
   returns-4 c = search seek-blank
 
   push-requires-2 : lts.Need-push-requires-2 calls (seek-at t) seeking.Post Inv μ
-  push-requires-2 c κs = (tt, omega (arith, c .before .before .before .before .before .before .before .before .pre, c .before .before .before .loop .inv .long))
+  push-requires-2 c κs = search needs
 
   same-length-5 : lts.Need-same-length-5 calls (seek-at t) seeking.Post Inv μ
-  same-length-5 c = c .before .before .push2 .kept .0 ∙ c .before .before .before .before .before .before .loop .inv .long
+  same-length-5 c = search needs
 
   returns-5 : lts.Need-returns-5 calls (seek-at t) seeking.Post Inv μ
   returns-5 c = search seek-none

@@ -24,7 +24,11 @@ module _ (t : ℕ) where
   enum-known-first c = search needs
 
   of-value-requires : lts.Need-of-value-requires calls (unary-at t) unary.Post
-  of-value-requires c κs = omega (arith, bounds (c .before .before .before .before .before .before .below .ensures .small) (c .before .before .first .given .1), c .before .before .before .before .before .before .before .before .before .before .before .pre, c .before .before .before .before .before .before .below .kept)
+  of-value-requires c κs =
+      let at-first = c .before .before in
+      let at-below = at-first .before .before .before .before in
+      let at-start = at-below .before .before .before .before .before in
+      omega (arith, bounds (at-below .below .ensures .small) (at-first .first .given .1), at-start .pre, at-below .below .kept)
 
   place-of-requires : lts.Need-place-of-requires calls (unary-at t) unary.Post
   place-of-requires c κs = search needs

@@ -22,7 +22,7 @@ module _ (t : ℕ) where
   same-length c = search needs
 
   returns : lts.Need-returns calls (word-at t) word.Post
-  returns c = node-packed _ _ (c .before .before .before .before .before .before .before .before .pre .1 .1 .1) (c .before .before .before .node .ensures) (c .pack .ensures)
+  returns c = search node-packed
 
   pub closed : {M : Type 1} → lts.Closed calls (word-at t) word.Post M
   closed = lts.spec calls (word-at t) word.Post node-requires pack-requires same-length returns

@@ -8,7 +8,7 @@ wide-requires : tie.Need-wide-requires
 wide-requires c κs = search needs
 
 returns : tie.Need-returns
-returns c = in-value _ (c .before .match .keys1) (c .wide .ensures)
+returns c = search in-value
 
 returns-2 : tie.Need-returns-2
 returns-2 c = in-undefined _ (c .match .keys2)

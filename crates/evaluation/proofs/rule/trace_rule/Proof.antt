@@ -21,7 +21,11 @@ same-length : tie.Need-same-length
 same-length c = search needs
 
 returns : tie.Need-returns
-returns c = rw (c .unpack .ensures) (rule-done _ _ _ (c .before .before .before .before .before .before .before .before .before .before .before .before .before .args .stack .now) (omega (arith, c .before .before .before .before .before .before .before .before .before .before .before .before .before .pre)) (c .before .before .before .before .before .before .before .before .before .before .before .before .before .pre .1 .1) (c .before .before .before .before .before .before .before .before .push .ensures) (c .before .before .before .word .ensures))
+returns c =
+    let at-word = c .before .before .before in
+    let at-push = at-word .before .before .before .before .before in
+    let at-start = at-push .before .before .before .before .before in
+    rw (c .unpack .ensures) (rule-done _ _ _ (at-start .args .stack .now) (omega (arith, at-start .pre)) (at-start .pre .1 .1) (at-push .push .ensures) (at-word .word .ensures))
 
 pub trace-rule-spec : {M : Type 1} → statement M
 trace-rule-spec =

@@ -11,10 +11,10 @@ payload-of-requires : tie.Need-payload-of-requires
 payload-of-requires c κs = search needs
 
 returns : tie.Need-returns
-returns c = truth-bool (c .before .before .sort-of .ensures) (c .payload-of .ensures) (c .before .if1 .taken)
+returns c = search truth-bool
 
 returns-2 : tie.Need-returns-2
-returns-2 c = truth-other (c .before .sort-of .ensures) (c .if1 .left)
+returns-2 c = search truth-other
 
 pub truth-spec : {M : Type 1} → statement M
 truth-spec = tie.close (tie.spec sort-of-requires payload-of-requires returns returns-2)

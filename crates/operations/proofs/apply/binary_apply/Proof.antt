@@ -45,7 +45,7 @@ same-length-2 : tie.Need-same-length-2
 same-length-2 c = search needs
 
 returns-2 : tie.Need-returns-2
-returns-2 c = binary-by _ (binary-14 (c .before .before .before .before .match .keys2)) (c .before .before .compared .ensures)
+returns-2 c = search (binary-by, binary-14)
 
 same-length-3 : tie.Need-same-length-3
 same-length-3 c = search needs

@@ -18,13 +18,21 @@ same-length : tie.Need-same-length
 same-length c = search needs
 
 returns : tie.Need-returns
-returns c = by-reals (c .before .before .before .before .before .by-reals .ensures) _ (omega arith) (c .before .before .before .before .if1 .taken) (c .before .before .operation .ensures)
+returns c =
+    let at-operation = c .before .before in
+    let at-if1 = at-operation .before .before in
+    let at-by-reals = at-if1 .before in
+    by-reals (at-by-reals .by-reals .ensures) _ (omega arith) (at-if1 .if1 .taken) (at-operation .operation .ensures)
 
 same-length-2 : tie.Need-same-length-2
 same-length-2 c = search needs
 
 returns-2 : tie.Need-returns-2
-returns-2 c = by-integers (c .before .before .before .before .before .by-reals .ensures) _ (c .before .before .before .before .if1 .left) (c .before .before .arithmetic .ensures)
+returns-2 c =
+    let at-arithmetic = c .before .before in
+    let at-if1 = at-arithmetic .before .before in
+    let at-by-reals = at-if1 .before in
+    by-integers (at-by-reals .by-reals .ensures) _ (at-if1 .if1 .left) (at-arithmetic .arithmetic .ensures)
 
 pub calculation-spec : {M : Type 1} → statement M
 calculation-spec =

@@ -26,10 +26,23 @@ is-a-requires : tie.Need-is-a-requires
 is-a-requires c κs = search needs
 
 returns-3 : tie.Need-returns-3
-returns-3 c = cast-in _ (c .before .before .before .before .before .sort-of .ensures) (c .before .before .payload-of .ensures) (c .before .is-a .ensures) (c .before .before .before .before .if1 .left) (c .before .before .before .if2 .left) (c .if3 .taken) (c .before .before .before .before .before .before .before .before .before .pre .2) (c .before .before .before .before .before .before .before .before .before .pre .3)
+returns-3 c =
+    let at-is-a = c .before in
+    let at-payload-of = at-is-a .before in
+    let at-if2 = at-payload-of .before in
+    let at-if1 = at-if2 .before in
+    let at-sort-of = at-if1 .before in
+    let at-start = at-sort-of .before .before .before .before in
+    cast-in _ (at-sort-of .sort-of .ensures) (at-payload-of .payload-of .ensures) (at-is-a .is-a .ensures) (at-if1 .if1 .left) (at-if2 .if2 .left) (c .if3 .taken) (at-start .pre .2) (at-start .pre .3)
 
 returns-4 : tie.Need-returns-4
-returns-4 c = cast-out _ (c .before .before .before .before .before .sort-of .ensures) (c .before .before .payload-of .ensures) (c .before .is-a .ensures) (c .before .before .before .before .if1 .left) (c .before .before .before .if2 .left) (c .if3 .left)
+returns-4 c =
+    let at-is-a = c .before in
+    let at-payload-of = at-is-a .before in
+    let at-if2 = at-payload-of .before in
+    let at-if1 = at-if2 .before in
+    let at-sort-of = at-if1 .before in
+    cast-out _ (at-sort-of .sort-of .ensures) (at-payload-of .payload-of .ensures) (at-is-a .is-a .ensures) (at-if1 .if1 .left) (at-if2 .if2 .left) (c .if3 .left)
 
 pub cast-spec : {M : Type 1} → statement M
 cast-spec =

@@ -30,7 +30,12 @@ same-length : tie.Need-same-length
 same-length c = search needs
 
 returns-2 : tie.Need-returns-2
-returns-2 c = change-done (c .before .before .before .before .before .before .sort-of .ensures) _ (c .before .before .before .before .before .if1 .left) (kind-code _ (c .before .before .before .before .before .before .before .before .before .pre .0)) (omega arith) (c .before .before .before .convert .ensures) (c .formed .ensures)
+returns-2 c =
+    let at-convert = c .before .before .before in
+    let at-if1 = at-convert .before .before in
+    let at-sort-of = at-if1 .before in
+    let at-start = at-sort-of .before .before .before in
+    change-done (at-sort-of .sort-of .ensures) _ (at-if1 .if1 .left) (kind-code _ (at-start .pre .0)) (omega arith) (at-convert .convert .ensures) (c .formed .ensures)
 
 pub change-spec : {M : Type 1} → statement M
 change-spec =

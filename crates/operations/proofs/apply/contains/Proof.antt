@@ -15,7 +15,7 @@ sort-of-requires : tie.Need-sort-of-requires
 sort-of-requires c κs = search needs
 
 returns : tie.Need-returns
-returns c = includes-stuck (c .before .sort-of .ensures) (c .if1 .taken)
+returns c = search includes-stuck
 
 add-includes : tie.Need-add-includes
 add-includes c = search needs
@@ -33,7 +33,13 @@ same-length : tie.Need-same-length
 same-length c = search needs
 
 returns-2 : tie.Need-returns-2
-returns-2 c = includes-done (c .before .before .before .before .before .before .before .sort-of .ensures) (c .before .before .before .before .before .before .if1 .left) (c .before .before .before .before .before .before .before .before .before .before .pre .0) (omega arith) (c .before .before .before .before .includes .ensures) (c .before .before .put .ensures)
+returns-2 c =
+    let at-put = c .before .before in
+    let at-includes = at-put .before .before in
+    let at-if1 = at-includes .before .before in
+    let at-sort-of = at-if1 .before in
+    let at-start = at-sort-of .before .before .before in
+    includes-done (at-sort-of .sort-of .ensures) (at-if1 .if1 .left) (at-start .pre .0) (omega arith) (at-includes .includes .ensures) (at-put .put .ensures)
 
 pub contains-spec : {M : Type 1} → statement M
 contains-spec =

@@ -15,7 +15,7 @@ sort-of-requires : tie.Need-sort-of-requires
 sort-of-requires c κs = search needs
 
 returns : tie.Need-returns
-returns c = including-stuck (c .before .sort-of .ensures) (c .if1 .taken)
+returns c = search including-stuck
 
 add-add : tie.Need-add-add
 add-add c = search needs
@@ -30,7 +30,11 @@ same-length : tie.Need-same-length
 same-length c = search needs
 
 returns-2 : tie.Need-returns-2
-returns-2 c = including-done (c .before .before .before .before .before .before .sort-of .ensures) (c .before .before .before .before .before .if1 .left) _ (omega arith) (c .before .before .before .add .ensures) (c .formed .ensures)
+returns-2 c =
+    let at-add = c .before .before .before in
+    let at-if1 = at-add .before .before in
+    let at-sort-of = at-if1 .before in
+    including-done (at-sort-of .sort-of .ensures) (at-if1 .if1 .left) _ (omega arith) (at-add .add .ensures) (c .formed .ensures)
 
 pub including-spec : {M : Type 1} → statement M
 including-spec =

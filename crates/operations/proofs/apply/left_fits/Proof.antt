@@ -32,7 +32,11 @@ returns-4 : tie.Need-returns-4
 returns-4 c = search left-int
 
 returns-5 : tie.Need-returns-5
-returns-5 c = left-coll (⊎-elim {C = 20 ≤ c .before .before .before .args .form} (λ w. omega arith) (λ w. omega arith) (c .before .if1 .came)) (c .before .before .match .rest .1) (c .sort-of2 .ensures)
+returns-5 c =
+    let at-if1 = c .before in
+    let at-match = at-if1 .before in
+    let at-start = at-match .before in
+    left-coll (⊎-elim {C = 20 ≤ at-start .args .form} (λ w. omega arith) (λ w. omega arith) (at-if1 .if1 .came)) (at-match .match .rest .1) (c .sort-of2 .ensures)
 
 pub left-fits-spec : {M : Type 1} → statement M
 left-fits-spec =

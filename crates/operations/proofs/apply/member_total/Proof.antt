@@ -14,13 +14,13 @@ sort-of-requires : tie.Need-sort-of-requires
 sort-of-requires c κs = search needs
 
 returns : tie.Need-returns
-returns c = total-stuck (c .before .sort-of .ensures) (c .if1 .taken)
+returns c = search total-stuck
 
 payload-of-requires : tie.Need-payload-of-requires
 payload-of-requires c κs = search needs
 
 returns-2 : tie.Need-returns-2
-returns-2 c = total-over (c .before .before .before .sort-of .ensures) (c .before .payload-of .ensures) (c .before .before .if1 .left) (c .before .before .before .before .before .before .pre .1) (c .if2 .taken)
+returns-2 c = search total-over
 
 add-t9 : tie.Need-add-t9
 add-t9 c = search needs
@@ -32,7 +32,7 @@ same-length : tie.Need-same-length
 same-length c = search needs
 
 returns-3 : tie.Need-returns-3
-returns-3 c = total-done (c .before .before .before .before .before .before .before .sort-of .ensures) (c .before .before .before .before .before .payload-of .ensures) (c .before .before .before .before .before .before .if1 .left) (c .before .before .before .before .before .before .before .before .before .before .pre .1) (c .before .before .put .ensures)
+returns-3 c = search total-done
 
 pub member-total-spec : {M : Type 1} → statement M
 member-total-spec =

@@ -14,7 +14,7 @@ truth-requires : tie.Need-truth-requires
 truth-requires c κs = search needs
 
 returns : tie.Need-returns
-returns c = negate-stuck (c .before .truth .ensures) (c .if1 .taken)
+returns c = search negate-stuck
 
 put-requires : tie.Need-put-requires
 put-requires c κs = search needs
@@ -23,7 +23,7 @@ same-length : tie.Need-same-length
 same-length c = search needs
 
 returns-2 : tie.Need-returns-2
-returns-2 c = negate-done (c .before .before .before .before .before .truth .ensures) (c .before .before .before .before .if1 .left) (c .before .before .put .ensures)
+returns-2 c = search negate-done
 
 pub negate-spec : {M : Type 1} → statement M
 negate-spec =

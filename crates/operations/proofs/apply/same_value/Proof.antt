@@ -17,7 +17,7 @@ same-length : tie.Need-same-length
 same-length c = search needs
 
 returns : tie.Need-returns
-returns c = same-done (c .before .before .before .before .equal .ensures) (c .before .before .put .ensures)
+returns c = search same-done
 
 pub same-value-spec : {M : Type 1} → statement M
 same-value-spec = tie.close (tie.spec add-equal equal-requires put-requires same-length returns)

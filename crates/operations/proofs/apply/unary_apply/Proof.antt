@@ -38,13 +38,20 @@ same-length-3 : tie.Need-same-length-3
 same-length-3 c = search needs
 
 returns-3 : tie.Need-returns-3
-returns-3 c = unary-by _ _ (unary-9 (c .before .before .before .before .before .before .before .before .before .args .form) (c .before .before .before .before .before .before .before .before .before .args .c) (omega arith) (omega arith)) (any-model (c .before .before .change .ensures))
+returns-3 c =
+    let at-change = c .before .before in
+    let at-start = at-change .before .before .before .before .before .before .before in
+    unary-by _ _ (unary-9 (at-start .args .form) (at-start .args .c) (omega arith) (omega arith)) (any-model (at-change .change .ensures))
 
 same-length-4 : tie.Need-same-length-4
 same-length-4 c = search needs
 
 returns-4 : tie.Need-returns-4
-returns-4 c = unary-by _ _ (unary-12 _ _ (⊎-elim {C = c .before .before .before .before .before .before .before .before .args .form ≡ 12} (λ w. omega arith) (λ w. omega arith) (c .before .before .before .before .if1 .came))) (c .before .before .cast .ensures)
+returns-4 c =
+    let at-cast = c .before .before in
+    let at-if1 = at-cast .before .before in
+    let at-start = at-if1 .before .before .before .before in
+    unary-by _ _ (unary-12 _ _ (⊎-elim {C = at-start .args .form ≡ 12} (λ w. omega arith) (λ w. omega arith) (at-if1 .if1 .came))) (at-cast .cast .ensures)
 
 pub unary-apply-spec : {M : Type 1} → statement M
 unary-apply-spec =

@@ -16,7 +16,7 @@ sort-of-requires : tie.Need-sort-of-requires
 sort-of-requires c κs = search needs
 
 returns : tie.Need-returns
-returns c = union-stuck (c .before .sort-of .ensures) (c .if1 .taken)
+returns c = search union-stuck
 
 add-sort-of : tie.Need-add-sort-of
 add-sort-of c = search needs
@@ -31,7 +31,7 @@ sort-of-requires-2 : tie.Need-sort-of-requires-2
 sort-of-requires-2 c κs = search needs
 
 returns-2 : tie.Need-returns-2
-returns-2 c = union-other (c .before .before .before .before .sort-of .ensures) (c .before .before .before .if1 .left) (c .before .sort-of2 .ensures) (c .if2 .taken)
+returns-2 c = search union-other
 
 add-union : tie.Need-add-union
 add-union c = search needs
@@ -52,7 +52,13 @@ same-length : tie.Need-same-length
 same-length c = search needs
 
 returns-3 : tie.Need-returns-3
-returns-3 c = union-done (c .before .before .before .before .before .before .before .before .before .sort-of .ensures) (c .before .before .before .before .before .before .before .before .if1 .left) (c .before .before .before .before .before .before .sort-of2 .ensures) _ (c .before .before .before .before .before .if2 .left) refl (omega arith) (c .before .before .before .union .ensures) (c .formed .ensures)
+returns-3 c =
+    let at-union = c .before .before .before in
+    let at-if2 = at-union .before .before in
+    let at-sort-of2 = at-if2 .before in
+    let at-if1 = at-sort-of2 .before .before in
+    let at-sort-of = at-if1 .before in
+    union-done (at-sort-of .sort-of .ensures) (at-if1 .if1 .left) (at-sort-of2 .sort-of2 .ensures) _ (at-if2 .if2 .left) refl (omega arith) (at-union .union .ensures) (c .formed .ensures)
 
 pub united-spec : {M : Type 1} → statement M
 united-spec =

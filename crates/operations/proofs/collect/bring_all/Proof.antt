@@ -21,7 +21,7 @@ mul-row-slot : tie.Need-mul-row-slot Inv-loop μ-loop
 mul-row-slot c = search needs
 
 slice-read-row-slot : tie.Need-slice-read-row-slot Inv-loop μ-loop
-slice-read-row-slot c = omega (arith, c .before .before .loop .inv .long, c .before .before .loop .inv .room)
+slice-read-row-slot c = omega arith
 
 row-slot-requires : tie.Need-row-slot-requires Inv-loop μ-loop
 row-slot-requires c κs = search needs
@@ -36,13 +36,17 @@ same-length : tie.Need-same-length Inv-loop μ-loop
 same-length c = search needs
 
 returns : tie.Need-returns Inv-loop μ-loop
-returns c = bring-none (c .before .before .before .before .before .loop .inv) (c .before .before .before .before .loop-test .taken) (c .before .before .row-slot .ensures) (c .enum-told .given .1)
+returns c = search bring-none
 
 add-bring : tie.Need-add-bring Inv-loop μ-loop
-add-bring c = omega (arith, c .before .before .before .before .before .before .before .loop .inv .long, c .before .before .before .before .before .before .before .loop .inv .room, c .before .before .before .before .before .before .before .loop .inv .small)
+add-bring c = omega arith
 
 bring-requires : tie.Need-bring-requires Inv-loop μ-loop
-bring-requires c κs = omega (arith, slot-within _ _ _ _ (c .before .before .before .before .row-slot .ensures) (c .before .before .j .given .1), c .before .before .before .before .before .before .before .loop .inv .long, c .before .before .before .before .before .before .before .loop .inv .room, c .before .before .before .before .before .before .before .loop .inv .small)
+bring-requires c κs =
+    let at-j = c .before .before in
+    let at-row-slot = at-j .before .before in
+    let at-loop = at-row-slot .before .before .before in
+    omega (arith, slot-within _ _ _ _ (at-row-slot .row-slot .ensures) (at-j .j .given .1), at-loop .loop .inv .long, at-loop .loop .inv .room, at-loop .loop .inv .small)
 
 enum-known-one : tie.Need-enum-known-one Inv-loop μ-loop
 enum-known-one c = search needs
@@ -51,16 +55,20 @@ same-length-2 : tie.Need-same-length-2 Inv-loop μ-loop
 same-length-2 c = search needs
 
 returns-2 : tie.Need-returns-2 Inv-loop μ-loop
-returns-2 c = bring-ended (c .before .before .before .before .before .before .before .before .before .before .before .loop .inv) (c .before .before .before .before .before .before .before .before .before .before .loop-test .taken) (c .before .before .before .before .before .before .before .before .row-slot .ensures) (c .before .before .before .before .before .before .j .given .1) (c .before .before .before .bring .ensures) (c .match2 .keys2)
+returns-2 c = search bring-ended
 
 add-len : tie.Need-add-len Inv-loop μ-loop
-add-len c = omega (arith, bounds (c .before .before .before .before .before .bring .ensures .small) (c .before .one .given .1), c .before .before .before .before .before .before .before .before .before .before .before .before .before .loop .inv .small)
+add-len c =
+    let at-one = c .before in
+    let at-bring = at-one .before .before .before .before in
+    let at-loop = at-bring .before .before .before .before .before .before .before .before in
+    omega (arith, bounds (at-bring .bring .ensures .small) (at-one .one .given .1), at-loop .loop .inv .small)
 
 same-length-3 : tie.Need-same-length-3 Inv-loop μ-loop
 same-length-3 c = search needs
 
 returns-3 : tie.Need-returns-3 Inv-loop μ-loop
-returns-3 c = bring-over (c .before .before .before .before .before .before .before .before .before .before .before .before .before .before .loop .inv) (c .before .before .before .before .before .before .before .before .before .before .before .before .before .loop-test .taken) (c .before .before .before .before .before .before .before .before .before .before .before .row-slot .ensures) (c .before .before .before .before .before .before .before .before .before .j .given .1) (c .before .before .before .before .before .before .bring .ensures) (c .before .before .one .given .1) (c .before .before .before .before .before .before .bring .kept .1 .1 .1 .0) (c .if1 .taken)
+returns-3 c = search bring-over
 
 add-q : tie.Need-add-q Inv-loop μ-loop
 add-q c = search needs
@@ -69,13 +77,13 @@ loop-less : tie.Need-loop-less Inv-loop μ-loop
 loop-less c = omega arith
 
 loop-again : tie.Need-loop-again Inv-loop μ-loop
-loop-again c = bring-again (c .before .before .before .before .before .before .before .before .before .before .before .before .before .before .loop .inv) (c .before .before .before .before .before .before .before .before .before .before .before .before .before .loop-test .taken) (c .before .before .before .before .before .before .before .before .before .before .before .row-slot .ensures) (c .before .before .before .before .before .before .before .before .before .j .given .1) (c .before .before .before .before .before .before .bring .ensures) (c .before .before .one .given .1) (c .before .before .before .before .before .before .bring .kept .1 .1 .1 .0) (c .if1 .left)
+loop-again c = search bring-again
 
 same-length-4 : tie.Need-same-length-4 Inv-loop μ-loop
 same-length-4 c = search needs
 
 returns-4 : tie.Need-returns-4 Inv-loop μ-loop
-returns-4 c = bring-end (c .before .loop .inv) (omega arith)
+returns-4 c = search bring-end
 
 pub bring-all-spec : {M : Type 1} → statement M
 bring-all-spec =

@@ -15,7 +15,7 @@ sort-of-requires : tie.Need-sort-of-requires
 sort-of-requires c κs = search needs
 
 returns : tie.Need-returns
-returns c = collect-other (c .before .sort-of .ensures) (c .if1 .taken)
+returns c = search collect-other
 
 add-end : tie.Need-add-end
 add-end c = search needs
@@ -30,13 +30,13 @@ same-length : tie.Need-same-length
 same-length c = search needs
 
 returns-2 : tie.Need-returns-2
-returns-2 c = collect-stuck (c .before .before .before .before .sort-of .ensures) (c .before .before .before .if1 .left) (omega (arith, c .before .before .before .before .before .before .before .before .pre)) (omega (arith, c .before .before .before .before .before .before .before .before .pre)) (omega (arith, c .before .before .before .before .before .before .before .before .pre)) (c .before .worst .ensures) (c .if2 .taken)
+returns-2 c = search collect-stuck
 
 same-length-2 : tie.Need-same-length-2
 same-length-2 c = search needs
 
 returns-3 : tie.Need-returns-3
-returns-3 c = collect-undefined (c .before .before .before .before .before .sort-of .ensures) (c .before .before .before .before .if1 .left) (omega (arith, c .before .before .before .before .before .before .before .before .before .pre)) (omega (arith, c .before .before .before .before .before .before .before .before .before .pre)) (omega (arith, c .before .before .before .before .before .before .before .before .before .pre)) (c .before .before .worst .ensures) (c .if3 .taken)
+returns-3 c = search collect-undefined
 
 add-bring-all : tie.Need-add-bring-all
 add-bring-all c = search needs
@@ -51,16 +51,24 @@ same-length-3 : tie.Need-same-length-3
 same-length-3 c = search needs
 
 returns-4 : tie.Need-returns-4
-returns-4 c = collect-over (c .before .before .before .before .before .before .before .before .before .before .sort-of .ensures) (c .before .before .before .before .before .before .before .before .before .if1 .left) (omega (arith, c .before .before .before .before .before .before .before .before .before .before .before .before .before .before .pre)) (omega (arith, c .before .before .before .before .before .before .before .before .before .before .before .before .before .before .pre)) (omega (arith, c .before .before .before .before .before .before .before .before .before .before .before .before .before .before .pre)) (c .before .before .before .before .before .before .before .worst .ensures) (c .before .before .before .before .before .before .if2 .left) (c .before .before .before .before .before .if3 .left) (c .before .before .before .bring-all .ensures) (c .match .keys2)
+returns-4 c = search collect-over
 
 add-assemble : tie.Need-add-assemble
-add-assemble c = omega (arith, few-cells (c .before .before .before .before .before .before .bring-all .ensures .few) (c .before .before .brought .given .1), c .before .before .before .before .before .before .before .before .before .before .before .before .before .before .before .before .before .pre)
+add-assemble c =
+    let at-brought = c .before .before in
+    let at-bring-all = at-brought .before .before .before .before in
+    let at-start = at-bring-all .before .before .before .before .before .before .before .before .before .before .before in
+    omega (arith, few-cells (at-bring-all .bring-all .ensures .few) (at-brought .brought .given .1), at-start .pre)
 
 kind-marked-requires : tie.Need-kind-marked-requires
 kind-marked-requires c κs = search needs
 
 assemble-requires : tie.Need-assemble-requires
-assemble-requires c κs = omega (arith, few-cells (c .before .before .before .before .before .before .before .bring-all .ensures .few) (c .before .before .before .brought .given .1), kind-small _ (c .kind-marked .ensures), c .before .before .before .before .before .before .before .before .before .before .before .before .before .before .before .before .before .before .pre, c .before .before .before .before .before .before .before .bring-all .kept)
+assemble-requires c κs =
+    let at-brought = c .before .before .before in
+    let at-bring-all = at-brought .before .before .before .before in
+    let at-start = at-bring-all .before .before .before .before .before .before .before .before .before .before .before in
+    omega (arith, few-cells (at-bring-all .bring-all .ensures .few) (at-brought .brought .given .1), kind-small _ (c .kind-marked .ensures), at-start .pre, at-bring-all .bring-all .kept)
 
 formed-requires : tie.Need-formed-requires
 formed-requires c κs = search needs
@@ -69,7 +77,7 @@ same-length-4 : tie.Need-same-length-4
 same-length-4 c = search needs
 
 returns-5 : tie.Need-returns-5
-returns-5 c = collect-done (c .before .before .before .before .before .before .before .before .before .before .before .before .before .before .before .before .before .before .sort-of .ensures) (c .before .before .before .before .before .before .before .before .before .before .before .before .before .before .before .before .before .if1 .left) (omega (arith, c .before .before .before .before .before .before .before .before .before .before .before .before .before .before .before .before .before .before .before .before .before .before .pre)) (omega (arith, c .before .before .before .before .before .before .before .before .before .before .before .before .before .before .before .before .before .before .before .before .before .before .pre)) (omega (arith, c .before .before .before .before .before .before .before .before .before .before .before .before .before .before .before .before .before .before .before .before .before .before .pre)) (c .before .before .before .before .before .before .before .before .before .before .before .before .before .before .before .worst .ensures) (c .before .before .before .before .before .before .before .before .before .before .before .before .before .before .if2 .left) (c .before .before .before .before .before .before .before .before .before .before .before .before .before .if3 .left) (c .before .before .before .before .before .before .before .before .before .before .before .bring-all .ensures) _ (c .before .before .before .before .before .before .before .brought .given .1) (c .before .before .before .before .before .before .before .before .before .before .before .bring-all .kept .1 .1 .1 .0) (c .before .before .before .before .kind-marked .ensures) (c .before .before .before .assemble .ensures) (c .formed .ensures)
+returns-5 c = search collect-done
 
 pub collect-spec : {M : Type 1} → statement M
 collect-spec =

@@ -17,13 +17,13 @@ enum-told-2 : tie.Need-enum-told-2
 enum-told-2 c = search needs
 
 returns : tie.Need-returns
-returns c = standing-some (c .before .before .before .before .has-row .ensures) (c .before .before .before .if1 .taken) (c .before .before .row-slot .ensures) (c .enum-told .given .1)
+returns c = search standing-some
 
 returns-2 : tie.Need-returns-2
-returns-2 c = standing-none (c .before .before .before .before .has-row .ensures) (c .before .before .before .if1 .taken) (c .before .before .row-slot .ensures) (c .enum-told2 .given .1)
+returns-2 c = search standing-none
 
 returns-3 : tie.Need-returns-3
-returns-3 c = standing-other (c .before .has-row .ensures) (c .if1 .left)
+returns-3 c = search standing-other
 
 pub standing-spec : {M : Type 1} → statement M
 standing-spec =

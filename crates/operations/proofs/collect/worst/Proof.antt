@@ -31,13 +31,16 @@ larger-requires : tie.Need-larger-requires Inv-loop μ-loop
 larger-requires c κs = search needs
 
 loop-less : tie.Need-loop-less Inv-loop μ-loop
-loop-less c = omega (arith, c .before .before .before .skip .ensures .up (c .before .before .before .before .loop-test .taken))
+loop-less c =
+    let at-skip = c .before .before .before in
+    let at-loop-test = at-skip .before in
+    omega (arith, at-skip .skip .ensures .up (at-loop-test .loop-test .taken))
 
 loop-again : tie.Need-loop-again Inv-loop μ-loop
-loop-again c = worst-again (c .before .before .before .before .before .loop .inv) (c .before .before .before .before .loop-test .taken) (c .before .before .before .skip .ensures) (c .before .standing .ensures) (c .larger .ensures)
+loop-again c = search worst-again
 
 returns : tie.Need-returns Inv-loop μ-loop
-returns c = worst-end (c .before .loop .inv) (omega arith)
+returns c = search worst-end
 
 pub worst-spec : {M : Type 1} → statement M
 worst-spec =

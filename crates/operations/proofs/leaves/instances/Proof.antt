@@ -27,7 +27,12 @@ loop-holds : tie.Need-loop-holds Inv-loop μ-loop
 loop-holds c = gathered-none (c .before .before .before .args .stack .now) (c .empty-of .ensures) (omega arith)
 
 with-object-requires : tie.Need-with-object-requires Inv-loop μ-loop
-with-object-requires c κs = ((c .before .before .before .before .before .before .before .pre .0, omega (arith, c .before .before .before .loop .inv .long, length-set (c .before .before .before .before .before .before .before .args .stack .now) (c .before .before .before .before .before .before .before .args .sp) (c .before .before .before .before .empty-of .result))), (c .before .before .before .loop .inv .some, c .before .before .before .loop .inv .small, omega (arith, c .before .if1 .taken, c .before .before .before .before .before .before .before .pre .0 .fine .objects)))
+with-object-requires c κs =
+    let at-if1 = c .before in
+    let at-loop = at-if1 .before .before in
+    let at-empty-of = at-loop .before in
+    let at-start = at-empty-of .before .before .before in
+    ((at-start .pre .0, omega (arith, at-loop .loop .inv .long, length-set (at-start .args .stack .now) (at-start .args .sp) (at-empty-of .empty-of .result))), (at-loop .loop .inv .some, at-loop .loop .inv .small, omega (arith, at-if1 .if1 .taken, at-start .pre .0 .fine .objects)))
 
 enum-known-f : tie.Need-enum-known-f Inv-loop μ-loop
 enum-known-f c = search needs
@@ -36,10 +41,16 @@ enum-told : tie.Need-enum-told Inv-loop μ-loop
 enum-told c = search needs
 
 same-length : tie.Need-same-length Inv-loop μ-loop
-same-length c = c .before .before .before .before .with-object .kept .1 .1 .1 .0 ∙ (simp length-set at (c .before .before .before .before .before .before .before .before .loop .inv .long))
+same-length c =
+    let at-with-object = c .before .before .before .before in
+    let at-loop = at-with-object .before .before .before .before in
+    at-with-object .with-object .kept .1 .1 .1 .0 ∙ (simp length-set at (at-loop .loop .inv .long))
 
 returns : tie.Need-returns Inv-loop μ-loop
-returns c = gathered-over (c .before .before .before .before .before .before .before .before .loop .inv) (c .before .before .before .before .with-object .ensures) (c .enum-told .given .1) (omega arith)
+returns c =
+    let at-with-object = c .before .before .before .before in
+    let at-loop = at-with-object .before .before .before .before in
+    gathered-over (at-loop .loop .inv) (at-with-object .with-object .ensures) (c .enum-told .given .1) (omega arith)
 
 add-o : tie.Need-add-o Inv-loop μ-loop
 add-o c = omega arith
@@ -48,7 +59,14 @@ loop-less : tie.Need-loop-less Inv-loop μ-loop
 loop-less c = omega arith
 
 loop-again : tie.Need-loop-again Inv-loop μ-loop
-loop-again c = gathered-more (c .before .before .before .before .before .before .before .before .before .loop .inv) (c .before .before .before .before .before .with-object .ensures) (c .before .f .given .1) (c .before .before .before .before .before .with-object .kept .1 .1 .1 .0) (omega (arith, c .before .before .before .before .before .before .before .before .before .loop .inv .long, length-set (c .before .before .before .before .before .before .before .before .before .before .before .before .before .args .stack .now) (c .before .before .before .before .before .before .before .before .before .before .before .before .before .args .sp) (c .before .before .before .before .before .before .before .before .before .before .empty-of .result), c .before .before .before .before .before .before .before .before .before .before .before .before .before .pre)) (c .before .before .before .before .before .before .before .if1 .taken)
+loop-again c =
+    let at-f = c .before in
+    let at-with-object = at-f .before .before .before .before in
+    let at-if1 = at-with-object .before .before in
+    let at-loop = at-if1 .before .before in
+    let at-empty-of = at-loop .before in
+    let at-start = at-empty-of .before .before .before in
+    gathered-more (at-loop .loop .inv) (at-with-object .with-object .ensures) (at-f .f .given .1) (at-with-object .with-object .kept .1 .1 .1 .0) (omega (arith, at-loop .loop .inv .long, length-set (at-start .args .stack .now) (at-start .args .sp) (at-empty-of .empty-of .result), at-start .pre)) (at-if1 .if1 .taken)
 
 same-length-2 : tie.Need-same-length-2 Inv-loop μ-loop
 same-length-2 c = simp length-set at (c .before .before .loop .inv .long)

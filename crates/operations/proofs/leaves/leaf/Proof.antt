@@ -53,25 +53,29 @@ same-length-3 : tie.Need-same-length-3
 same-length-3 c = search needs
 
 returns-4 : tie.Need-returns-4
-returns-4 c = leaf-number _ _ (c .before .before .before .before .before .match .keys4) (c .before .before .before .word-in .ensures) (c .before .before .put-cell .ensures)
+returns-4 c = search leaf-number
 
 same-length-4 : tie.Need-same-length-4
 same-length-4 c = search needs
 
 returns-5 : tie.Need-returns-5
-returns-5 c = leaf-self _ _ (c .before .before .before .before .match .keys5) (c .before .before .variable .ensures)
+returns-5 c = search leaf-self
 
 same-length-5 : tie.Need-same-length-5
 same-length-5 c = search needs
 
 returns-6 : tie.Need-returns-6
-returns-6 c = leaf-var _ _ (c .before .before .before .before .before .match .keys6) (c .before .before .before .before .wide .ensures) (c .before .before .variable2 .ensures)
+returns-6 c = search leaf-var
 
 same-length-6 : tie.Need-same-length-6
 same-length-6 c = search needs
 
 returns-7 : tie.Need-returns-7
-returns-7 c = let e : c .before .before .before .before .before .before .before .before .args .form ≡ 6 = omega (arith, c .before .before .before .before .before .before .before .before .pre, c .before .before .before .before .before .match .rest) in leaf-all _ _ _ e (omega arith) (c .before .before .before .instances .ensures) (c .formed .ensures)
+returns-7 c =
+    let at-instances = c .before .before .before in
+    let at-match = at-instances .before .before in
+    let at-start = at-match .before .before .before in
+    let e : at-start .args .form ≡ 6 = omega (arith, at-start .pre, at-match .match .rest) in leaf-all _ _ _ e (omega arith) (at-instances .instances .ensures) (c .formed .ensures)
 
 pub leaf-spec : {M : Type 1} → statement M
 leaf-spec =

@@ -19,7 +19,7 @@ sub-p : tie.Need-sub-p
 sub-p c = search needs
 
 returns-2 : tie.Need-returns-2
-returns-2 c = variable-above (c .before .if1 .left) refl (c .if2 .taken)
+returns-2 c = search variable-above
 
 push-copy-requires : tie.Need-push-copy-requires
 push-copy-requires c κs = search needs
@@ -31,7 +31,10 @@ same-length : tie.Need-same-length
 same-length c = search needs
 
 returns-3 : tie.Need-returns-3
-returns-3 c = variable-done (c .before .before .before .before .before .before .if1 .left) refl _ (omega arith) (c .before .before .before .push-copy .ensures) (c .formed .ensures)
+returns-3 c =
+    let at-push-copy = c .before .before .before in
+    let at-if1 = at-push-copy .before .before .before in
+    variable-done (at-if1 .if1 .left) refl _ (omega arith) (at-push-copy .push-copy .ensures) (c .formed .ensures)
 
 pub variable-spec : {M : Type 1} → statement M
 variable-spec =

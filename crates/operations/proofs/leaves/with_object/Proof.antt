@@ -18,10 +18,13 @@ same-length : tie.Need-same-length
 same-length c = search needs
 
 returns : tie.Need-returns
-returns c = with-yes (c .before .before .before .before .before .is-a .ensures) (c .before .before .before .before .if1 .taken) (c .before .before .before .before .before .before .before .before .pre .1 .2) (c .before .before .append-simple .ensures)
+returns c = search with-yes
 
 returns-2 : tie.Need-returns-2
-returns-2 c = with-no (c .before .is-a .ensures) (c .if1 .left) (c .before .before .before .before .pre .1 .0) (c .before .before .before .before .pre .1 .1) (omega arith)
+returns-2 c =
+    let at-is-a = c .before in
+    let at-start = at-is-a .before .before .before in
+    with-no (at-is-a .is-a .ensures) (c .if1 .left) (at-start .pre .1 .0) (at-start .pre .1 .1) (omega arith)
 
 pub with-object-spec : {M : Type 1} → statement M
 with-object-spec =

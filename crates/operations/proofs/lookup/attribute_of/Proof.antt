@@ -24,7 +24,7 @@ enum-told : tie.Need-enum-told
 enum-told c = search needs
 
 returns : tie.Need-returns
-returns c = λ len. attribute-none (c .before .before .before .before .has-row .ensures) (c .before .before .before .if1 .taken) (c .before .before .row-slot .ensures) (c .enum-told .given .1)
+returns c = search attribute-none
 
 bring-requires : tie.Need-bring-requires
 bring-requires c κs = omega (arith, slot-within _ _ _ _ (c .before .before .before .before .row-slot .ensures) (c .before .before .j .given .1))
@@ -33,10 +33,10 @@ same-length : tie.Need-same-length
 same-length c = search needs
 
 returns-2 : tie.Need-returns-2
-returns-2 c = λ len. attribute-some (c .before .before .before .before .before .before .before .before .before .has-row .ensures) (c .before .before .before .before .before .before .before .before .if1 .taken) (c .before .before .before .before .before .before .before .row-slot .ensures) (c .before .before .before .before .before .j .given .1) (c .before .before .bring .ensures)
+returns-2 c = search attribute-some
 
 returns-3 : tie.Need-returns-3
-returns-3 c = λ len. attribute-other (c .before .has-row .ensures) (c .if1 .left)
+returns-3 c = search attribute-other
 
 pub attribute-of-spec : {M : Type 1} → statement M
 attribute-of-spec =

@@ -17,10 +17,10 @@ start-of-requires-2 : tie.Need-start-of-requires-2
 start-of-requires-2 c κs = search needs
 
 returns : tie.Need-returns
-returns c = stands-empty _ _ _ _ _ (c .before .before .start-of .ensures) (c .before .start-of2 .ensures) _ _ (omega arith) (c .if1 .taken)
+returns c = search stands-empty
 
 returns-2 : tie.Need-returns-2
-returns-2 c = stands-far _ _ _ _ _ (c .before .before .before .start-of .ensures) (c .before .before .start-of2 .ensures) _ _ (omega arith) (c .if2 .taken)
+returns-2 c = search stands-far
 
 wide-requires : tie.Need-wide-requires
 wide-requires c κs = search needs
@@ -44,7 +44,13 @@ same-length : tie.Need-same-length
 same-length c = search needs
 
 returns-3 : tie.Need-returns-3
-returns-3 c = stands _ _ _ _ _ (c .before .before .before .before .before .before .before .before .before .before .start-of .ensures) (c .before .before .before .before .before .before .before .before .before .start-of2 .ensures) _ _ (omega arith) _ (omega arith) (ap (λ (n : ℕ). 2400 + n) (c .before .before .before .before .before .wide .ensures)) (ap (λ (n : ℕ). 2400 + n) (c .before .before .before .before .wide2 .ensures)) (c .before .before .before .push-cells .ensures) (c .formed .ensures)
+returns-3 c =
+    let at-push-cells = c .before .before .before in
+    let at-wide2 = at-push-cells .before in
+    let at-wide = at-wide2 .before in
+    let at-start-of2 = at-wide .before .before .before .before in
+    let at-start-of = at-start-of2 .before in
+    stands _ _ _ _ _ (at-start-of .start-of .ensures) (at-start-of2 .start-of2 .ensures) _ _ (omega arith) _ (omega arith) (ap (λ (n : ℕ). 2400 + n) (at-wide .wide .ensures)) (ap (λ (n : ℕ). 2400 + n) (at-wide2 .wide2 .ensures)) (at-push-cells .push-cells .ensures) (c .formed .ensures)
 
 pub bring-spec : {M : Type 1} → statement M
 bring-spec =

@@ -49,7 +49,7 @@ loop-again-2 : tie.Need-loop-again-2 Inv-loop μ-loop
 loop-again-2 c = go-down (c .before .before .before .before .loop .inv) _ (omega arith) (omega arith) (c .before .if1 .left) (c .if2 .left)
 
 returns-2 : tie.Need-returns-2 Inv-loop μ-loop
-returns-2 c = none-there (c .before .loop .inv) (c .loop-test .left)
+returns-2 c = search none-there
 
 pub find-slot-spec : {M : Type 1} → statement M
 find-slot-spec =

@@ -39,7 +39,12 @@ class-below-requires : tie.Need-class-below-requires
 class-below-requires c κs = search needs
 
 returns-2 : tie.Need-returns-2
-returns-2 c = let e : c .before .before .before .before .wide .result - 0 ≡ c .before .before .before .before .before .before .before .before .args .st .classes = omega (arith, c .before .before .before .before .wide .ensures) in object-is (c .before .before .before .before .before .if1 .left) (ap (λ (n : ℕ). 256 + n) (c .before .before .before .wide2 .ensures)) refl (ap (λ (n : ℕ). take n (c .before .before .before .before .before .before .before .before .args .tables .now)) e) (c .class-below .ensures)
+returns-2 c =
+    let at-wide2 = c .before .before .before in
+    let at-wide = at-wide2 .before in
+    let at-if1 = at-wide .before in
+    let at-start = at-if1 .before .before .before in
+    let e : at-wide .wide .result - 0 ≡ at-start .args .st .classes = omega (arith, at-wide .wide .ensures) in object-is (at-if1 .if1 .left) (ap (λ (n : ℕ). 256 + n) (at-wide2 .wide2 .ensures)) refl (ap (λ (n : ℕ). take n (at-start .args .tables .now)) e) (c .class-below .ensures)
 
 pub is-a-spec : {M : Type 1} → statement M
 is-a-spec =

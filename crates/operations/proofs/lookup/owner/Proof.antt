@@ -20,7 +20,7 @@ shared-slice-read-result : tie.Need-shared-slice-read-result
 shared-slice-read-result c = search needs
 
 returns-2 : tie.Need-returns-2
-returns-2 c = owner-is (c .before .before .if1 .left) (c .before .wide .ensures)
+returns-2 c = search owner-is
 
 pub owner-spec : {M : Type 1} → statement M
 owner-spec =

@@ -20,7 +20,7 @@ find-slot-requires : tie.Need-find-slot-requires
 find-slot-requires c κs = search needs
 
 returns : tie.Need-returns
-returns c = slot-of (c .before .before .before .before .args .st) (c .before .before .before .before .args .tables .now) (c .find-slot .result) (c .before .before .before .before .pre .1) (c .before .before .wide .ensures) (c .before .payload-of .ensures) (c .find-slot .ensures)
+returns c = search slot-of
 
 pub row-slot-spec : {M : Type 1} → statement M
 row-slot-spec =

@@ -8,7 +8,7 @@ wide-requires : tie.Need-wide-requires
 wide-requires c κs = search needs
 
 returns : tie.Need-returns
-returns c = start-last (c .before .before .before .args .st) (c .before .before .before .args .tables .now) (c .before .wide .ensures) (c .if1 .taken)
+returns c = search start-last
 
 add-result : tie.Need-add-result
 add-result c = search needs
@@ -20,7 +20,7 @@ shared-slice-read-result : tie.Need-shared-slice-read-result
 shared-slice-read-result c = search needs
 
 returns-2 : tie.Need-returns-2
-returns-2 c = start-other (c .before .before .before .before .args .st) (c .before .before .before .before .args .tables .now) (c .before .before .wide .ensures) (c .before .if1 .left)
+returns-2 c = search start-other
 
 pub start-of-spec : {M : Type 1} → statement M
 start-of-spec =

@@ -44,25 +44,30 @@ same-length : tie.Need-same-length
 same-length c = search needs
 
 returns : tie.Need-returns
-returns c = value-isUndef _ _ _ (c .before .before .before .before .match .keys1) (c .before .before .put .ensures)
+returns c = search value-isUndef
 
 same-length-2 : tie.Need-same-length-2
 same-length-2 c = search needs
 
 returns-2 : tie.Need-returns-2
-returns-2 c = value-attribute _ _ _ (c .before .before .before .before .before .match .keys2) (c .before .before .attribute-of .ensures)
+returns-2 c = search value-attribute
 
 same-length-3 : tie.Need-same-length-3
 same-length-3 c = search needs
 
 returns-3 : tie.Need-returns-3
-returns-3 c = value-unary _ _ _ _ (omega (arith, c .before .before .before .before .before .if2 .taken)) (c .before .before .before .before .node-word .ensures) (c .before .before .unary-apply .ensures)
+returns-3 c = search value-unary
 
 same-length-4 : tie.Need-same-length-4
 same-length-4 c = search needs
 
 returns-4 : tie.Need-returns-4
-returns-4 c = value-collect _ _ _ (⊎-elim {C = 13 ≤ c .before .before .before .before .before .before .before .before .before .before .args .form} (λ w. omega arith) (λ w. omega arith) (c .before .before .before .before .before .if1 .came)) (c .before .before .before .before .before .before .match .rest .0 .1) (c .before .before .before .before .before .before .match .rest .1) (c .before .before .collect .ensures)
+returns-4 c =
+    let at-collect = c .before .before in
+    let at-if1 = at-collect .before .before .before in
+    let at-match = at-if1 .before in
+    let at-start = at-match .before .before .before .before in
+    value-collect _ _ _ (⊎-elim {C = 13 ≤ at-start .args .form} (λ w. omega arith) (λ w. omega arith) (at-if1 .if1 .came)) (at-match .match .rest .0 .1) (at-match .match .rest .1) (at-collect .collect .ensures)
 
 pub of-value-spec : {M : Type 1} → statement M
 of-value-spec =

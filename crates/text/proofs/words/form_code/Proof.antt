@@ -2,7 +2,9 @@
 use mathlib.Core.Path.{refl}
 use borrow.Author.Needs.{needs}
 use Rattle.sheet.specs.Text.{bytes}
-use Rattle.text.proofs.FormLaws.{ofLength, forms, rowsOf, of-length, no-length}
+use Rattle.sheet.specs.Lines.{forms}
+use Rattle.text.specs.Words.{formCodes, codedWords}
+use Rattle.text.proofs.FormLaws.{ofLength, rows, rowsOf, of-length, no-length}
 use Rattle.text.proofs.words.form_code.Statement.{statement}
 use Rattle.text.proofs.words.form_code.Tie as tie
 
@@ -88,39 +90,39 @@ among-requires-9 : tie.Need-among-requires-9
 among-requires-9 c κs = search needs
 
 returns : tie.Need-returns
-unfolding ofLength forms rowsOf bytes
+unfolding ofLength rows codedWords forms formCodes rowsOf bytes
 returns c = of-length _ _ _ _ (c .before .before .before .match .keys1) refl (c .among .ensures)
 
 returns-2 : tie.Need-returns-2
-unfolding ofLength forms rowsOf bytes
+unfolding ofLength rows codedWords forms formCodes rowsOf bytes
 returns-2 c = of-length _ _ _ _ (c .before .before .before .match .keys2) refl (c .among2 .ensures)
 
 returns-3 : tie.Need-returns-3
-unfolding ofLength forms rowsOf bytes
+unfolding ofLength rows codedWords forms formCodes rowsOf bytes
 returns-3 c = of-length _ _ _ _ (c .before .before .before .match .keys3) refl (c .among3 .ensures)
 
 returns-4 : tie.Need-returns-4
-unfolding ofLength forms rowsOf bytes
+unfolding ofLength rows codedWords forms formCodes rowsOf bytes
 returns-4 c = of-length _ _ _ _ (c .before .before .before .match .keys4) refl (c .among4 .ensures)
 
 returns-5 : tie.Need-returns-5
-unfolding ofLength forms rowsOf bytes
+unfolding ofLength rows codedWords forms formCodes rowsOf bytes
 returns-5 c = of-length _ _ _ _ (c .before .before .before .match .keys5) refl (c .among5 .ensures)
 
 returns-6 : tie.Need-returns-6
-unfolding ofLength forms rowsOf bytes
+unfolding ofLength rows codedWords forms formCodes rowsOf bytes
 returns-6 c = of-length _ _ _ _ (c .before .before .before .match .keys6) refl (c .among6 .ensures)
 
 returns-7 : tie.Need-returns-7
-unfolding ofLength forms rowsOf bytes
+unfolding ofLength rows codedWords forms formCodes rowsOf bytes
 returns-7 c = of-length _ _ _ _ (c .before .before .before .match .keys7) refl (c .among7 .ensures)
 
 returns-8 : tie.Need-returns-8
-unfolding ofLength forms rowsOf bytes
+unfolding ofLength rows codedWords forms formCodes rowsOf bytes
 returns-8 c = of-length _ _ _ _ (c .before .before .before .match .keys8) refl (c .among8 .ensures)
 
 returns-9 : tie.Need-returns-9
-unfolding ofLength forms rowsOf bytes
+unfolding ofLength rows codedWords forms formCodes rowsOf bytes
 returns-9 c = of-length _ _ _ _ (c .before .before .before .match .keys9) refl (c .among9 .ensures)
 
 returns-10 : tie.Need-returns-10

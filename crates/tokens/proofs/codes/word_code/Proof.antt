@@ -1,9 +1,9 @@
 -- `word_code` meets its contract. Each length by the words that have it. Assumes nothing.
 use mathlib.Core.Path.{refl}
 use Rattle.sheet.specs.Text.{bytes}
-use Rattle.text.proofs.FormLaws.{ofLength, rowsOf}
+use Rattle.text.proofs.FormLaws.{ofLength, rows, rowsOf}
 use Rattle.tokens.specs.Codes.{codes}
-use Rattle.tokens.proofs.LengthLaws.{rows, word-length, no-length}
+use Rattle.tokens.proofs.LengthLaws.{word-length, no-length}
 use borrow.Author.Needs.{needs}
 use Rattle.tokens.proofs.codes.word_code.Statement.{statement}
 use Rattle.tokens.proofs.codes.word_code.Tie as tie

@@ -29,7 +29,11 @@ module _ (t : ℕ) where
 
   returns : lts.Need-returns calls (binary-at t) binary.Post
   unfolding binaryTyping
-  returns c = λ m h. c .before .before .before .before .before .before .before .before .before .pair .ensures m h .goes (c .before .before .before .before .before .both .given .1) _ (c .before .before .binary-type .ensures m (h .classes .parent))
+  returns c =
+      let at-binary-type = c .before .before in
+      let at-both = at-binary-type .before .before .before in
+      let at-pair = at-both .before .before .before .before in
+      λ m h. at-pair .pair .ensures m h .goes (at-both .both .given .1) _ (at-binary-type .binary-type .ensures m (h .classes .parent))
 
   same-length-2 : lts.Need-same-length-2 calls (binary-at t) binary.Post
   same-length-2 c = search needs

@@ -38,7 +38,11 @@ module _ (t : ℕ) where
 
   returns : lts.Need-returns calls (body-at t) body.Post
   unfolding bodyAt
-  returns c = λ m h. early _ (in-env _ _ _ _ _ _ (c .before .before .before .before .before .before .bind .ensures) (c .before .before .before .before .before .before .before .variable .ensures .1) refl (c .before .before .before .before .operand .ensures m h)) (c .enum-told .given .1)
+  returns c =
+      let at-operand = c .before .before .before .before in
+      let at-bind = at-operand .before .before in
+      let at-variable = at-bind .before in
+      λ m h. early _ (in-env _ _ _ _ _ _ (at-bind .bind .ensures) (at-variable .variable .ensures .1) refl (at-operand .operand .ensures m h)) (c .enum-told .given .1)
 
   subtype-requires : lts.Need-subtype-requires calls (body-at t) body.Post
   subtype-requires c κs = search needs
@@ -48,14 +52,26 @@ module _ (t : ℕ) where
 
   returns-2 : lts.Need-returns-2 calls (body-at t) body.Post
   unfolding bodyAt
-  returns-2 c = λ m h. after _ (in-env _ _ _ _ _ _ (c .before .before .before .before .before .before .before .before .before .bind .ensures) (c .before .before .before .before .before .before .before .before .before .before .variable .ensures .1) refl (c .before .before .before .before .before .before .before .operand .ensures m h)) (c .before .before .before .third .given .1) (done (below-yes m _ (h .classes .parent) _ _ _ (sym (c .if1 .taken) ∙ c .before .subtype .ensures)))
+  returns-2 c =
+      let at-subtype = c .before in
+      let at-third = at-subtype .before .before in
+      let at-operand = at-third .before .before .before .before in
+      let at-bind = at-operand .before .before in
+      let at-variable = at-bind .before in
+      λ m h. after _ (in-env _ _ _ _ _ _ (at-bind .bind .ensures) (at-variable .variable .ensures .1) refl (at-operand .operand .ensures m h)) (at-third .third .given .1) (done (below-yes m _ (h .classes .parent) _ _ _ (sym (c .if1 .taken) ∙ at-subtype .subtype .ensures)))
 
   same-length-3 : lts.Need-same-length-3 calls (body-at t) body.Post
   same-length-3 c = search needs
 
   returns-3 : lts.Need-returns-3 calls (body-at t) body.Post
   unfolding bodyAt
-  returns-3 c = λ m h. after _ (in-env _ _ _ _ _ _ (c .before .before .before .before .before .before .before .before .before .bind .ensures) (c .before .before .before .before .before .before .before .before .before .before .variable .ensures .1) refl (c .before .before .before .before .before .before .before .operand .ensures m h)) (c .before .before .before .third .given .1) (done (below-no m _ (h .classes .parent) _ _ _ (sym (c .if1 .left) ∙ c .before .subtype .ensures)))
+  returns-3 c =
+      let at-subtype = c .before in
+      let at-third = at-subtype .before .before in
+      let at-operand = at-third .before .before .before .before in
+      let at-bind = at-operand .before .before in
+      let at-variable = at-bind .before in
+      λ m h. after _ (in-env _ _ _ _ _ _ (at-bind .bind .ensures) (at-variable .variable .ensures .1) refl (at-operand .operand .ensures m h)) (at-third .third .given .1) (done (below-no m _ (h .classes .parent) _ _ _ (sym (c .if1 .left) ∙ at-subtype .subtype .ensures)))
 
   pub closed : {M : Type 1} → lts.Closed calls (body-at t) body.Post M
   closed = lts.spec calls (body-at t) body.Post variable-requires bind-requires operand-requires enum-known-third enum-told same-length returns subtype-requires same-length-2 returns-2 same-length-3 returns-3

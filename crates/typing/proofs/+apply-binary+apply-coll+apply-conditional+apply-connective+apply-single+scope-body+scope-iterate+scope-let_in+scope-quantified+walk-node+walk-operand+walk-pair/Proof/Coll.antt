@@ -40,14 +40,23 @@ module _ (t : ℕ) where
   plain-requires c κs = search needs
 
   returns : lts.Need-returns calls (coll-at t) coll.Post Inv μ
-  returns c = λ m h. assemble-over m _ _ _ _ _ (c .before .before .wide .ensures ∙ c .before .before .before .node-word .ensures) (c .before .if1 .taken) (c .plain .ensures)
+  returns c =
+      let at-if1 = c .before in
+      let at-wide = at-if1 .before in
+      let at-node-word = at-wide .before in
+      λ m h. assemble-over m _ _ _ _ _ (at-wide .wide .ensures ∙ at-node-word .node-word .ensures) (at-if1 .if1 .taken) (c .plain .ensures)
 
   plain-requires-2 : lts.Need-plain-requires-2 calls (coll-at t) coll.Post Inv μ
   plain-requires-2 c κs = search needs
 
   loop-holds : lts.Need-loop-holds calls (coll-at t) coll.Post Inv μ
   unfolding joinedType
-  loop-holds c = (refl, λ m h. left-all m _ _ _ _ _ (c .before .before .wide .ensures ∙ c .before .before .before .node-word .ensures) (c .before .if1 .left) (c .before .before .before .before .before .before .before .before .pre .1 .0 .0) (c .before .before .before .before .before .before .before .before .pre .1 .0 .1) (ap some (c .plain2 .ensures)))
+  loop-holds c =
+      let at-if1 = c .before in
+      let at-wide = at-if1 .before in
+      let at-node-word = at-wide .before in
+      let at-start = at-node-word .before .before .before .before .before in
+      (refl, λ m h. left-all m _ _ _ _ _ (at-wide .wide .ensures ∙ at-node-word .node-word .ensures) (at-if1 .if1 .left) (at-start .pre .1 .0 .0) (at-start .pre .1 .0 .1) (ap some (c .plain2 .ensures)))
 
   add-operand : lts.Need-add-operand calls (coll-at t) coll.Post Inv μ
   add-operand c = search needs
@@ -65,7 +74,11 @@ module _ (t : ℕ) where
   same-length c = omega arith
 
   returns-2 : lts.Need-returns-2 calls (coll-at t) coll.Post Inv μ
-  returns-2 c = λ m h. left-refused m _ _ _ _ _ _ _ (c .before .before .before .before .before .before .before .loop .inv .1 m h) (c .before .before .before .before .before .before .loop-test .taken) (c .before .before .before .before .operand .ensures m h) (c .enum-told .given .1)
+  returns-2 c =
+      let at-operand = c .before .before .before .before in
+      let at-loop-test = at-operand .before .before in
+      let at-loop = at-loop-test .before in
+      λ m h. left-refused m _ _ _ _ _ _ _ (at-loop .loop .inv .1 m h) (at-loop-test .loop-test .taken) (at-operand .operand .ensures m h) (c .enum-told .given .1)
 
   join-more-requires : lts.Need-join-more-requires calls (coll-at t) coll.Post Inv μ
   join-more-requires c κs = search needs
@@ -77,7 +90,12 @@ module _ (t : ℕ) where
   loop-less c = omega arith
 
   loop-again : lts.Need-loop-again calls (coll-at t) coll.Post Inv μ
-  loop-again c = (omega (arith, c .before .before .before .before .before .before .operand, c .before .before .before .before .before .before .before .before .before .loop .inv .0), λ m h. left-next m _ _ _ _ _ _ _ (c .before .before .before .before .before .before .before .before .before .loop .inv .1 m h) _ (h .classes .parent) (c .before .before .before .before .before .before .before .before .loop-test .taken) (c .before .before .before .before .before .before .operand .ensures m h) (c .before .before .member .given .1) (c .join-more .ensures))
+  loop-again c =
+      let at-member = c .before .before in
+      let at-operand = at-member .before .before .before .before in
+      let at-loop-test = at-operand .before .before in
+      let at-loop = at-loop-test .before in
+      (omega (arith, at-operand .operand, at-loop .loop .inv .0), λ m h. left-next m _ _ _ _ _ _ _ (at-loop .loop .inv .1 m h) _ (h .classes .parent) (at-loop-test .loop-test .taken) (at-operand .operand .ensures m h) (at-member .member .given .1) (c .join-more .ensures))
 
   sub-around-common : lts.Need-sub-around-common calls (coll-at t) coll.Post Inv μ
   sub-around-common c = search needs

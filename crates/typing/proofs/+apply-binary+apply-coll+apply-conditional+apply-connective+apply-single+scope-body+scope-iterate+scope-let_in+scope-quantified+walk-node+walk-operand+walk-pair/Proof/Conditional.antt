@@ -34,7 +34,11 @@ module _ (t : ℕ) where
 
   returns : lts.Need-returns calls (conditional-at t) conditional.Post
   unfolding conditionalTyping
-  returns c = λ m h. c .before .before .before .before .before .before .before .before .before .before .before .pair .ensures m h .goes (c .before .before .before .before .before .before .before .both .given .1) _ (early _ (c .before .before .before .before .operand .ensures m h) (c .enum-told .given .1))
+  returns c =
+      let at-operand = c .before .before .before .before in
+      let at-both = at-operand .before .before .before in
+      let at-pair = at-both .before .before .before .before in
+      λ m h. at-pair .pair .ensures m h .goes (at-both .both .given .1) _ (early _ (at-operand .operand .ensures m h) (c .enum-told .given .1))
 
   conditional-type-requires : lts.Need-conditional-type-requires calls (conditional-at t) conditional.Post
   conditional-type-requires c κs = search needs
@@ -47,7 +51,12 @@ module _ (t : ℕ) where
 
   returns-2 : lts.Need-returns-2 calls (conditional-at t) conditional.Post
   unfolding conditionalTyping
-  returns-2 c = λ m h. c .before .before .before .before .before .before .before .before .before .before .before .before .before .pair .ensures m h .goes (c .before .before .before .before .before .before .before .before .before .both .given .1) _ (after _ (c .before .before .before .before .before .before .operand .ensures m h) (c .before .before .third .given .1) (done (c .conditional-type .ensures m (h .classes .parent))))
+  returns-2 c =
+      let at-third = c .before .before in
+      let at-operand = at-third .before .before .before .before in
+      let at-both = at-operand .before .before .before in
+      let at-pair = at-both .before .before .before .before in
+      λ m h. at-pair .pair .ensures m h .goes (at-both .both .given .1) _ (after _ (at-operand .operand .ensures m h) (at-third .third .given .1) (done (c .conditional-type .ensures m (h .classes .parent))))
 
   same-length-3 : lts.Need-same-length-3 calls (conditional-at t) conditional.Post
   same-length-3 c = search needs

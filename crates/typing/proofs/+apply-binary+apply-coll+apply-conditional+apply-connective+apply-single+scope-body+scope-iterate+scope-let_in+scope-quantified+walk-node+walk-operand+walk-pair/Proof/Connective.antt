@@ -37,7 +37,12 @@ module _ (t : ℕ) where
 
   returns : lts.Need-returns calls (connective-at t) connective.Post
   unfolding connectiveTyping
-  returns c = λ m h. c .before .before .before .before .before .before .before .pair .ensures m h .goes (c .before .before .both .given .1) _ (done (c .both-below .ensures m (h .classes .parent) ∙ ap (λ (w : Ty). bothBelow m (c .before .before .before .before .before .before .before .before .before .before .before .before .before .args .n) w w (tyOf (c .before .before .both .given .0 .0)) (tyOf (c .before .before .both .given .0 .1 .0))) (c .before .before .before .before .plain .ensures)))
+  returns c =
+      let at-both = c .before .before in
+      let at-plain = at-both .before .before in
+      let at-pair = at-plain .before .before .before in
+      let at-start = at-pair .before .before .before .before .before .before in
+      λ m h. at-pair .pair .ensures m h .goes (at-both .both .given .1) _ (done (c .both-below .ensures m (h .classes .parent) ∙ ap (λ (w : Ty). bothBelow m (at-start .args .n) w w (tyOf (at-both .both .given .0 .0)) (tyOf (at-both .both .given .0 .1 .0))) (at-plain .plain .ensures)))
 
   same-length-2 : lts.Need-same-length-2 calls (connective-at t) connective.Post
   same-length-2 c = search needs

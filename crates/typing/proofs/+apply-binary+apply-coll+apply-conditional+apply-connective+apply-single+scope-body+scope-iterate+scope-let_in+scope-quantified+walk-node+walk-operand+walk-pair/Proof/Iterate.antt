@@ -41,7 +41,11 @@ module _ (t : ℕ) where
   same-length c = search needs
 
   returns : lts.Need-returns calls (iterate-at t) iterate.Post
-  returns c = λ m h. iter-rest m _ _ _ (c .before .before .before .before .before .before .before .before .before .pair .ensures m h .goes (c .before .before .before .before .before .both .given .1) _ (iter-source m _ (h .classes .parent) _ _ _ _ _ (c .before .outer-code .ensures) (c .if1 .taken)))
+  returns c =
+      let at-outer-code = c .before in
+      let at-both = at-outer-code .before .before .before .before in
+      let at-pair = at-both .before .before .before .before in
+      λ m h. iter-rest m _ _ _ (at-pair .pair .ensures m h .goes (at-both .both .given .1) _ (iter-source m _ (h .classes .parent) _ _ _ _ _ (at-outer-code .outer-code .ensures) (c .if1 .taken)))
 
   subtype-requires : lts.Need-subtype-requires calls (iterate-at t) iterate.Post
   subtype-requires c κs = search needs
@@ -56,13 +60,33 @@ module _ (t : ℕ) where
   bind-requires c κs = search needs
 
   body-requires : lts.Need-body-requires calls (iterate-at t) iterate.Post
-  body-requires c κs = omega (arith, c .before .before .before .before .before .before .before .before .before .before .before .before .before .before .before .before .before .before .before .before .before, c .before .before .before .before .before .before .before .before .before .before .before .before .before .before .before .pair)
+  body-requires c κs =
+      let at-pair = c .before .before .before .before .before .before .before .before .before .before .before .before .before .before .before in
+      let at-place = at-pair .before .before .before .before .before .before in
+      omega (arith, at-place, at-pair .pair)
 
   same-length-2 : lts.Need-same-length-2 calls (iterate-at t) iterate.Post
-  same-length-2 c = omega (arith, c .before .before .before .before .before .before .before .before .before .before .before .before .before .before .before .before .before .before .before .before .before .before .before .before, c .before .before .before .before .before .before .before .before .before .before .before .before .before .before .before .before .before .before .pair, c .before .before .body)
+  same-length-2 c =
+      let at-body = c .before .before in
+      let at-pair = at-body .before .before .before .before .before .before .before .before .before .before .before .before .before .before .before .before in
+      let at-place = at-pair .before .before .before .before .before .before in
+      omega (arith, at-place, at-pair .pair, at-body .body)
 
   returns-2 : lts.Need-returns-2 calls (iterate-at t) iterate.Post
-  returns-2 c = λ m h. iter-rest m _ _ _ (c .before .before .before .before .before .before .before .before .before .before .before .before .before .before .before .before .before .before .pair .ensures m h .goes (c .before .before .before .before .before .before .before .before .before .before .before .before .before .before .both .given .1) _ (iter-body m _ (h .classes .parent) _ _ _ _ _ (c .before .before .before .before .before .before .before .before .before .before .outer-code .ensures) (c .before .before .before .before .before .before .before .before .before .if1 .left) (c .before .before .before .before .before .before .before .before .before .before .before .unpack .ensures ∙ ap typeIn (c .before .before .before .before .before .before .before .before .before .before .before .before .node-word .ensures)) (sym (c .before .before .before .before .before .before .before .if2 .taken) ∙ c .before .before .before .before .before .before .before .before .subtype .ensures) (c .before .before .before .before .before .member-type .ensures) (c .before .before .before .before .before .before .variable .ensures .1) (c .before .before .before .before .bind .ensures) (c .before .before .body .ensures m h)))
+  returns-2 c =
+      let at-body = c .before .before in
+      let at-bind = at-body .before .before in
+      let at-member-type = at-bind .before in
+      let at-variable = at-member-type .before in
+      let at-if2 = at-variable .before in
+      let at-subtype = at-if2 .before in
+      let at-if1 = at-subtype .before in
+      let at-outer-code = at-if1 .before in
+      let at-unpack = at-outer-code .before in
+      let at-node-word = at-unpack .before in
+      let at-both = at-node-word .before .before in
+      let at-pair = at-both .before .before .before .before in
+      λ m h. iter-rest m _ _ _ (at-pair .pair .ensures m h .goes (at-both .both .given .1) _ (iter-body m _ (h .classes .parent) _ _ _ _ _ (at-outer-code .outer-code .ensures) (at-if1 .if1 .left) (at-unpack .unpack .ensures ∙ ap typeIn (at-node-word .node-word .ensures)) (sym (at-if2 .if2 .taken) ∙ at-subtype .subtype .ensures) (at-member-type .member-type .ensures) (at-variable .variable .ensures .1) (at-bind .bind .ensures) (at-body .body .ensures m h)))
 
   enum-known-both-2 : lts.Need-enum-known-both-2 calls (iterate-at t) iterate.Post
   enum-known-both-2 c = search needs
@@ -71,7 +95,15 @@ module _ (t : ℕ) where
   same-length-3 c = search needs
 
   returns-3 : lts.Need-returns-3 calls (iterate-at t) iterate.Post
-  returns-3 c = λ m h. iter-rest m _ _ _ (c .before .before .before .before .before .before .before .before .before .before .before .pair .ensures m h .goes (c .before .before .before .before .before .before .before .both .given .1) _ (iter-start m _ (h .classes .parent) _ _ _ _ _ (c .before .before .before .outer-code .ensures) (c .before .before .if1 .left) (c .before .before .before .before .unpack .ensures ∙ ap typeIn (c .before .before .before .before .before .node-word .ensures)) (sym (c .if2 .left) ∙ c .before .subtype .ensures)))
+  returns-3 c =
+      let at-subtype = c .before in
+      let at-if1 = at-subtype .before in
+      let at-outer-code = at-if1 .before in
+      let at-unpack = at-outer-code .before in
+      let at-node-word = at-unpack .before in
+      let at-both = at-node-word .before .before in
+      let at-pair = at-both .before .before .before .before in
+      λ m h. iter-rest m _ _ _ (at-pair .pair .ensures m h .goes (at-both .both .given .1) _ (iter-start m _ (h .classes .parent) _ _ _ _ _ (at-outer-code .outer-code .ensures) (at-if1 .if1 .left) (at-unpack .unpack .ensures ∙ ap typeIn (at-node-word .node-word .ensures)) (sym (c .if2 .left) ∙ at-subtype .subtype .ensures)))
 
   same-length-4 : lts.Need-same-length-4 calls (iterate-at t) iterate.Post
   same-length-4 c = search needs

@@ -46,7 +46,13 @@ module _ (t : ℕ) where
 
   returns-2 : lts.Need-returns-2 calls (let-in-at t) let-in.Post
   unfolding letTyping
-  returns-2 c = λ m h. after _ (c .before .before .before .before .before .before .before .before .before .before .before .operand .ensures m h) (c .before .before .before .before .before .before .before .first .given .1) (in-env _ _ _ _ _ _ (c .before .before .before .before .bind .ensures) (c .before .before .before .before .before .variable .ensures .1) refl (c .before .before .operand2 .ensures m h))
+  returns-2 c =
+      let at-operand2 = c .before .before in
+      let at-bind = at-operand2 .before .before in
+      let at-variable = at-bind .before in
+      let at-first = at-variable .before .before in
+      let at-operand = at-first .before .before .before .before in
+      λ m h. after _ (at-operand .operand .ensures m h) (at-first .first .given .1) (in-env _ _ _ _ _ _ (at-bind .bind .ensures) (at-variable .variable .ensures .1) refl (at-operand2 .operand2 .ensures m h))
 
   pub closed : {M : Type 1} → lts.Closed calls (let-in-at t) let-in.Post M
   closed = lts.spec calls (let-in-at t) let-in.Post operand-requires enum-known-first enum-told same-length returns variable-requires bind-requires operand-requires-2 same-length-2 returns-2

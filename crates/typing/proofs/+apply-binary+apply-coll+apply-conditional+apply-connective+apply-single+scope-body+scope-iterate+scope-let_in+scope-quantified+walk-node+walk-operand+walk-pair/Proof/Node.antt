@@ -61,19 +61,31 @@ module _ (t : ℕ) where
   same-length c = search needs
 
   returns : lts.Need-returns calls (node-at t) node.Post
-  returns c = λ m h. as-form (conditional-node m _ _ _ (c .before .before .before .before .before .node-word .ensures) (c .before .before .before .before .match .keys3)) (c .before .before .conditional .ensures m h)
+  returns c =
+      let at-conditional = c .before .before in
+      let at-match = at-conditional .before .before in
+      let at-node-word = at-match .before in
+      λ m h. as-form (conditional-node m _ _ _ (at-node-word .node-word .ensures) (at-match .match .keys3)) (at-conditional .conditional .ensures m h)
 
   same-length-2 : lts.Need-same-length-2 calls (node-at t) node.Post
   same-length-2 c = search needs
 
   returns-2 : lts.Need-returns-2 calls (node-at t) node.Post
-  returns-2 c = λ m h. as-form (let-node m _ _ _ (c .before .before .before .before .before .node-word .ensures) (c .before .before .before .before .match .keys4)) (c .before .before .let-in .ensures m h)
+  returns-2 c =
+      let at-let-in = c .before .before in
+      let at-match = at-let-in .before .before in
+      let at-node-word = at-match .before in
+      λ m h. as-form (let-node m _ _ _ (at-node-word .node-word .ensures) (at-match .match .keys4)) (at-let-in .let-in .ensures m h)
 
   same-length-3 : lts.Need-same-length-3 calls (node-at t) node.Post
   same-length-3 c = search needs
 
   returns-3 : lts.Need-returns-3 calls (node-at t) node.Post
-  returns-3 c = λ m h. as-form (iterate-node m _ _ _ (c .before .before .before .before .before .node-word .ensures) (c .before .before .before .before .match .keys5)) (c .before .before .iterate .ensures m h)
+  returns-3 c =
+      let at-iterate = c .before .before in
+      let at-match = at-iterate .before .before in
+      let at-node-word = at-match .before in
+      λ m h. as-form (iterate-node m _ _ _ (at-node-word .node-word .ensures) (at-match .match .keys5)) (at-iterate .iterate .ensures m h)
 
   returns-4 : lts.Need-returns-4 calls (node-at t) node.Post
   unfolding leafTyping
@@ -83,34 +95,61 @@ module _ (t : ℕ) where
   same-length-4 c = search needs
 
   returns-5 : lts.Need-returns-5 calls (node-at t) node.Post
-  returns-5 c = λ m h. as-form (connective-node m _ _ _ (c .before .before .before .before .before .before .before .before .before .node-word .ensures) (c .before .before .before .before .before .if3 .left) (c .before .before .before .before .if4 .taken)) (c .before .before .connective .ensures m h)
+  returns-5 c =
+      let at-connective = c .before .before in
+      let at-if4 = at-connective .before .before in
+      let at-if3 = at-if4 .before in
+      let at-node-word = at-if3 .before .before .before .before in
+      λ m h. as-form (connective-node m _ _ _ (at-node-word .node-word .ensures) (at-if3 .if3 .left) (at-if4 .if4 .taken)) (at-connective .connective .ensures m h)
 
   same-length-5 : lts.Need-same-length-5 calls (node-at t) node.Post
   same-length-5 c = search needs
 
   returns-6 : lts.Need-returns-6 calls (node-at t) node.Post
-  returns-6 c = λ m h. as-form (quantified-node m _ _ _ (c .before .before .before .before .before .before .before .before .before .before .node-word .ensures) (c .before .before .before .before .before .if4 .left) (c .before .before .before .before .if5 .taken)) (c .before .before .quantified .ensures m h)
+  returns-6 c =
+      let at-quantified = c .before .before in
+      let at-if5 = at-quantified .before .before in
+      let at-if4 = at-if5 .before in
+      let at-node-word = at-if4 .before .before .before .before .before in
+      λ m h. as-form (quantified-node m _ _ _ (at-node-word .node-word .ensures) (at-if4 .if4 .left) (at-if5 .if5 .taken)) (at-quantified .quantified .ensures m h)
 
   same-length-6 : lts.Need-same-length-6 calls (node-at t) node.Post
   same-length-6 c = search needs
 
   returns-7 : lts.Need-returns-7 calls (node-at t) node.Post
-  returns-7 c = λ m h. as-form (assemble-node m _ _ _ (c .before .before .before .before .before .before .before .before .before .before .before .node-word .ensures) (c .before .before .before .before .before .if5 .left) (c .before .before .before .before .if6 .taken)) (c .before .before .coll .ensures m h)
+  returns-7 c =
+      let at-coll = c .before .before in
+      let at-if6 = at-coll .before .before in
+      let at-if5 = at-if6 .before in
+      let at-node-word = at-if5 .before .before .before .before .before .before in
+      λ m h. as-form (assemble-node m _ _ _ (at-node-word .node-word .ensures) (at-if5 .if5 .left) (at-if6 .if6 .taken)) (at-coll .coll .ensures m h)
 
   returns-8 : lts.Need-returns-8 calls (node-at t) node.Post
-  returns-8 c = λ m h. as-form (none-node m _ _ _ (c .before .before .before .before .before .before .before .before .before .node-word .ensures) (c .before .if7 .left) (c .before .before .before .before .before .before .before .before .match .rest .1) (c .before .before .before .before .before .before .before .before .match .rest .0 .0 .0 .0 .1) (c .before .before .before .before .before .before .before .before .match .rest .0 .0 .0 .1)) (undef-done _ _ (c .plain .ensures))
+  returns-8 c =
+      let at-if7 = c .before in
+      let at-match = at-if7 .before .before .before .before .before .before .before in
+      let at-node-word = at-match .before in
+      λ m h. as-form (none-node m _ _ _ (at-node-word .node-word .ensures) (at-if7 .if7 .left) (at-match .match .rest .1) (at-match .match .rest .0 .0 .0 .0 .1) (at-match .match .rest .0 .0 .0 .1)) (undef-done _ _ (c .plain .ensures))
 
   same-length-7 : lts.Need-same-length-7 calls (node-at t) node.Post
   same-length-7 c = search needs
 
   returns-9 : lts.Need-returns-9 calls (node-at t) node.Post
-  returns-9 c = λ m h. as-form (binary-node m _ _ _ (c .before .before .before .before .before .node-word .ensures) (⊎-elim (λ x. inl (x .keys2)) (λ x. inr (x .2 .left, x .3 .taken)) (c .before .before .before .before .match .came))) (c .before .before .binary .ensures m h)
+  returns-9 c =
+      let at-binary = c .before .before in
+      let at-match = at-binary .before .before in
+      let at-node-word = at-match .before in
+      λ m h. as-form (binary-node m _ _ _ (at-node-word .node-word .ensures) (⊎-elim (λ x. inl (x .keys2)) (λ x. inr (x .2 .left, x .3 .taken)) (at-match .match .came))) (at-binary .binary .ensures m h)
 
   same-length-8 : lts.Need-same-length-8 calls (node-at t) node.Post
   same-length-8 c = search needs
 
   returns-10 : lts.Need-returns-10 calls (node-at t) node.Post
-  returns-10 c = λ m h. as-form (single-node m _ _ _ (c .before .before .before .before .before .node-word .ensures) (⊎-elim (λ x. inl (x .keys1)) (⊎-elim (λ x. inr (inl (x .1 .left, x .2 .taken))) (λ x. inr (inr (from-33 _ (x .6 .left) (x .0 .rest .0 .0 .0 .0 .1) (x .0 .rest .0 .0 .1) (x .0 .rest .0 .1), x .7 .taken)))) (c .before .before .before .before .match .came))) (c .before .before .single .ensures m h)
+  returns-10 c =
+      let at-single = c .before .before in
+      let at-match = at-single .before .before in
+      let at-node-word = at-match .before in
+      λ m h. as-form (single-node m _ _ _ (at-node-word .node-word .ensures) (⊎-elim (λ x. inl (x .keys1)) (⊎-elim (λ x. inr (inl (x .1 .left, x .2 .taken))) (λ x. inr (inr (from-33 _ (x .6 .left) (x .0 .rest .0 .0 .0 .0 .1) (x .0 .rest .0 .0 .1) (x .0 .rest .0 .1), x .7 .taken)))) (at-match .match .came))) (at-single .single .ensures m h)
 
   pub closed : {M : Type 1} → lts.Closed calls (node-at t) node.Post M
   closed = lts.spec calls (node-at t) node.Post node-word-requires conditional-requires let-in-requires iterate-requires leaf-type-requires connective-requires quantified-requires coll-requires plain-requires binary-requires single-requires same-length returns same-length-2 returns-2 same-length-3 returns-3 returns-4 same-length-4 returns-5 same-length-5 returns-6 same-length-6 returns-7 returns-8 same-length-7 returns-9 same-length-8 returns-10

@@ -26,7 +26,11 @@ module _ (t : ℕ) where
   plain-requires c κs = search needs
 
   returns : lts.Need-returns calls (operand-at t) operand.Post
-  returns c = λ m h. as-form (late-node m _ _ _ _ (c .before .before .wide .ensures ∙ c .before .before .before .node-word .ensures) (c .before .if1 .taken)) (undef-done _ _ (c .plain .ensures))
+  returns c =
+      let at-if1 = c .before in
+      let at-wide = at-if1 .before in
+      let at-node-word = at-wide .before in
+      λ m h. as-form (late-node m _ _ _ _ (at-wide .wide .ensures ∙ at-node-word .node-word .ensures) (at-if1 .if1 .taken)) (undef-done _ _ (c .plain .ensures))
 
   node-requires : lts.Need-node-requires calls (operand-at t) operand.Post
   node-requires c κs = search needs
@@ -35,7 +39,12 @@ module _ (t : ℕ) where
   same-length c = search needs
 
   returns-2 : lts.Need-returns-2 calls (operand-at t) operand.Post
-  returns-2 c = λ m h. as-form (operand-node m _ _ _ _ (c .before .before .before .before .before .wide .ensures ∙ c .before .before .before .before .before .before .node-word .ensures) (c .before .before .before .before .if1 .left)) (c .before .before .node .ensures m h)
+  returns-2 c =
+      let at-node = c .before .before in
+      let at-if1 = at-node .before .before in
+      let at-wide = at-if1 .before in
+      let at-node-word = at-wide .before in
+      λ m h. as-form (operand-node m _ _ _ _ (at-wide .wide .ensures ∙ at-node-word .node-word .ensures) (at-if1 .if1 .left)) (at-node .node .ensures m h)
 
   pub closed : {M : Type 1} → lts.Closed calls (operand-at t) operand.Post M
   closed = lts.spec calls (operand-at t) operand.Post node-word-requires wide-requires plain-requires returns node-requires same-length returns-2

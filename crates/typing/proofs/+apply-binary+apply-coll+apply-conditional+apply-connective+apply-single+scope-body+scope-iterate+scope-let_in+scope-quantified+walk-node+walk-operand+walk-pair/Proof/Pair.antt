@@ -39,13 +39,22 @@ module _ (t : ℕ) where
   same-length-2 c = search needs
 
   returns-2 : lts.Need-returns-2 calls (pair-at t) pair.Post
-  returns-2 c = λ m h. two-second (c .before .before .before .before .before .before .before .before .before .before .before .operand .ensures m h) (c .before .before .before .before .before .before .before .first .given .1) (c .before .before .before .before .operand2 .ensures m h) (c .enum-told2 .given .1)
+  returns-2 c =
+      let at-operand2 = c .before .before .before .before in
+      let at-first = at-operand2 .before .before .before in
+      let at-operand = at-first .before .before .before .before in
+      λ m h. two-second (at-operand .operand .ensures m h) (at-first .first .given .1) (at-operand2 .operand2 .ensures m h) (c .enum-told2 .given .1)
 
   same-length-3 : lts.Need-same-length-3 calls (pair-at t) pair.Post
   same-length-3 c = search needs
 
   returns-3 : lts.Need-returns-3 calls (pair-at t) pair.Post
-  returns-3 c = λ m h. two-done (c .before .before .before .before .before .before .before .before .before .before .before .before .operand .ensures m h) (c .before .before .before .before .before .before .before .before .first .given .1) (c .before .before .before .before .before .operand2 .ensures m h) (c .before .second .given .1)
+  returns-3 c =
+      let at-second = c .before in
+      let at-operand2 = at-second .before .before .before .before in
+      let at-first = at-operand2 .before .before .before in
+      let at-operand = at-first .before .before .before .before in
+      λ m h. two-done (at-operand .operand .ensures m h) (at-first .first .given .1) (at-operand2 .operand2 .ensures m h) (at-second .second .given .1)
 
   pub closed : {M : Type 1} → lts.Closed calls (pair-at t) pair.Post M
   closed = lts.spec calls (pair-at t) pair.Post operand-requires enum-known-first enum-told same-length returns operand-requires-2 enum-known-second enum-told-2 same-length-2 returns-2 same-length-3 returns-3

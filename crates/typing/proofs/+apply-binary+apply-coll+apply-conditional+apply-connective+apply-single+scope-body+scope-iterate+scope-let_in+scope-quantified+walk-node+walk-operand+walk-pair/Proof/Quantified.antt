@@ -43,7 +43,11 @@ module _ (t : ℕ) where
 
   returns-2 : lts.Need-returns-2 calls (quantified-at t) quantified.Post
   unfolding quantifiedTyping
-  returns-2 c = λ m h. after _ (c .before .before .before .before .before .before .before .operand .ensures m h) (c .before .before .before .source .given .1) (no-source _ _ (c .before .outer-code .ensures) _ (c .if1 .taken))
+  returns-2 c =
+      let at-outer-code = c .before in
+      let at-source = at-outer-code .before .before in
+      let at-operand = at-source .before .before .before .before in
+      λ m h. after _ (at-operand .operand .ensures m h) (at-source .source .given .1) (no-source _ _ (at-outer-code .outer-code .ensures) _ (c .if1 .taken))
 
   variable-requires : lts.Need-variable-requires calls (quantified-at t) quantified.Post
   variable-requires c κs = search needs
@@ -55,7 +59,10 @@ module _ (t : ℕ) where
   bind-requires c κs = search needs
 
   operand-requires-2 : lts.Need-operand-requires-2 calls (quantified-at t) quantified.Post
-  operand-requires-2 c κs = omega (arith, c .before .before .before .before .before .before .before .before .before .before .before .before .before .before .before .before .before, c .before .before .before .before .before .before .before .before .before .before .before .operand)
+  operand-requires-2 c κs =
+      let at-operand = c .before .before .before .before .before .before .before .before .before .before .before in
+      let at-place = at-operand .before .before .before .before .before .before in
+      omega (arith, at-place, at-operand .operand)
 
   enum-known-body : lts.Need-enum-known-body calls (quantified-at t) quantified.Post
   enum-known-body c = search needs
@@ -68,17 +75,40 @@ module _ (t : ℕ) where
 
   returns-3 : lts.Need-returns-3 calls (quantified-at t) quantified.Post
   unfolding quantifiedTyping
-  returns-3 c = λ m h. after _ (c .before .before .before .before .before .before .before .before .before .before .before .before .before .before .before .before .operand .ensures m h) (c .before .before .before .before .before .before .before .before .before .before .before .before .source .given .1) (on-source _ _ (c .before .before .before .before .before .before .before .before .before .before .outer-code .ensures) _ (c .before .before .before .before .before .before .before .before .before .if1 .left) (early _ (in-env _ _ _ _ _ _ (c .before .before .before .before .before .before .bind .ensures) (c .before .before .before .before .before .before .before .before .variable .ensures .1) (c .before .before .before .before .before .before .before .member-type .ensures) (c .before .before .before .before .operand2 .ensures m h)) (c .enum-told2 .given .1)))
+  returns-3 c =
+      let at-operand2 = c .before .before .before .before in
+      let at-bind = at-operand2 .before .before in
+      let at-member-type = at-bind .before in
+      let at-variable = at-member-type .before in
+      let at-if1 = at-variable .before in
+      let at-outer-code = at-if1 .before in
+      let at-source = at-outer-code .before .before in
+      let at-operand = at-source .before .before .before .before in
+      λ m h. after _ (at-operand .operand .ensures m h) (at-source .source .given .1) (on-source _ _ (at-outer-code .outer-code .ensures) _ (at-if1 .if1 .left) (early _ (in-env _ _ _ _ _ _ (at-bind .bind .ensures) (at-variable .variable .ensures .1) (at-member-type .member-type .ensures) (at-operand2 .operand2 .ensures m h)) (c .enum-told2 .given .1)))
 
   condition-requires : lts.Need-condition-requires calls (quantified-at t) quantified.Post
   condition-requires c κs = search needs
 
   same-length-4 : lts.Need-same-length-4 calls (quantified-at t) quantified.Post
-  same-length-4 c = omega (arith, c .before .before .before .before .before .before .before .before .before .before .before .before .before .before .before .before .before .before .operand, c .before .before .before .before .before .before .operand2, c .before .before .before .before .before .before .before .before .before .before .before .before .before .before .before .before .before .before .before .before .before .before .before .before)
+  same-length-4 c =
+      let at-operand2 = c .before .before .before .before .before .before in
+      let at-operand = at-operand2 .before .before .before .before .before .before .before .before .before .before .before .before in
+      let at-place = at-operand .before .before .before .before .before .before in
+      omega (arith, at-operand .operand, at-operand2 .operand2, at-place)
 
   returns-4 : lts.Need-returns-4 calls (quantified-at t) quantified.Post
   unfolding quantifiedTyping
-  returns-4 c = λ m h. after _ (c .before .before .before .before .before .before .before .before .before .before .before .before .before .before .before .before .before .before .operand .ensures m h) (c .before .before .before .before .before .before .before .before .before .before .before .before .before .before .source .given .1) (on-source _ _ (c .before .before .before .before .before .before .before .before .before .before .before .before .outer-code .ensures) _ (c .before .before .before .before .before .before .before .before .before .before .before .if1 .left) (after _ (in-env _ _ _ _ _ _ (c .before .before .before .before .before .before .before .before .bind .ensures) (c .before .before .before .before .before .before .before .before .before .before .variable .ensures .1) (c .before .before .before .before .before .before .before .before .before .member-type .ensures) (c .before .before .before .before .before .before .operand2 .ensures m h)) (c .before .before .body .given .1) (done (c .condition .ensures m (h .classes .parent)))))
+  returns-4 c =
+      let at-body = c .before .before in
+      let at-operand2 = at-body .before .before .before .before in
+      let at-bind = at-operand2 .before .before in
+      let at-member-type = at-bind .before in
+      let at-variable = at-member-type .before in
+      let at-if1 = at-variable .before in
+      let at-outer-code = at-if1 .before in
+      let at-source = at-outer-code .before .before in
+      let at-operand = at-source .before .before .before .before in
+      λ m h. after _ (at-operand .operand .ensures m h) (at-source .source .given .1) (on-source _ _ (at-outer-code .outer-code .ensures) _ (at-if1 .if1 .left) (after _ (in-env _ _ _ _ _ _ (at-bind .bind .ensures) (at-variable .variable .ensures .1) (at-member-type .member-type .ensures) (at-operand2 .operand2 .ensures m h)) (at-body .body .given .1) (done (c .condition .ensures m (h .classes .parent)))))
 
   pub closed : {M : Type 1} → lts.Closed calls (quantified-at t) quantified.Post M
   closed = lts.spec calls (quantified-at t) quantified.Post operand-requires enum-known-source enum-told same-length returns outer-code-requires same-length-2 returns-2 variable-requires member-type-requires bind-requires operand-requires-2 enum-known-body enum-told-2 same-length-3 returns-3 condition-requires same-length-4 returns-4

@@ -37,7 +37,11 @@ module _ (t : ℕ) where
 
   returns-2 : lts.Need-returns-2 calls (single-at t) single.Post
   unfolding singleAt
-  returns-2 c = λ m h. after _ (c .before .before .before .before .before .before .before .before .before .operand .ensures m h) (c .before .before .before .before .before .first .given .1) (c .before .before .single-type .ensures m h)
+  returns-2 c =
+      let at-single-type = c .before .before in
+      let at-first = at-single-type .before .before .before in
+      let at-operand = at-first .before .before .before .before in
+      λ m h. after _ (at-operand .operand .ensures m h) (at-first .first .given .1) (at-single-type .single-type .ensures m h)
 
   pub closed : {M : Type 1} → lts.Closed calls (single-at t) single.Post M
   closed = lts.spec calls (single-at t) single.Post operand-requires enum-known-first enum-told same-length returns single-type-requires same-length-2 returns-2
