@@ -51,11 +51,11 @@ def check_manifest(folder, commit_name):
     check("manifest: facts", facts.items() <= dict(re.findall(r"^# (\w+)  +(.*)$", text, re.M)).items(), text[:600])
     shipped = {f"include/{path.name}" for path in (ROOT / "include").iterdir()} | {f"bin/{program}" for program in programs()}
     check("manifest: headers, programs and pages", shipped | {"README.md", "CHANGELOG.md", "docs/RELEASE.md"} <= summed)
-    return check_calls(folder, text)
+    check_calls(folder, text)
 
 
 def check_calls(folder, text):
-    """Each exported call has its contract in the manifest, at a line that has one. The calls, by library."""
+    """Each exported call has its contract in the manifest, at a line that has one."""
     told = {}
     for name, lines in re.findall(r"^# call (\w+)\n((?:#   .*\n)+)", text, re.M):
         said = dict(re.findall(r"^#   (\w+)  +(.*)$", lines, re.M))
@@ -68,7 +68,6 @@ def check_calls(folder, text):
     for library in sorted(folder.glob("lib/*.a")):
         symbols = {line.split()[-1] for line in must("nm", "--defined-only", "--extern-only", library).splitlines() if " T " in line}
         check(f"manifest: calls of {library.name}", told.get(f"lib/{library.name}") == symbols, str(symbols))
-    return set().union(*told.values())
 
 
 # ---- installed
@@ -79,24 +78,18 @@ def flags(prefix, *words):
     return shlex.split(must("pkg-config", *words, env=path))
 
 
-def check_examples(prefix, calls):
-    """Every example in C, by pkg-config alone. One that waits for a call which no library has yet is only compiled."""
+def check_examples(prefix):
+    """Every example in C, by pkg-config alone."""
     pages = prefix / "share/doc/ocl-checker/examples"
     check("examples in C: what each must print is known here", {path.stem for path in (pages / "c").glob("*.c")} == set(EXAMPLES))
     for name, (given, typed, wanted) in EXAMPLES.items():
         source = pages / "c" / f"{name}.c"
         header = re.search(r'^#include "(\w+)\.h"$', source.read_text(), re.M)[1]
         package = header.replace("_", "-")
-        declared = set(re.findall(r"^\w+ (\w+)\(", (prefix / f"include/{header}.h").read_text(), re.M))
-        awaited = {word for word in declared - calls if f"{word}(" in source.read_text()}
-        if awaited:
-            print(f"release: examples/c/{name}.c is only compiled: no library has {', '.join(sorted(awaited))} yet")
         program = prefix.parent / name
-        ways = ["-c", *flags(prefix, "--cflags", package)] if awaited else flags(prefix, "--cflags", "--libs", package)
-        must("cc", "-std=c11", "-Wall", "-Wextra", "-Werror", source, "-o", program, *ways)
-        if not awaited:
-            ran = run(program, pages / given, input=(pages / typed).read_bytes() if typed else b"")
-            check(f"examples/c/{name}.c", ran.returncode == 0 and ran.stdout.endswith((pages / wanted).read_bytes()), ran.stdout[-300:].decode())
+        must("cc", "-std=c11", "-Wall", "-Wextra", "-Werror", source, "-o", program, *flags(prefix, "--cflags", "--libs", package))
+        ran = run(program, pages / given, input=(pages / typed).read_bytes() if typed else b"")
+        check(f"examples/c/{name}.c", ran.returncode == 0 and ran.stdout.endswith((pages / wanted).read_bytes()), ran.stdout[-300:].decode())
 
 
 def check_needs(prefix):
@@ -107,8 +100,8 @@ def check_needs(prefix):
         check(f"bin/{program}: glibc", max(tuple(map(int, pair)) for pair in needs) <= tuple(map(int, said)), str(needs))
 
 
-def check_installed(prefix, calls):
-    check_examples(prefix, calls)
+def check_installed(prefix):
+    check_examples(prefix)
     check_needs(prefix)
     for package in ("ocl-checker", "thread-load"):
         check(f"pkg-config: {package}", flags(prefix, "--modversion", package) == [VERSION])
@@ -122,10 +115,10 @@ def check_installed(prefix, calls):
     check("install: the list has every file once", sorted(listed) == sorted(there))
 
 
-def check_install(folder, calls):
+def check_install(folder):
     prefix, into = folder.parent / "a prefix", folder.parent / "packages"
     must(folder / "install", prefix)
-    check_installed(prefix, calls)
+    check_installed(prefix)
     (prefix / "share/doc/ocl-checker/old").touch()
     with (prefix / "share/doc/ocl-checker/FILES").open("a") as listed:
         listed.write("share/doc/ocl-checker/old\n")
