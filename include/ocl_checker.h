@@ -1,10 +1,10 @@
 /*
  * The rule checker's calls, for C and C++. Link with libchecker.a; docs/USING.md says how, and what a call needs.
  *
- * What a call does depends on the text, the numbers and the lengths that it is given, and on nothing else; an edit also on the
- * board that it is lent. It keeps nothing of its own between calls, calls nothing but the C library's memset, memcpy and memmove,
- * and can fail only by the number that it returns. So calls may run in several threads at a time, each with memory of its own;
- * several may share a text. A call takes up to 192 KiB of stack (docs/USING.md, section 5).
+ * What a call does depends on the text, the numbers and the lengths that it is given, and on nothing else; an edit also on its own
+ * bytes and on the board and verdicts that it is lent. A call keeps nothing of its own between calls, calls nothing but the C
+ * library's memset, memcpy and memmove, and can fail only by the number that it returns. So calls may run in several threads at a
+ * time, each with memory of its own; several may share a text. A call takes up to 192 KiB of stack (docs/USING.md, section 5).
  *
  * What is lent to each call:
  *
@@ -30,8 +30,8 @@
  *
  * A board (ocl_make_board, ocl_edit_board) is two more slices, in place of the output, that keep what they hold between calls:
  *
- *   board           OCL_LEAST_BOARD words or more: the values of the sheet with the edits so far made. How they lie there is the
- *                   library's; words beyond the first OCL_LEAST_BOARD are never touched.
+ *   board           OCL_LEAST_BOARD words or more: the values of the sheet with the edits so far made. Only the library knows how
+ *                   they lie there; words beyond the first OCL_LEAST_BOARD are never touched.
  *   verdicts        OCL_LEAST_VERDICTS bytes or more: in front the report on these values, `length` bytes of the last answer.
  *
  *   number          board and verdicts
@@ -71,12 +71,12 @@ typedef struct ocl_answer {
 } ocl_answer;
 
 /*
- * The numbers. In brackets: who gives it, R read, F read held to the profile, E evaluate, P report, W rows, U undefined, M make,
- * C edit (a correction); whether with a place.
+ * The numbers. In brackets: which calls give it (R read, F read held to the profile, E evaluate, P report, W rows, U undefined,
+ * M make, C edit, a correction), and whether it comes with a place.
  */
 enum ocl_number {
     OCL_ANSWERED = 0,            /* an answer (RFEPWUMC) */
-    OCL_SHORT_SLICE = 1,         /* a word slice or the output is too short; nothing was touched (RFEPWUMC) */
+    OCL_SHORT_SLICE = 1,         /* a lent slice, other than the text, is too short; nothing was touched (RFEPWUMC) */
     OCL_SHEET_TOO_LONG = 2,      /* the text is longer than a sheet may be (RFEPWUMC) */
     OCL_BAD_LINE = 3,            /* a line is misspelled: fields, letter, form, number, line feed (RFEPWUMC, place) */
     OCL_OUT_OF_LIMITS = 4,       /* a number, count, size or nesting is outside its limits (RFEPWUMC, place) */
@@ -104,7 +104,7 @@ enum ocl_number {
 
 /*
  * Reads a sheet, types its definitions and then all its rules, in order, and writes the rules' types, one a line, as `Bool` or
- * `S(#2)`, with a line feed at the end of each. A sheet is accepted only if all its definitions and rules type. The other
+ * `S(#2)`, with a line feed at the end of each. A sheet is accepted only if all its definitions and rules have a type. The other
  * calls read and type it too, and refuse it with the same number and place.
  */
 ocl_answer ocl_read_sheet(
@@ -118,7 +118,7 @@ ocl_answer ocl_read_sheet(
  * Does what ocl_read_sheet does, and holds the sheet to the free-numbering profile: one that is accepted is refused with
  * OCL_OUTSIDE_PROFILE where a rule, or a definition that a rule reaches, has an `iter`, an `asSequence`, or a `union`, `including`
  * or `collect` on a type `Q(..)`, run or not. The place is the lowest line of such a node. What rules in the profile answer does
- * not follow from how the objects are numbered (docs/SHEETS.md, section 8).
+ * not depend on how the objects are numbered (docs/SHEETS.md, section 8).
  */
 ocl_answer ocl_read_free_numbering(
     const uint8_t *text, size_t text_length,

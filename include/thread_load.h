@@ -1,6 +1,6 @@
 /*
- * Thread load along a run of stitches, for C and C++: the largest sum of so many neighbouring stitch lengths, and the stitch
- * at which it first begins. Link with libload.a; docs/USING.md says how. docs/LOAD.md says what the numbers mean.
+ * Thread load along a run of stitches, for C and C++: the largest sum of as many neighbouring stitch lengths as the window is
+ * wide, and the stitch at which it first begins. Link with libload.a; docs/USING.md says how. docs/LOAD.md says what the numbers mean.
  *
  * A record takes one length at a time, as the machine sews. It is plain data: it may be copied, and each copy goes on by
  * itself. A new one is all zero but for its width:
@@ -41,11 +41,11 @@ typedef struct load_window {
     uint16_t recent[64]; /* the last of them: length number n, from 0, stands at n modulo 64 */
     uint64_t sum;        /* of the last `width` lengths, of all while they are fewer */
     uint64_t largest;    /* the largest sum of `width` neighbours so far */
-    uint64_t first;      /* the number, from 1, of the first length of the earliest such run; 0 while there is none */
+    uint64_t first;      /* the number, from 1, of the first length of the earliest such sum; 0 while there is none */
 } load_window;
 
 /*
- * Takes one length more and returns whether it did. A length over LOAD_LONGEST, or one behind LOAD_MOST others, is not taken,
+ * Takes one length more and returns whether it did. A length over LOAD_LONGEST, or one after LOAD_MOST others, is not taken,
  * and nothing changes. A record of another width, or one that no lengths lead to, is safe to hand in; what it says is then
  * of no use.
  */
@@ -53,7 +53,7 @@ bool load_push(load_window *window, uint16_t length);
 
 /*
  * What the program thread_load prints for a text: sum and first stitch, or `!` with number and place. The line, which ends in
- * a line feed, stands at the front of the output; its length is returned. The bytes behind it stay as they were.
+ * a line feed, stands at the front of the output; its length is returned. The bytes after it stay as they were.
  */
 size_t load_text(const uint8_t *text, size_t text_length, uint8_t output[LOAD_LINE]);
 

@@ -1,7 +1,8 @@
 /*
  * check SHEET: reads a job sheet from a file and prints each rule's type, what the rule comes to for each of its objects, the
- * rows that each rule sees, whether the sheet is in the free-numbering profile, where undefined came from, and the report; or why
- * the sheet is refused, in words. It shows the calls of include/ocl_checker.h. All memory is static.
+ * rows that each rule sees, whether the sheet is in the free-numbering profile, where undefined came from, and the report. A sheet
+ * that is refused gets the reason in words. It shows the calls of include/ocl_checker.h, but for those on a board, which setter.c
+ * has. All memory is static.
  *
  *     cc -std=c11 -Wall -Wextra -Werror -Iinclude examples/c/check.c target/staticlib/libchecker.a -o target/check
  *     target/check examples/cap.sheet
@@ -88,7 +89,7 @@ static void evaluate_for_all(uint64_t rule)
     }
 }
 
-/* Prints what each rule is and comes to. Its type is its line of the types, which take so many bytes. */
+/* Prints each rule's type, and what the rule comes to. The types take this many bytes, a line for each rule. */
 static void print_rules(uint64_t length)
 {
     uint64_t rule = 0, start = 0;
@@ -102,7 +103,7 @@ static void print_rules(uint64_t length)
     }
 }
 
-/* Prints what a call has written, or its refusal; whether there is something. */
+/* Prints what a call has written, or its refusal. Returns whether there was an answer. */
 static int print_lines(const char *what, ocl_answer answer)
 {
     if (answer.number != OCL_ANSWERED) {

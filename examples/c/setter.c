@@ -1,7 +1,8 @@
 /*
- * setter SHEET: a setter corrects values at the machine. Makes a board of a job sheet, prints its verdicts, and then for each edit on
- * standard input, a V line or one with `-` for the value, the verdicts that changed and the steps that it took; or the number and the
- * place of its refusal. It shows ocl_make_board and ocl_edit_board of include/ocl_checker.h. All memory is static.
+ * setter SHEET: a setter corrects values at the machine. The program makes a board of a job sheet and prints its verdicts. Then it reads
+ * edits from standard input, each a V line or one with `-` for the value. For each it prints the steps that it took and the verdicts that
+ * changed, or the number and the place of its refusal. It shows ocl_make_board and ocl_edit_board of include/ocl_checker.h. All memory is
+ * static.
  *
  *     cc -std=c11 -Wall -Wextra -Werror -Iinclude examples/c/setter.c target/staticlib/libchecker.a -o target/setter
  *     target/setter examples/cap.sheet <examples/cap.edits
@@ -20,11 +21,11 @@
 static uint8_t text[OCL_LONGEST_TEXT + 1];
 static size_t text_length;
 static uint64_t words[3][OCL_LEAST_WORDS];
-/* The board, and its verdicts with those that stood before. */
+/* The board, its verdicts, and the verdicts before the last edit. */
 static uint64_t board[OCL_LEAST_BOARD];
 static uint8_t verdicts[OCL_REPORT_OUTPUT];
 static uint8_t before[OCL_REPORT_OUTPUT];
-/* The longest value takes 2,288 bytes, so that a longer line is no edit. */
+/* No edit is longer than this: the longest value takes 2,288 bytes. */
 static char edit[4096];
 
 #define TEXT text, text_length
@@ -36,7 +37,7 @@ static void print_refusal(ocl_answer answer)
     printf("refused: %" PRIu64 " at %" PRIu64 "\n", answer.number, answer.place);
 }
 
-/* Prints the lines that are others than before; there are as many. */
+/* Prints the lines that differ from those before; there are as many of them. */
 static void print_changed(size_t old_length, size_t length)
 {
     for (size_t old = 0, new = 0; old < old_length && new < length;) {

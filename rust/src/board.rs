@@ -18,7 +18,7 @@ const ENDS: usize = 2;
 const LINES: usize = ENDS + MOST_RULES;
 
 /// What making or an edit leaves: the words, the verdicts, and the steps of those that were
-/// found.
+/// found anew.
 #[derive(Default)]
 pub struct Board {
     pub words: Vec<u64>,
@@ -33,9 +33,8 @@ impl Board {
         Ok(Board { steps: 0, ..board })
     }
 
-    /// The board after an edit: of the sheet, of which its values are no longer those that
-    /// the board has, and of what the two slices hold. Where that is no board of the sheet,
-    /// there is nothing in it.
+    /// The board after an edit. The sheet is the text's, and its values are replaced by those
+    /// that the two slices hold; where these hold no board of the sheet, the board is empty.
     pub fn edited(
         mut sheet: Sheet,
         edit: Edit,
@@ -56,7 +55,7 @@ impl Board {
         })
     }
 
-    /// The verdicts of each rule are found, but where there are some to be kept.
+    /// A board with the verdicts of each rule: those that `kept` gives, or else found anew.
     fn with<'b>(
         sheet: &Sheet,
         room: usize,
@@ -79,7 +78,7 @@ impl Board {
     }
 }
 
-/// Whether there are no more values than a board holds, and no larger ones.
+/// Whether the values are no more, and together no larger, than a board can hold.
 fn has_room(sheet: &Sheet) -> bool {
     sheet.model.values.len() <= MOST_VALUES && sheet.model.value_sizes() <= MOST_VALUE_SIZES
 }

@@ -123,30 +123,30 @@ pub fn edit_board(
     })
 }
 
-/// What the program prints for a text: the report.
+/// What `ocl_report` prints for a text.
 pub fn program(text: &[u8]) -> Vec<u8> {
     printed(text, report)
 }
 
-/// What the program prints that tells the rows.
+/// What `ocl_rows` prints for a text.
 pub fn rows_program(text: &[u8]) -> Vec<u8> {
     printed(text, rows)
 }
 
-/// What the gate's program prints that holds a sheet to the profile.
+/// What the gate's program that holds a sheet to the profile prints for a text.
 pub fn profile_program(text: &[u8]) -> Vec<u8> {
     printed(text, read_free_numbering)
 }
 
-/// What the program prints that tells where undefined came from.
+/// What `ocl_undefined` prints for a text.
 pub fn undefined_program(text: &[u8]) -> Vec<u8> {
     printed(text, undefined)
 }
 
-/// What the program prints that makes a board and edits it: for each call the answer's four
-/// numbers, parted by one space, and then the verdicts that it gives. The pieces, the sheet
-/// and then the edits, end in a tilde and a line feed each; the least that there can be is
-/// lent for words and verdicts.
+/// What the gate's program that makes and edits a board prints: for each call the answer's
+/// four numbers, parted by one space, and then the verdicts that it gives. The pieces, the
+/// sheet and then the edits, end in a tilde and a line feed each; words and verdict bytes
+/// are lent at their minimum.
 pub fn board_program(pieces: &[u8]) -> Vec<u8> {
     let mut words = vec![0; 3 * LEAST_WORDS];
     let mut board = vec![0; LEAST_BOARD];
@@ -177,7 +177,7 @@ pub fn board_program(pieces: &[u8]) -> Vec<u8> {
     printed
 }
 
-/// What a program prints that makes the call.
+/// What a program that makes the call prints for a text.
 fn printed(text: &[u8], call: impl Fn(&[u8], Words, &mut [u8]) -> Answer) -> Vec<u8> {
     let mut words = vec![0; 3 * LEAST_WORDS];
     let (first, rest) = words.split_at_mut(LEAST_WORDS);

@@ -1,16 +1,17 @@
 //! The evaluation of a rule. It reads no types, only what typing marked.
 
 mod arithmetic;
+mod binders;
+mod collections;
 mod logic;
+mod objects;
 mod runs;
 
 use crate::model::{Definition, Model, Rule, Sheet};
 use crate::numbers::Number;
 use crate::tree::{Form, Node};
-use crate::types::Kind;
 use crate::values::{Collection, Value};
 pub use runs::{runs, Ended, Run};
-use std::mem;
 use std::rc::Rc;
 
 pub const MOST_STEPS: u64 = 1_000_000;
@@ -130,36 +131,14 @@ impl<'m> Evaluation<'m> {
             Form::Int(number) => Ok(integer(*number)),
             Form::Real(number) => Ok(Value::Number(*number)),
             Form::SelfObject => Ok(Value::Object(self.object)),
-            Form::Var(variable) => {
-                let bound = &self.environment[usize::from(*variable)];
-                bound.clone().ok_or(STUCK)
-            }
-            Form::Coll(kind) => {
-                let members: Result<Vec<Value>, End> =
-                    operands.iter().map(|operand| self.node(operand)).collect();
-                formed(Collection::formed(*kind, members?))
-            }
-            Form::Let(variable) => {
-                let value = self.node(&operands[0])?;
-                self.with(*variable, value, &operands[1])
-            }
-            Form::If => {
-                let condition = self.truth(&operands[0])?;
-                self.node(&operands[if condition { 1 } else { 2 }])
-            }
+            Form::Var(variable) => self.bound(*variable),
+            Form::All(class) => self.all(*class),
+            Form::If => self.branch(operands),
             Form::And => self.connective(operands, false),
             Form::Or => self.connective(operands, true),
-            Form::Not => Ok(Value::Bool(!self.truth(&operands[0])?)),
-            Form::IsUndef => match self.node(&operands[0]) {
-                Ok(_) => Ok(Value::Bool(false)),
-                Err(End::Undefined(_)) => Ok(Value::Bool(true)),
-                stop => stop,
-            },
-            Form::Eq => {
-                let left = self.node(&operands[0])?;
-                let right = self.node(&operands[1])?;
-                Ok(Value::Bool(left == right))
-            }
+            Form::Not => self.negation(operands),
+            Form::IsUndef => self.undefinedness(operands),
+            Form::Eq => self.equality(operands),
             Form::Less(_)
             | Form::Plus(_)
             | Form::Minus(_)
@@ -167,117 +146,19 @@ impl<'m> Evaluation<'m> {
             | Form::Div
             | Form::Mod
             | Form::Over => self.arithmetic(&node.form, operands, here),
-            Form::Attr { row, .. } => {
-                let row = row.expect("typing marks the row of every attr");
-                self.rows |= 1 << row;
-                let value = self.node(&operands[0])?;
-                self.in_row(row, &value)?.ok_or(here)
+            Form::Attr { row, .. } => self.attribute(*row, operands, here),
+            Form::Collect { mark, .. } => self.collected(*mark, operands, here),
+            Form::As(class) => self.cast(*class, operands, here),
+            Form::Coll(_)
+            | Form::Size
+            | Form::Includes
+            | Form::Convert(_)
+            | Form::Including
+            | Form::Union => self.on_collections(&node.form, operands),
+            Form::Let(_) | Form::Iter { .. } | Form::ForAll(_) | Form::Exists(_) => {
+                self.binding(&node.form, operands)
             }
-            Form::Collect { mark, .. } => {
-                let (row, kind) = mark.expect("typing marks every collect");
-                self.rows |= 1 << row;
-                let source = self.collection(&operands[0])?;
-                // All members are looked at first: a wrong kind goes before a missing value.
-                let values: Result<Vec<Option<Value>>, End> = source
-                    .members
-                    .iter()
-                    .map(|member| self.in_row(row, member))
-                    .collect();
-                let values: Option<Vec<Value>> = values?.into_iter().collect();
-                formed(Collection::formed(kind, values.ok_or(here)?))
-            }
-            Form::All(class) => {
-                let objects = self.model.objects_of(*class).map(Value::Object);
-                formed(Collection::as_given(Kind::Set, objects.collect()))
-            }
-            Form::As(class) => match self.node(&operands[0])? {
-                Value::Collection(_) => Err(STUCK),
-                Value::Object(object) if self.model.is_of(object, *class) => {
-                    Ok(Value::Object(object))
-                }
-                _ => Err(here),
-            },
-            Form::Size => {
-                let source = self.collection(&operands[0])?;
-                Ok(integer(source.members.len() as i32))
-            }
-            Form::Includes => {
-                let source = self.collection(&operands[0])?;
-                let value = self.node(&operands[1])?;
-                Ok(Value::Bool(source.includes(&value)))
-            }
-            Form::Convert(kind) => {
-                let source = self.collection(&operands[0])?;
-                formed(Collection::formed(*kind, source.members.clone()))
-            }
-            Form::Including => {
-                let source = self.collection(&operands[0])?;
-                let value = self.node(&operands[1])?;
-                formed(source.including(value))
-            }
-            Form::Union => {
-                let left = self.collection(&operands[0])?;
-                let right = self.collection(&operands[1])?;
-                if left.kind != right.kind {
-                    return Err(STUCK);
-                }
-                formed(left.union(&right))
-            }
-            Form::Iter {
-                member,
-                accumulator,
-                ..
-            } => {
-                let source = self.collection(&operands[0])?;
-                let mut value = self.node(&operands[1])?;
-                for element in &source.members {
-                    let slot = usize::from(*accumulator);
-                    let outer = self.environment[slot].replace(value);
-                    let next = self.with(*member, element.clone(), &operands[2]);
-                    self.environment[slot] = outer;
-                    value = next?;
-                }
-                Ok(value)
-            }
-            Form::ForAll(variable) => self.quantifier(operands, *variable, false),
-            Form::Exists(variable) => self.quantifier(operands, *variable, true),
             Form::Call(number) => self.call(*number, &operands[0]),
-        }
-    }
-
-    /// A definition's body, in which `self` is the operand and no variable is
-    /// bound; the caller's are put back.
-    fn call(&mut self, number: u8, operand: &'m Node) -> Outcome {
-        let called = &self.definitions[usize::from(number)];
-        let object = match self.node(operand)? {
-            Value::Object(object) if self.model.is_of(object, called.class) => object,
-            _ => return Err(STUCK),
-        };
-        let caller = mem::replace(&mut self.object, object);
-        let hidden = mem::take(&mut self.environment);
-        let outcome = self.node(&called.root);
-        self.object = caller;
-        self.environment = hidden;
-        outcome
-    }
-
-    /// A body's outcome with the variable bound; the outer binding is put back.
-    fn with(&mut self, variable: u8, value: Value, body: &'m Node) -> Outcome {
-        let slot = usize::from(variable);
-        let outer = self.environment[slot].replace(value);
-        let outcome = self.node(body);
-        self.environment[slot] = outer;
-        outcome
-    }
-
-    /// The value of a row for an object of the row's class or below.
-    fn in_row(&self, row: u8, value: &Value) -> Result<Option<Value>, End> {
-        let class = self.model.rows[usize::from(row)].class;
-        match value {
-            Value::Object(object) if self.model.is_of(*object, class) => {
-                Ok(self.model.value(*object, row).cloned())
-            }
-            _ => Err(STUCK),
         }
     }
 

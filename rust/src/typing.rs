@@ -1,9 +1,13 @@
 //! The types of definitions and rules, the row each `attr` and `collect` reads,
 //! and the numbers that arithmetic and `less` take.
 
+mod collections;
+mod numbers;
+mod objects;
+
 use crate::model::{Definition, Model, Rule, Sheet};
 use crate::refusal::{Refusal, Refused};
-use crate::tree::{Form, Node, Scale};
+use crate::tree::{Form, Node};
 use crate::types::{Kind, Type, DEEPEST};
 
 /// The types of the variables, by number.
@@ -35,8 +39,8 @@ pub fn type_rules(sheet: &mut Sheet) -> Result<Vec<Type>, Refused> {
         .collect()
 }
 
-/// A body has its own fault first, and then that it is not below what the
-/// definition gives.
+/// A definition is refused for what is wrong in its body first, and then where the body's
+/// type is not below its own.
 pub fn type_definition(
     model: &Model,
     definitions: &mut [Definition],
@@ -130,131 +134,50 @@ impl<'m> Typing<'m> {
     /// the order 11, 10, 12, 13.
     fn unbinding(&self, form: &mut Form, types: &[Type]) -> Result<Type, Refusal> {
         match form {
-            Form::True | Form::False => Ok(Type::Bool),
+            Form::True | Form::False | Form::IsUndef => Ok(Type::Bool),
             Form::Undef => Ok(Type::Void),
             Form::Int(_) => Ok(Type::Int),
             Form::Real(_) => Ok(Type::Real),
             Form::SelfObject => Ok(Type::Class(self.context)),
-            Form::Var(variable) => {
-                let bound = &self.environment[usize::from(*variable)];
-                bound.clone().ok_or(Refusal::UnboundVariable)
-            }
-            Form::Coll(kind) => {
-                let member = types
-                    .iter()
-                    .try_fold(Type::Void, |common, ty| self.common(&common, ty))?;
-                layered(*kind, member)
-            }
-            Form::If => {
-                self.below(&types[0], &Type::Bool)?;
-                self.common(&types[1], &types[2])
-            }
-            Form::And | Form::Or | Form::Not => {
-                self.all_below(types, &Type::Bool)?;
-                Ok(Type::Bool)
-            }
-            Form::IsUndef => Ok(Type::Bool),
-            Form::Eq => {
-                self.common(&types[0], &types[1])?;
-                Ok(Type::Bool)
-            }
-            Form::Less(mark) => {
-                *mark = Some(self.scale(types)?);
-                Ok(Type::Bool)
-            }
-            Form::Plus(mark) | Form::Minus(mark) | Form::Times(mark) => {
-                let scale = self.scale(types)?;
-                *mark = Some(scale);
-                Ok(match scale {
-                    Scale::Integers => Type::Int,
-                    Scale::Reals => Type::Real,
-                })
-            }
-            Form::Div | Form::Mod => {
-                self.all_below(types, &Type::Int)?;
-                Ok(Type::Int)
-            }
-            Form::Over => {
-                self.all_below(types, &Type::Real)?;
-                Ok(Type::Real)
-            }
-            Form::Attr { name, row } => {
-                let (found, ty) = self.row(&types[0], *name)?;
-                *row = Some(found);
-                Ok(ty)
-            }
-            Form::Collect { name, mark } => {
-                let (found, ty) = self.row(&member_type(&types[0])?, *name)?;
-                let kind = match types[0] {
-                    Type::Of(Kind::Sequence, _) => Kind::Sequence,
-                    _ => Kind::Bag,
-                };
-                *mark = Some((found, kind));
-                layered(kind, ty)
-            }
+            Form::Var(variable) => self.bound(*variable),
             Form::All(class) => Ok(Type::of(Kind::Set, Type::Class(*class))),
-            Form::As(class) => {
-                let classes = &self.model.classes;
-                let related = match types[0] {
-                    Type::Any => true,
-                    Type::Class(from) => {
-                        classes.is_below(from, *class) || classes.is_below(*class, from)
-                    }
-                    _ => return Err(Refusal::WrongOperandType),
-                };
-                let cast = Type::Class(*class);
-                related.then_some(cast).ok_or(Refusal::NoCommonType)
-            }
-            Form::Size => member_type(&types[0]).map(|_| Type::Int),
-            Form::Includes => {
-                let member = member_type(&types[0])?;
-                self.common(&member, &types[1])?;
-                Ok(Type::Bool)
-            }
-            Form::Convert(kind) => Ok(Type::of(*kind, member_type(&types[0])?)),
-            Form::Including => {
-                let Type::Of(kind, member) = &types[0] else {
-                    return Err(Refusal::WrongOperandType);
-                };
-                layered(*kind, self.common(member, &types[1])?)
-            }
-            Form::Union => match (&types[0], &types[1]) {
-                (Type::Of(kind, left), Type::Of(other, right)) if kind == other => {
-                    Ok(Type::of(*kind, self.common(left, right)?))
-                }
-                _ => Err(Refusal::WrongOperandType),
-            },
-            Form::Call(number) => {
-                let called = &self.definitions[usize::from(*number)];
-                match types[0] {
-                    Type::Class(class) if self.model.classes.is_below(class, called.class) => {
-                        Ok(called.ty.clone())
-                    }
-                    _ => Err(Refusal::WrongOperandType),
-                }
-            }
+            Form::If => self.branch(types),
+            Form::And | Form::Or | Form::Not => self.all_of(types, Type::Bool),
+            Form::Eq => self.common(&types[0], &types[1]).map(|_| Type::Bool),
+            Form::Less(mark) => self.marked(mark, types).map(|_| Type::Bool),
+            Form::Plus(mark) | Form::Minus(mark) | Form::Times(mark) => self.marked(mark, types),
+            Form::Div | Form::Mod => self.all_of(types, Type::Int),
+            Form::Over => self.all_of(types, Type::Real),
+            Form::Attr { name, row } => self.attribute(*name, row, &types[0]),
+            Form::Collect { name, mark } => self.collected(*name, mark, &types[0]),
+            Form::As(class) => self.cast(*class, &types[0]),
+            Form::Coll(_)
+            | Form::Size
+            | Form::Includes
+            | Form::Convert(_)
+            | Form::Including
+            | Form::Union => self.on_collections(form, types),
+            Form::Call(number) => self.called(*number, &types[0]),
             Form::Let(_) | Form::Iter { .. } | Form::ForAll(_) | Form::Exists(_) => {
                 unreachable!("a form that binds a variable")
             }
         }
     }
 
-    /// The row that the name has for a class, and its type.
-    fn row(&self, class: &Type, name: u8) -> Result<(u8, Type), Refusal> {
-        let Type::Class(class) = class else {
-            return Err(Refusal::WrongOperandType);
-        };
-        let row = self.model.row(*class, name).ok_or(Refusal::NoAttribute)?;
-        Ok((row, self.model.rows[usize::from(row)].ty.clone()))
+    fn bound(&self, variable: u8) -> Result<Type, Refusal> {
+        let bound = &self.environment[usize::from(variable)];
+        bound.clone().ok_or(Refusal::UnboundVariable)
     }
 
-    /// Integers where both operands are typed below Int, else both kinds.
-    fn scale(&self, types: &[Type]) -> Result<Scale, Refusal> {
-        if self.all_below(types, &Type::Int).is_ok() {
-            return Ok(Scale::Integers);
-        }
-        self.all_below(types, &Type::Real)?;
-        Ok(Scale::Reals)
+    fn branch(&self, types: &[Type]) -> Result<Type, Refusal> {
+        self.below(&types[0], &Type::Bool)?;
+        self.common(&types[1], &types[2])
+    }
+
+    /// The one type that a form takes in every operand and gives.
+    fn all_of(&self, types: &[Type], ty: Type) -> Result<Type, Refusal> {
+        self.all_below(types, &ty)?;
+        Ok(ty)
     }
 
     fn below(&self, low: &Type, high: &Type) -> Result<(), Refusal> {

@@ -48,7 +48,7 @@ fn level(form: &Form) -> Level {
 /// A text in the making, as its words and signs.
 struct Wording<'w> {
     tokens: Vec<String>,
-    /// How many brackets more to put around an expression.
+    /// How many more brackets to put around an expression.
     more: &'w mut dyn FnMut() -> usize,
     /// Whether Integers below zero are written with their minus, which no text has.
     with_minus: bool,

@@ -63,59 +63,62 @@ fn integers_agree_with_hardware() {
     }
 }
 
+const ONE: u64 = 0x3ff0_0000_0000_0000;
+const HALF_STEP: u64 = 0x3ca0_0000_0000_0000;
+const LARGEST: u64 = 0x7fef_ffff_ffff_ffff;
+const SIGN: u64 = 1 << 63;
+
+/// Operations on bits, and the bits of what they come to.
+const ROUNDINGS: [(Operation, u64, u64, u64); 19] = [
+    // Ties go to the number whose last bit is 0: down from 1, up from the next.
+    (Operation::Plus, ONE, HALF_STEP, ONE),
+    (Operation::Plus, ONE + 1, HALF_STEP, ONE + 2),
+    // Next to the tie on either side.
+    (Operation::Plus, ONE, HALF_STEP + 1, ONE + 1),
+    (Operation::Plus, ONE + 1, HALF_STEP - 1, ONE + 1),
+    // Below 1 a step is half as long: this difference is exact, the next one a tie.
+    (Operation::Minus, ONE, HALF_STEP, ONE - 1),
+    (Operation::Minus, ONE, 0x3c90_0000_0000_0000, ONE),
+    // Far apart: nothing is left of the smaller one.
+    (Operation::Minus, ONE, 1, ONE),
+    (Operation::Plus, 1, ONE, ONE),
+    // (1 + s)(1 + s) is 1 + 2s and the square of s, which is far below half a step.
+    (Operation::Times, ONE + 1, ONE + 1, ONE + 2),
+    // 1.5 (1 + s) is 1.5 and one and a half s, a tie between s and 2s: 2s is even.
+    (
+        Operation::Times,
+        0x3ff8_0000_0000_0000,
+        ONE + 1,
+        0x3ff8_0000_0000_0002,
+    ),
+    // (1 - t)(1 + 2t), t half of a step of 1, is 1 + t less twice the square of t:
+    // next to the tie between 1 and 1 + 2t, and below it.
+    (Operation::Times, ONE - 1, ONE + 1, ONE),
+    // 1 over 1 - t is 1 + t and the square of t and more: next to the tie, above it.
+    (Operation::Over, ONE, ONE - 1, ONE + 1),
+    // 1 over 3 is 0.0101..; of 53 bits the last is 1, and 0 follows it.
+    (
+        Operation::Over,
+        ONE,
+        0x4008_0000_0000_0000,
+        0x3fd5_5555_5555_5555,
+    ),
+    // Half of the smallest number is a tie, as is half of three of it.
+    (Operation::Over, 1, 0x4000_0000_0000_0000, 0),
+    (Operation::Over, 3, 0x4000_0000_0000_0000, 2),
+    (Operation::Times, SIGN | 1, 0x3fe0_0000_0000_0000, SIGN),
+    // The largest of the small numbers and the smallest are the first normal one.
+    (Operation::Plus, (1 << 52) - 1, 1, 1 << 52),
+    // The largest number's step is 2 to the 971: half of it is a tie, and infinite.
+    (Operation::Plus, LARGEST, 0x7c90_0000_0000_0000, LARGEST + 1),
+    (Operation::Plus, LARGEST, 0x7c8f_ffff_ffff_ffff, LARGEST),
+];
+
 /// Worked out on paper. A step is the distance to the next number: of 1 it is 2 to the
 /// -52, below 1 half of that.
 #[test]
 fn roundings_worked_out() {
-    const ONE: u64 = 0x3ff0_0000_0000_0000;
-    const HALF_STEP: u64 = 0x3ca0_0000_0000_0000;
-    const LARGEST: u64 = 0x7fef_ffff_ffff_ffff;
-    const SIGN: u64 = 1 << 63;
-    let cases = [
-        // Ties go to the number whose last bit is 0: down from 1, up from the next.
-        (Operation::Plus, ONE, HALF_STEP, ONE),
-        (Operation::Plus, ONE + 1, HALF_STEP, ONE + 2),
-        // Next to the tie on either side.
-        (Operation::Plus, ONE, HALF_STEP + 1, ONE + 1),
-        (Operation::Plus, ONE + 1, HALF_STEP - 1, ONE + 1),
-        // Below 1 a step is half as long: this difference is exact, the next one a tie.
-        (Operation::Minus, ONE, HALF_STEP, ONE - 1),
-        (Operation::Minus, ONE, 0x3c90_0000_0000_0000, ONE),
-        // Far apart: nothing is left of the smaller one.
-        (Operation::Minus, ONE, 1, ONE),
-        (Operation::Plus, 1, ONE, ONE),
-        // (1 + s)(1 + s) is 1 + 2s and the square of s, which is far below half a step.
-        (Operation::Times, ONE + 1, ONE + 1, ONE + 2),
-        // 1.5 (1 + s) is 1.5 and one and a half s, a tie between s and 2s: 2s is even.
-        (
-            Operation::Times,
-            0x3ff8_0000_0000_0000,
-            ONE + 1,
-            0x3ff8_0000_0000_0002,
-        ),
-        // (1 - t)(1 + 2t), t half of a step of 1, is 1 + t less twice the square of t:
-        // next to the tie between 1 and 1 + 2t, and below it.
-        (Operation::Times, ONE - 1, ONE + 1, ONE),
-        // 1 over 1 - t is 1 + t and the square of t and more: next to the tie, above it.
-        (Operation::Over, ONE, ONE - 1, ONE + 1),
-        // 1 over 3 is 0.0101..; of 53 bits the last is 1, and 0 follows it.
-        (
-            Operation::Over,
-            ONE,
-            0x4008_0000_0000_0000,
-            0x3fd5_5555_5555_5555,
-        ),
-        // Half of the smallest number is a tie, as is half of three of it.
-        (Operation::Over, 1, 0x4000_0000_0000_0000, 0),
-        (Operation::Over, 3, 0x4000_0000_0000_0000, 2),
-        (Operation::Times, SIGN | 1, 0x3fe0_0000_0000_0000, SIGN),
-        // The largest of the small numbers and the smallest are the first normal one.
-        (Operation::Plus, (1 << 52) - 1, 1, 1 << 52),
-        // The largest number's step is 2 to the 971: half of it is a tie, and infinite.
-        (Operation::Plus, LARGEST, 0x7c90_0000_0000_0000, LARGEST + 1),
-        (Operation::Plus, LARGEST, 0x7c8f_ffff_ffff_ffff, LARGEST),
-    ];
-    for (operation, left, right, result) in cases {
+    for (operation, left, right, result) in ROUNDINGS {
         let [left, right] = [left, right].map(f64::from_bits);
         let bits = operation.in_whole_numbers(left, right).number.to_bits();
         assert_eq!(bits, result, "{left:e} {operation:?} {right:e}");

@@ -99,45 +99,48 @@ fn a_setter_sees_fresh_verdicts() {
     assert_eq!(board.verdicts(made), "0 0 t 4\n0 1 u 3\n");
 }
 
+/// Edits that are refused, and the number.
+const REFUSED: [(&str, u64); 32] = [
+    ("", 3),
+    ("V 0 0 S(1)", 3),
+    ("\n", 3),
+    ("V 0 0 S(1)\nV 0 0 -\n", 3),
+    ("V 0 0 S(1)\n\n", 3),
+    ("O 0 0\n", 3),
+    ("v 0 0 S(1)\n", 3),
+    ("V 0 0\n", 3),
+    ("V 0 0 S(1) 1\n", 3),
+    ("V 00 0 S(1)\n", 3),
+    ("V 0 0 u\n", 3),
+    ("V 0 0 S(u)\n", 3),
+    ("V 0 0 --\n", 3),
+    ("V 0 0 - \n", 3),
+    ("V 96 0 x\n", 3),
+    ("V 96 0 -\n", 4),
+    ("V 0 64 -\n", 4),
+    ("V 0 0 S(2147483648)\n", 4),
+    ("V 0 0 S(S(S(S())))\n", 4),
+    ("V 95 0 S(2147483648)\n", 4),
+    ("V 0 0 S(2,1)\n", 5),
+    ("V 0 0 S(1,1)\n", 5),
+    ("V 95 0 S(1,1)\n", 5),
+    ("V 2 0 -\n", 6),
+    ("V 0 2 -\n", 6),
+    ("V 0 0 S(@2)\n", 6),
+    ("V 1 0 S(@2)\n", 6),
+    ("V 0 1 -\n", 7),
+    ("V 1 0 -\n", 7),
+    ("V 0 0 7\n", 7),
+    ("V 1 1 t\n", 7),
+    ("V 1 0 S(1)\n", 7),
+];
+
 #[test]
 fn every_refusal_of_an_edit_is_at_1() {
     let sheet = "C 0 -|C 1 -|A 0 0 5 S(Any)|A 1 1 6 Int|O 0 0|O 1 1|R 0 0|N 0 self|N 1 attr 0 5";
     let mut board = Board::of(sheet, LEAST_VERDICTS);
     assert_eq!(board.make(), [0, 0, 0, 8]);
-    for (line, number) in [
-        ("", 3),
-        ("V 0 0 S(1)", 3),
-        ("\n", 3),
-        ("V 0 0 S(1)\nV 0 0 -\n", 3),
-        ("V 0 0 S(1)\n\n", 3),
-        ("O 0 0\n", 3),
-        ("v 0 0 S(1)\n", 3),
-        ("V 0 0\n", 3),
-        ("V 0 0 S(1) 1\n", 3),
-        ("V 00 0 S(1)\n", 3),
-        ("V 0 0 u\n", 3),
-        ("V 0 0 S(u)\n", 3),
-        ("V 0 0 --\n", 3),
-        ("V 0 0 - \n", 3),
-        ("V 96 0 x\n", 3),
-        ("V 96 0 -\n", 4),
-        ("V 0 64 -\n", 4),
-        ("V 0 0 S(2147483648)\n", 4),
-        ("V 0 0 S(S(S(S())))\n", 4),
-        ("V 95 0 S(2147483648)\n", 4),
-        ("V 0 0 S(2,1)\n", 5),
-        ("V 0 0 S(1,1)\n", 5),
-        ("V 95 0 S(1,1)\n", 5),
-        ("V 2 0 -\n", 6),
-        ("V 0 2 -\n", 6),
-        ("V 0 0 S(@2)\n", 6),
-        ("V 1 0 S(@2)\n", 6),
-        ("V 0 1 -\n", 7),
-        ("V 1 0 -\n", 7),
-        ("V 0 0 7\n", 7),
-        ("V 1 1 t\n", 7),
-        ("V 1 0 S(1)\n", 7),
-    ] {
+    for (line, number) in REFUSED {
         assert_eq!(board.call(Some(line)), [number, 0, 1, 0], "{line:?}");
     }
     let set = board.edit("V 0 0 S(1,@1)");

@@ -3,7 +3,7 @@
 mod common;
 
 use common::{answer, evaluate_on, lent, lent_with, read, text};
-use second_evaluator::calls::{self, Answer};
+use second_evaluator::calls::{self, Answer, Words};
 
 const SHEET: &str = "C 0 -|C 1 0|C 2 -|A 0 0 5 Int|O 0 1|O 1 0|O 2 2|V 0 0 9|\
     R 0 0|N 0 self|N 1 attr 0 5|N 2 int 12|N 3 less 1 2|\
@@ -165,34 +165,44 @@ fn a_stop_has_steps_and_no_place() {
     assert_eq!(evaluate_on(body, 0, 0), answer(19, 6, 0, ""));
 }
 
+/// A call about a text alone.
+type Call = fn(&[u8], Words, &mut [u8]) -> Answer;
+
+/// The calls that take a text and nothing else.
+const CALLS: [Call; 5] = [
+    calls::read_types,
+    calls::read_free_numbering,
+    calls::report,
+    calls::rows,
+    calls::undefined,
+];
+
 #[test]
 fn a_short_slice_goes_before_all_and_leaves_all_untouched() {
     let long = vec![b'\n'; 49_153];
-    for slice in 0..3 {
-        for length in [0, 1, 8_191] {
-            let mut lengths = [8_192; 3];
-            lengths[slice] = length;
-            let short = lent_with(lengths, 2_560, |words, out| {
-                calls::read_types(&long, words, out)
-            });
-            assert_eq!(short, answer(1, 0, 0, ""));
+    for call in CALLS {
+        for slice in 0..3 {
+            for length in [0, 1, 8_191] {
+                let mut lengths = [8_192; 3];
+                lengths[slice] = length;
+                let short = lent_with(lengths, 2_560, |words, out| call(&long, words, out));
+                assert_eq!(short, answer(1, 0, 0, ""));
+            }
         }
-    }
-    for room in [0, 2_559] {
-        // Though the types of a sheet without rules need no room.
-        for text in [&long[..], b""] {
-            let short = lent_with([8_192; 3], room, |words, out| {
-                calls::read_types(text, words, out)
-            });
-            assert_eq!(short, answer(1, 0, 0, ""));
-            let short = lent_with([8_192; 3], room, |words, out| {
-                calls::report(text, words, out)
-            });
-            assert_eq!(short, answer(1, 0, 0, ""));
+        for room in [0, 2_559] {
+            // Though the lines of a sheet without rules need no room.
+            for text in [&long[..], b""] {
+                let short = lent_with([8_192; 3], room, |words, out| call(text, words, out));
+                assert_eq!(short, answer(1, 0, 0, ""));
+            }
         }
+        let long = lent(|words, out| call(&long, words, out));
+        assert_eq!(long, answer(2, 0, 0, ""));
+        assert_eq!(
+            lent(|words, out| call(b"", words, out)),
+            answer(0, 0, 0, "")
+        );
     }
-    let long = lent(|words, out| calls::read_types(&long, words, out));
-    assert_eq!(long, answer(2, 0, 0, ""));
 }
 
 #[test]

@@ -14,6 +14,7 @@ use second_evaluator::harness::run;
 use second_evaluator::harness::shrink::shrink;
 use second_evaluator::harness::standin::StandIn;
 use second_evaluator::harness::tally::Tally;
+use second_evaluator::harness::vectors::all_vectors;
 use second_evaluator::harness::{answer, second, Calls};
 use std::collections::BTreeSet;
 use std::sync::Mutex;
@@ -22,7 +23,7 @@ use std::sync::Mutex;
 fn no_fault_is_no_difference_and_everything_is_reached() {
     let standin = StandIn { fault: Fault::None };
     let mut tally = Tally::default();
-    for (seed, vector) in (0..).zip(&run::all_vectors().unwrap()) {
+    for (seed, vector) in (0..).zip(&all_vectors().unwrap()) {
         let asks = generate::vector_asks(seed, &vector.text);
         let result = run::sheet(&standin, &vector.text, seed, &asks, &mut tally);
         assert!(result.is_ok(), "{}", vector.name);
@@ -80,7 +81,7 @@ fn every_fault_is_found() {
     let mut hidden = Fault::ALL.to_vec();
     let mut long = Vec::new();
     let generated = (0..400).map(|seed| (seed, generate::sheet(seed)));
-    let vectors = run::all_vectors().unwrap().into_iter();
+    let vectors = all_vectors().unwrap().into_iter();
     let vectors = (0..).zip(vectors.map(|vector| vector.text));
     for sheet in generated.chain(vectors).map(Sheet::new) {
         if sheet.takes_long() {

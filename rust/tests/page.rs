@@ -6,7 +6,7 @@ mod told;
 use second_evaluator::explain::explained;
 use second_evaluator::explain::page::page;
 use second_evaluator::generate;
-use second_evaluator::harness::run::vectors;
+use second_evaluator::harness::vectors::vectors;
 use std::collections::HashSet;
 use told::{printed, says, sheet};
 

@@ -3,7 +3,7 @@
 
 mod common;
 
-use common::{answer, evaluate_on, lent, lent_with, read, text};
+use common::{answer, evaluate_on, lent, read, text};
 use second_evaluator::calls::{self, accepted, Answer};
 use second_evaluator::generate;
 use second_evaluator::generate::numberings::numbering;
@@ -94,13 +94,6 @@ fn what_reading_refuses_goes_first() {
         assert_eq!(held(&refused), read(&refused), "{refused}");
         assert_ne!(held(&refused).0.number, 22, "{refused}");
     }
-    let short = lent_with([8_192; 3], 2_559, |words, out| {
-        calls::read_free_numbering(&text(outside), words, out)
-    });
-    assert_eq!(short, answer(1, 0, 0, ""));
-    let long = vec![b'\n'; 49_153];
-    let long = lent(|words, out| calls::read_free_numbering(&long, words, out));
-    assert_eq!(long, answer(2, 0, 0, ""));
 }
 
 /// The sheet of document 02's reading: lines, and members of Sets, are put back in order.

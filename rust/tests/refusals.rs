@@ -6,7 +6,7 @@ mod told;
 use second_evaluator::calls;
 use second_evaluator::explain::advice::{advice, NUMBERS};
 use second_evaluator::explain::{explained, refused};
-use second_evaluator::harness::run::board_vectors;
+use second_evaluator::harness::vectors::board_vectors;
 use second_evaluator::load;
 use std::fs;
 use std::path::Path;
@@ -110,96 +110,98 @@ fn a_number_outside_has_none() {
     );
 }
 
+/// Lines of a sheet that is refused, and what is said of it.
+const SEEN: [(&str, &[&str]); 24] = [
+    (
+        "C 0",
+        &[
+            "Refused: bad line (3) at line 1.",
+            "line 1   C <tab> 0",
+            "it has 2 fields, and should have 3",
+        ],
+    ),
+    ("C 0 -\r", &["carriage return", "C <tab> 0 <tab> -\\r"]),
+    ("Z 1", &["no line begins so"]),
+    ("C 0 -||O 0 0", &["at line 2", "the line is empty"]),
+    (
+        "C 0 -|R 0 0|X (1 + 2",
+        &[
+            "not a sentence (20) at line 3",
+            "it ends too early, behind `(1 + 2`",
+            "below    line 2: R 0 0",
+        ],
+    ),
+    (
+        "C 0 -|R 0 0|X if true then 1 else 2",
+        &["it ends too early, behind `if true then 1 else 2`"],
+    ),
+    (
+        "C 0 -|C 1 0|A 0 1 7 Int|R 0 0|X self.a7",
+        &[
+            "no such mark (12)",
+            "rule     self.a7",
+            "the name 7 is declared by #1",
+        ],
+    ),
+    (
+        "C 0 -|R 0 0|N 0 self|N 1 not 0|N 2 not 1",
+        &[
+            "rule     not not self",
+            "part     not self",
+            "line 4   N 1 not 0",
+        ],
+    ),
+    ("5\n6", &["a run of stitch lengths is for ./load"]),
+    ("C 00 -", &["`00` has a zero in front"]),
+    ("C 0 -|R 0 0|N 0 foo", &["there is no form `foo`"]),
+    (
+        "C 0 -|R 0 0|N 0 self|N 1 not",
+        &["it has 3 fields, and should have 4"],
+    ),
+    ("C 0 -|C 1 -|O 96 0", &["96 is too much: objects go to 95"]),
+    ("C 0 -|C 2 -", &["the next C line has the number 1, not 2"]),
+    ("C 0 -|O 0 0|C 1 -", &["C lines come before line 2: O 0 0"]),
+    (
+        "C 0 -|A 0 0 5 Int|A 1 0 5 Bool",
+        &["the class has that name already, line 2: A 0 0 5 Int"],
+    ),
+    (
+        "C 0 -|A 0 0 5 Int|O 0 0|O 1 0|V 1 0 3|V 0 0 3",
+        &["before it stands line 5: V 1 0 3"],
+    ),
+    (
+        "C 0 -|O 0 1",
+        &["by then the sheet has 1 class, number 0; no row"],
+    ),
+    (
+        "C 0 -|A 0 0 5 Int|O 0 0|V 0 0 t",
+        &["the object is line 3: O 0 0; the row is line 2: A 0 0 5 Int"],
+    ),
+    ("C 0 -|R 0 0", &["the rule has no X line and no N line"]),
+    (
+        "C 0 -|R 0 0|X Set{1}->forAll(v1 ¦ v2 < 3)",
+        &["part     v2\n", "v2 is bound nowhere around it"],
+    ),
+    (
+        "C 0 -|R 0 0|X true and 1 = Set{2}",
+        &[
+            "part     1 = Set{2}\n",
+            "`1` is of type Int, and `Set{2}` is of type S(Int)",
+        ],
+    ),
+    (
+        "C 0 -|R 0 0|X Set{1}->foo() = 2",
+        &["it can't be read on behind `Set{1}->`, where `foo` stands"],
+    ),
+    (
+        "C 0 -|D 0 0 Bool|N 0 self|N 1 call 0 0",
+        &["call upward (23) at line 4", "below    line 2: D 0 0 Bool"],
+    ),
+];
+
 #[test]
 fn refusals_say_what_can_be_seen() {
-    let cases: [(&str, &[&str]); 24] = [
-        (
-            "C 0",
-            &[
-                "Refused: bad line (3) at line 1.",
-                "line 1   C <tab> 0",
-                "it has 2 fields, and should have 3",
-            ],
-        ),
-        ("C 0 -\r", &["carriage return", "C <tab> 0 <tab> -\\r"]),
-        ("Z 1", &["no line begins so"]),
-        ("C 0 -||O 0 0", &["at line 2", "the line is empty"]),
-        (
-            "C 0 -|R 0 0|X (1 + 2",
-            &[
-                "not a sentence (20) at line 3",
-                "it ends too early, behind `(1 + 2`",
-                "below    line 2: R 0 0",
-            ],
-        ),
-        (
-            "C 0 -|R 0 0|X if true then 1 else 2",
-            &["it ends too early, behind `if true then 1 else 2`"],
-        ),
-        (
-            "C 0 -|C 1 0|A 0 1 7 Int|R 0 0|X self.a7",
-            &[
-                "no such mark (12)",
-                "rule     self.a7",
-                "the name 7 is declared by #1",
-            ],
-        ),
-        (
-            "C 0 -|R 0 0|N 0 self|N 1 not 0|N 2 not 1",
-            &[
-                "rule     not not self",
-                "part     not self",
-                "line 4   N 1 not 0",
-            ],
-        ),
-        ("5\n6", &["a run of stitch lengths is for ./load"]),
-        ("C 00 -", &["`00` has a zero in front"]),
-        ("C 0 -|R 0 0|N 0 foo", &["there is no form `foo`"]),
-        (
-            "C 0 -|R 0 0|N 0 self|N 1 not",
-            &["it has 3 fields, and should have 4"],
-        ),
-        ("C 0 -|C 1 -|O 96 0", &["96 is too much: objects go to 95"]),
-        ("C 0 -|C 2 -", &["the next C line has the number 1, not 2"]),
-        ("C 0 -|O 0 0|C 1 -", &["C lines come before line 2: O 0 0"]),
-        (
-            "C 0 -|A 0 0 5 Int|A 1 0 5 Bool",
-            &["the class has that name already, line 2: A 0 0 5 Int"],
-        ),
-        (
-            "C 0 -|A 0 0 5 Int|O 0 0|O 1 0|V 1 0 3|V 0 0 3",
-            &["before it stands line 5: V 1 0 3"],
-        ),
-        (
-            "C 0 -|O 0 1",
-            &["by then the sheet has 1 class, number 0; no row"],
-        ),
-        (
-            "C 0 -|A 0 0 5 Int|O 0 0|V 0 0 t",
-            &["the object is line 3: O 0 0; the row is line 2: A 0 0 5 Int"],
-        ),
-        ("C 0 -|R 0 0", &["the rule has no X line and no N line"]),
-        (
-            "C 0 -|R 0 0|X Set{1}->forAll(v1 ¦ v2 < 3)",
-            &["part     v2\n", "v2 is bound nowhere around it"],
-        ),
-        (
-            "C 0 -|R 0 0|X true and 1 = Set{2}",
-            &[
-                "part     1 = Set{2}\n",
-                "`1` is of type Int, and `Set{2}` is of type S(Int)",
-            ],
-        ),
-        (
-            "C 0 -|R 0 0|X Set{1}->foo() = 2",
-            &["it can't be read on behind `Set{1}->`, where `foo` stands"],
-        ),
-        (
-            "C 0 -|D 0 0 Bool|N 0 self|N 1 call 0 0",
-            &["call upward (23) at line 4", "below    line 2: D 0 0 Bool"],
-        ),
-    ];
-    for (lines, expected) in cases {
+    for (lines, expected) in SEEN {
         says(lines, expected);
     }
     let text = b"C\t0\t-";

@@ -13,6 +13,7 @@ use second_evaluator::generate::rows::about;
 use second_evaluator::harness::oversights::{Oversight, Peek};
 use second_evaluator::harness::run::{self, Differs};
 use second_evaluator::harness::tally::Tally;
+use second_evaluator::harness::vectors::row_vectors;
 use second_evaluator::rows::rows_seen;
 use std::collections::BTreeSet;
 
@@ -30,8 +31,6 @@ const SHEET: &str = "C 0 -|C 1 -|A 0 0 1 Int|A 1 0 2 #1|A 2 1 3 Int|A 3 1 4 Int|
 fn each_rule_has_a_line() {
     assert_eq!(rows(SHEET), answer(0, 0, 0, "0 0\n1 1 2\n2 3\n3\n"));
     assert_eq!(rows("C 0 -|O 0 0"), answer(0, 0, 0, ""));
-    let empty = lent(|words, out| calls::rows(b"", words, out));
-    assert_eq!(empty, answer(0, 0, 0, ""));
 }
 
 #[test]
@@ -42,27 +41,12 @@ fn what_reading_refuses_is_refused() {
         assert_eq!(rows(refused), read(refused), "{refused}");
         assert_ne!(rows(refused).0.number, 0, "{refused}");
     }
-    let long = vec![b'\n'; 49_153];
-    let long = lent(|words, out| calls::rows(&long, words, out));
-    assert_eq!(long, answer(2, 0, 0, ""));
-}
-
-#[test]
-fn short_slices_come_first() {
-    for slice in 0..3 {
-        let mut lengths = [8_192; 3];
-        lengths[slice] -= 1;
-        let short = lent_with(lengths, 2_560, |words, out| calls::rows(b"?", words, out));
-        assert_eq!(short, answer(1, 0, 0, ""));
-    }
-    let short = lent_with([8_192; 3], 2_559, |words, out| calls::rows(b"", words, out));
-    assert_eq!(short, answer(1, 0, 0, ""));
 }
 
 #[test]
 fn lines_may_fill_the_output_but_not_exceed_it() {
     // 64 rules that see 64 rows each: there can be no more.
-    let vectors = run::row_vectors().unwrap();
+    let vectors = row_vectors().unwrap();
     let most = vectors.iter().find(|vector| vector.name == "most").unwrap();
     let printed = String::from_utf8(most.printed.clone()).unwrap();
     assert_eq!(printed.len(), 11_830);

@@ -12,7 +12,7 @@ use second_evaluator::generate::random::Random;
 use second_evaluator::generate::texts::retold;
 use second_evaluator::harness::astray::Astray;
 use second_evaluator::harness::faults::Fault;
-use second_evaluator::harness::origins::NAMES;
+use second_evaluator::harness::origin_cases::NAMES;
 use second_evaluator::harness::run;
 use second_evaluator::harness::standin::StandIn;
 use second_evaluator::harness::tally::Tally;
@@ -37,8 +37,6 @@ fn an_undefined_verdict_has_a_line() {
     assert_eq!(report(SHEET), answer(0, 0, 0, "0 0 t 4\n0 1 u 3\n"));
     assert_eq!(undefined(SHEET), answer(0, 0, 0, "0 1 9 2\n"));
     assert_eq!(evaluate_on(SHEET, 0, 1), answer(0, 3, 0, "u"));
-    let empty = lent(|words, out| calls::undefined(b"", words, out));
-    assert_eq!(empty, answer(0, 0, 0, ""));
 }
 
 #[test]
@@ -48,25 +46,6 @@ fn what_reading_refuses_is_refused() {
         assert_eq!(undefined(refused), read(refused), "{refused}");
         assert_ne!(undefined(refused).0.number, 0, "{refused}");
     }
-    let long = vec![b'\n'; 49_153];
-    let long = lent(|words, out| calls::undefined(&long, words, out));
-    assert_eq!(long, answer(2, 0, 0, ""));
-}
-
-#[test]
-fn short_slices_come_first() {
-    for slice in 0..3 {
-        let mut lengths = [8_192; 3];
-        lengths[slice] -= 1;
-        let short = lent_with(lengths, 2_560, |words, out| {
-            calls::undefined(b"?", words, out)
-        });
-        assert_eq!(short, answer(1, 0, 0, ""));
-    }
-    let short = lent_with([8_192; 3], 2_559, |words, out| {
-        calls::undefined(b"", words, out)
-    });
-    assert_eq!(short, answer(1, 0, 0, ""));
 }
 
 /// Forty rules for forty objects. The first object of each has a value.

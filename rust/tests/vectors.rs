@@ -3,7 +3,7 @@
 use second_evaluator::calls::{
     board_program, profile_program, program, rows_program, undefined_program,
 };
-use second_evaluator::harness::run::{
+use second_evaluator::harness::vectors::{
     board_vectors, origin_vectors, profile_vectors, row_vectors, vectors, Vector,
 };
 

@@ -15,9 +15,13 @@ use Rattle.sheet.specs.Report.{fitting}
 use Rattle.board.specs.Edits.{Edit, readEdit, edited, judged, hasRoom}
 use Rattle.board.specs.Board.{Board, allVerdicts, valued, made, renewedSteps, after}
 
--- 1: also board words below 8,192; verdict bytes have an output's minimum
+-- words "at least 8,192"
+abbrev pub leastBoard : ℕ
+leastBoard = 8192
+
+-- 1: also too few board words, and "verdict bytes (at least 2,560)"
 unfoldable pub shortBoard : List ℕ → List ℕ → List ℕ → List ℕ → Bytes → Bool
-shortBoard w0 w1 w2 words out = shortWords w0 w1 w2 || ltb (length words) 8192 || shortOutput out
+shortBoard w0 w1 w2 words out = shortWords w0 w1 w2 || ltb (length words) leastBoard || shortOutput out
 
 -- ---- making: "refuse these as the report does, and return all verdicts' length"; "verdicts longer than the lent verdict bytes are 18"
 
@@ -73,7 +77,7 @@ pub data After (s : Sheet) : List Edit → Board → Type 0 where
 -- what the first 8,192 words hold of it is the code's to choose
 pub record Layout : Type 0 where
   pub lay : Board → List ℕ
-  pub whole : (b : Board) → length (lay b) ≡ 8192
+  pub whole : (b : Board) → length (lay b) ≡ leastBoard
 
 -- the two slices
 pub record Slices : Type 0 where
@@ -82,10 +86,10 @@ pub record Slices : Type 0 where
 
 -- the verdicts stand in front of the verdict bytes
 pub record Holds (l : Layout) (b : Board) (x : Slices) : Type 0 where
-  pub in-words : take 8192 (x .words) ≡ l .lay b
+  pub in-words : take leastBoard (x .words) ≡ l .lay b
   pub in-bytes : take (length (allVerdicts b)) (x .out) ≡ allVerdicts b
 
 -- the board words after a call: "never zeroed", and "a refusal leaves the board unchanged"; the verdict bytes are `outputAfter`, the three
 -- word slices `wordsAfter` of the verdict, as after every call
 unfoldable pub boardAfter : Verdict → List ℕ → List ℕ → List ℕ
-boardAfter v laid words = if eqb (v .number) 0 then laid ++ drop 8192 words else words
+boardAfter v laid words = if eqb (v .number) 0 then laid ++ drop leastBoard words else words

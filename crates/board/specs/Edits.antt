@@ -10,6 +10,7 @@ use Rattle.laws.specs.Choice.{if_then_else_, mapSome}
 use Rattle.ocl.specs.Types.{class}
 use Rattle.ocl.specs.Values.{Value}
 use Rattle.ocl.specs.Model.{isA}
+use Rattle.sheet.specs.Sizes.{mostRows, mostObjects, mostValues, mostCells}
 use Rattle.sheet.specs.Text.{Bytes, bytes, linesOf, fieldsOf}
 use Rattle.sheet.specs.Spelling.{readValue}
 use Rattle.sheet.specs.Lines.{is, next, done, aNumber, valueLine}
@@ -103,7 +104,7 @@ unfoldable pub judgedValue : Sheet → ℕ → ℕ → Option Value → Step
 judgedValue s o a (some v) = stepLine (withSlots s 3 []) 1 (valueLine o a v)
 -- clearing: numbers within their limits (4), on the sheet (6), and the object of the row's class or below (7)
 judgedValue s o a none =
-    must (ltb o 96 && ltb a 64) 4 (must (ltb o (length (s .objects)) && ltb a (length (s .rows))) 6
+    must (ltb o mostObjects && ltb a mostRows) 4 (must (ltb o (length (s .objects)) && ltb a (length (s .rows))) 6
     (must (isA (modelOf s) o (class (modelOf s .row a .owner))) 7 (taken s)))
 
 unfoldable pub judged : Sheet → Edit → Step
@@ -111,4 +112,4 @@ judged s e = judgedValue s (e .object) (e .row) (e .value)
 
 -- 21, "when the slots after the edit would exceed 1,024 lines or total size 2,048"
 unfoldable pub hasRoom : List Slot → Bool
-hasRoom xs = leb (length xs) 1024 && leb (totalSize xs) 2048
+hasRoom xs = leb (length xs) mostValues && leb (totalSize xs) mostCells

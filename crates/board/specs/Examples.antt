@@ -1,4 +1,4 @@
--- Small sheets and what edits of their boards answer, as one table.
+-- Document 02, F-10: small sheets and what edits of their boards answer, as one table.
 use mathlib.Core.Path.{_≡_}
 use mathlib.Core.Bool.{true}
 use mathlib.Core.List.{List, [], _∷_, _++_}

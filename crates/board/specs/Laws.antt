@@ -9,6 +9,7 @@ use lib.ListN.{length, getElem?, take}
 use lib.Dec.{T, eqb, leb}
 use Rattle.laws.specs.Choice.{if_then_else_}
 use Rattle.laws.specs.Lists.{member}
+use Rattle.sheet.specs.Sizes.{mostBytes}
 use Rattle.sheet.specs.Text.{Bytes, bytes, linesOf}
 use Rattle.sheet.specs.Lines.{valueLine}
 use Rattle.sheet.specs.Sheet.{Slot, Rule, Sheet, empty, lookup}
@@ -94,7 +95,7 @@ pub record OtherIs (b : Board) (other : Bytes) (t : Sheet) : Type 0 where
   -- of any length
   pub lines : ruleLines t 0 (t .rules) ≡ allVerdicts b
   -- and where it keeps the byte limit, the report on it
-  pub report : length other ≤ 49152 → (room : ℕ) → reportOf other room ≡ fitting room (allVerdicts b)
+  pub report : length other ≤ mostBytes → (room : ℕ) → reportOf other room ≡ fitting room (allVerdicts b)
 
 abbrev pub OtherTexts : Type 0
 OtherTexts =

@@ -11,7 +11,7 @@ use opening::Answer;
 use text::parts::find;
 use text::printed::put_pair;
 
-// Two numbers with a space between them, and what comes behind.
+// Prints two numbers with a space between them, and what comes behind.
 fn print_pair(a: u64, b: u64, behind: &[u8]) {
     let mut out: [u8; 42] = [0; 42];
     let end = put_pair(&mut out, 0, a, b);
@@ -22,7 +22,7 @@ fn print_pair(a: u64, b: u64, behind: &[u8]) {
     io::write_all(STDOUT_FILENO, behind);
 }
 
-// An answer is no longer than what was lent.
+// Prints an answer and its verdicts, which are no longer than what was lent.
 fn print_answer(answer: Answer, verdicts: &[u8]) {
     print_pair(answer.number, answer.steps, b" ");
     print_pair(answer.place, answer.length, b"\n");
@@ -32,7 +32,7 @@ fn print_answer(answer: Answer, verdicts: &[u8]) {
     }
 }
 
-// The edit that begins at this place, up to the next tilde; it says where the next one begins.
+// Makes the edit that begins at this place, up to the next tilde, and prints its answer; gives where the next one begins.
 fn print_edit(
     pieces: &[u8],
     at: usize,
@@ -53,13 +53,13 @@ fn print_edit(
     at + n + 2
 }
 
-// The sheet's board, and then each edit of it.
+// Makes the sheet's board and then each edit of it, and prints all answers.
 fn print_board(pieces: &[u8]) {
-    let mut w0: [u64; 8192] = [0; 8192];
-    let mut w1: [u64; 8192] = [0; 8192];
-    let mut w2: [u64; 8192] = [0; 8192];
-    let mut board: [u64; 8192] = [0; 8192];
-    let mut verdicts: [u8; 2560] = [0; 2560];
+    let mut w0: [u64; memory::LEAST_WORDS] = [0; memory::LEAST_WORDS];
+    let mut w1: [u64; memory::LEAST_WORDS] = [0; memory::LEAST_WORDS];
+    let mut w2: [u64; memory::LEAST_WORDS] = [0; memory::LEAST_WORDS];
+    let mut board: [u64; memory::LEAST_BOARD] = [0; memory::LEAST_BOARD];
+    let mut verdicts: [u8; memory::LEAST_OUTPUT] = [0; memory::LEAST_OUTPUT];
     let end = find(pieces, b'~');
     let sheet = &pieces[..end];
     let made = ocl_make_board(sheet, &mut w0, &mut w1, &mut w2, &mut board, &mut verdicts);

@@ -7,6 +7,7 @@ use lib.ListN.{length, getD, take, drop, replicate, length-append, length-map, l
 use lib.Seq.{length-take-le, take-append-le, take-take, take-at, drop-at}
 use lib.Dec.{T, leb, leb→le}
 use Rattle.laws.proofs.Tests.{and-l, and-r}
+use Rattle.memory.specs.Map as memory
 use Rattle.ocl.specs.Values.{size}
 use Rattle.sheet.specs.Text.{Bytes}
 use Rattle.sheet.specs.Sheet.{Slot}
@@ -38,7 +39,7 @@ module _ (b : Board) where
   front : List ℕ
   front = length (b .slots) ∷ totalSize (b .slots) ∷ replicate 350 0
 
-  front-length : length front ≡ 352
+  front-length : length front ≡ memory.keys
   unfolding front
   front-length = omega (arith, length-replicate {A = ℕ} 350 0)
 
@@ -85,13 +86,13 @@ module _ (words : List ℕ) (b : Board) (lies : take 8192 words ≡ boardWords b
       ∙ append-assoc (front b ++ keys ++ starts ++ cells ++ ends) (replicate 3680 0) (drop 8192 words) ∙ six (front b) keys starts cells ends rest
 
   -- the words in front of each table
-  before-starts : length (front b ++ keys) ≡ 1376
+  before-starts : length (front b ++ keys) ≡ memory.starts
   before-starts = simp length-append (omega (arith, front-length b, padded-length 1024 (map slotKey (b .slots))))
 
-  before-cells : length (front b ++ keys ++ starts) ≡ 2400
+  before-cells : length (front b ++ keys ++ starts) ≡ memory.cells
   before-cells = simp length-append (omega (arith, before-starts, length-append (front b) keys, padded-length 1024 (startsFrom 0 (b .slots))))
 
-  before-ends : length (front b ++ keys ++ starts ++ cells) ≡ 4448
+  before-ends : length (front b ++ keys ++ starts ++ cells) ≡ memory.boardEnds
   before-ends = length-append (front b ++ keys ++ starts) cells ∙ omega (arith, before-cells, padded-length 2048 (cellsOf (b .slots)))
 
   pub board-lies : T (hasRoom (b .slots)) → SlotsLie words (b .slots)
@@ -102,17 +103,17 @@ module _ (words : List ℕ) (b : Board) (lies : take 8192 words ≡ boardWords b
       record {
         count = ap (λ l. getD l 0 0) split ∙ (unfold front in refl);
         size = ap (λ l. getD l 1 0) split ∙ (unfold front in refl);
-        keys = ap (tab 352 (length (b .slots))) split
-            ∙ table-found (front b) (starts ++ (cells ++ (ends ++ rest))) (map slotKey (b .slots)) 352 (length (b .slots)) 1024 (front-length b) (length-map (b .slots) slotKey) n;
-        starts = ap (tab 1376 (length (b .slots))) (split ∙ sym (append-assoc (front b) keys (starts ++ (cells ++ (ends ++ rest)))))
-            ∙ table-found (front b ++ keys) (cells ++ (ends ++ rest)) (startsFrom 0 (b .slots)) 1376 (length (b .slots)) 1024 before-starts (starts-length 0 (b .slots)) n;
-        cells = ap (tab 2400 (totalSize (b .slots))) (split ∙ sym (append-assoc (front b) keys (starts ++ (cells ++ (ends ++ rest)))) ∙ sym (append-assoc (front b ++ keys) starts (cells ++ (ends ++ rest))))
-            ∙ table-found (front b ++ keys ++ starts) (ends ++ rest) (cellsOf (b .slots)) 2400 (totalSize (b .slots)) 2048 before-cells (cells-length (b .slots)) m;
+        keys = ap (tab memory.keys (length (b .slots))) split
+            ∙ table-found (front b) (starts ++ (cells ++ (ends ++ rest))) (map slotKey (b .slots)) memory.keys (length (b .slots)) 1024 (front-length b) (length-map (b .slots) slotKey) n;
+        starts = ap (tab memory.starts (length (b .slots))) (split ∙ sym (append-assoc (front b) keys (starts ++ (cells ++ (ends ++ rest)))))
+            ∙ table-found (front b ++ keys) (cells ++ (ends ++ rest)) (startsFrom 0 (b .slots)) memory.starts (length (b .slots)) 1024 before-starts (starts-length 0 (b .slots)) n;
+        cells = ap (tab memory.cells (totalSize (b .slots))) (split ∙ sym (append-assoc (front b) keys (starts ++ (cells ++ (ends ++ rest)))) ∙ sym (append-assoc (front b ++ keys) starts (cells ++ (ends ++ rest))))
+            ∙ table-found (front b ++ keys ++ starts) (ends ++ rest) (cellsOf (b .slots)) memory.cells (totalSize (b .slots)) 2048 before-cells (cells-length (b .slots)) m;
       }
 
-  pub ends-lie : length (b .verdicts) ≤ 64 → tab 4448 (length (b .verdicts)) words ≡ endsFrom 0 (b .verdicts)
+  pub ends-lie : length (b .verdicts) ≤ 64 → tab memory.boardEnds (length (b .verdicts)) words ≡ endsFrom 0 (b .verdicts)
   ends-lie n =
-      ap (tab 4448 (length (b .verdicts)))
+      ap (tab memory.boardEnds (length (b .verdicts)))
       (split ∙ sym (append-assoc (front b) keys (starts ++ (cells ++ (ends ++ rest)))) ∙ sym (append-assoc (front b ++ keys) starts (cells ++ (ends ++ rest)))
       ∙ sym (append-assoc (front b ++ keys ++ starts) cells (ends ++ rest)))
-      ∙ table-found (front b ++ keys ++ starts ++ cells) rest (endsFrom 0 (b .verdicts)) 4448 (length (b .verdicts)) 64 before-ends (ends-length 0 (b .verdicts)) n
+      ∙ table-found (front b ++ keys ++ starts ++ cells) rest (endsFrom 0 (b .verdicts)) memory.boardEnds (length (b .verdicts)) 64 before-ends (ends-length 0 (b .verdicts)) n

@@ -8,6 +8,7 @@ use native.Mathlib.Numerals.{add-one}
 use borrow.Author.Tests.{lt-ltb, le-ltb}
 use lib.ListN.{length, getD, take, drop, set, replicate, length-set, length-append, length-replicate, length-drop, take-append-drop, List·getD-append}
 use lib.Seq.{length-take-le, take-all, take-take, drop-set-lt, getD-take, getD-append-add, drop-drop, paste, paste-suc, take-paste, drop-paste, length-paste-head}
+use Rattle.memory.specs.Map as memory
 use Rattle.ocl.specs.Values.{size}
 use Rattle.board.specs.Board.{Board}
 use Rattle.tables.specs.declared.Counts.{Counts}
@@ -102,7 +103,7 @@ unfolding padded
 zeros m table = take-all m (replicate m 0) (omega (arith, length-replicate {A = ℕ} m 0))
 
 stored : {st : Counts} {w0 w1 ends before after K S C : List ℕ} {slots cells rules : ℕ} → Fine st → slots ≡ st .slots → cells ≡ st .cells → rules ≡ st .rules
-    → K ≡ tab 352 slots w0 → S ≡ tab 1376 slots w0 → C ≡ tab 2400 cells w0
+    → K ≡ tab memory.keys slots w0 → S ≡ tab memory.starts slots w0 → C ≡ tab memory.cells cells w0
     → Written before after 8192 ((st .slots ∷ st .cells ∷ []) ++ padded 350 (take 0 ends) ++ padded 1024 K ++ padded 1024 S ++ padded 2048 C ++ padded 64 (take rules ends) ++ padded 3680 (take 0 ends))
     → StoresBoard st w0 w1 ends before after
 unfolding boardWords
@@ -121,43 +122,43 @@ abbrev front1 : Counts → List ℕ → List ℕ
 front1 st ends = (st .slots ∷ st .cells ∷ []) ++ padded 350 (take 0 ends)
 
 abbrev front2 : Counts → List ℕ → List ℕ → ℕ → List ℕ
-front2 st w0 ends slots = front1 st ends ++ padded 1024 (take slots (take 1024 (drop 352 w0)))
+front2 st w0 ends slots = front1 st ends ++ padded 1024 (take slots (take 1024 (drop memory.keys w0)))
 
 abbrev front3 : Counts → List ℕ → List ℕ → ℕ → List ℕ
-front3 st w0 ends slots = front2 st w0 ends slots ++ padded 1024 (take slots (take 1024 (drop 1376 w0)))
+front3 st w0 ends slots = front2 st w0 ends slots ++ padded 1024 (take slots (take 1024 (drop memory.starts w0)))
 
 abbrev front4 : Counts → List ℕ → List ℕ → ℕ → ℕ → List ℕ
-front4 st w0 ends slots cells = front3 st w0 ends slots ++ padded 2048 (take cells (take 2048 (drop 2400 w0)))
+front4 st w0 ends slots cells = front3 st w0 ends slots ++ padded 2048 (take cells (take 2048 (drop memory.cells w0)))
 
 abbrev front5 : Counts → List ℕ → List ℕ → ℕ → ℕ → ℕ → List ℕ
 front5 st w0 ends slots cells rules = front4 st w0 ends slots cells ++ padded 64 (take rules ends)
 
 module _ (st : Counts) (w0 ends w : List ℕ) (long : 8192 ≤ length w) {v1 : List ℕ} (a : v1 ≡ paste (set (set w 0 (st .slots)) 1 (st .cells)) 2 (padded 350 (take 0 ends)) 350) where
-  pub written1 : Written w v1 352 (front1 st ends)
+  pub written1 : Written w v1 memory.keys (front1 st ends)
   written1 = table-put _ 2 350 long (omega arith) (first-two w (st .slots) (st .cells) long) a
 
-  module _ {slots : ℕ} (x : slots ≡ st .slots) {v2 : List ℕ} (b : v2 ≡ paste v1 352 (padded 1024 (take slots (take 1024 (drop 352 w0)))) 1024) where
-    pub written2 : Written w v2 1376 (front2 st w0 ends slots)
-    written2 = table-put _ 352 1024 long (omega arith) written1 b
+  module _ {slots : ℕ} (x : slots ≡ st .slots) {v2 : List ℕ} (b : v2 ≡ paste v1 memory.keys (padded 1024 (take slots (take 1024 (drop memory.keys w0)))) 1024) where
+    pub written2 : Written w v2 memory.starts (front2 st w0 ends slots)
+    written2 = table-put _ memory.keys 1024 long (omega arith) written1 b
 
-    module _ {v3 : List ℕ} (c : v3 ≡ paste v2 1376 (padded 1024 (take slots (take 1024 (drop 1376 w0)))) 1024) where
-      pub written3 : Written w v3 2400 (front3 st w0 ends slots)
-      written3 = table-put _ 1376 1024 long (omega arith) written2 c
+    module _ {v3 : List ℕ} (c : v3 ≡ paste v2 memory.starts (padded 1024 (take slots (take 1024 (drop memory.starts w0)))) 1024) where
+      pub written3 : Written w v3 memory.cells (front3 st w0 ends slots)
+      written3 = table-put _ memory.starts 1024 long (omega arith) written2 c
 
-      module _ {cells : ℕ} (y : cells ≡ st .cells) {v4 : List ℕ} (d : v4 ≡ paste v3 2400 (padded 2048 (take cells (take 2048 (drop 2400 w0)))) 2048) where
-        pub written4 : Written w v4 4448 (front4 st w0 ends slots cells)
-        written4 = table-put _ 2400 2048 long (omega arith) written3 d
+      module _ {cells : ℕ} (y : cells ≡ st .cells) {v4 : List ℕ} (d : v4 ≡ paste v3 memory.cells (padded 2048 (take cells (take 2048 (drop memory.cells w0)))) 2048) where
+        pub written4 : Written w v4 memory.boardEnds (front4 st w0 ends slots cells)
+        written4 = table-put _ memory.cells 2048 long (omega arith) written3 d
 
-        module _ {rules : ℕ} (z : rules ≡ st .rules) {v5 : List ℕ} (e : v5 ≡ paste v4 4448 (padded 64 (take rules ends)) 64) where
-          pub written5 : Written w v5 4512 (front5 st w0 ends slots cells rules)
-          written5 = table-put _ 4448 64 long (omega arith) written4 e
+        module _ {rules : ℕ} (z : rules ≡ st .rules) {v5 : List ℕ} (e : v5 ≡ paste v4 memory.boardEnds (padded 64 (take rules ends)) 64) where
+          pub written5 : Written w v5 memory.boardEnd (front5 st w0 ends slots cells rules)
+          written5 = table-put _ memory.boardEnds 64 long (omega arith) written4 e
 
-          module _ {v6 : List ℕ} (f : v6 ≡ paste v5 4512 (padded 3680 (take 0 ends)) 3680) where
+          module _ {v6 : List ℕ} (f : v6 ≡ paste v5 memory.boardEnd (padded 3680 (take 0 ends)) 3680) where
             pub written6 : Written w v6 8192 (front5 st w0 ends slots cells rules ++ padded 3680 (take 0 ends))
-            written6 = table-put _ 4512 3680 long (omega arith) written5 f
+            written6 = table-put _ memory.boardEnd 3680 long (omega arith) written5 f
 
             pub board-stored : (w1 : List ℕ) → Fine st → StoresBoard st w0 w1 ends w v6
             board-stored w1 fine =
                 let i = fine .slots in
                 let j = fine .cells in
-                stored {w1 = w1} fine x y z (part-of w0 352 1024 slots (omega arith)) (part-of w0 1376 1024 slots (omega arith)) (part-of w0 2400 2048 cells (omega arith)) written6
+                stored {w1 = w1} fine x y z (part-of w0 memory.keys 1024 slots (omega arith)) (part-of w0 memory.starts 1024 slots (omega arith)) (part-of w0 memory.cells 2048 cells (omega arith)) written6

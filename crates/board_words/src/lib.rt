@@ -5,6 +5,8 @@ ghost use mathlib.Core.List.{List};
 ghost use Prim.Native.Nat.{ℕ, _+_, _≤_, _<_};
 ghost use lib.ListN.{length, take};
 ghost use lib.Seq.{paste};
+ghost use Rattle.sheet.specs.Sizes.{leastWords, mostRules};
+ghost use Rattle.board.specs.Calls.{leastBoard};
 ghost use Rattle.tables.specs.Layout.{Fine};
 ghost use Rattle.board_words.specs.Layout.{padded, wordOr, StoresBoard};
 use tables::Counts;
@@ -33,18 +35,49 @@ fn put_table(words: &mut [u64], at: usize, room: usize, table: &[u64], n: usize)
     }
 }
 
+// How many words each table has: two counts in front, then none up to the keys, and none behind the last table.
+const COUNTS: usize = 2;
+
+const UNUSED: usize = memory::KEYS - COUNTS;
+
+const SLOTS: usize = memory::MOST_VALUES as usize;
+
+const CELLS: usize = memory::MOST_CELLS as usize;
+
+const RULES: usize = memory::MOST_RULES as usize;
+
+const REST: usize = memory::LEAST_BOARD - memory::BOARD_END;
+
 // Puts the board with the slots in w0 and with these ends of each rule's verdicts into the words.
 pub fn store_board(w0: &[u64], st: Counts, ends: &[u64], words: &mut [u64])
-    requires { ⌜ (8192 ≤ length (now w0)) × Fine st × (64 ≤ length (now ends)) × (8192 ≤ length (now words)) ⌝ }
+    requires { ⌜ (leastWords ≤ length (now w0)) × Fine st × (mostRules ≤ length (now ends)) × (leastBoard ≤ length (now words)) ⌝ }
     ensures { λ _. ⌜ ((w1 : List ℕ) → StoresBoard st (now (w0 .entry)) w1 (now (ends .entry)) (now (words .entry)) (now (words .exit))) ⌝ }
 {
     words[0] = st.slots;
     words[1] = st.cells;
     let slots = wide(st.slots);
-    put_table(words, 2, 350, ends, 0);
-    put_table(words, 352, 1024, &w0[352..1376], slots);
-    put_table(words, 1376, 1024, &w0[1376..2400], slots);
-    put_table(words, 2400, 2048, &w0[2400..4448], wide(st.cells));
-    put_table(words, 4448, 64, ends, wide(st.rules));
-    put_table(words, 4512, 3680, ends, 0);
+    put_table(words, COUNTS, UNUSED, ends, 0);
+    put_table(
+        words,
+        memory::KEYS,
+        SLOTS,
+        &w0[memory::KEYS..memory::STARTS],
+        slots,
+    );
+    put_table(
+        words,
+        memory::STARTS,
+        SLOTS,
+        &w0[memory::STARTS..memory::CELLS],
+        slots,
+    );
+    put_table(
+        words,
+        memory::CELLS,
+        CELLS,
+        &w0[memory::CELLS..memory::CELLS_END],
+        wide(st.cells),
+    );
+    put_table(words, memory::BOARD_ENDS, RULES, ends, wide(st.rules));
+    put_table(words, memory::BOARD_END, REST, ends, 0);
 }

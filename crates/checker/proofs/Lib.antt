@@ -1,11 +1,4 @@
-pub mod ReadCalls
-pub mod ProfileCalls
-pub mod OutcomeLaws
-pub mod EvaluateCalls
-pub mod ReportCalls
-pub mod RowsCalls
-pub mod MakeCalls
-pub mod EditCalls
+pub mod BoardCalls
 pub mod Soundness
 pub mod Corrections
 pub mod Unseen

@@ -8,10 +8,11 @@ use Prim.Native.Nat.{ℕ, _≤_}
 use lib.ListN.{length, take, getElem?}
 use lib.Dec.{T}
 use Rattle.ocl.specs.Types.{Ty}
-use Rattle.ocl.specs.Values.{Value, size}
+use Rattle.ocl.specs.Values.{Value, size, largest}
 use Rattle.ocl.specs.Model.{Model, belongs}
 use Rattle.ocl.specs.Operations.{Stop}
 use Rattle.ocl.specs.Laws.{numbersKept, Formed}
+use Rattle.ocl.specs.Evaluation.{mostSteps}
 use Rattle.sheet.specs.Text.{Bytes, bytes, linesOf}
 use Rattle.sheet.specs.Spelling.{spellType, spellValue}
 use Rattle.sheet.specs.Sheet.{modelOf}
@@ -31,7 +32,7 @@ pub record Says (w : Bytes) (a : Answer) (out : Bytes) : Type 0 where
 -- how the call may answer for a rule of type t: as `Ending` says of its definition
 pub data AnswerEnding (m : Model) (t : Ty) (a : Answer) (out : Bytes) : Type 0 where
   undefined-said : Says (bytes "u") a out → AnswerEnding m t a out
-  value-said : (v : Value) → T (belongs m t v) → size v ≤ 128 → T (numbersKept v) → Formed v → Says (spellValue v) a out
+  value-said : (v : Value) → T (belongs m t v) → size v ≤ largest → T (numbersKept v) → Formed v → Says (spellValue v) a out
       → AnswerEnding m t a out
   stop-said : Stop (a .number) → AnswerEnding m t a out
 
@@ -40,7 +41,7 @@ pub record SoundAnswer (text : Bytes) (r : ℕ) (t : Ty) (a : Answer) (out : Byt
   -- the steps are within the rule's reach
   pub in-reach : a .steps ≤ reachOf text r
   -- no step stop where the reach is within the limit
-  pub no-step-stop : reachOf text r ≤ 1000000 → a .number ≢ 16
+  pub no-step-stop : reachOf text r ≤ mostSteps → a .number ≢ 16
 
 -- the call that reads answers 0, and line r of what it wrote is t's spelling
 pub record SaysType (r : ℕ) (t : Ty) (a : Answer) (out : Bytes) : Type 0 where

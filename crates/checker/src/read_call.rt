@@ -1,57 +1,14 @@
-// The call that reads a sheet and types its rules.
-ghost use Prim.Native.Nat.{_≤_};
-ghost use lib.ListN.{length};
-ghost use Rattle.sheet.specs.Calls.{answer as answerWith, onAccepted, typeLines, readCall};
-ghost use Rattle.sheet.specs.Soundness.{Lent};
+// The call that reads a sheet and types its rules. Document 02, F-6.
+ghost use Rattle.sheet.specs.Calls.{readCall};
 ghost use Rattle.opening.specs.Answers.{AnswersWith};
-ghost use Rattle.opening.specs.Parts.{Leaves};
-ghost use Rattle.checker.specs.TypeLines.{Waiting, PutsTypes};
+use answering::read::read_answer;
 use opening::Answer;
 use opening::no_output;
-use opening::open_text;
 use opening::short_lent;
 use opening::wipe_all;
-use opening::written;
-use reader::SheetRead;
-use text::spelling::put_byte;
-use types::classes::wide;
-use types::spelling::put_type;
-use types::word::unpack;
 
-// Puts the types that wait in w2 into out, one a line, and answers where the last line ends.
-pub fn put_types(w2: &[u64], rules: usize, out: &mut [u8]) -> usize
-    requires { ⌜ (8192 ≤ length (now w2)) × (2560 ≤ length (now out)) × Waiting (now w2) rules ⌝ }
-    ensures { λ r. ⌜ PutsTypes (now (w2 .entry)) rules (now (out .entry)) (now (out .exit)) r ⌝ }
-{
-    let mut at: usize = 0;
-    let mut r: usize = 0;
-    while r < rules {
-        let end = put_type(out, at, unpack(w2[768 + r]));
-        at = put_byte(out, end, b'\n');
-        r += 1;
-    }
-    at
-}
-
-// The answer for the text, whatever the words held before; they are not wiped yet.
-fn read_answer(
-    text: &[u8],
-    w0: &mut [u64],
-    w1: &mut [u64],
-    w2: &mut [u64],
-    out: &mut [u8],
-) -> Answer
-    requires { ⌜ Lent (now w0) (now w1) (now w2) (now out) ⌝ }
-    ensures { λ a. ⌜ Leaves (onAccepted (now (text .entry)) (λ s ts. answerWith (typeLines ts))) a (now (w0 .entry)) (now (w1 .entry)) (now (w2 .entry)) (now (out .entry)) (now (w0 .exit)) (now (w1 .exit)) (now (w2 .exit)) (now (out .exit)) ⌝ }
-{
-    match open_text(text, w0, w1, w2) {
-        SheetRead::Sheet(st) => written(put_types(w2, wide(st.rules), out), 0),
-        SheetRead::Refused(n, k) => no_output(n, k),
-    }
-}
-
-// Reads a sheet and types all its rules in order: 0 with one type a line in out, else a refusal, which leaves out as it is. Each
-// word slice has at least 8,192 words, out at least 2,560 bytes.
+// Reads a sheet and types all its rules in order: 0 with one type a line in out, else a refusal, which leaves out as it is. A slice of
+// words below 8,192, or an out below 2,560 bytes, is refused with 1.
 #[no_mangle]
 pub extern "C" fn ocl_read_sheet(
     text: &[u8],

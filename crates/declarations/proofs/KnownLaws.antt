@@ -8,6 +8,7 @@ use borrow.Author.Tests.{lt-ltb, le-ltb, eq-eqb, ne-eqb}
 use lib.Dec.{eqb, ltb}
 use lib.ListN.{length, getD, drop, drop-of-length-le}
 use Rattle.laws.proofs.Parts.{at-next}
+use Rattle.memory.specs.Map as memory
 use Rattle.ocl.specs.Model.{Row}
 use Rattle.sheet.specs.Limits.{isClass, simpleClassBelow, classBelow}
 use Rattle.sheet.specs.Refusals.{declares}
@@ -52,27 +53,27 @@ module _ (n : ℕ) where
 
 -- the turns of `declares`: i rows are passed
 module _ (w : List ℕ) (rows c name i : ℕ) (room : 8192 ≤ length w) (few : rows ≤ 64) {x : Bool}
-    (inv : namedIn (drop i (tab 64 rows w)) (drop i (tab 128 rows w)) c name ≡ x) where
+    (inv : namedIn (drop i (tab memory.owners rows w)) (drop i (tab memory.names rows w)) c name ≡ x) where
   pub declares-end : rows ≤ i → false ≡ x
   unfolding namedIn
-  declares-end h = rw (drop-of-length-le (tab 64 rows w) {i = i} (omega (arith, tab-length 64 rows w (omega arith)))) at inv
+  declares-end h = rw (drop-of-length-le (tab memory.owners rows w) {i = i} (omega (arith, tab-length memory.owners rows w (omega arith)))) at inv
 
   module _ (here : i < rows) where
-    owner : drop i (tab 64 rows w) ≡ getD w (64 + i) 0 ∷ drop (i + 1) (tab 64 rows w)
-    owner = at-next 0 (tab 64 rows w) i (omega (arith, tab-length 64 rows w (omega arith))) ∙ ap (λ (y : ℕ). y ∷ drop (i + 1) (tab 64 rows w)) (tab-at 64 rows w i here)
+    owner : drop i (tab memory.owners rows w) ≡ getD w (memory.owners + i) 0 ∷ drop (i + 1) (tab memory.owners rows w)
+    owner = at-next 0 (tab memory.owners rows w) i (omega (arith, tab-length memory.owners rows w (omega arith))) ∙ ap (λ (y : ℕ). y ∷ drop (i + 1) (tab memory.owners rows w)) (tab-at memory.owners rows w i here)
 
-    its-name : drop i (tab 128 rows w) ≡ getD w (128 + i) 0 ∷ drop (i + 1) (tab 128 rows w)
-    its-name = at-next 0 (tab 128 rows w) i (omega (arith, tab-length 128 rows w (omega arith))) ∙ ap (λ (y : ℕ). y ∷ drop (i + 1) (tab 128 rows w)) (tab-at 128 rows w i here)
+    its-name : drop i (tab memory.names rows w) ≡ getD w (memory.names + i) 0 ∷ drop (i + 1) (tab memory.names rows w)
+    its-name = at-next 0 (tab memory.names rows w) i (omega (arith, tab-length memory.names rows w (omega arith))) ∙ ap (λ (y : ℕ). y ∷ drop (i + 1) (tab memory.names rows w)) (tab-at memory.names rows w i here)
 
-    pub declares-here : getD w (64 + i) 0 ≡ c → getD w (128 + i) 0 ≡ name → true ≡ x
+    pub declares-here : getD w (memory.owners + i) 0 ≡ c → getD w (memory.names + i) 0 ≡ name → true ≡ x
     unfolding namedIn
     declares-here p q = rw (owner, its-name, eq-eqb _ _ p, eq-eqb _ _ q) at inv
 
-    pub declares-name : getD w (64 + i) 0 ≡ c → (getD w (128 + i) 0 ≡ name → ⊥) → namedIn (drop (i + 1) (tab 64 rows w)) (drop (i + 1) (tab 128 rows w)) c name ≡ x
+    pub declares-name : getD w (memory.owners + i) 0 ≡ c → (getD w (memory.names + i) 0 ≡ name → ⊥) → namedIn (drop (i + 1) (tab memory.owners rows w)) (drop (i + 1) (tab memory.names rows w)) c name ≡ x
     unfolding namedIn
     declares-name p q = rw (owner, its-name, eq-eqb _ _ p, ne-eqb _ _ q) at inv
 
-    pub declares-owner : (getD w (64 + i) 0 ≡ c → ⊥) → namedIn (drop (i + 1) (tab 64 rows w)) (drop (i + 1) (tab 128 rows w)) c name ≡ x
+    pub declares-owner : (getD w (memory.owners + i) 0 ≡ c → ⊥) → namedIn (drop (i + 1) (tab memory.owners rows w)) (drop (i + 1) (tab memory.names rows w)) c name ≡ x
     unfolding namedIn
     declares-owner p = rw (owner, its-name, ne-eqb _ _ p) at inv
 

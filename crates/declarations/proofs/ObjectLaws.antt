@@ -10,6 +10,7 @@ use lib.Dec.{ltb}
 use lib.ListN.{length, getD, set, length-set}
 use lib.Seq.{getD-set-same}
 use Rattle.laws.proofs.Lists.{length-more}
+use Rattle.memory.specs.Map as memory
 use Rattle.sheet.specs.Lines.{objectLine}
 use Rattle.sheet.specs.Sheet.{Sheet, added}
 use Rattle.sheet.specs.Limits.{isClass, withinLimits}
@@ -42,7 +43,7 @@ objectCounts st n = record {
 }
 
 -- where the next word of the objects is the class already
-object-held : (st : Counts) (k n c : ℕ) (w0 w1 : List ℕ) (s : Sheet) → n ≡ st .objects → 256 + n < length w0 → getD w0 (256 + n) 0 ≡ c
+object-held : (st : Counts) (k n c : ℕ) (w0 w1 : List ℕ) (s : Sheet) → n ≡ st .objects → memory.objects + n < length w0 → getD w0 (memory.objects + n) 0 ≡ c
     → Holds st w0 w1 s → Holds (objectCounts st n) w0 w1 (added s k (objectLine n c))
 unfolding added
 object-held st k n c w0 w1 s e room at h =
@@ -66,7 +67,7 @@ object-held st k n c w0 w1 s e room at h =
         owners = h .tables .owners;
         names = h .tables .names;
         types = h .tables .types;
-        objects = rw (more, tab-next 256 n w0 room, at) (ap (λ (l : List ℕ). l ++ (c ∷ [])) (rw long at (h .tables .objects)));
+        objects = rw (more, tab-next memory.objects n w0 room, at) (ap (λ (l : List ℕ). l ++ (c ∷ [])) (rw long at (h .tables .objects)));
         keys = h .tables .keys;
         starts = h .tables .starts;
         cells = h .tables .cells;
@@ -110,11 +111,11 @@ module _ (st : Counts) (k : ℕ) (w0 w1 : List ℕ) (n c : ℕ) (low : n < 96) (
       object-unknown u =
           unknown st k w0 w1 (objectLine n c) within in-block its-number (λ s h. le-ltb c (length (s .parents)) (omega (arith, h .counted .classes)))
 
-      pub object-put : Fine st → 8192 ≤ length w0 → c < st .classes → TookSpelled st k (objectLine n c) (Next (objectCounts st n)) w0 w1 (set w0 (256 + n) c) w1
+      pub object-put : Fine st → 8192 ≤ length w0 → c < st .classes → TookSpelled st k (objectLine n c) (Next (objectCounts st n)) w0 w1 (set w0 (memory.objects + n) c) w1
       unfolding partsKnown callsSmaller callsKnown suits treeHolds
       object-put fine room known =
-          passed st k w0 w1 _ (objectCounts st n) _ (kept-set w0 (256 + n) c (omega arith)) (search needs) (λ s h. (
+          passed st k w0 w1 _ (objectCounts st n) _ (kept-set w0 (memory.objects + n) c (omega arith)) (search needs) (λ s h. (
             steps-on s k (objectLine n c) refl refl (within s) (in-order s h) (lt-ltb c (length (s .parents)) (omega (arith, h .counted .classes))) refl refl,
-            object-held st k n c (set w0 (256 + n) c) w1 s is-next (rw length-set (omega arith)) (getD-set-same w0 (256 + n) c 0 (omega arith))
+            object-held st k n c (set w0 (memory.objects + n) c) w1 s is-next (rw length-set (omega arith)) (getD-set-same w0 (memory.objects + n) c 0 (omega arith))
                 (holds-kept c (rw is-next (spare-object fine (h .counted) (omega arith))) h),
           ))

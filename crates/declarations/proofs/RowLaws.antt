@@ -11,6 +11,7 @@ use lib.ListN.{length, getD, set, length-set}
 use lib.Seq.{getD-set-same, getD-set-other}
 use Rattle.laws.proofs.Bounds.{cut-lt}
 use Rattle.laws.proofs.Lists.{length-more}
+use Rattle.memory.specs.Map as memory
 use Rattle.ocl.specs.Types.{Ty}
 use Rattle.ocl.specs.Model.{Row}
 use Rattle.sheet.specs.Lines.{rowLine}
@@ -85,7 +86,7 @@ rowCounts st n = record {
 
 -- where the next words of the rows are the row's already
 row-held : (st : Counts) (k n c name : ℕ) (t : Ty) (w0 w1 : List ℕ) (s : Sheet) → n ≡ st .rows → 192 + n < length w0
-    → getD w0 (64 + n) 0 ≡ c → getD w0 (128 + n) 0 ≡ name → typeIn (getD w0 (192 + n) 0) ≡ t
+    → getD w0 (memory.owners + n) 0 ≡ c → getD w0 (memory.names + n) 0 ≡ name → typeIn (getD w0 (memory.types + n) 0) ≡ t
     → Holds st w0 w1 s → Holds (rowCounts st n) w0 w1 (added s k (rowLine n c name t))
 unfolding added
 row-held st k n c name t w0 w1 s e room at1 at2 at3 h =
@@ -123,28 +124,28 @@ row-held st k n c name t w0 w1 s e room at1 at2 at3 h =
 
 -- the three words written
 abbrev pub rowWords : List ℕ → ℕ → ℕ → ℕ → ℕ → List ℕ
-rowWords w0 n c name p = set (set (set w0 (64 + n) c) (128 + n) name) (192 + n) p
+rowWords w0 n c name p = set (set (set w0 (memory.owners + n) c) (memory.names + n) name) (memory.types + n) p
 
 module _ (w0 : List ℕ) (n c name p : ℕ) (low : n < 64) (room : 8192 ≤ length w0) where
   words-long : length (rowWords w0 n c name p) ≡ length w0
   words-long = simp length-set
 
   words-kept : Kept w0 (rowWords w0 n c name p)
-  words-kept = kept-then (kept-set w0 (64 + n) c (omega arith)) (kept-then (kept-set (set w0 (64 + n) c) (128 + n) name (omega arith)) (kept-set (set (set w0 (64 + n) c) (128 + n) name) (192 + n) p (omega arith)))
+  words-kept = kept-then (kept-set w0 (memory.owners + n) c (omega arith)) (kept-then (kept-set (set w0 (memory.owners + n) c) (memory.names + n) name (omega arith)) (kept-set (set (set w0 (memory.owners + n) c) (memory.names + n) name) (memory.types + n) p (omega arith)))
 
-  words-owner : getD (rowWords w0 n c name p) (64 + n) 0 ≡ c
+  words-owner : getD (rowWords w0 n c name p) (memory.owners + n) 0 ≡ c
   words-owner =
-      getD-set-other (set (set w0 (64 + n) c) (128 + n) name) (192 + n) (64 + n) p 0 (λ e. omega arith)
-      ∙ getD-set-other (set w0 (64 + n) c) (128 + n) (64 + n) name 0 (λ e. omega arith)
-      ∙ getD-set-same w0 (64 + n) c 0 (omega arith)
+      getD-set-other (set (set w0 (memory.owners + n) c) (memory.names + n) name) (memory.types + n) (memory.owners + n) p 0 (λ e. omega arith)
+      ∙ getD-set-other (set w0 (memory.owners + n) c) (memory.names + n) (memory.owners + n) name 0 (λ e. omega arith)
+      ∙ getD-set-same w0 (memory.owners + n) c 0 (omega arith)
 
-  words-name : getD (rowWords w0 n c name p) (128 + n) 0 ≡ name
+  words-name : getD (rowWords w0 n c name p) (memory.names + n) 0 ≡ name
   words-name =
-      getD-set-other (set (set w0 (64 + n) c) (128 + n) name) (192 + n) (128 + n) p 0 (λ e. omega arith)
-      ∙ getD-set-same (set w0 (64 + n) c) (128 + n) name 0 (rw length-set (omega arith))
+      getD-set-other (set (set w0 (memory.owners + n) c) (memory.names + n) name) (memory.types + n) (memory.names + n) p 0 (λ e. omega arith)
+      ∙ getD-set-same (set w0 (memory.owners + n) c) (memory.names + n) name 0 (rw length-set (omega arith))
 
-  words-type : getD (rowWords w0 n c name p) (192 + n) 0 ≡ p
-  words-type = getD-set-same (set (set w0 (64 + n) c) (128 + n) name) (192 + n) p 0 (rw (length-set, length-set) (omega arith))
+  words-type : getD (rowWords w0 n c name p) (memory.types + n) 0 ≡ p
+  words-type = getD-set-same (set (set w0 (memory.owners + n) c) (memory.names + n) name) (memory.types + n) p 0 (rw (length-set, length-set) (omega arith))
 
 module _ (st : Counts) (k : ℕ) (w0 w1 : List ℕ) (n c name : ℕ) (t : Ty) (low : allLow n c name ≡ true) (typed : typeWithin t ≡ true) where
   within : (s : Sheet) → withinLimits s (rowLine n c name t) ≡ true
@@ -161,7 +162,7 @@ module _ (st : Counts) (k : ℕ) (w0 w1 : List ℕ) (n c name : ℕ) (t : Ty) (l
     row-gap o =
         misnumbered st k w0 w1 (rowLine n c name t) within in-block (λ s h. rw (ne-eqb n (length (s .rows)) (λ e. o (e ∙ sym (h .counted .rows)))))
 
-    module _ (is-next : n ≡ st .rows) {d : Bool} (declared : d ≡ namedIn (tab 64 n w0) (tab 128 n w0) c name) where
+    module _ (is-next : n ≡ st .rows) {d : Bool} (declared : d ≡ namedIn (tab memory.owners n w0) (tab memory.names n w0) c name) where
       -- what the words say is what the rows say
       by-rows : (s : Sheet) → Holds st w0 w1 s → declares (s .rows) c name ≡ d
       by-rows s h =

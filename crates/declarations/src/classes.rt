@@ -3,6 +3,7 @@ ghost use mathlib.Core.Path.{_≡_};
 ghost use mathlib.Core.List.{List};
 ghost use Prim.Native.Nat.{ℕ, _≤_, _<_};
 ghost use lib.ListN.{length};
+ghost use Rattle.sheet.specs.Sizes.{leastWords, mostClasses};
 ghost use Rattle.sheet.specs.Lines.{classLine, aParent};
 ghost use Rattle.types.specs.Flat.{parentOf};
 ghost use Rattle.tables.specs.Layout.{Fine, Took};
@@ -16,8 +17,9 @@ use text::parts::Fields;
 use text::parts::field;
 use text::words::letter;
 
+// A C line: the class goes into its table.
 pub fn class_line(line: &[u8], f: Fields, w0: &mut [u64], st: Counts) -> Step
-    requires { ⌜ Lettered "C" (now line) f × (8192 ≤ length (now w0)) × Fine st ⌝ }
+    requires { ⌜ Lettered "C" (now line) f × (leastWords ≤ length (now w0)) × Fine st ⌝ }
     ensures { λ r. ⌜ ((w1 : List ℕ) (k : ℕ) → Took st k (now (line .entry)) r (now (w0 .entry)) w1 (now (w0 .exit)) w1) ⌝ }
 {
     if f.count != 3 {
@@ -29,16 +31,16 @@ pub fn class_line(line: &[u8], f: Fields, w0: &mut [u64], st: Counts) -> Step
     let Num::Is(p) = parent(field(line, f, 2)) else {
         return Step::Stop(3);
     };
-    if 64 <= n {
+    if memory::MOST_CLASSES <= n {
         return Step::Stop(4);
     }
-    if 64 < p {
+    if memory::MOST_CLASSES < p {
         return Step::Stop(4);
     }
     put_class(w0, st, n, p)
 }
 
-// One more than the parent, 0 for `-`.
+// A parent field: one more than the parent, 0 for `-`.
 fn parent(f: &[u8]) -> Num
     ensures { λ r. ⌜ r ≡ parentNum (aParent (now (f .entry))) ⌝ }
 {
@@ -51,9 +53,9 @@ fn parent(f: &[u8]) -> Num
     }
 }
 
-// The class, whose number and parent are within their limits; p is one more than the parent, 0 for none.
+// Puts the class, whose number and parent are within their limits; p is one more than the parent, or 0 for none.
 fn put_class(w0: &mut [u64], st: Counts, n: u64, p: u64) -> Step
-    requires { ⌜ (8192 ≤ length (now w0)) × Fine st × (n < 64) × (p ≤ 64) ⌝ }
+    requires { ⌜ (leastWords ≤ length (now w0)) × Fine st × (n < mostClasses) × (p ≤ mostClasses) ⌝ }
     ensures { λ r. ⌜ ((w1 : List ℕ) (k : ℕ) → TookSpelled st k (classLine n (parentOf p)) r (now (w0 .entry)) w1 (now (w0 .exit)) w1) ⌝ }
 {
     if 0 < st.block {

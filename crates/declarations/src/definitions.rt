@@ -19,7 +19,7 @@ use types::GotType;
 use types::reading::read_type;
 use types::word::pack;
 
-// No word changes: the definition goes into its tables when it ends.
+// A D line. No word changes: the definition goes into its tables when it ends.
 pub fn definition_line(line: &[u8], f: Fields, st: Counts) -> Step
     requires { ⌜ Lettered "D" (now line) f × Fine st ⌝ }
     ensures { λ r. ⌜ ((w0 w1 : List ℕ) (k : ℕ) → Took st k (now (line .entry)) r w0 w1 w0 w1) ⌝ }
@@ -40,15 +40,15 @@ pub fn definition_line(line: &[u8], f: Fields, st: Counts) -> Step
     }
 }
 
-// The definition, whose type is within its limits.
+// Opens the definition, whose type is within its limits.
 fn open_definition(st: Counts, n: u64, c: u64, t: FlatType) -> Step
     requires { ⌜ Fine st × (typeWithin (tyOf t) ≡ true) ⌝ }
     ensures { λ r. ⌜ TookDefinition st n c (tyOf t) r ⌝ }
 {
-    if 32 <= n {
+    if memory::MOST_DEFINITIONS <= n {
         return Step::Stop(4);
     }
-    if 64 <= c {
+    if memory::MOST_CLASSES <= c {
         return Step::Stop(4);
     }
     if 4 < st.block {

@@ -2,6 +2,7 @@
 ghost use mathlib.Core.List.{List};
 ghost use Prim.Native.Nat.{ℕ, _≤_, _<_};
 ghost use lib.ListN.{length};
+ghost use Rattle.sheet.specs.Sizes.{leastWords, mostClasses, mostObjects};
 ghost use Rattle.sheet.specs.Lines.{objectLine};
 ghost use Rattle.tables.specs.Layout.{Fine, Took};
 ghost use Rattle.declarations.specs.Taken.{Lettered, TookSpelled};
@@ -11,19 +12,20 @@ use tables::Counts;
 use tables::Step;
 use text::parts::Fields;
 
+// An O line: the object goes into its table.
 pub fn object_line(line: &[u8], f: Fields, w0: &mut [u64], st: Counts) -> Step
-    requires { ⌜ Lettered "O" (now line) f × (8192 ≤ length (now w0)) × Fine st ⌝ }
+    requires { ⌜ Lettered "O" (now line) f × (leastWords ≤ length (now w0)) × Fine st ⌝ }
     ensures { λ r. ⌜ ((w1 : List ℕ) (k : ℕ) → Took st k (now (line .entry)) r (now (w0 .entry)) w1 (now (w0 .exit)) w1) ⌝ }
 {
-    match read_pair(line, f, 96) {
+    match read_pair(line, f, memory::MOST_OBJECTS) {
         Pair::Stop(n) => Step::Stop(n),
         Pair::Are(n, c) => put_object(w0, st, n, c),
     }
 }
 
-// The object, whose number and class are within their limits.
+// Puts the object, whose number and class are within their limits.
 fn put_object(w0: &mut [u64], st: Counts, n: u64, c: u64) -> Step
-    requires { ⌜ (8192 ≤ length (now w0)) × Fine st × (n < 96) × (c < 64) ⌝ }
+    requires { ⌜ (leastWords ≤ length (now w0)) × Fine st × (n < mostObjects) × (c < mostClasses) ⌝ }
     ensures { λ r. ⌜ ((w1 : List ℕ) (k : ℕ) → TookSpelled st k (objectLine n c) r (now (w0 .entry)) w1 (now (w0 .exit)) w1) ⌝ }
 {
     if 2 < st.block {
@@ -35,7 +37,7 @@ fn put_object(w0: &mut [u64], st: Counts, n: u64, c: u64) -> Step
     if st.classes <= c {
         return Step::Stop(6);
     }
-    let i = 256 + n as usize;
+    let i = memory::OBJECTS + n as usize;
     w0[i] = c;
     let mut next = st;
     next.block = 2;

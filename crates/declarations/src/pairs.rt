@@ -10,13 +10,13 @@ use text::numbers::number;
 use text::parts::Fields;
 use text::parts::field;
 
-// Both within their limits, or the refusal's number.
+// Both numbers within their limits, or a refusal's number.
 pub enum Pair {
     Stop(u64),
     Are(u64, u64),
 }
 
-// The number must be below `limit`.
+// Reads both; the number must be below `limit`.
 pub fn read_pair(line: &[u8], f: Fields, limit: u64) -> Pair
     requires { ⌜ Cut (now line) f × (limit ≤ 1000000) ⌝ }
     ensures { λ r. ⌜ r ≡ pairOf limit (twoNumbers (drop 1 (fieldsOf (now (line .entry))))) ⌝ }
@@ -33,7 +33,7 @@ pub fn read_pair(line: &[u8], f: Fields, limit: u64) -> Pair
     if limit <= n {
         return Pair::Stop(4);
     }
-    if 64 <= c {
+    if memory::MOST_CLASSES <= c {
         return Pair::Stop(4);
     }
     Pair::Are(n, c)

@@ -5,6 +5,8 @@ ghost use mathlib.Core.List.{List};
 ghost use Prim.Native.Nat.{ℕ, _+_, _≤_, _<_};
 ghost use lib.Dec.{ltb};
 ghost use lib.ListN.{length};
+ghost use Rattle.memory.specs.Map as memory;
+ghost use Rattle.sheet.specs.Sizes.{leastWords, mostRows, mostNames};
 ghost use Rattle.sheet.specs.Lines.{rowLine};
 ghost use Rattle.sheet.specs.Limits.{isClass, classBelow, typeWithin};
 ghost use Rattle.types.specs.Flat.{tyOf};
@@ -24,8 +26,9 @@ use types::order::tag;
 use types::reading::read_type;
 use types::word::pack;
 
+// An A line: the row goes into its tables.
 pub fn row_line(line: &[u8], f: Fields, w0: &mut [u64], st: Counts) -> Step
-    requires { ⌜ Lettered "A" (now line) f × (8192 ≤ length (now w0)) × Fine st ⌝ }
+    requires { ⌜ Lettered "A" (now line) f × (leastWords ≤ length (now w0)) × Fine st ⌝ }
     ensures { λ r. ⌜ ((w1 : List ℕ) (k : ℕ) → Took st k (now (line .entry)) r (now (w0 .entry)) w1 (now (w0 .exit)) w1) ⌝ }
 {
     if f.count != 5 {
@@ -51,21 +54,22 @@ pub fn row_line(line: &[u8], f: Fields, w0: &mut [u64], st: Counts) -> Step
     }
 }
 
+// Whether all three are numbers that a row, a class and a name may have.
 fn numbers_within(n: u64, c: u64, name: u64) -> bool
-    ensures { λ r. ⌜ r ≡ (ltb n 64 && isClass c && ltb name 256) ⌝ }
+    ensures { λ r. ⌜ r ≡ (ltb n mostRows && isClass c && ltb name mostNames) ⌝ }
 {
-    if 64 <= n {
+    if memory::MOST_ROWS <= n {
         return false;
     }
-    if 64 <= c {
+    if memory::MOST_CLASSES <= c {
         return false;
     }
-    name < 256
+    name < memory::MOST_NAMES
 }
 
-// The row, whose numbers and type are within their limits.
+// Puts the row, whose numbers and type are within their limits.
 fn put_row(w0: &mut [u64], st: Counts, n: u64, c: u64, name: u64, t: FlatType) -> Step
-    requires { ⌜ (8192 ≤ length (now w0)) × Fine st × ((ltb n 64 && isClass c && ltb name 256) ≡ true) × (typeWithin (tyOf t) ≡ true) ⌝ }
+    requires { ⌜ (leastWords ≤ length (now w0)) × Fine st × ((ltb n mostRows && isClass c && ltb name mostNames) ≡ true) × (typeWithin (tyOf t) ≡ true) ⌝ }
     ensures { λ r. ⌜ ((w1 : List ℕ) (k : ℕ) → TookSpelled st k (rowLine n c name (tyOf t)) r (now (w0 .entry)) w1 (now (w0 .exit)) w1) ⌝ }
 {
     if 1 < st.block {
@@ -84,9 +88,9 @@ fn put_row(w0: &mut [u64], st: Counts, n: u64, c: u64, name: u64, t: FlatType) -
     if !class_known(t, st.classes) {
         return Step::Stop(6);
     }
-    w0[64 + i] = c;
-    w0[128 + i] = name;
-    w0[192 + i] = pack(t);
+    w0[memory::OWNERS + i] = c;
+    w0[memory::NAMES + i] = name;
+    w0[memory::TYPES + i] = pack(t);
     let mut next = st;
     next.block = 1;
     next.rows = n + 1;
@@ -95,13 +99,13 @@ fn put_row(w0: &mut [u64], st: Counts, n: u64, c: u64, name: u64, t: FlatType) -
 
 // Whether class c declares the name in one of the rows so far.
 fn declares(w0: &[u64], rows: usize, c: u64, name: u64) -> bool
-    requires { ⌜ (8192 ≤ length (now w0)) × (rows ≤ 64) ⌝ }
-    ensures { λ r. ⌜ r ≡ namedIn (tab 64 rows (now (w0 .entry))) (tab 128 rows (now (w0 .entry))) c name ⌝ }
+    requires { ⌜ (leastWords ≤ length (now w0)) × (rows ≤ mostRows) ⌝ }
+    ensures { λ r. ⌜ r ≡ namedIn (tab memory.owners rows (now (w0 .entry))) (tab memory.names rows (now (w0 .entry))) c name ⌝ }
 {
     let mut i: usize = 0;
     while i < rows {
-        if w0[64 + i] == c {
-            if w0[128 + i] == name {
+        if w0[memory::OWNERS + i] == c {
+            if w0[memory::NAMES + i] == name {
                 return true;
             }
         }

@@ -1,6 +1,7 @@
 // `R n c`: rule n with context class c, whose node lines follow.
 ghost use mathlib.Core.List.{List};
 ghost use Prim.Native.Nat.{ℕ, _<_};
+ghost use Rattle.sheet.specs.Sizes.{mostClasses, mostRules};
 ghost use Rattle.sheet.specs.Lines.{ruleLine};
 ghost use Rattle.tables.specs.Layout.{Fine, Took};
 ghost use Rattle.declarations.specs.Taken.{Lettered, TookSpelled};
@@ -10,20 +11,20 @@ use tables::Counts;
 use tables::Step;
 use text::parts::Fields;
 
-// No word changes: the rule goes into its table when it ends.
+// An R line. No word changes: the rule goes into its table when it ends.
 pub fn rule_line(line: &[u8], f: Fields, st: Counts) -> Step
     requires { ⌜ Lettered "R" (now line) f × Fine st ⌝ }
     ensures { λ r. ⌜ ((w0 w1 : List ℕ) (k : ℕ) → Took st k (now (line .entry)) r w0 w1 w0 w1) ⌝ }
 {
-    match read_pair(line, f, 64) {
+    match read_pair(line, f, memory::MOST_RULES) {
         Pair::Stop(n) => Step::Stop(n),
         Pair::Are(n, c) => open_rule(st, n, c),
     }
 }
 
-// The rule, whose number and class are within their limits.
+// Opens the rule, whose number and class are within their limits.
 fn open_rule(st: Counts, n: u64, c: u64) -> Step
-    requires { ⌜ Fine st × (n < 64) × (c < 64) ⌝ }
+    requires { ⌜ Fine st × (n < mostRules) × (c < mostClasses) ⌝ }
     ensures { λ r. ⌜ ((w0 w1 : List ℕ) (k : ℕ) → TookSpelled st k (ruleLine n c) r w0 w1 w0 w1) ⌝ }
 {
     if 5 < st.block {

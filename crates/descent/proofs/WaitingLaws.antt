@@ -5,6 +5,7 @@ use mathlib.Core.List.{List, [], _∷_, _++_, append-nil}
 use Prim.Native.Nat.{ℕ, _+_, _*_, _≤_, _<_}
 use native.Mathlib.Omega.{arith}
 use lib.ListN.{length, length-append, getD}
+use Rattle.memory.specs.Map as memory
 use Rattle.sheet.specs.Text.{Bytes}
 use Rattle.sheet.specs.Lines.{Shape}
 use Rattle.sheet.specs.Grammar.Sentences.{whole}
@@ -27,7 +28,7 @@ use Rattle.importer.proofs.LetLaws.{lets-refl, lets-less, lets-then, values-siz
 use Rattle.importer.proofs.WholeLaws.{let-broken, Outer, out-none, none-outer, pushed, unread as unreadIn}
 
 -- nodes are where no other word is changed
-pub holds-below : {k : ℕ} {xs : List Shape} {v w : List ℕ} → length xs ≤ 768 → ((j : ℕ) → j < 6144 → getD w j 0 ≡ getD v j 0) → HoldsNodes k xs v → HoldsNodes k xs w
+pub holds-below : {k : ℕ} {xs : List Shape} {v w : List ℕ} → length xs ≤ 768 → ((j : ℕ) → j < memory.nodesEnd → getD w j 0 ≡ getD v j 0) → HoldsNodes k xs v → HoldsNodes k xs w
 holds-below {k} {xs} {v} {w} l same h = record {
   at = λ i m. rw (parsed-kept k v w i (λ j q. same (8 * i + j) (omega arith))) (h .at i m);
 }

@@ -1,8 +1,9 @@
 // A text field read by recursive descent: each level calls the next, and primaries call the loosest one again; what is left of the text
-// falls. Only brackets make calls stand inside one another. Document 02, F-7. It depends on `importer` for leaves, `let`s and nodes.
+// gets shorter. Only brackets and `if`s make calls stand inside one another. Document 02, F-7. It depends on `importer` for leaves, `let`s and nodes.
 // `n` is how many nodes there are already, `d` how many `let`s are open, and `k` the line.
 ghost use Prim.Native.Nat.{_≤_};
 ghost use lib.ListN.{length};
+ghost use Rattle.sheet.specs.Sizes.{leastWords};
 ghost use Rattle.sheet.specs.Grammar.Sentences.{whole as wholeLevel, disjunction as disjunctionLevel, conjunction as conjunctionLevel, comparison as comparisonLevel, sum as sumLevel, product as productLevel, prefix as prefixLevel};
 ghost use Rattle.importer.specs.Descent.{Room, FoundAt};
 ghost use Rattle.importer.specs.Imports.{Imports};
@@ -22,12 +23,13 @@ use phrases::words::sign;
 use terms::postfix;
 use tokens::Token;
 use tokens::next_token;
+use tokens::signs;
 
 pub mod terms; // primaries and steps
 
-// A whole text.
+// Reads a whole text.
 pub fn import(s: &[u8], w2: &mut [u64], k: u64) -> Imported
-    requires { ⌜ 8192 ≤ length (now w2) ⌝ }
+    requires { ⌜ leastWords ≤ length (now w2) ⌝ }
     ensures { λ r. ⌜ Imports k (now (s .entry)) (now (w2 .entry)) r (now (w2 .exit)) ⌝ }
 {
     let t = next_token(s, 0);
@@ -35,7 +37,7 @@ pub fn import(s: &[u8], w2: &mut [u64], k: u64) -> Imported
     let Found::Is { next, nodes } = found else {
         return Imported::No;
     };
-    if next.code != 65 {
+    if next.code != signs::END {
         return Imported::No;
     }
     Imported::Is { nodes }
@@ -71,7 +73,7 @@ fn whole(s: &[u8], t: Token, w2: &mut [u64], n: usize, d: usize, k: u64) -> Foun
                     let m = nodes + (lets - d);
                     return Found::Is { next, nodes: m };
                 }
-                let After::At(v) = after(s, next, 50) else {
+                let After::At(v) = after(s, next, signs::IN_WORD) else {
                     return Found::No;
                 };
                 end_value(w2, lets, nodes);
@@ -169,7 +171,7 @@ fn product(s: &[u8], t: Token, w2: &mut [u64], n: usize, d: usize, k: u64) -> Fo
     }
 }
 
-// `not`s, and what they stand before.
+// `not`s, and the postfix expression that they stand before.
 fn prefix(s: &[u8], t: Token, w2: &mut [u64], n: usize, d: usize, k: u64) -> Found
     requires { ⌜ Room (now s) t n d (now w2) ⌝ }
     ensures { λ r. ⌜ FoundAt prefixLevel k (now (s .entry)) t n d (now (w2 .entry)) r (now (w2 .exit)) ⌝ }

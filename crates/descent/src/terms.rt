@@ -12,6 +12,7 @@ ghost use Rattle.text.specs.Numbers.{cut};
 ghost use Rattle.types.specs.Reading.{typeField, held};
 ghost use Rattle.nodes.specs.Nodes.{assembleCode};
 ghost use Rattle.tokens.specs.Contracts.{onward};
+ghost use Rattle.tokens.specs.Signs as sign;
 ghost use Rattle.phrases.specs.Contracts.{StandsAsTwo};
 ghost use Rattle.trees.specs.Iterate.{Held};
 ghost use Rattle.importer.specs.Descent.{Room, FoundAt, ClosedAt};
@@ -30,6 +31,7 @@ use phrases::Step;
 use phrases::steps::step;
 use phrases::words::after;
 use tokens::Token;
+use tokens::signs;
 use trees::built::assembled;
 use types::GotType;
 
@@ -71,7 +73,7 @@ pub fn postfix(s: &[u8], t: Token, w2: &mut [u64], n: usize, d: usize, k: u64) -
 
 // A whole expression, and a token of this code after it.
 fn operand(s: &[u8], t: Token, w2: &mut [u64], n: usize, d: usize, k: u64, code: u64) -> Found
-    requires { ⌜ Room (now s) t n d (now w2) × (code ≢ 65) ⌝ }
+    requires { ⌜ Room (now s) t n d (now w2) × (code ≢ sign.end) ⌝ }
     ensures { λ r. ⌜ ClosedAt code k (now (s .entry)) t n d (now (w2 .entry)) r (now (w2 .exit)) ⌝ }
 {
     let inside = whole(s, t, w2, n, d, k);
@@ -85,7 +87,7 @@ fn operand(s: &[u8], t: Token, w2: &mut [u64], n: usize, d: usize, k: u64, code:
     Found::Is { next: u, nodes }
 }
 
-// The operand of a step, with its variable if it binds one; node n - 1 is what the step is of.
+// The operand of a step, with its variable if it binds one; node n - 1 is what the step is applied to.
 fn argument(
     s: &[u8],
     t: Token,
@@ -99,7 +101,7 @@ fn argument(
     requires { ⌜ Room (now s) t n d (now w2) × (0 < n) ⌝ }
     ensures { λ r. ⌜ ((g : Two) → StandsAsTwo g code variable → StepAt (Next.argument g (onward (now (s .entry)) t)) k (now (s .entry)) t n d (now (w2 .entry)) r (now (w2 .exit))) ⌝ }
 {
-    let inside = operand(s, t, w2, n, d, k, 41);
+    let inside = operand(s, t, w2, n, d, k, signs::CLOSE_BRACKET);
     let Found::Is { next, nodes } = inside else {
         return Found::No;
     };
@@ -125,11 +127,11 @@ fn iteration(
     requires { ⌜ Room (now s) t n d (now w2) × (0 < n) × Held of ⌝ }
     ensures { λ r. ⌜ ((x y : ℕ) (a : Ty) → i ≡ cut x → j ≡ cut y → typeField of ≡ held (some a) → StepAt (Next.iteration (iterate x y a) (onward (now (s .entry)) t)) k (now (s .entry)) t n d (now (w2 .entry)) r (now (w2 .exit))) ⌝ }
 {
-    let begun = operand(s, t, w2, n, d, k, 47);
+    let begun = operand(s, t, w2, n, d, k, signs::BAR);
     let Found::Is { next: u, nodes: m } = begun else {
         return Found::No;
     };
-    let inside = operand(s, u, w2, m, d, k, 41);
+    let inside = operand(s, u, w2, m, d, k, signs::CLOSE_BRACKET);
     let Found::Is { next, nodes } = inside else {
         return Found::No;
     };
@@ -149,26 +151,26 @@ fn primary(s: &[u8], t: Token, w2: &mut [u64], n: usize, d: usize, k: u64) -> Fo
     match begun {
         Begun::No => Found::No,
         Begun::Done(next) => Found::Is { next, nodes: n + 1 },
-        Begun::Bracket(u) => operand(s, u, w2, n, d, k, 41),
+        Begun::Bracket(u) => operand(s, u, w2, n, d, k, signs::CLOSE_BRACKET),
         Begun::Condition(u) => condition(s, u, w2, n, d, k),
         Begun::Members { code, next } => braces(s, next, w2, n, d, k, code),
     }
 }
 
-// After `if`.
+// What follows `if`: the condition, both branches, and `endif`.
 fn condition(s: &[u8], t: Token, w2: &mut [u64], n: usize, d: usize, k: u64) -> Found
     requires { ⌜ Room (now s) t n d (now w2) ⌝ }
     ensures { λ r. ⌜ BegunAt (Start.condition (onward (now (s .entry)) t)) k (now (s .entry)) t n d (now (w2 .entry)) r (now (w2 .exit)) ⌝ }
 {
-    let test = operand(s, t, w2, n, d, k, 51);
+    let test = operand(s, t, w2, n, d, k, signs::THEN_WORD);
     let Found::Is { next: u, nodes: a } = test else {
         return Found::No;
     };
-    let first = operand(s, u, w2, a, d, k, 52);
+    let first = operand(s, u, w2, a, d, k, signs::ELSE_WORD);
     let Found::Is { next: v, nodes: b } = first else {
         return Found::No;
     };
-    let second = operand(s, v, w2, b, d, k, 53);
+    let second = operand(s, v, w2, b, d, k, signs::ENDIF_WORD);
     let Found::Is { next, nodes: c } = second else {
         return Found::No;
     };
@@ -176,7 +178,7 @@ fn condition(s: &[u8], t: Token, w2: &mut [u64], n: usize, d: usize, k: u64) -> 
     Found::Is { next, nodes: c + 1 }
 }
 
-// One member or more, four at most, and the bracket.
+// One member or more, four at most, and the closing brace.
 fn braces(s: &[u8], t: Token, w2: &mut [u64], n: usize, d: usize, k: u64, code: u64) -> Found
     requires { ⌜ Room (now s) t n d (now w2) ⌝ }
     ensures { λ r. ⌜ ((a : Kind) → assembleCode a ≡ code → BegunAt (Start.collection a (onward (now (s .entry)) t)) k (now (s .entry)) t n d (now (w2 .entry)) r (now (w2 .exit))) ⌝ }
@@ -192,7 +194,7 @@ fn braces(s: &[u8], t: Token, w2: &mut [u64], n: usize, d: usize, k: u64, code: 
         };
         at[m] = all as u64 - 1;
         m += 1;
-        let closed = after(s, next, 43);
+        let closed = after(s, next, signs::CLOSE_BRACE);
         if let After::At(v) = closed {
             emit(w2, all, assembled(code, at, m, k));
             return Found::Is {
@@ -200,7 +202,7 @@ fn braces(s: &[u8], t: Token, w2: &mut [u64], n: usize, d: usize, k: u64, code: 
                 nodes: all + 1,
             };
         }
-        let comma = after(s, next, 44);
+        let comma = after(s, next, signs::COMMA);
         let After::At(v) = comma else {
             return Found::No;
         };

@@ -7,6 +7,7 @@ use mathlib.Core.Logic.{_≢_}
 use native.Mathlib.Omega.{arith}
 use borrow.Author.Tests.{eq-eqb, ne-eqb}
 use lib.ListN.{length, take, drop}
+use Rattle.memory.specs.Map as memory
 use Rattle.ocl.specs.Types.{Ty}
 use Rattle.sheet.specs.Text.{Bytes}
 use Rattle.sheet.specs.Sheet.{Slot, Sheet}
@@ -59,7 +60,7 @@ unfolding boardAfter
 stored-board v laid words e q = q ∙ rw (eq-eqb (v .number) 0 e)
 
 module _ {st : Counts} {w0 w1 u2 v2 : List ℕ} {a : ℕ} (words : List ℕ) {out now : Bytes} {was placed : List ℕ} {r : Renewal}
-    (k : KnownAccepted st w0 w1) (d : Renews st w0 w1 u2 v2 a (take 64 (drop 4448 words)) out now was placed r) where
+    (k : KnownAccepted st w0 w1) (d : Renews st w0 w1 u2 v2 a (take 64 (drop memory.boardEnds words)) out now was placed r) where
   few : st .rules ≤ 64
   few = k .accepted .lies .fine .rules
 

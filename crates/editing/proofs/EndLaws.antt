@@ -7,6 +7,7 @@ use native.Mathlib.Nat.{zero-add}
 use lib.ListN.{length, getD, take, drop, length-append, length-take}
 use lib.Seq.{getD-take, ext-getD}
 use Rattle.laws.specs.Lists.{concat}
+use Rattle.memory.specs.Map as memory
 use Rattle.sheet.specs.Text.{Bytes}
 use Rattle.board_words.specs.Layout.{endsFrom}
 use Rattle.board_words.proofs.Found.{ends-length}
@@ -38,18 +39,18 @@ ends-taken {placed} ls {n} c h e = ext-getD 0 (take n placed) (endsFrom 0 ls) (l
 
 -- and the verdicts stand in their bytes
 module _ {n : ℕ} {words : List ℕ} {out : Bytes} {ls : List Bytes} (v : VerdictsLie n words out ls) (few : n ≤ 64) where
-  ended : EndsAt (take 64 (drop 4448 words)) (pieces ls) n
+  ended : EndsAt (take 64 (drop memory.boardEnds words)) (pieces ls) n
   ended = record {
     at = λ r h.
         let z : r < length ls = omega (arith, v .count) in
-        getD-take 64 (drop 4448 words) r 0 (omega arith)
-        ∙ sym (getD-take (length ls) (drop 4448 words) r 0 z) ∙ ap (λ (l : List ℕ). getD l r 0) (v .ends) ∙ end-at 0 ls r z ∙ zero-add _;
+        getD-take 64 (drop memory.boardEnds words) r 0 (omega arith)
+        ∙ sym (getD-take (length ls) (drop memory.boardEnds words) r 0 z) ∙ ap (λ (l : List ℕ). getD l r 0) (v .ends) ∙ end-at 0 ls r z ∙ zero-add _;
   }
 
   all : concat ls ≡ joined (pieces ls) n
   all = rw (v .count) at (concat-joined ls)
 
-  pub verdicts-stand : Stand (take 64 (drop 4448 words)) out (pieces ls) n
+  pub verdicts-stand : Stand (take 64 (drop memory.boardEnds words)) out (pieces ls) n
   verdicts-stand = record {
     ended = ended;
     within = omega (arith, ap length (v .bytes), length-take (length (concat ls)) out, ap length all);

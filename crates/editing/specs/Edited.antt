@@ -4,6 +4,7 @@ use mathlib.Core.List.{List}
 use Prim.Native.Nat.{ℕ}
 use lib.ListN.{length, take}
 use Rattle.laws.specs.Lists.{concat}
+use Rattle.memory.specs.Map as memory
 use Rattle.ocl.specs.Types.{Ty}
 use Rattle.sheet.specs.Text.{Bytes}
 use Rattle.sheet.specs.Sheet.{Sheet}
@@ -27,7 +28,7 @@ pub data SaysEdit : Edited → Verdict → Type 0 where
 -- the verdicts of n rules stand in the verdict bytes, and the board's words say where each rule's end
 pub record VerdictsLie (n : ℕ) (words : List ℕ) (out : Bytes) (ls : List Bytes) : Type 0 where
   pub count : length ls ≡ n
-  pub ends : tab 4448 (length ls) words ≡ endsFrom 0 ls
+  pub ends : tab memory.boardEnds (length ls) words ≡ endsFrom 0 ls
   pub bytes : take (length (concat ls)) out ≡ concat ls
 
 -- the answer and the two slices after it, where an answered edit lays down `laid`

@@ -7,7 +7,9 @@ use Prim.Native.Nat.{ℕ, _+_, _*_, _/_, _%_, _≤_, _<_}
 use lib.ListN.{length, getD}
 use lib.Dec.{eqb}
 use Rattle.laws.specs.Choice.{if_then_else_}
+use Rattle.memory.specs.Map as memory
 use Rattle.ocl.specs.Forms.{undef}
+use Rattle.sheet.specs.Sizes.{mostClasses, mostNodes}
 use Rattle.sheet.specs.Lines.{Shape, leaf}
 use Rattle.nodes.specs.Nodes.{word}
 use Rattle.tables.specs.Layout.{Kept}
@@ -33,18 +35,18 @@ parsedIn line w i = record {
 pub record NodeIs (line : ℕ) (x : Shape) (p : Parsed) : Type 0 where
   pub stands : StandsFor line x p
   pub few : p .count ≤ 4
-  pub classes : p .classes ≤ 65
+  pub classes : p .classes ≤ mostClasses + 1
 
 -- the first nodes stand for these forms
 pub record HoldsNodes (line : ℕ) (xs : List Shape) (w : List ℕ) : Type 0 where
   pub at : (i : ℕ) → i < length xs → NodeIs line (getD xs i (leaf undef)) (parsedIn line w i)
 
--- the words from 6,144 on, where no node lies, are as they were
+-- the words behind all nodes (`nodesEnd`) are as they were
 pub record KeptBehind (before after : List ℕ) : Type 0 where
   pub kept : Kept before after
-  pub behind : (i : ℕ) → 6144 ≤ i → getD after i 0 ≡ getD before i 0
+  pub behind : (i : ℕ) → memory.nodesEnd ≤ i → getD after i 0 ≡ getD before i 0
 
 -- p is put down as node n, where there may be such a node
 pub record Emitted (n : ℕ) (p : Parsed) (before after : List ℕ) : Type 0 where
-  pub node : n < 768 → (line : ℕ) (x : Shape) → StandsFor line x p → (xs : List Shape) → length xs ≡ n → HoldsNodes line xs before → HoldsNodes line (xs ++ (x ∷ [])) after
+  pub node : n < mostNodes → (line : ℕ) (x : Shape) → StandsFor line x p → (xs : List Shape) → length xs ≡ n → HoldsNodes line xs before → HoldsNodes line (xs ++ (x ∷ [])) after
   pub kept : KeptBehind before after

@@ -1,34 +1,35 @@
-// Nodes of a text as they are read, put down in the third slice of words until the whole text has been judged. Document 02, F-7. It
-// depends on `trees` for a node's form.
+// The nodes of a text, which wait in w2, the third slice of words, until the whole text has been judged. Document 02, F-7. It depends on
+// `trees` for a node's form.
 ghost use mathlib.Core.Path.{_≡_};
-ghost use Prim.Native.Nat.{_≤_, _<_};
+ghost use Prim.Native.Nat.{_+_, _≤_, _<_};
 ghost use lib.ListN.{length};
 ghost use Rattle.laws.specs.Choice.{if_then_else_};
+ghost use Rattle.sheet.specs.Sizes.{leastWords, mostNodes, mostClasses};
 ghost use Rattle.emission.specs.Nodes.{packed as packedOf, parsedIn, Emitted};
 use trees::Parsed;
 use trees::operands::put_words;
 
-// A test as a number.
+// n where the test holds, else 0.
 fn flag(b: bool, n: u64) -> u64
     ensures { λ r. ⌜ r ≡ (if b then n else 0) ⌝ }
 {
     if b { n } else { 0 }
 }
 
-// What a form has besides its words, as one number.
+// What a form has besides its words, as one word: what its line is still to be judged by.
 fn packed(p: Parsed) -> u64
-    requires { ⌜ (p .count ≤ 4) × (p .classes ≤ 65) ⌝ }
+    requires { ⌜ (p .count ≤ 4) × (p .classes ≤ mostClasses + 1) ⌝ }
     ensures { λ r. ⌜ r ≡ packedOf p ⌝ }
 {
     flag(p.within, 1) + (flag(p.apart, 2) + (4 * p.count as u64 + 32 * p.classes))
 }
 
-// Node n, where a rule may have so many.
+// Puts node n down, unless it is past the 768 that there may be.
 pub fn emit(w2: &mut [u64], n: usize, p: Parsed)
-    requires { ⌜ (8192 ≤ length (now w2)) × (length (p .words) ≡ 8) × (p .count ≤ 4) × (p .classes ≤ 65) ⌝ }
+    requires { ⌜ (leastWords ≤ length (now w2)) × (length (p .words) ≡ 8) × (p .count ≤ 4) × (p .classes ≤ mostClasses + 1) ⌝ }
     ensures { λ _. ⌜ Emitted n p (now (w2 .entry)) (now (w2 .exit)) ⌝ }
 {
-    if n < 768 {
+    if n < memory::NODES {
         let w = p.words;
         let rest = packed(p);
         put_words(
@@ -43,10 +44,10 @@ pub fn emit(w2: &mut [u64], n: usize, p: Parsed)
 
 // Node i of the line k, as it was put down.
 pub fn emitted(w2: &[u64], i: usize, k: u64) -> Parsed
-    requires { ⌜ (8192 ≤ length (now w2)) × (i < 768) ⌝ }
+    requires { ⌜ (leastWords ≤ length (now w2)) × (i < mostNodes) ⌝ }
     ensures { λ r. ⌜ r ≡ parsedIn k (now (w2 .entry)) i ⌝ }
 {
-    let at = 8 * i;
+    let at = memory::NODE_WORDS * i;
     let rest = w2[at + 7];
     Parsed {
         spelled: true,

@@ -21,14 +21,14 @@ use Rattle.values.specs.Contracts.{Assembles}
 use Rattle.values.specs.declared.Formed.{Formed}
 use Rattle.values.proofs.Growing.{append-cells}
 use Rattle.nodes.specs.Nodes.{word, kindOf, operandsIn, treesBelow}
-use Rattle.operations.specs.declared.Ended.{Ended}
-use Rattle.operations.specs.Answers.{Under, formedAs}
+use Rattle.outcomes.specs.declared.Ended.{Ended}
+use Rattle.outcomes.specs.Answers.{Under, formedAs}
 use Rattle.operations.specs.Runs.{World, Rel}
 use Rattle.evaluation.specs.declared.Traced.{Traced as Answer}
 use Rattle.evaluation.specs.declared.Traced.the-variants as traced
 use Rattle.evaluation.specs.Traces.{placeOf, RanT, SmallTraced, arisen, EvalsT}
 use Rattle.evaluation.specs.Evaluating.{operandFor, membersTrace, assembleNode}
-use Rattle.operations.proofs.Words.{under-refl, under-then, under-down, formed-small, formed-ran}
+use Rattle.outcomes.proofs.Words.{under-refl, under-then, under-down, formed-small, formed-ran}
 use Rattle.evaluation.proofs.Composition.{rel-kept, Other, bounds, valued, falls, arisen-small, arisen-ran, named, placed, ran-from, ran-undefined-at}
 
 -- ---- one more value at the end

@@ -13,14 +13,14 @@ use Rattle.ocl.specs.Environment.{Env, start}
 use Rattle.ocl.specs.Trace.{Traced, valueT, stuckT, onObjT, callTrace}
 use Rattle.nodes.specs.Nodes.{word, classIn}
 use Rattle.tables.specs.declared.Counts.{Counts}
-use Rattle.operations.specs.Answers.{Lies}
-use Rattle.operations.specs.Tables.{objectOf, IsObject}
+use Rattle.outcomes.specs.Answers.{Lies}
+use Rattle.outcomes.specs.Tables.{objectOf, IsObject}
 use Rattle.operations.specs.Runs.{World, held, Rel}
 use Rattle.evaluation.specs.declared.Traced.{Traced as Answer}
 use Rattle.evaluation.specs.declared.Traced.the-variants as traced
 use Rattle.evaluation.specs.Traces.{EvalsT}
 use Rattle.evaluation.specs.Evaluating.{ReadsWorld, operandFor, callNode}
-use Rattle.operations.proofs.Words.{under-then, under-down, head-at, slid}
+use Rattle.outcomes.proofs.Words.{under-then, under-down, head-at, slid}
 use Rattle.evaluation.proofs.Composition.{rel-bind, nothing-bound, Other, bounds, valued, falls, bind-value, early, after, ran-value, ran-stuck-at}
 
 -- ---- the operand's value

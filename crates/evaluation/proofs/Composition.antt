@@ -18,12 +18,12 @@ use Rattle.ocl.specs.Values.{Value}
 use Rattle.ocl.specs.Environment.{Env, extend}
 use Rattle.ocl.specs.Operations.{Outcome}
 use Rattle.ocl.specs.Trace.{Traced, valueT, undefinedT, stuckT, stopT, untraced, at, resumeT, bindT, tickT}
-use Rattle.operations.specs.declared.Ended.{Ended}
-use Rattle.operations.specs.declared.Ended.the-variants as ended
-use Rattle.operations.specs.Answers as plain
-use Rattle.operations.specs.Answers.{Lies, Under, Ran, SmallAnswer}
+use Rattle.outcomes.specs.declared.Ended.{Ended}
+use Rattle.outcomes.specs.declared.Ended.the-variants as ended
+use Rattle.outcomes.specs.Answers as plain
+use Rattle.outcomes.specs.Answers.{Lies, Under, Ran, SmallAnswer}
 use Rattle.operations.specs.Runs.{World, Held, free, held, Rel}
-use Rattle.operations.proofs.Words.{under-refl, under-then, under-down, lies-kept}
+use Rattle.outcomes.proofs.Words.{under-refl, under-then, under-down, lies-kept}
 use Rattle.evaluation.proofs.Traced.{the-type}
 use Rattle.evaluation.specs.declared.Traced.{Traced as Answer}
 use Rattle.evaluation.specs.declared.Traced.the-variants as traced

@@ -15,9 +15,9 @@ use Rattle.ocl.specs.Evaluation.{decides}
 use Rattle.ocl.specs.Trace.{Traced, valueT, undefinedT, stuckT, bindT, onBoolT, connectiveTrace}
 use Rattle.values.specs.Cells.{bit}
 use Rattle.nodes.specs.Nodes.{connectiveOf}
-use Rattle.operations.specs.Answers.{Lies, Under, truthOf, Truth}
+use Rattle.outcomes.specs.Answers.{Lies, Under, truthOf, Truth}
 use Rattle.operations.specs.Runs.{World, Rel}
-use Rattle.operations.proofs.Words.{head-at}
+use Rattle.outcomes.proofs.Words.{head-at}
 use Rattle.operations.proofs.Sorts.{bit-small, is-bool}
 use Rattle.evaluation.specs.declared.Traced.{Traced as Answer}
 use Rattle.evaluation.specs.declared.Traced.the-variants as traced

@@ -11,13 +11,13 @@ use Rattle.ocl.specs.Trace.{Traced, bindT, foldT}
 use Rattle.values.specs.Cells.{encs, AllFit}
 use Rattle.values.specs.Contracts.{Skips}
 use Rattle.values.proofs.Members.{Left, none-left}
-use Rattle.operations.specs.Answers.{Lies, Under}
+use Rattle.outcomes.specs.Answers.{Lies, Under}
 use Rattle.operations.specs.Runs.{World, held, Rel}
 use Rattle.evaluation.specs.declared.Traced.{Traced as Answer}
 use Rattle.evaluation.specs.declared.Traced.the-variants as traced
 use Rattle.evaluation.specs.Traces.{RanT, MeaningT, EvalsT}
 use Rattle.evaluation.specs.Evaluating.{Folds}
-use Rattle.operations.proofs.Words.{under-refl, under-then, under-down, slid}
+use Rattle.outcomes.proofs.Words.{under-refl, under-then, under-down, slid}
 use Rattle.evaluation.proofs.Composition.{rel-kept, rel-bind, Other, bounds, valued, falls, ran-value}
 use Rattle.evaluation.proofs.LoopLaws.{First, first-member, left-kept, after-first}
 

@@ -22,8 +22,8 @@ use Rattle.values.proofs.Heads.{Shape, shape-bool, shape-num, shape-obj, shape-
 use Rattle.nodes.specs.Nodes.{word, variable, binaryOf, quantifierOf}
 use Rattle.nodes.specs.Marks.{Marked}
 use Rattle.tables.specs.declared.Counts.{Counts}
-use Rattle.operations.specs.declared.Ended.{Ended}
-use Rattle.operations.specs.Answers.{Lies, Under, Truth}
+use Rattle.outcomes.specs.declared.Ended.{Ended}
+use Rattle.outcomes.specs.Answers.{Lies, Under, Truth}
 use Rattle.operations.specs.Operations.{OfTwo, FitsLeft}
 use Rattle.operations.specs.Operand.{markIn, FromValue, FromUndefined}
 use Rattle.operations.specs.Runs.{World, held, Rel}
@@ -31,7 +31,7 @@ use Rattle.evaluation.specs.declared.Traced.{Traced as Answer}
 use Rattle.evaluation.specs.declared.Traced.the-variants as traced
 use Rattle.evaluation.specs.Traces.{placeOf, ends-stop, arisen, EvalsT}
 use Rattle.evaluation.specs.Evaluating.{ReadsWorld, operandFor, unaryNode, binaryNode, conditionalNode, letNode, quantifiedNode, iterateNode, Seeks, Folds}
-use Rattle.operations.proofs.Words.{under-then, under-down, lies-kept, head-at, slid}
+use Rattle.outcomes.proofs.Words.{under-then, under-down, lies-kept, head-at, slid}
 use Rattle.operations.proofs.Sorts.{bit-one, IsColl, is-coll, sorted}
 use Rattle.evaluation.proofs.Composition.{rel-kept, rel-bind, Other, bounds, its-place, valued, is-undefined, is-stuck, is-stop, falls, bind-value, arisen-small, arisen-ran, named, placed, early, after, ran-from, ran-value, ran-stuck-at}
 use Rattle.evaluation.proofs.ConnectiveLaws.{bool-at, not-bool-at}

@@ -24,13 +24,13 @@ use Rattle.values.proofs.Encoding.{size-law}
 use Rattle.values.proofs.Members.{Left, next-member, none-left}
 use Rattle.nodes.specs.Nodes.{variable, quantifierOf}
 use Rattle.tables.specs.declared.Counts.{Counts}
-use Rattle.operations.specs.Answers.{Lies, Under, Truth}
+use Rattle.outcomes.specs.Answers.{Lies, Under, Truth}
 use Rattle.operations.specs.Runs.{World, held, Rel}
 use Rattle.evaluation.specs.declared.Traced.{Traced as Answer}
 use Rattle.evaluation.specs.declared.Traced.the-variants as traced
 use Rattle.evaluation.specs.Traces.{Placed, Perhaps, no-place, a-place, earlierOf, RanT, MeaningT, EvalsT}
 use Rattle.evaluation.specs.Evaluating.{StackRoom, Seeks}
-use Rattle.operations.proofs.Words.{under-refl, under-then, under-down, gives}
+use Rattle.outcomes.proofs.Words.{under-refl, under-then, under-down, gives}
 use Rattle.operations.proofs.Sorts.{bit-one}
 use Rattle.evaluation.proofs.Composition.{rel-kept, rel-bind, Fatal, its-place, valued, is-undefined, breaks, arisen-ran, ran-from, ran-stuck-at, ran-undefined-from}
 use Rattle.evaluation.proofs.ConnectiveLaws.{beq-yes, beq-no, bool-at, not-bool-at, is-place}

@@ -26,17 +26,17 @@ use Rattle.nodes.proofs.Nodes.{below-law}
 use Rattle.nodes.proofs.Levels.{unary-levels, assemble-levels, isUndef-levels, attribute-levels}
 use Rattle.nodes.proofs.Trace.{operandTrace, leaf-trace, unary-trace, binary-trace, connective-trace, quantified-trace, assemble-trace, over-trace, isUndef-trace, conditional-trace, let-trace, attribute-trace, iterate-trace, call-trace, none-trace, operand-trace, late-trace}
 use Rattle.tables.specs.declared.Counts.{Counts}
-use Rattle.operations.specs.declared.Ended.{Ended}
-use Rattle.operations.specs.declared.Ended.the-variants as ended
-use Rattle.operations.specs.Answers as plain
-use Rattle.operations.specs.Answers.{Lies, Ends}
+use Rattle.outcomes.specs.declared.Ended.{Ended}
+use Rattle.outcomes.specs.declared.Ended.the-variants as ended
+use Rattle.outcomes.specs.Answers as plain
+use Rattle.outcomes.specs.Answers.{Lies, Ends}
 use Rattle.operations.specs.Operand.{ofValue, ofUndefined}
 use Rattle.operations.specs.Runs.{World, ModelIn, held, Evals, leafFor}
 use Rattle.evaluation.specs.declared.Traced.{Traced as Answer}
 use Rattle.evaluation.specs.declared.Traced.the-variants as traced
 use Rattle.evaluation.specs.Traces.{placeOf, arisen, answerIn, Packs, MeaningT, EvalsT}
 use Rattle.evaluation.specs.Evaluating.{ReadsWorld, TracesRule, nodeFor, operandFor, unaryNode, binaryNode, connectiveNode, conditionalNode, letNode, callNode, quantifiedNode, iterateNode, membersTrace, assembleNode, operandTree, Shallow}
-use Rattle.operations.proofs.Words.{under-refl, gives}
+use Rattle.outcomes.proofs.Words.{under-refl, gives}
 use Rattle.evaluation.proofs.Composition.{rel-bind, nothing-bound, arisen-small, arisen-ran, named, placed, tick-on, tick-stop, ran-undefined-at}
 use Rattle.evaluation.proofs.Packing.{ends-packed}
 

@@ -8,19 +8,21 @@ use Prim.Native.Nat.{ℕ, _+_, _*_, _/_, _%_, _≤_, _<_}
 use lib.Seq.{slice}
 use lib.Dec.{eqb, ltb}
 use Rattle.laws.specs.Choice.{if_then_else_}
+use Rattle.memory.specs.Map as memory
 use Rattle.ocl.specs.Values.{Value, bool, Values}
 use Rattle.ocl.specs.Environment.{Env, extend}
 use Rattle.ocl.specs.Forms.{Expr, levels, Connective, Quantifier, undef}
 use Rattle.ocl.specs.Evaluation.{decides}
 use Rattle.ocl.specs.Trace.{valueT, undefinedT, at, resumeT, bindT, onBoolT, leafTrace, binaryTrace, connectiveTrace, conditionalTrace, letTrace, callTrace, quantifiedTrace, iterateTrace, assembleTrace, trace, traceRule, operandsTrace, seekT, foldT}
+use Rattle.sheet.specs.Sizes.{mostNodes, leastWords}
 use Rattle.values.specs.Cells.{encs, AllFit}
 use Rattle.nodes.specs.Nodes.{word, variable, classIn, binaryOf, connectiveOf, quantifierOf, kindOf, operandsIn, treesBelow, treeAt}
 use Rattle.nodes.specs.Marks.{Marked}
 use Rattle.tables.specs.declared.Counts.{Counts}
 use Rattle.tables.specs.Layout.{Fine}
 use Rattle.tables.specs.Stored.{HoldsModel}
-use Rattle.operations.specs.Answers.{Lies}
-use Rattle.operations.specs.Tables.{Plain}
+use Rattle.outcomes.specs.Answers.{Lies}
+use Rattle.outcomes.specs.Tables.{Plain}
 use Rattle.operations.specs.Runs.{World, Rel}
 use Rattle.operations.specs.Operand.{markIn, ofValue, ofUndefined}
 use Rattle.evaluation.specs.declared.Traced.{Traced as Answer}
@@ -32,7 +34,7 @@ use Rattle.evaluation.specs.Traces.{EndsT, RanT, SmallTraced, MeaningT}
 pub record ReadsWorld (st : Counts) (w0 w1 : List ℕ) (w : World) : Type 0 where
   pub holds : HoldsModel st w0 (w .model)
   pub plain : Plain st (w .model)
-  pub mark : (p : ℕ) → p < 768 → Marked (markIn w1 p) (w .mark p)
+  pub mark : (p : ℕ) → p < mostNodes → Marked (markIn w1 p) (w .mark p)
 
 -- a rule's outcome with where its undefined arose, its value at 1
 pub record TracesRule (Ok : World → Type 0) (e : Expr) (o : ℕ) (A : List ℕ) (r : Answer) : Type 0 where
@@ -55,15 +57,15 @@ operandFor t n k w = trace (w .model) (w .mark) (operandTree t n k)
 -- above sp: a level keeps at most 384 words below an operand, and 256 are for what is formed above
 pub record StackRoom (st : Counts) (w0 w1 w2 n sp left : ℕ) : Type 0 where
   pub fine : Fine st
-  pub tables : 8192 ≤ w0
-  pub nodes : 8192 ≤ w1
-  pub stack : 8192 ≤ w2
-  pub node : n < 768
-  pub room : sp + (384 * left + 256) ≤ 8192
+  pub tables : leastWords ≤ w0
+  pub nodes : leastWords ≤ w1
+  pub stack : leastWords ≤ w2
+  pub node : n < mostNodes
+  pub room : sp + (384 * left + 256) ≤ leastWords
 
 -- ---- the forms of node n over its operands
 
--- one operand: codes 7 to 12, `isUndef`, `attr`
+-- one operand: the strict forms (`not` to `as`), `isUndef`, `attr`, `collect`
 unfoldable pub unaryNode : List ℕ → ℕ → ℕ → MeaningT
 unaryNode t n k w ρ s = resumeT (operandFor t n 1 w ρ s) (λ v m. at n s (ofValue (w .model) k (word t n) (w .mark n) v m)) (λ m q j. at q j (ofUndefined k m))
 
@@ -79,8 +81,8 @@ knownLeft g w ρ n = bindT (g w ρ n) (λ v n. onBoolT v (λ b. valueT (bool b) 
 
 unfoldable pub undefinedLeft : ℕ → Connective → MeaningT → MeaningT
 undefinedLeft place c g w ρ n = resumeT (g w ρ n)
-    (λ v n. onBoolT v (λ b. if Bool·beq b (decides c) then valueT (bool b) n else undefinedT n (place % 1024) (place / 1024)))
-    (λ n q j. undefinedT n (place % 1024) (place / 1024))
+    (λ v n. onBoolT v (λ b. if Bool·beq b (decides c) then valueT (bool b) n else undefinedT n (place % memory.placeStep) (place / memory.placeStep)))
+    (λ n q j. undefinedT n (place % memory.placeStep) (place / memory.placeStep))
 
 unfoldable pub rightSide : ℕ → Connective → MeaningT → MeaningT
 rightSide place c g = if eqb place 0 then knownLeft g else undefinedLeft place c g

@@ -5,12 +5,14 @@ use mathlib.Core.List.{List}
 use Prim.Native.Nat.{ℕ, _+_, _*_, _/_, _%_, _≤_, _<_}
 use lib.Dec.{eqb}
 use Rattle.laws.specs.Choice.{if_then_else_}
-use Rattle.ocl.specs.Values.{Value}
+use Rattle.memory.specs.Map as memory
+use Rattle.ocl.specs.Values.{Value, largest}
 use Rattle.ocl.specs.Environment.{Env}
 use Rattle.ocl.specs.Trace.{Traced, valueT, undefinedT, stuckT, stopT, Trace}
-use Rattle.operations.specs.declared.Ended.{Ended}
-use Rattle.operations.specs.declared.Ended.the-variants as ended
-use Rattle.operations.specs.Answers.{Lies, Under}
+use Rattle.sheet.specs.Sizes.{mostNodes}
+use Rattle.outcomes.specs.declared.Ended.{Ended}
+use Rattle.outcomes.specs.declared.Ended.the-variants as ended
+use Rattle.outcomes.specs.Answers.{Lies, Under}
 use Rattle.operations.specs.Runs.{World, Rel}
 use Rattle.evaluation.specs.declared.Traced.{Traced as Answer}
 use Rattle.evaluation.specs.declared.Traced.the-variants as traced
@@ -18,16 +20,16 @@ use Rattle.evaluation.specs.declared.Traced.the-variants as traced
 -- ---- a place: a node and the step at which it began, as one word
 
 unfoldable pub placeOf : ℕ → ℕ → ℕ
-placeOf p k = p + 1024 * k
+placeOf p k = p + memory.placeStep * k
 
 pub record Names (place p k : ℕ) : Type 0 where
-  pub node : place % 1024 ≡ p
-  pub step : place / 1024 ≡ k
+  pub node : place % memory.placeStep ≡ p
+  pub step : place / memory.placeStep ≡ k
 
 -- whatever the words stand for, a place names a node of the table and a step from 1 on, and has room in 30 bits
 pub record Placed (place : ℕ) : Type 0 where
-  pub node : place % 1024 < 768
-  pub step : 1024 ≤ place
+  pub node : place % memory.placeStep < mostNodes
+  pub step : memory.placeStep ≤ place
   pub room : place < 1073741824
 
 -- 0 is no place
@@ -42,7 +44,7 @@ earlierOf a b = if eqb a 0 then b else a
 -- ---- answers
 
 pub data EndsT (sp : ℕ) (A : List ℕ) : Traced → Answer → Type 0 where
-  ends-value : {v : Value} {len s : ℕ} → Lies v sp len A → len ≤ 128 → EndsT sp A (valueT v s) (traced.Value len s)
+  ends-value : {v : Value} {len s : ℕ} → Lies v sp len A → len ≤ largest → EndsT sp A (valueT v s) (traced.Value len s)
   ends-undefined : {s p k place : ℕ} → Names place p k → EndsT sp A (undefinedT s p k) (traced.Undef s place)
   ends-stuck : EndsT sp A stuckT traced.Stuck
   ends-stop : {c s : ℕ} → EndsT sp A (stopT c s) (traced.Stop c s)
@@ -54,7 +56,7 @@ pub record RanT (o : Traced) (sp : ℕ) (B A : List ℕ) (r : Answer) : Type 0 w
 
 -- whatever the words stand for, an answer has between 1 and 128 cells, or a place
 abbrev pub SmallTraced : Answer → Type 0
-SmallTraced (traced.Value len s) = (1 ≤ len) × (len ≤ 128)
+SmallTraced (traced.Value len s) = (1 ≤ len) × (len ≤ largest)
 SmallTraced (traced.Undef s place) = Placed place
 SmallTraced traced.Stuck = Unit {0}
 SmallTraced (traced.Stop c s) = Unit {0}

@@ -1,17 +1,19 @@
-// Answers that say where undefined arose: from what an operation answered, as one word, and without the place again.
+// Answers that say where undefined arose: made from an operation's answer, packed into one word, and with the place left out again.
 use crate::Traced;
-use operations::Ended;
+use outcomes::Ended;
 use types::classes::wide;
 ghost use mathlib.Core.Path.{_≡_};
 ghost use Prim.Native.Nat.{_≤_, _<_};
+ghost use Rattle.ocl.specs.Evaluation.{mostSteps};
+ghost use Rattle.sheet.specs.Sizes.{mostNodes};
 ghost use Rattle.evaluation.specs.Traces.{placeOf, arisen, earlierOf, wordOf, answerIn, Packs, withoutPlace};
 
 // The place of node n, which began at this step.
 pub fn place_of(n: usize, step: u64) -> u64
-    requires { ⌜ (n < 768) × (step ≤ 1000000) ⌝ }
+    requires { ⌜ (n < mostNodes) × (step ≤ mostSteps) ⌝ }
     ensures { λ r. ⌜ r ≡ placeOf n step ⌝ }
 {
-    n as u64 + 1024 * step
+    n as u64 + memory::PLACE_STEP * step
 }
 
 // What an operation answered; if that is undefined, it arose at this place.

@@ -2,9 +2,10 @@
 use crate::Traced;
 use crate::answers::earlier;
 use crate::walk::below;
+use memory::codes::FOR_ALL;
 use nodes::node_word;
-use operations::answers::truth;
-use operations::lookup::is_object;
+use outcomes::answers::truth;
+use outcomes::lookup::is_object;
 use tables::Counts;
 use types::classes::wide;
 use values::Simple;
@@ -16,7 +17,9 @@ use values::cells::sort_of;
 ghost use mathlib.Core.Path.{_≡_};
 ghost use Prim.Native.Nat.{_+_, _≤_, _<_};
 ghost use lib.ListN.{length};
+ghost use Rattle.memory.specs.Codes as code;
 ghost use Rattle.ocl.specs.Forms.{levels};
+ghost use Rattle.ocl.specs.Values.{largest};
 ghost use Rattle.nodes.specs.Nodes.{word, variable, quantifierOf};
 ghost use Rattle.evaluation.specs.Traces.{EvalsT};
 ghost use Rattle.evaluation.specs.Evaluating.{ReadsWorld, StackRoom, operandTree, operandFor, letNode, callNode, quantifiedNode, iterateNode, Seeks, Folds};
@@ -104,7 +107,7 @@ pub fn quantified(
     steps: u64,
 ) -> Traced
     requires { ⌜ StackRoom st (length (now tables)) (length (now nodes)) (length (now stack)) n sp (left + 1) ⌝ }
-    requires { ⌜ (25 ≤ form) × (form < 27) × (levels (operandTree (now nodes) n 1) ≤ left) × (levels (operandTree (now nodes) n 2) ≤ left) ⌝ }
+    requires { ⌜ (code.forAll ≤ form) × (form < code.set) × (levels (operandTree (now nodes) n 1) ≤ left) × (levels (operandTree (now nodes) n 2) ≤ left) ⌝ }
     requires { ⌜ i ≡ variable (word (now nodes) n 3) ⌝ }
     ensures { λ r. ⌜ EvalsT (ReadsWorld st (now (tables .entry)) (now (nodes .entry))) (quantifiedNode (now (nodes .entry)) n form) (now (env .entry)) sp steps (now (stack .entry)) (now (stack .exit)) r ⌝ }
 {
@@ -118,8 +121,8 @@ pub fn quantified(
     seek(tables, st, nodes, n, form, i, env, stack, sp, la, left, sa)
 }
 
-// Members in their order, up to the first whose body ends it: `forAll` (25) at 0, `exists` (26) at 1. Where none does, it is
-// undefined if a body was, at the place of the first one.
+// Members in their order, up to the first whose body decides: false decides `forAll`, true decides `exists`. Where none does, the whole is
+// undefined if a body was, at the place of the first such body.
 fn seek(
     tables: &[u64],
     st: Counts,
@@ -135,7 +138,7 @@ fn seek(
     steps: u64,
 ) -> Traced
     requires { ⌜ StackRoom st (length (now tables)) (length (now nodes)) (length (now stack)) n sp (left + 1) ⌝ }
-    requires { ⌜ (25 ≤ form) × (form < 27) × (levels (operandTree (now nodes) n 2) ≤ left) × (1 ≤ la) × (la ≤ 128) ⌝ }
+    requires { ⌜ (code.forAll ≤ form) × (form < code.set) × (levels (operandTree (now nodes) n 2) ≤ left) × (1 ≤ la) × (la ≤ largest) ⌝ }
     requires { ⌜ i ≡ variable (word (now nodes) n 3) ⌝ }
     ensures { λ r. ⌜ Seeks (ReadsWorld st (now (tables .entry)) (now (nodes .entry))) (quantifierOf form) (variable (word (now (nodes .entry)) n 3)) (operandFor (now (nodes .entry)) n 2) (now (env .entry)) sp la steps (now (stack .entry)) (now (stack .exit)) r ⌝ }
 {
@@ -161,7 +164,7 @@ fn seek(
         if 1 < t {
             return Traced::Stuck;
         }
-        if t == form - 25 {
+        if t == form - FOR_ALL {
             push(stack, sp, Simple::Bool { b: t == 1 });
             return Traced::Value { len: 1, steps: sb };
         }
@@ -173,7 +176,7 @@ fn seek(
             place: blank,
         };
     }
-    push(stack, sp, Simple::Bool { b: form == 25 });
+    push(stack, sp, Simple::Bool { b: form == FOR_ALL });
     Traced::Value { len: 1, steps: s }
 }
 
@@ -226,7 +229,7 @@ fn fold(
     steps: u64,
 ) -> Traced
     requires { ⌜ StackRoom st (length (now tables)) (length (now nodes)) (length (now stack)) n sp (left + 1) ⌝ }
-    requires { ⌜ (levels (operandTree (now nodes) n 3) ≤ left) × (1 ≤ la) × (la ≤ 128) × (1 ≤ lb) × (lb ≤ 128) ⌝ }
+    requires { ⌜ (levels (operandTree (now nodes) n 3) ≤ left) × (1 ≤ la) × (la ≤ largest) × (1 ≤ lb) × (lb ≤ largest) ⌝ }
     requires { ⌜ (i ≡ variable (word (now nodes) n 4)) × (j ≡ variable (word (now nodes) n 5)) ⌝ }
     ensures { λ r. ⌜ Folds (ReadsWorld st (now (tables .entry)) (now (nodes .entry))) (variable (word (now (nodes .entry)) n 4)) (variable (word (now (nodes .entry)) n 5)) (operandFor (now (nodes .entry)) n 3) (now (env .entry)) sp la lb steps (now (stack .entry)) (now (stack .exit)) r ⌝ }
 {

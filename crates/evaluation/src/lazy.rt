@@ -2,16 +2,18 @@
 use crate::Traced;
 use crate::answers::earlier;
 use crate::walk::below;
-use operations::answers::truth;
+use memory::codes;
+use outcomes::answers::truth;
 use tables::Counts;
 ghost use Prim.Native.Nat.{_+_, _≤_, _<_};
 ghost use lib.ListN.{length};
+ghost use Rattle.memory.specs.Codes as code;
 ghost use Rattle.ocl.specs.Forms.{levels};
 ghost use Rattle.nodes.specs.Nodes.{connectiveOf};
 ghost use Rattle.evaluation.specs.Traces.{Perhaps, EvalsT};
 ghost use Rattle.evaluation.specs.Evaluating.{ReadsWorld, StackRoom, operandTree, operandFor, connectiveNode, rightSide, conditionalNode};
 
-// `and` (23) and `or` (24): if the left side decides, the right one does not run. False decides `and`, true decides `or`.
+// `and` and `or`: if the left side decides, the right one does not run. False decides `and`, true decides `or`.
 pub fn connective(
     tables: &[u64],
     st: Counts,
@@ -25,7 +27,7 @@ pub fn connective(
     steps: u64,
 ) -> Traced
     requires { ⌜ StackRoom st (length (now tables)) (length (now nodes)) (length (now stack)) n sp (left + 1) ⌝ }
-    requires { ⌜ (23 ≤ form) × (form < 25) × (levels (operandTree (now nodes) n 1) ≤ left) × (levels (operandTree (now nodes) n 2) ≤ left) ⌝ }
+    requires { ⌜ (code.and ≤ form) × (form < code.forAll) × (levels (operandTree (now nodes) n 1) ≤ left) × (levels (operandTree (now nodes) n 2) ≤ left) ⌝ }
     ensures { λ r. ⌜ EvalsT (ReadsWorld st (now (tables .entry)) (now (nodes .entry))) (connectiveNode (now (nodes .entry)) n form) (now (env .entry)) sp steps (now (stack .entry)) (now (stack .exit)) r ⌝ }
 {
     let first = below(tables, st, nodes, n, 1, env, stack, sp, left, steps);
@@ -35,7 +37,7 @@ pub fn connective(
             if 1 < t {
                 return Traced::Stuck;
             }
-            if t == form - 23 {
+            if t == form - codes::AND {
                 return Traced::Value { len, steps: s };
             }
             right(tables, st, nodes, n, form, 0, env, stack, sp, left, s)
@@ -74,7 +76,7 @@ fn right(
     steps: u64,
 ) -> Traced
     requires { ⌜ StackRoom st (length (now tables)) (length (now nodes)) (length (now stack)) n sp (left + 1) ⌝ }
-    requires { ⌜ (23 ≤ form) × (form < 25) × (levels (operandTree (now nodes) n 2) ≤ left) ⌝ }
+    requires { ⌜ (code.and ≤ form) × (form < code.forAll) × (levels (operandTree (now nodes) n 2) ≤ left) ⌝ }
     requires { ⌜ Perhaps place ⌝ }
     ensures { λ r. ⌜ EvalsT (ReadsWorld st (now (tables .entry)) (now (nodes .entry))) (rightSide place (connectiveOf form) (operandFor (now (nodes .entry)) n 2)) (now (env .entry)) sp steps (now (stack .entry)) (now (stack .exit)) r ⌝ }
 {
@@ -88,7 +90,7 @@ fn right(
             if place == 0 {
                 return Traced::Value { len, steps: s };
             }
-            if t == form - 23 {
+            if t == form - codes::AND {
                 return Traced::Value { len, steps: s };
             }
             Traced::Undef { steps: s, place }

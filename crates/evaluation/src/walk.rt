@@ -1,7 +1,6 @@
 // The recursion over operand nodes: an operand, a node by its form, and the forms that run each operand once. Every function of the
-// recursion takes the tables and their counts; the nodes, with their marks behind them; a node; for each variable,
-// 1 + the index of its first cell, or 0 if it is unbound; the stack and its top sp; how many levels may still follow; and the steps
-// begun so far.
+// recursion takes the tables and their counts; the nodes, with their marks behind them; a node; for each variable, one more than the
+// index of its first cell, or 0 if it is unbound; the stack and its top sp; how many levels may still follow; and the steps begun so far.
 use crate::Traced;
 use crate::answers::arose;
 use crate::answers::pack;
@@ -13,20 +12,22 @@ use crate::bind::let_in;
 use crate::bind::quantified;
 use crate::lazy::conditional;
 use crate::lazy::connective;
+use memory::codes;
 use nodes::node_word;
-use operations::answers::formed;
 use operations::apply::binary_apply;
 use operations::apply::left_fits;
 use operations::leaves::leaf;
-use operations::operand::MARKS;
 use operations::operand::of_undefined;
 use operations::operand::of_value;
+use outcomes::answers::formed;
 use tables::Counts;
 use types::classes::wide;
 use values::collections::assemble;
 ghost use Prim.Native.Nat.{_+_, _≤_, _<_};
 ghost use lib.ListN.{length};
+ghost use Rattle.memory.specs.Codes as code;
 ghost use Rattle.ocl.specs.Forms.{levels};
+ghost use Rattle.ocl.specs.Evaluation.{mostSteps};
 ghost use Rattle.nodes.specs.Nodes.{treeAt};
 ghost use Rattle.evaluation.specs.Traces.{answerIn, EvalsT};
 ghost use Rattle.evaluation.specs.Evaluating.{ReadsWorld, StackRoom, operandTree, nodeFor, operandFor, unaryNode, binaryNode, assembleNode, Shallow};
@@ -80,7 +81,7 @@ pub fn word(
     steps: u64,
 ) -> u64
     requires { ⌜ StackRoom st (length (now tables)) (length (now nodes)) (length (now stack)) n sp left ⌝ }
-    requires { ⌜ (levels (treeAt (now nodes) n) ≤ left) × (steps < 1000000) ⌝ }
+    requires { ⌜ (levels (treeAt (now nodes) n) ≤ left) × (steps < mostSteps) ⌝ }
     ensures { λ r. ⌜ EvalsT (ReadsWorld st (now (tables .entry)) (now (nodes .entry))) (nodeFor (now (nodes .entry)) n) (now (env .entry)) sp steps (now (stack .entry)) (now (stack .exit)) (answerIn r) ⌝ }
 {
     pack(node(tables, st, &*nodes, n, env, stack, sp, left, steps))
@@ -99,29 +100,41 @@ fn node(
     steps: u64,
 ) -> Traced
     requires { ⌜ StackRoom st (length (now tables)) (length (now nodes)) (length (now stack)) n sp left ⌝ }
-    requires { ⌜ (levels (treeAt (now nodes) n) ≤ left) × (steps < 1000000) ⌝ }
+    requires { ⌜ (levels (treeAt (now nodes) n) ≤ left) × (steps < mostSteps) ⌝ }
     ensures { λ r. ⌜ EvalsT (ReadsWorld st (now (tables .entry)) (now (nodes .entry))) (nodeFor (now (nodes .entry)) n) (now (env .entry)) sp steps (now (stack .entry)) (now (stack .exit)) r ⌝ }
 {
     let s = steps + 1;
     let deeper = left - 1;
     let form = node_word(nodes, n, 0);
     match form {
-        0..=6 => {
+        codes::FALSE..=codes::ALL => {
             let value = leaf(tables, st, form, node_word(nodes, n, 1), env, stack, sp, s);
             arose(value, place_of(n, s))
         }
-        7..=12 | 30 | 33..=34 => unary(tables, st, nodes, n, form, env, stack, sp, deeper, s),
-        13..=22 | 37 => binary(tables, st, nodes, n, form, env, stack, sp, deeper, s),
-        23..=24 => connective(tables, st, nodes, n, form, env, stack, sp, deeper, s),
-        25..=26 => {
+        codes::NEGATION..=codes::CAST_TO | codes::IS_UNDEF | codes::OF_OBJECT..=codes::OF_MEMBERS =>
+            unary(tables, st, nodes, n, form, env, stack, sp, deeper, s),
+        codes::EQUAL..=codes::UNION | codes::OVER => binary(
+            tables,
+            st,
+            nodes,
+            n,
+            form,
+            env,
+            stack,
+            sp,
+            deeper,
+            s,
+        ),
+        codes::AND..=codes::OR => connective(tables, st, nodes, n, form, env, stack, sp, deeper, s),
+        codes::FOR_ALL..=codes::EXISTS => {
             let i = wide(node_word(nodes, n, 3) % 16);
             quantified(tables, st, nodes, n, form, i, env, stack, sp, deeper, s)
         }
-        27..=29 => coll(tables, st, nodes, n, form, env, stack, sp, deeper, s),
-        31 => conditional(tables, st, nodes, n, env, stack, sp, deeper, s),
-        32 => let_in(tables, st, nodes, n, env, stack, sp, deeper, s),
-        35 => iter(tables, st, nodes, n, env, stack, sp, deeper, s),
-        36 => call(tables, st, nodes, n, env, stack, sp, deeper, s),
+        codes::SET..=codes::BAG => coll(tables, st, nodes, n, form, env, stack, sp, deeper, s),
+        codes::CONDITIONAL => conditional(tables, st, nodes, n, env, stack, sp, deeper, s),
+        codes::LET_IN => let_in(tables, st, nodes, n, env, stack, sp, deeper, s),
+        codes::ITERATE => iter(tables, st, nodes, n, env, stack, sp, deeper, s),
+        codes::CALL => call(tables, st, nodes, n, env, stack, sp, deeper, s),
         _ => Traced::Undef {
             steps: s,
             place: place_of(n, s),
@@ -143,7 +156,7 @@ fn unary(
     steps: u64,
 ) -> Traced
     requires { ⌜ StackRoom st (length (now tables)) (length (now nodes)) (length (now stack)) n sp (left + 1) ⌝ }
-    requires { ⌜ (7 ≤ form) × (1 ≤ steps) × (steps ≤ 1000000) × (levels (operandTree (now nodes) n 1) ≤ left) ⌝ }
+    requires { ⌜ (code.negation ≤ form) × (1 ≤ steps) × (steps ≤ mostSteps) × (levels (operandTree (now nodes) n 1) ≤ left) ⌝ }
     ensures { λ r. ⌜ EvalsT (ReadsWorld st (now (tables .entry)) (now (nodes .entry))) (unaryNode (now (nodes .entry)) n form) (now (env .entry)) sp steps (now (stack .entry)) (now (stack .exit)) r ⌝ }
 {
     let first = below(tables, st, nodes, n, 1, env, stack, sp, left, steps);
@@ -172,10 +185,10 @@ fn binary(
     steps: u64,
 ) -> Traced
     requires { ⌜ StackRoom st (length (now tables)) (length (now nodes)) (length (now stack)) n sp (left + 1) ⌝ }
-    requires { ⌜ (13 ≤ form) × (1 ≤ steps) × (steps ≤ 1000000) × (levels (operandTree (now nodes) n 1) ≤ left) × (levels (operandTree (now nodes) n 2) ≤ left) ⌝ }
+    requires { ⌜ (code.equal ≤ form) × (1 ≤ steps) × (steps ≤ mostSteps) × (levels (operandTree (now nodes) n 1) ≤ left) × (levels (operandTree (now nodes) n 2) ≤ left) ⌝ }
     ensures { λ r. ⌜ EvalsT (ReadsWorld st (now (tables .entry)) (now (nodes .entry))) (binaryNode (now (nodes .entry)) n form) (now (env .entry)) sp steps (now (stack .entry)) (now (stack .exit)) r ⌝ }
 {
-    let mark = nodes[MARKS + n];
+    let mark = nodes[memory::MARKS + n];
     let first = below(tables, st, nodes, n, 1, env, stack, sp, left, steps);
     let Traced::Value { len: la, steps: sa } = first else {
         return first;
@@ -206,7 +219,7 @@ fn coll(
     steps: u64,
 ) -> Traced
     requires { ⌜ StackRoom st (length (now tables)) (length (now nodes)) (length (now stack)) n sp (left + 1) ⌝ }
-    requires { ⌜ (27 ≤ form) × (form < 30) × (1 ≤ steps) × (steps ≤ 1000000) × Shallow (now nodes) n left ⌝ }
+    requires { ⌜ (code.set ≤ form) × (form < code.isUndef) × (1 ≤ steps) × (steps ≤ mostSteps) × Shallow (now nodes) n left ⌝ }
     ensures { λ r. ⌜ EvalsT (ReadsWorld st (now (tables .entry)) (now (nodes .entry))) (assembleNode (now (nodes .entry)) n form) (now (env .entry)) sp steps (now (stack .entry)) (now (stack .exit)) r ⌝ }
 {
     let count = wide(node_word(nodes, n, 5));
@@ -228,6 +241,6 @@ fn coll(
         s = sb;
         k += 1;
     }
-    let value = formed(assemble(stack, sp, sp, end, form - 27), s);
+    let value = formed(assemble(stack, sp, sp, end, form - codes::SET), s);
     arose(value, place_of(n, steps))
 }

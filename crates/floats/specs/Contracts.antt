@@ -8,7 +8,7 @@ use lib.Dec.{T, ltb, eqb}
 use lib.Ieee.{Float}
 use lib.Ieee.Scale.{finite}
 use Rattle.laws.specs.Choice.{if_then_else_}
-use Rattle.laws.specs.Integers.{bias}
+use Rattle.laws.specs.Integers.{bias, storedEnd}
 use Rattle.reals.specs.Reals.{Real, isBinary64, Number, int, real, inRange, held, widened, widen, kept, Operation, plus, minus, times, over, Result, result, noResult, overRange, settled, calculated}
 use Rattle.reals.specs.Words.{cell, numberIn}
 use Rattle.reals.specs.Floats.{f64Of, Gives}
@@ -40,11 +40,11 @@ spelledOf (refused n) = if eqb n 4 then spelled.Over else spelled.Bad
 
 -- what may be handed over, whatever it stands for
 abbrev pub Sound : Coded → Type 0
-Sound (coded.Integer n) = n < 4294967296
+Sound (coded.Integer n) = n < storedEnd
 Sound (coded.Real x) = T (finite x)
 
 abbrev pub SoundWhole : Whole → Type 0
-SoundWhole (whole.Is n) = n < 4294967296
+SoundWhole (whole.Is n) = n < storedEnd
 SoundWhole whole.No = Unit {0}
 
 abbrev pub SoundResult : Computed → Type 0

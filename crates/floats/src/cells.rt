@@ -9,6 +9,7 @@ use crate::numbers::hold;
 use crate::numbers::whole;
 ghost use mathlib.Core.Path.{_≡_};
 ghost use Prim.Native.Nat.{_<_};
+ghost use Rattle.laws.specs.Integers.{storedEnd};
 ghost use Rattle.reals.specs.Words.{cell, numberIn};
 ghost use Rattle.floats.specs.Contracts.{Sound, NumberOf, CellOf, IntegerIn, IntegerCell};
 
@@ -34,7 +35,7 @@ pub fn number_of(word: u64) -> Number
     }
 }
 
-// Any word as a number's: the word itself, or that of 0 where it is no number's.
+// The word itself where it is a number's, and otherwise the word of 0.
 pub fn word_in(word: u64) -> u64
     ensures { λ r. ⌜ r ≡ cell (numberIn word) ⌝ }
 {
@@ -60,7 +61,7 @@ pub fn cell_of(n: Number) -> u64
     }
 }
 
-// The Integer with this word, where its number is one; no f64 is made.
+// The Integer with this word, where its number is one: found in the bits, without an f64.
 pub fn integer_in(word: u64) -> Whole
     ensures { λ r. ⌜ IntegerIn word r ⌝ }
 {
@@ -86,7 +87,7 @@ pub fn integer_in(word: u64) -> Whole
 
 // The word of an Integer.
 pub fn integer_cell(biased: u64) -> u64
-    requires { ⌜ biased < 4294967296 ⌝ }
+    requires { ⌜ biased < storedEnd ⌝ }
     ensures { λ r. ⌜ IntegerCell biased r ⌝ }
 {
     if biased < ZERO {

@@ -1,8 +1,8 @@
 // Integers and Reals as code holds them (document 02, F-8). A Real is an f64, whose operators are proved to give what `reals` defines
-// in whole numbers, bit for bit. It depends on `reals` alone.
-pub mod cells;
-pub mod numbers;
-pub mod spelling;
+// in whole numbers, bit for bit. It depends on `laws` and `reals`.
+pub mod cells; // a number as one word
+pub mod numbers; // numbers as f64, and the operations
+pub mod spelling; // a Real's spelling
 
 // A number as a value holds it. An Integer is counted from -2147483648; a Real is no whole number in the range of Integers.
 pub enum Number {

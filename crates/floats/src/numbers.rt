@@ -8,10 +8,13 @@ ghost use Prim.Native.Nat.{_≤_, _<_};
 ghost use lib.Dec.{T};
 ghost use lib.Ieee.{isNan};
 ghost use lib.Ieee.Scale.{finite};
+ghost use Rattle.laws.specs.Integers.{storedEnd};
 ghost use Rattle.floats.specs.Contracts.{Sound, Widens, FloatOf, wholeAt, Holds, Settles, Calculates, operationOf};
 
-// How 0 is stored.
+// 0 as it is stored, counted from -2147483648; and the end of all Integers so stored.
 pub const ZERO: u64 = 2_147_483_648;
+
+pub const END: u64 = 4_294_967_296;
 // The bit of a minus.
 pub const SIGN: u64 = 9_223_372_036_854_775_808;
 // The bits of 1, of 2^31 and of the infinity.
@@ -25,7 +28,7 @@ const FIRST: u64 = 4_503_599_627_370_496;
 
 // An Integer as an f64.
 fn widen(biased: u64) -> f64
-    requires { ⌜ biased < 4294967296 ⌝ }
+    requires { ⌜ biased < storedEnd ⌝ }
     ensures { λ r. ⌜ Widens biased r ⌝ }
 {
     if biased < ZERO {
@@ -107,7 +110,7 @@ fn settle(x: f64) -> Computed
     Computed::Is { number: hold(x) }
 }
 
-// 0 plus, 1 minus, 2 times, 3 over, always as Reals.
+// The operation with the number op, always as Reals: 0 plus, 1 minus, 2 times, 3 over.
 pub fn calculate(op: u64, a: Number, b: Number) -> Computed
     requires { ⌜ Sound a × Sound b ⌝ }
     ensures { λ r. ⌜ Calculates (operationOf op) a b r ⌝ }

@@ -24,6 +24,7 @@ fn digit_of(c: u8) -> u64
     }
 }
 
+// The byte of a digit.
 fn byte_of(digit: u64) -> u8
     requires { ⌜ digit < 16 ⌝ }
     ensures { λ r. ⌜ r ≡ hexByte digit ⌝ }
@@ -35,13 +36,14 @@ fn byte_of(digit: u64) -> u8
     }
 }
 
+// The bits without that of the minus.
 fn without_sign(bits: u64) -> u64
     ensures { λ r. ⌜ r ≡ bits % 2 ^ 63 ⌝ }
 {
     if bits < SIGN { bits } else { bits - SIGN }
 }
 
-// The Real with these bits. What a value holds as an Integer is not spelled so.
+// The Real with these bits. A number that is held as an Integer has no such spelling.
 fn real_of(bits: u64) -> Spelled
     ensures { λ r. ⌜ r ≡ spelledOf (finiteReal (fromBits bits)) ⌝ }
 {

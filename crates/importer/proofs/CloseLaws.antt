@@ -5,6 +5,7 @@ use mathlib.Core.List.{List, [], _∷_, _++_, append-assoc}
 use Prim.Native.Nat.{ℕ, suc, _+_, _-_, _≤_, _<_}
 use native.Mathlib.Omega.{arith}
 use lib.ListN.{length, getD}
+use Rattle.memory.specs.Map as memory
 use Rattle.sheet.specs.Lines.{Shape, forms}
 use Rattle.sheet.specs.Grammar.Trees.{letIn, Tree, two, count, root, twoShape, shapes}
 use Rattle.sheet.proofs.TextNodes.{root-last}
@@ -18,7 +19,7 @@ use Rattle.trees.specs.Built.{countOf, formWith, Builds}
 use Rattle.trees.specs.declared.Parsed.{Parsed}
 use Rattle.emission.specs.Nodes.{HoldsNodes, Emitted}
 use Rattle.importer.specs.Lets.{SameLets, Frame, value, body, counted, valueNodes, LetsLie, value-lies, body-lies, Open, endedIn, leftOpen, LetsClosed}
-use Rattle.importer.proofs.LetLaws.{lets-refl, lets-then, lets-behind, lets-kept, open-size}
+use Rattle.importer.proofs.LetLaws.{lastRoot, lastVariable, lets-refl, lets-then, lets-behind, lets-kept, open-size}
 
 -- some bodies have ended: those that are left end as all of them do
 pub record Left (k from n : ℕ) (fs : List Frame) (x : Tree) (first : List ℕ) (m d : ℕ) (w : List ℕ) : Type 0 where
@@ -80,13 +81,13 @@ module _ (k from m d : ℕ) (before : List ℕ) where
 
     module _ (some-let : from < d′) where
       -- of the innermost `let`
-      at-root : (j : ℕ) → d′ ≡ from + suc j → getD w (6911 + d′) 0 ≡ getD w (6912 + (from + j)) 0
+      at-root : (j : ℕ) → d′ ≡ from + suc j → getD w (lastRoot + d′) 0 ≡ getD w (memory.letRoots + (from + j)) 0
       at-root j e = ap (λ (i : ℕ). getD w i 0) (omega arith)
 
-      at-variable : (j : ℕ) → d′ ≡ from + suc j → getD w (6143 + d′) 0 ≡ getD w (6144 + (from + j)) 0
+      at-variable : (j : ℕ) → d′ ≡ from + suc j → getD w (lastVariable + d′) 0 ≡ getD w (memory.letVariables + (from + j)) 0
       at-variable j e = ap (λ (i : ℕ). getD w i 0) (omega arith)
 
-      pub close-value : getD w (6911 + d′) 0 ≡ 0 → LetsClosed k from m d before (record { nodes = m′; lets = d′ }) w
+      pub close-value : getD w (lastRoot + d′) 0 ≡ 0 → LetsClosed k from m d before (record { nodes = m′; lets = d′ }) w
       unfolding leftOpen endedIn
       close-value z = stopped (λ n rest x first o. go n rest x first o (o .lies))
         where
@@ -96,18 +97,18 @@ module _ (k from m d : ℕ) (before : List ℕ) where
           go n (body i e ∷ fs) x first o (body-lies a b l) =
               absurd (let q = at-root (length fs) (o .lets) in let r = root-last (n + counted fs) e in omega arith)
 
-      module _ {p : Parsed} {v : List ℕ} (root-told : getD w (6911 + d′) 0 ≢ 0)
-          (built : Builds 32 (getD w (6143 + d′) 0 ∷ (getD w (6911 + d′) 0 - 1) ∷ (m′ - 1) ∷ 0 ∷ []) k p) (put : Emitted m′ p w v) where
+      module _ {p : Parsed} {v : List ℕ} (root-told : getD w (lastRoot + d′) 0 ≢ 0)
+          (built : Builds 32 (getD w (lastVariable + d′) 0 ∷ (getD w (lastRoot + d′) 0 - 1) ∷ (m′ - 1) ∷ 0 ∷ []) k p) (put : Emitted m′ p w v) where
         -- a body's `let` is the next node
         node-is : (n : ℕ) (i : ℕ) (e x : Tree) (fs : List Frame) → m′ + d′ ≤ 768 → d′ ≡ from + suc (length fs) → m′ ≡ n + ((counted fs + count e) + count x)
-            → getD w (6144 + (from + length fs)) 0 ≡ cut i → getD w (6912 + (from + length fs)) 0 ≡ n + (counted fs + count e)
+            → getD w (memory.letVariables + (from + length fs)) 0 ≡ cut i → getD w (memory.letRoots + (from + length fs)) 0 ≡ n + (counted fs + count e)
             → StandsFor k (twoShape (letIn i) (root (n + counted fs) e) (root (n + counted fs + count e) x)) p
         unfolding countOf formWith fieldsBy withCode forms formCodes twoShape
         node-is n i e x fs room q s a b =
             let r = root-last (n + counted fs) e in
             let t = root-last (n + counted fs + count e) x in
             let y = at-root (length fs) q in
-            let z : getD w (6911 + d′) 0 - 1 ≡ cut (root (n + counted fs) e) = omega arith in
+            let z : getD w (lastRoot + d′) 0 - 1 ≡ cut (root (n + counted fs) e) = omega arith in
             let u : m′ - 1 ≡ cut (root (n + counted fs + count e) x) = omega arith in
             built .is (i ∷ root (n + counted fs) e ∷ root (n + counted fs + count e) x ∷ []) (omega arith) refl (rw (at-variable (length fs) q ∙ a, z, u))
 

@@ -5,6 +5,7 @@ use mathlib.Core.List.{List, _++_}
 use Prim.Native.Nat.{ℕ, _+_, _≤_, _<_}
 use lib.ListN.{length}
 use Rattle.laws.specs.Choice.{onSome, mapSome}
+use Rattle.sheet.specs.Sizes.{leastWords, mostNodes}
 use Rattle.sheet.specs.Text.{Bytes}
 use Rattle.sheet.specs.Lines.{Shape}
 use Rattle.sheet.specs.Grammar.Tokens.{Tokens}
@@ -25,11 +26,11 @@ use Rattle.importer.specs.declared.Found.the-variants.{No, Is}
 pub record Room (s : Bytes) (t : Token) (n d : ℕ) (w : List ℕ) : Type 0 where
   pub ahead : Ahead s t
   pub few : n + d ≤ t .start
-  pub long : 8192 ≤ length w
+  pub long : leastWords ≤ length w
 
 -- the tree x was read after n nodes, inside d `let`s: its nodes follow them, unless there are too many
 pub record Wrote (k : ℕ) (x : Tree) (n d : ℕ) (before after : List ℕ) : Type 0 where
-  pub nodes : n + d + count x ≤ 768 → (xs : List Shape) → length xs ≡ n → HoldsNodes k xs before → HoldsNodes k (xs ++ shapes x n) after
+  pub nodes : n + d + count x ≤ mostNodes → (xs : List Shape) → length xs ≡ n → HoldsNodes k xs before → HoldsNodes k (xs ++ shapes x n) after
   pub lets : SameLets d before after
   pub kept : Kept before after
 

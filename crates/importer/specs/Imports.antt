@@ -5,6 +5,7 @@ use mathlib.Core.Option.{some}
 use mathlib.Core.List.{List}
 use Prim.Native.Nat.{ℕ, _≤_}
 use lib.ListN.{length}
+use Rattle.sheet.specs.Sizes.{mostNodes}
 use Rattle.sheet.specs.Text.{Bytes}
 use Rattle.sheet.specs.Texts.{isSentence}
 use Rattle.sheet.specs.Grammar.Trees.{Tree, count, shapes}
@@ -20,7 +21,7 @@ pub record SentenceIs (k : ℕ) (s : Bytes) (n : ℕ) (after : List ℕ) : Type 
   pub reading : readingOf s ≡ some tree
   pub counted : n ≡ count tree
   pub few : n ≤ length s
-  pub nodes : n ≤ 768 → HoldsNodes k (shapes tree 0) after
+  pub nodes : n ≤ mostNodes → HoldsNodes k (shapes tree 0) after
 
 pub data ImportedAs (k : ℕ) (s : Bytes) (after : List ℕ) : Imported → Type 0 where
   no-sentence : isSentence s ≡ false → ImportedAs k s after No

@@ -5,6 +5,7 @@ use mathlib.Core.List.{List, [], _∷_, _++_}
 use Prim.Native.Nat.{ℕ, _+_, _-_, _<_}
 use lib.ListN.{length}
 use Rattle.ocl.specs.Types.{Kind}
+use Rattle.sheet.specs.Sizes.{mostNodes}
 use Rattle.sheet.specs.Text.{Bytes}
 use Rattle.sheet.specs.Lines.{Shape}
 use Rattle.sheet.specs.Grammar.Trees.{Two, Tree, count, twoShape}
@@ -22,7 +23,7 @@ use Rattle.importer.specs.declared.begin.Begun.the-variants as begun
 
 -- the form x is put down as node n, where there may be such a node
 pub record PutNode (k n : ℕ) (x : Shape) (before after : List ℕ) : Type 0 where
-  pub node : n < 768 → (xs : List Shape) → length xs ≡ n → HoldsNodes k xs before → HoldsNodes k (xs ++ (x ∷ [])) after
+  pub node : n < mostNodes → (xs : List Shape) → length xs ≡ n → HoldsNodes k xs before → HoldsNodes k (xs ++ (x ∷ [])) after
   pub kept : KeptBehind before after
 
 -- what was found, if anything was, has nodes after the first a, and one more can be counted

@@ -4,6 +4,7 @@ use mathlib.Core.Option.{none, some}
 use mathlib.Core.List.{List, _++_}
 use Prim.Native.Nat.{ℕ, suc, _+_, _*_, _≤_, _<_}
 use lib.ListN.{length}
+use Rattle.sheet.specs.Sizes.{mostNodes}
 use Rattle.sheet.specs.Text.{Bytes}
 use Rattle.sheet.specs.Lines.{Shape}
 use Rattle.sheet.specs.Grammar.Tokens.{Tokens}
@@ -24,7 +25,7 @@ use Rattle.importer.specs.declared.Found.the-variants.{No, Is}
 
 -- so many `not`s of the tree x, whose last node is n - 1
 pub record Negates (k n times : ℕ) (before after : List ℕ) : Type 0 where
-  pub nodes : (x : Tree) (m : ℕ) → n ≡ m + count x → n + times ≤ 768 → (xs : List Shape) → length xs ≡ m
+  pub nodes : (x : Tree) (m : ℕ) → n ≡ m + count x → n + times ≤ mostNodes → (xs : List Shape) → length xs ≡ m
       → HoldsNodes k (xs ++ shapes x m) before → HoldsNodes k (xs ++ shapes (negated times x) m) after
   pub kept : KeptBehind before after
 
@@ -61,7 +62,7 @@ pub record StepOne (next : Next) (k : ℕ) (s : Bytes) (t : Token) (n d : ℕ) (
   pub counted : m ≡ n + more
   pub from : t .start + more ≤ suc (u .start)
   pub further : t .start < u .start
-  pub nodes : (a : Tree) (i : ℕ) → n ≡ i + count a → m + d ≤ 768 → (xs : List Shape) → length xs ≡ i
+  pub nodes : (a : Tree) (i : ℕ) → n ≡ i + count a → m + d ≤ mostNodes → (xs : List Shape) → length xs ≡ i
       → HoldsNodes k (xs ++ shapes a i) before → HoldsNodes k (xs ++ shapes (grows a) i) after
   pub lets : SameLets d before after
   pub kept : Kept before after

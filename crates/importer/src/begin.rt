@@ -1,10 +1,12 @@
 // How a primary begins.
 ghost use Prim.Native.Nat.{_≤_};
 ghost use lib.ListN.{length};
+ghost use Rattle.sheet.specs.Sizes.{leastWords};
 ghost use Rattle.tokens.specs.Contracts.{Ahead};
 ghost use Rattle.importer.specs.Puts.{BeginAt};
 use super::leaves::leaf;
 use emission::emit;
+use memory::codes::ALL;
 use phrases::Opening;
 use phrases::openings::opening;
 use tokens::Token;
@@ -21,8 +23,9 @@ pub enum Begun {
     Members { code: u64, next: Token },
 }
 
+// How the primary at t begins. One of a single node is put down as node n.
 pub fn begin(s: &[u8], t: Token, w2: &mut [u64], n: usize, k: u64) -> Begun
-    requires { ⌜ Ahead (now s) t × (8192 ≤ length (now w2)) ⌝ }
+    requires { ⌜ Ahead (now s) t × (leastWords ≤ length (now w2)) ⌝ }
     ensures { λ r. ⌜ BeginAt k (now (s .entry)) t n (now (w2 .entry)) r (now (w2 .exit)) ⌝ }
 {
     let p = leaf(s, t, k);
@@ -35,7 +38,7 @@ pub fn begin(s: &[u8], t: Token, w2: &mut [u64], n: usize, k: u64) -> Begun
     match found {
         Opening::No => Begun::No,
         Opening::All { class, next } => {
-            emit(w2, n, built(6, [class, 0, 0, 0], k));
+            emit(w2, n, built(ALL, [class, 0, 0, 0], k));
             Begun::Done(next)
         }
         Opening::Bracket(u) => Begun::Bracket(u),

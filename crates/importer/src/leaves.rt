@@ -4,14 +4,17 @@ ghost use Prim.Native.Nat.{_+_, _≤_, _<_};
 ghost use lib.ListN.{length};
 ghost use Rattle.laws.specs.Choice.{mapSome};
 ghost use Rattle.ocl.specs.Forms.{var};
+ghost use Rattle.sheet.specs.Sizes.{leastWords};
 ghost use Rattle.sheet.specs.Text.{isDigit};
 ghost use Rattle.sheet.specs.Lines.{leaf as leafShape};
 ghost use Rattle.sheet.specs.Grammar.Words.{variableWord};
 ghost use Rattle.tokens.specs.Contracts.{part, onward, Ahead};
+ghost use Rattle.tokens.specs.Signs as sign;
 ghost use Rattle.trees.specs.Forms.{FormRead};
 ghost use Rattle.importer.specs.Leaves.{leafOf, NegationsAre};
 ghost use Rattle.importer.specs.Steps.{Negates};
 use emission::emit;
+use memory::codes;
 use phrases::After;
 use phrases::words::after;
 use text::literals::integer_literal;
@@ -20,6 +23,7 @@ use text::numbers::Num;
 use text::numbers::integer;
 use tokens::Token;
 use tokens::label;
+use tokens::signs;
 use trees::Parsed;
 use trees::built::built;
 use trees::forms::misspelled;
@@ -33,7 +37,7 @@ fn variable(s: &[u8], t: Token, k: u64) -> Parsed
     let Num::Is(n) = label(s, t, b'v') else {
         return misspelled();
     };
-    built(5, [n, 0, 0, 0], k)
+    built(codes::VAR, [n, 0, 0, 0], k)
 }
 
 fn is_digit(b: u8) -> bool
@@ -47,7 +51,7 @@ fn is_digit(b: u8) -> bool
 
 // A number, or a variable.
 fn named(s: &[u8], t: Token, k: u64) -> Parsed
-    requires { ⌜ Ahead (now s) t × (t .code ≡ 64) ⌝ }
+    requires { ⌜ Ahead (now s) t × (t .code ≡ sign.other) ⌝ }
     ensures { λ r. ⌜ FormRead k (mapSome leafShape (leafOf (onward (now (s .entry)) t))) r ⌝ }
 {
     let a = t.start;
@@ -69,9 +73,9 @@ pub fn leaf(s: &[u8], t: Token, k: u64) -> Parsed
 {
     let code = t.code;
     match code {
-        0..=2 => built(code, [0; 4], k),
-        4 => built(4, [0; 4], k),
-        64 => named(s, t, k),
+        codes::FALSE..=codes::UNDEF => built(code, [0; 4], k),
+        codes::SELF => built(codes::SELF, [0; 4], k),
+        signs::OTHER => named(s, t, k),
         _ => misspelled(),
     }
 }
@@ -82,6 +86,7 @@ pub struct Negations {
     pub count: usize,
 }
 
+// The `not`s from t on.
 pub fn nots(s: &[u8], t: Token) -> Negations
     requires { ⌜ Ahead (now s) t ⌝ }
     ensures { λ r. ⌜ NegationsAre (now (s .entry)) t r ⌝ }
@@ -89,7 +94,7 @@ pub fn nots(s: &[u8], t: Token) -> Negations
     let mut u = t;
     let mut n: usize = 0;
     loop {
-        let not = after(s, u, 7);
+        let not = after(s, u, codes::NEGATION);
         match not {
             After::At(next) => {
                 u = next;
@@ -102,14 +107,14 @@ pub fn nots(s: &[u8], t: Token) -> Negations
     }
 }
 
-// As many `not`s after node n - 1.
+// Puts so many `not`s down, each over the node before it; the first over node n - 1.
 pub fn negate(w2: &mut [u64], n: usize, count: usize, k: u64)
-    requires { ⌜ (8192 ≤ length (now w2)) × (0 < n) × (n + count ≤ 18446744073709551615) ⌝ }
+    requires { ⌜ (leastWords ≤ length (now w2)) × (0 < n) × (n + count ≤ 18446744073709551615) ⌝ }
     ensures { λ _. ⌜ Negates k n count (now (w2 .entry)) (now (w2 .exit)) ⌝ }
 {
     let mut m = n;
     while m < n + count {
-        emit(w2, m, built(7, [m as u64 - 1, 0, 0, 0], k));
+        emit(w2, m, built(codes::NEGATION, [m as u64 - 1, 0, 0, 0], k));
         m += 1;
     }
 }

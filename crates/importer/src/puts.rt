@@ -4,6 +4,7 @@ ghost use mathlib.Core.Option.{some};
 ghost use Prim.Native.Nat.{ℕ, _-_, _≤_, _<_};
 ghost use lib.ListN.{length};
 ghost use Rattle.ocl.specs.Types.{Ty};
+ghost use Rattle.sheet.specs.Sizes.{leastWords};
 ghost use Rattle.sheet.specs.Grammar.Trees.{One, Two, conditional, iterate, oneShape, twoShape, threeShape};
 ghost use Rattle.types.specs.Reading.{typeField, held};
 ghost use Rattle.phrases.specs.Contracts.{StandsAs, StandsAsTwo};
@@ -12,36 +13,37 @@ ghost use Rattle.trees.specs.Iterate.{Held};
 ghost use Rattle.importer.specs.Puts.{PutNode, Behind, Joins};
 use super::Found;
 use emission::emit;
+use memory::codes;
 use trees::built::built;
 use trees::iterate::iterated;
 use trees::iterate::type_read;
 use types::GotType;
 
-// A form with one operand, and the class, attribute or definition x that it may hold.
+// Puts down a form with one operand, and the class, attribute or definition x that it may hold.
 pub fn put_one(w2: &mut [u64], code: u64, x: u64, a: usize, k: u64)
-    requires { ⌜ (8192 ≤ length (now w2)) × (0 < a) ⌝ }
+    requires { ⌜ (leastWords ≤ length (now w2)) × (0 < a) ⌝ }
     ensures { λ _. ⌜ ((f : One) → StandsAs f code x → PutNode k a (oneShape f (a - 1)) (now (w2 .entry)) (now (w2 .exit))) ⌝ }
 {
     emit(w2, a, built(code, [a as u64 - 1, x, 0, 0], k));
 }
 
-// A form with two operands, and the variable that it may hold.
+// Puts down a form with two operands, and the variable that it may hold.
 pub fn put_two(w2: &mut [u64], code: u64, variable: u64, a: usize, b: usize, k: u64)
-    requires { ⌜ (8192 ≤ length (now w2)) × (0 < a) × (a < b) ⌝ }
+    requires { ⌜ (leastWords ≤ length (now w2)) × (0 < a) × (a < b) ⌝ }
     ensures { λ _. ⌜ ((f : Two) → StandsAsTwo f code variable → PutNode k b (twoShape f (a - 1) (b - 1)) (now (w2 .entry)) (now (w2 .exit))) ⌝ }
 {
     let x = a as u64 - 1;
     let y = b as u64 - 1;
     match code {
-        25..=26 => emit(w2, b, built(code, [x, variable, y, 0], k)),
-        32 => emit(w2, b, built(32, [variable, x, y, 0], k)),
+        codes::FOR_ALL..=codes::EXISTS => emit(w2, b, built(code, [x, variable, y, 0], k)),
+        codes::LET_IN => emit(w2, b, built(codes::LET_IN, [variable, x, y, 0], k)),
         _ => emit(w2, b, built(code, [x, y, 0, 0], k)),
     }
 }
 
-// A sign's form, once its right operand has been looked for; the left one is named as above.
+// Puts down a sign's form, if its right operand was found; the left one is named as above.
 pub fn joined(w2: &mut [u64], code: u64, a: usize, right: Found, k: u64) -> Found
-    requires { ⌜ (8192 ≤ length (now w2)) × (0 < a) × Behind a right ⌝ }
+    requires { ⌜ (leastWords ≤ length (now w2)) × (0 < a) × Behind a right ⌝ }
     ensures { λ r. ⌜ Joins k code a (now (w2 .entry)) right r (now (w2 .exit)) ⌝ }
 {
     let Found::Is { next, nodes } = right else {
@@ -54,19 +56,23 @@ pub fn joined(w2: &mut [u64], code: u64, a: usize, right: Found, k: u64) -> Foun
     }
 }
 
-// `if`
+// Puts down an `if`.
 pub fn put_condition(w2: &mut [u64], a: usize, b: usize, c: usize, k: u64)
-    requires { ⌜ (8192 ≤ length (now w2)) × (0 < a) × (a < b) × (b < c) ⌝ }
+    requires { ⌜ (leastWords ≤ length (now w2)) × (0 < a) × (a < b) × (b < c) ⌝ }
     ensures { λ _. ⌜ PutNode k c (threeShape conditional (a - 1) (b - 1) (c - 1)) (now (w2 .entry)) (now (w2 .exit)) ⌝ }
 {
     emit(
         w2,
         c,
-        built(31, [a as u64 - 1, b as u64 - 1, c as u64 - 1, 0], k),
+        built(
+            codes::CONDITIONAL,
+            [a as u64 - 1, b as u64 - 1, c as u64 - 1, 0],
+            k,
+        ),
     );
 }
 
-// `iter`
+// Puts down an `iter`.
 pub fn put_iteration(
     w2: &mut [u64],
     i: u64,
@@ -77,7 +83,7 @@ pub fn put_iteration(
     c: usize,
     k: u64,
 )
-    requires { ⌜ (8192 ≤ length (now w2)) × (0 < a) × (a < b) × (b < c) × Held of ⌝ }
+    requires { ⌜ (leastWords ≤ length (now w2)) × (0 < a) × (a < b) × (b < c) × Held of ⌝ }
     ensures { λ _. ⌜ ((x y : ℕ) (u : Ty) → i ≡ cut x → j ≡ cut y → typeField of ≡ held (some u) → PutNode k c (threeShape (iterate x y u) (a - 1) (b - 1) (c - 1)) (now (w2 .entry)) (now (w2 .exit))) ⌝ }
 {
     emit(

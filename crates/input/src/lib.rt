@@ -1,4 +1,5 @@
-// What a program reads: all of its input, at the front of a buffer. No contract can say what is read.
+// What a program reads: all of its input, at the front of a buffer. No contract can say what is read. It depends on no other crate of
+// this repository.
 ghost use Rattle.input.specs.Input.{Within};
 
 // How many bytes stand at the front of a buffer, or that the input could not be read.

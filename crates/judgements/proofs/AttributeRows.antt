@@ -10,6 +10,7 @@ use lib.Seq.{getD-take, getD-drop}
 use lib.Dec.{eqb}
 use borrow.Author.Tests.{ne-eqb}
 use Rattle.laws.specs.Choice.{if_then_else_}
+use Rattle.memory.specs.Map as memory
 use Rattle.ocl.specs.Types.{any, boolean, integer, real, class, kindCode, sameKind, Letter, exactly, Ty, void, simple, around}
 use Rattle.ocl.specs.Forms.{ofObject, ofMembers}
 use Rattle.ocl.specs.Model.{Row, Schema, rowRead}
@@ -80,7 +81,7 @@ module _ {ps tables : List ℕ} {rows : ℕ} (m : Schema) (to : ReadsRows ps tab
     name = λ i h. let k : i < m .rowCount = omega (arith, to .count) in ap (λ (r : Row). r .name) (to .classes .row i k);
   }
 
-  type-of-row : (i : ℕ) → i < rows → i < 64 → m .row i .type ≡ typeIn (getD tables (192 + i) 0)
+  type-of-row : (i : ℕ) → i < rows → i < 64 → m .row i .type ≡ typeIn (getD tables (memory.types + i) 0)
   type-of-row i h s =
       let k : i < m .rowCount = omega (arith, to .count) in
       ap (λ (r : Row). r .type) (to .classes .row i k) ∙ ap typeIn (getD-take 64 (drop 192 tables) i 0 s ∙ getD-drop 192 tables i 0)
@@ -93,13 +94,13 @@ module _ {ps tables : List ℕ} {rows : ℕ} (m : Schema) (to : ReadsRows ps tab
     unfolding found rowType
     no-row z = rw (row-is, z) (done refl)
 
-    pub row-at : {B : List ℕ} {i j w : ℕ} {u : FlatType} → rows ≤ 64 → y ≡ f.At i → j ≡ i → tyOf u ≡ typeIn (getD tables (192 + j) 0) → markWord (mark i) ≡ w
+    pub row-at : {B : List ℕ} {i j w : ℕ} {u : FlatType} → rows ≤ 64 → y ≡ f.At i → j ≡ i → tyOf u ≡ typeIn (getD tables (memory.types + j) 0) → markWord (mark i) ≡ w
         → Tells (rowType m n mark typed (rowRead m c name)) B (set B n w) (reply.Is u)
     unfolding found rowType writeMarks
     row-at {B} {i} s z l g e =
         let k = row-small ps (ownersIn tables) (namesIn tables) rows c name y h z in
         rw (row-is, z) (record {
-          is = ap typed (g ∙ ap (λ (a : ℕ). typeIn (getD tables (192 + a) 0)) l ∙ sym (type-of-row i k (omega arith)));
+          is = ap typed (g ∙ ap (λ (a : ℕ). typeIn (getD tables (memory.types + a) 0)) l ∙ sym (type-of-row i k (omega arith)));
           wrote = ap (set B n) (sym e);
         })
 

@@ -6,11 +6,13 @@ use mathlib.Core.List.{List, [], _∷_}
 use Prim.Native.Nat.{ℕ}
 use lib.ListN.{getD, set, take, drop}
 use Rattle.laws.specs.Choice.{if_then_else_, onSome}
+use Rattle.memory.specs.Map as memory
 use Rattle.ocl.specs.Types.{Ty, Parents, join}
 use Rattle.ocl.specs.Environment.{Env}
 use Rattle.ocl.specs.Model.{Schema}
 use Rattle.ocl.specs.Typing.{Answer, typed, refused, Typed}
 use Rattle.ocl.specs.Marks.{Marks}
+use Rattle.sheet.specs.Sizes.{mostRows}
 use Rattle.types.specs.declared.Base.the-variants as b
 use Rattle.types.specs.Flat.{tyOf, bare}
 use Rattle.nodes.specs.Classes.{HoldsClasses}
@@ -48,7 +50,7 @@ pub record Tells (x : Typed) (before after : List ℕ) (r : Reply) : Type 0 wher
 
 -- ---- the model
 
--- the model has these parents, and the rows of the tables: owners from word 64, names from 128, types from 192
+-- the model has these parents, and the rows of the tables: each row's owner, name and type, where memory/specs/Map.antt has them
 pub record ReadsRows (parents tables : List ℕ) (rows : ℕ) (m : Schema) : Type 0 where
-  pub classes : HoldsClasses parents (take 64 (drop 64 tables)) (take 64 (drop 128 tables)) (take 64 (drop 192 tables)) m
+  pub classes : HoldsClasses parents (take mostRows (drop memory.owners tables)) (take mostRows (drop memory.names tables)) (take mostRows (drop memory.types tables)) m
   pub count : m .rowCount ≡ rows

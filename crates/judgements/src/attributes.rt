@@ -2,10 +2,12 @@
 ghost use mathlib.Core.Path.{_≡_};
 ghost use Prim.Native.Nat.{ℕ, _+_, _<_, _≤_};
 ghost use lib.ListN.{length};
+ghost use Rattle.memory.specs.Map as memory;
 ghost use Rattle.ocl.specs.Forms.{ofObject, ofMembers};
 ghost use Rattle.ocl.specs.Model.{Schema, rowRead};
 ghost use Rattle.ocl.specs.Typing.{typed, rowType, attributeType};
 ghost use Rattle.ocl.specs.Marks.{Mark};
+ghost use Rattle.sheet.specs.Sizes.{mostNodes, mostRows};
 ghost use Rattle.types.specs.Flat.{tyOf};
 ghost use Rattle.nodes.specs.Marks.{markWord};
 ghost use Rattle.judgements.specs.Replies.{Tells, ReadsRows};
@@ -33,17 +35,17 @@ fn row_type(
     more: u64,
     marks: &mut [u64],
 ) -> Reply
-    requires { ⌜ (rows ≤ 64) × (256 ≤ length (now tables)) × (n < 768) × (768 ≤ length (now marks)) × (more ≤ 64) ⌝ }
+    requires { ⌜ (rows ≤ mostRows) × (memory.rowsEnd ≤ length (now tables)) × (n < mostNodes) × (mostNodes ≤ length (now marks)) × (more ≤ memory.markSequence) ⌝ }
     ensures { λ r. ⌜ ((m : Schema) → ReadsRows (now (parents .entry)) (now (tables .entry)) rows m → (mark : ℕ → Mark) → ((i : ℕ) → markWord (mark i) ≡ more + i) → Tells (rowType m n mark typed (rowRead m c name)) (now (marks .entry)) (now (marks .exit)) r) ⌝ }
 {
-    let owners = &tables[64..128];
-    let names = &tables[128..192];
+    let owners = &tables[memory::OWNERS..memory::NAMES];
+    let names = &tables[memory::NAMES..memory::TYPES];
     let Found::At(i) = row_read(parents, owners, names, rows, c, name) else {
         return Reply::No(12, n as u64);
     };
     marks[n] = more + i;
     let at = wide(i);
-    Reply::Is(unpack(tables[192 + at]))
+    Reply::Is(unpack(tables[memory::TYPES + at]))
 }
 
 // `attr`: of a class type, else 11.
@@ -56,7 +58,7 @@ pub fn attribute_type(
     t: FlatType,
     marks: &mut [u64],
 ) -> Reply
-    requires { ⌜ (rows ≤ 64) × (256 ≤ length (now tables)) × (n < 768) × (768 ≤ length (now marks)) ⌝ }
+    requires { ⌜ (rows ≤ mostRows) × (memory.rowsEnd ≤ length (now tables)) × (n < mostNodes) × (mostNodes ≤ length (now marks)) ⌝ }
     ensures { λ r. ⌜ ((m : Schema) → ReadsRows (now (parents .entry)) (now (tables .entry)) rows m → Tells (attributeType m n ofObject name (tyOf t)) (now (marks .entry)) (now (marks .exit)) r) ⌝ }
 {
     let ClassNumber::Is(c) = is_class(t) else {
@@ -73,7 +75,7 @@ fn collect_code(code: u8) -> u8
 }
 
 // `collect`: of a collection whose member type is a class, else 11; the kind around the row's type, unless that is over three deep
-// (13). In the mark, 64 more say that it gives a Sequence.
+// (13). The mark also says whether it gives a Sequence.
 pub fn collect_type(
     parents: &[u64],
     tables: &[u64],
@@ -83,7 +85,7 @@ pub fn collect_type(
     t: FlatType,
     marks: &mut [u64],
 ) -> Reply
-    requires { ⌜ (rows ≤ 64) × (256 ≤ length (now tables)) × (n < 768) × (768 ≤ length (now marks)) ⌝ }
+    requires { ⌜ (rows ≤ mostRows) × (memory.rowsEnd ≤ length (now tables)) × (n < mostNodes) × (mostNodes ≤ length (now marks)) ⌝ }
     ensures { λ r. ⌜ ((m : Schema) → ReadsRows (now (parents .entry)) (now (tables .entry)) rows m → Tells (attributeType m n ofMembers name (tyOf t)) (now (marks .entry)) (now (marks .exit)) r) ⌝ }
 {
     let code = outer_code(t);
@@ -101,7 +103,7 @@ pub fn collect_type(
         n,
         name,
         c,
-        64 * (4 - kind as u64),
+        memory::MARK_SEQUENCE * (4 - kind as u64),
         marks,
     );
     let Reply::Is(u) = found else {

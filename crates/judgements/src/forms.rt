@@ -4,10 +4,12 @@ ghost use mathlib.Core.Path.{_≡_};
 ghost use mathlib.Core.Bool.{_&&_};
 ghost use Prim.Native.Nat.{_<_, _≤_};
 ghost use lib.ListN.{length};
+ghost use Rattle.memory.specs.Map as memory;
 ghost use Rattle.reals.specs.Words.{numberIn};
 ghost use Rattle.ocl.specs.Types.{Boolean, Integer, simple, subtype as isBelow, join as joinOf};
 ghost use Rattle.ocl.specs.Model.{Schema, numberType};
 ghost use Rattle.ocl.specs.Typing.{typed, refused, below, common, onCollection, castType, callType, bothBelow, leafType, unaryType, includesType, includingType, unionType, conditionalType, wrap as wrapType};
+ghost use Rattle.sheet.specs.Sizes.{mostNodes};
 ghost use Rattle.types.specs.Flat.{parentsIn, tyOf, letterOf, joinedType};
 ghost use Rattle.nodes.specs.Nodes.{word, leafOf, unaryOf};
 ghost use Rattle.judgements.specs.Replies.{meaning, envOf, joinMore};
@@ -16,6 +18,7 @@ use super::TypeEnv;
 use super::environment::bound;
 use floats::Number;
 use floats::cells::number_of;
+use memory::codes;
 use nodes::node_word;
 use types::Base;
 use types::ClassNumber;
@@ -138,16 +141,17 @@ fn number_type(w: u64) -> FlatType
     }
 }
 
+// Node n, which has no operand.
 pub fn leaf_type(nodes: &[u64], form: u64, n: usize, env: TypeEnv) -> Reply
-    requires { ⌜ (n < 768) × (6144 ≤ length (now nodes)) ⌝ }
+    requires { ⌜ (n < mostNodes) × (memory.nodesEnd ≤ length (now nodes)) ⌝ }
     ensures { λ r. ⌜ meaning r ≡ leafType n (leafOf form (word (now (nodes .entry)) n)) (envOf env) ⌝ }
 {
     match form {
-        0..=1 => Reply::Is(plain(Base::Bool)),
-        2 => Reply::Is(plain(Base::Void)),
-        3 => Reply::Is(number_type(node_word(nodes, n, 1))),
-        4 => bound(n as u64, 0, env),
-        5 => bound(n as u64, wide(node_word(nodes, n, 1)) % 16, env),
+        codes::FALSE..=codes::TRUE => Reply::Is(plain(Base::Bool)),
+        codes::UNDEF => Reply::Is(plain(Base::Void)),
+        codes::NUMBER => Reply::Is(number_type(node_word(nodes, n, 1))),
+        codes::SELF => bound(n as u64, 0, env),
+        codes::VAR => bound(n as u64, wide(node_word(nodes, n, 1)) % 16, env),
         _ => Reply::Is(set_of_class((node_word(nodes, n, 1) % 256) as u8)),
     }
 }
@@ -207,14 +211,18 @@ pub fn call_type(parents: &[u64], n: u64, c: u64, t: FlatType, u: FlatType) -> R
     Reply::No(11, n)
 }
 
+// By how much the codes of `asSet`, `asSequence` and `asBag` are above those of the letters S, Q and B, which are 2 to 4.
+const TO_LETTERS: u64 = codes::TO_SET - 2;
+
+// Node n, whose one strict operand has type t.
 pub fn unary_type(parents: &[u64], nodes: &[u64], form: u64, n: usize, t: FlatType) -> Reply
-    requires { ⌜ (n < 768) × (6144 ≤ length (now nodes)) ⌝ }
+    requires { ⌜ (n < mostNodes) × (memory.nodesEnd ≤ length (now nodes)) ⌝ }
     ensures { λ r. ⌜ ((m : Schema) → m .parent ≡ parentsIn (now (parents .entry)) → meaning r ≡ unaryType m n (unaryOf form (word (now (nodes .entry)) n)) (tyOf t)) ⌝ }
 {
     match form {
-        7 => condition(parents, n as u64, t),
-        8 => size_type(n as u64, t),
-        9..=11 => converted(n as u64, (form - 7) as u8, t),
+        codes::NEGATION => condition(parents, n as u64, t),
+        codes::SIZE_OF => size_type(n as u64, t),
+        codes::TO_SET..=codes::TO_BAG => converted(n as u64, (form - TO_LETTERS) as u8, t),
         _ => cast_type(parents, n as u64, (node_word(nodes, n, 2) % 256) as u8, t),
     }
 }

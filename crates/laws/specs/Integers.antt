@@ -4,11 +4,19 @@ use lib.IntN.{ℤ, pos, negsuc}
 use lib.Dec.{ltb}
 use Rattle.laws.specs.Choice.{if_then_else_}
 
--- -2147483648 is 0, 0 is 2147483648
+-- "an Integer from -2147483648 to 2147483647": the first number past them
+abbrev pub integerEnd : ℕ
+integerEnd = 2147483648
+
+-- the least Integer is 0, 0 is `integerEnd`
 unfoldable pub bias : ℤ → ℕ
-bias (pos n) = 2147483648 + n
-bias (negsuc n) = 2147483648 - suc n
+bias (pos n) = integerEnd + n
+bias (negsuc n) = integerEnd - suc n
+
+-- every Integer is below this
+abbrev pub storedEnd : ℕ
+storedEnd = 4294967296
 
 -- and back
 unfoldable pub unbias : ℕ → ℤ
-unbias p = if ltb p 2147483648 then negsuc (2147483647 - p) else pos (p - 2147483648)
+unbias p = if ltb p integerEnd then negsuc (integerEnd - 1 - p) else pos (p - integerEnd)

@@ -22,11 +22,11 @@ pub data Step : Type 0 where
   taken : Run → Step
   refuse : ℕ → Step
 
--- the first line's number
+-- "a first line with the window k, 1 to 64"
 unfoldable pub stepWindow : ℕ → Step
 stepWindow k = if leb 1 k && leb k 64 then taken (record { window = k; lengths = [] }) else refuse 4
 
--- a length
+-- "one number 0 to 1,000 a line, at most 1,000,000 lines"
 unfoldable pub stepLength : Run → ℕ → Step
 stepLength r x =
     if leb x 1000 && ltb (length (r .lengths)) 1000000 then taken (record { window = r .window; lengths = r .lengths ++ (x ∷ []) })
@@ -38,12 +38,12 @@ step run none = refuse 3
 step none (some k) = stepWindow k
 step (some r) (some x) = stepLength r x
 
--- 25 where there are fewer lengths than the window has
+-- 25, "fewer than k lengths"; else "the largest sum of k neighbouring lengths and the number, from 1, of the first stitch"
 unfoldable pub onLoad : Option Load → Verdict
 onLoad none = refusal 25
 onLoad (some l) = answer (spellNumber (l .total) ++ bytes " " ++ spellNumber (l .first) ++ bytes "\n")
 
--- behind line n - 1 the text ends; without a first line this is 3 at line 1
+-- behind line n - 1 the text ends; "No first line is 3 at line 1"
 unfoldable pub atEnd : ℕ → Option Run → Verdict
 atEnd n none = refusalAt 3 n
 atEnd n (some r) = onLoad (load (r .window) (r .lengths))

@@ -1,4 +1,4 @@
--- The running record after a list of lengths: each of its fields by the list.
+-- Document 02, F-14: "The running record takes one length at a time". What it is after a list of lengths: each of its fields by the list.
 use Prim.Native.Nat.{ℕ, suc, _+_, _-_, _%_, _≤_}
 use mathlib.Core.Path.{_≡_}
 use mathlib.Core.Option.{Option, none, some}
@@ -40,7 +40,7 @@ windowOf k xs = record {
   first = firstOf (load k xs);
 }
 
--- at most 1,000,000 lengths of at most 1,000 each, and a window of 1 to 64
+-- "every list of at most 1,000,000 such lengths", of at most 1,000 each, and a window of 1 to 64
 pub record Lengths (k : ℕ) (xs : List ℕ) : Type 0 where
   pub narrow : 1 ≤ k
   pub wide : k ≤ 64

@@ -24,7 +24,7 @@ pub record Load : Type 0 where
 unfoldable pub runAt : ℕ → List ℕ → ℕ → Load
 runAt k xs i = record { total = runSum k xs i; first = suc i }
 
--- a later run takes the place of an earlier one only where its sum is larger
+-- "the earliest such window": a later run takes the place of an earlier one only where its sum is larger
 unfoldable pub better : Load → Load → Load
 better a b = if ltb (a .total) (b .total) then b else a
 
@@ -33,7 +33,7 @@ unfoldable pub bestOf : ℕ → List ℕ → ℕ → Load
 bestOf k xs zero = runAt k xs 0
 bestOf k xs (suc n) = better (bestOf k xs n) (runAt k xs (suc n))
 
--- over all runs of k neighbours; there is none where there are fewer than k lengths
+-- "the definition over all runs of k neighbours"; there is none where there are fewer than k lengths
 unfoldable pub load : ℕ → List ℕ → Option Load
 load k xs = if ltb (length xs) k then none else some (bestOf k xs (length xs - k))
 

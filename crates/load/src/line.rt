@@ -17,6 +17,7 @@ pub enum Line {
     Bad,
 }
 
+// The line after its first byte.
 fn first_byte(b: u8) -> Line
     ensures { λ r. ⌜ r ≡ firstByte b ⌝ }
 {
@@ -26,7 +27,7 @@ fn first_byte(b: u8) -> Line
     Line::Number(digit(b))
 }
 
-// No digit follows a leading zero.
+// A number with one digit more; none may follow a leading zero.
 fn with_digit(n: u64, b: u8) -> Line
     ensures { λ r. ⌜ r ≡ withDigit n b ⌝ }
 {
@@ -39,6 +40,7 @@ fn with_digit(n: u64, b: u8) -> Line
     Line::Number(at_most(n, 1000000) * 10 + digit(b))
 }
 
+// The line after one byte more.
 pub fn with_byte(line: Line, b: u8) -> Line
     ensures { λ r. ⌜ r ≡ withByte line b ⌝ }
 {
@@ -60,6 +62,7 @@ pub fn value(line: Line) -> Num
     }
 }
 
+// Whether no byte of the line has come yet.
 pub fn is_empty(line: Line) -> bool
     ensures { λ r. ⌜ r ≡ isEmpty line ⌝ }
 {

@@ -51,6 +51,7 @@ pub fn start() -> Reader
     }
 }
 
+// A reader that has refused its text.
 fn refused(number: u64, place: u64) -> Reader
     ensures { λ r. ⌜ r ≡ stateOf (refusedAt number place) ⌝ }
 {
@@ -62,7 +63,7 @@ fn refused(number: u64, place: u64) -> Reader
     }
 }
 
-// A new line, or a refusal's number and line.
+// The state between two lines; or a refusal's number and line.
 fn after_line(number: u64, place: u64, tally: Tally) -> State
     ensures { λ r. ⌜ r ≡ afterLine number place tally ⌝ }
 {
@@ -84,6 +85,7 @@ fn line_number(t: Tally) -> u64
     at_most(t.count, 1000000) + 2
 }
 
+// The state after the first line, which gives the window: 1 to 64, else 4.
 fn first_line(t: Tally, n: u64) -> State
     ensures { λ r. ⌜ FirstLine n (readerWith r emptyRing) ⌝ }
 {
@@ -100,6 +102,7 @@ fn first_line(t: Tally, n: u64) -> State
     after_line(0, 0, fresh)
 }
 
+// The state after a length: 0 to 1,000, and no more than 1,000,000 of them, else 4.
 fn length_line(t: Tally, recent: &mut [u16; 64], n: u64) -> State
     ensures { λ r. ⌜ LengthLine (withRing t (now (recent .entry))) n (readerWith r (now (recent .exit))) ⌝ }
 {
@@ -114,7 +117,7 @@ fn length_line(t: Tally, recent: &mut [u16; 64], n: u64) -> State
     after_line(4, line_number(t), t)
 }
 
-// The line has ended.
+// The state once the line has ended.
 fn ended(t: Tally, recent: &mut [u16; 64], line: Line) -> State
     ensures { λ r. ⌜ Ended (withRing t (now (recent .entry))) line (readerWith r (now (recent .exit))) ⌝ }
 {
@@ -127,7 +130,7 @@ fn ended(t: Tally, recent: &mut [u16; 64], line: Line) -> State
     length_line(t, recent, n)
 }
 
-// One byte more.
+// The state after one byte more.
 fn byte_read(t: Tally, recent: &mut [u16; 64], line: Line, b: u8) -> State
     ensures { λ r. ⌜ ByteRead (withRing t (now (recent .entry))) line b (readerWith r (now (recent .exit))) ⌝ }
 {

@@ -14,7 +14,7 @@ fn print_answer(s: Reader, name: &[u8]) {
     io::write_all(STDOUT_FILENO, &out[..end]);
 }
 
-// A proved loop has to end: no run uses up the turns.
+// A proved loop has to end, so that its turns are counted; no run uses them up.
 fn print_input(fd: i32, name: &[u8]) {
     let mut piece: [u8; 7] = [0; 7];
     let mut s = start();

@@ -3,6 +3,8 @@
 ghost use mathlib.Core.Bool.{false};
 ghost use Prim.Native.Nat.{_≤_};
 ghost use lib.ListN.{length};
+ghost use Rattle.sheet.specs.Sizes.{leastOutput, leastWords, mostRules};
+ghost use Rattle.board.specs.Calls.{leastBoard};
 ghost use Rattle.tables.specs.Layout.{Fine};
 ghost use Rattle.rules.specs.Accepted.{KnownTyped};
 ghost use Rattle.report.specs.Passes.{RoomForAll};
@@ -14,10 +16,10 @@ use report::report_sheet;
 use tables::Counts;
 use types::classes::wide;
 
-// Where the lines of each rule end. They are counted once more, each formed in the bytes of `line`.
+// Puts into `ends` where the lines of each rule end. They are counted once more, each formed in the bytes of `line`.
 fn rule_ends(w0: &[u64], st: Counts, w1: &[u64], w2: &mut [u64], line: &mut [u8], ends: &mut [u64])
-    requires { ⌜ (8192 ≤ length (now w0)) × (8192 ≤ length (now w1)) × (8192 ≤ length (now w2)) ⌝ }
-    requires { ⌜ RoomForAll false st (now w0) (now w1) false (length (now line)) × Fine st × (64 ≤ length (now ends)) ⌝ }
+    requires { ⌜ (leastWords ≤ length (now w0)) × (leastWords ≤ length (now w1)) × (leastWords ≤ length (now w2)) ⌝ }
+    requires { ⌜ RoomForAll false st (now w0) (now w1) false (length (now line)) × Fine st × (mostRules ≤ length (now ends)) ⌝ }
     ensures { λ _. ⌜ EndsOfRules st (now (w0 .entry)) (now (w1 .entry)) (now (w2 .entry)) (now (w2 .exit)) (now (ends .exit)) ⌝ }
 {
     let rules = wide(st.rules);
@@ -30,7 +32,7 @@ fn rule_ends(w0: &[u64], st: Counts, w1: &[u64], w2: &mut [u64], line: &mut [u8]
     }
 }
 
-// The board of the accepted sheet, or nothing written where the verdicts are longer than `out`.
+// Makes the board of the accepted sheet. Nothing is written where the verdicts are longer than `out`.
 pub fn make_board(
     w0: &[u64],
     st: Counts,
@@ -39,15 +41,15 @@ pub fn make_board(
     out: &mut [u8],
     words: &mut [u64],
 ) -> Reported
-    requires { ⌜ (8192 ≤ length (now w0)) × (8192 ≤ length (now w1)) × (8192 ≤ length (now w2)) × (8192 ≤ length (now words)) ⌝ }
-    requires { ⌜ KnownTyped st (now w0) (now w1) (now w2) × (2560 ≤ length (now out)) ⌝ }
+    requires { ⌜ (leastWords ≤ length (now w0)) × (leastWords ≤ length (now w1)) × (leastWords ≤ length (now w2)) × (leastBoard ≤ length (now words)) ⌝ }
+    requires { ⌜ KnownTyped st (now w0) (now w1) (now w2) × (leastOutput ≤ length (now out)) ⌝ }
     ensures { λ r. ⌜ MakesBoard st (now (w0 .entry)) (now (w1 .entry)) (now (w2 .entry)) (now (w2 .exit)) (now (out .entry)) (now (out .exit)) (now (words .entry)) (now (words .exit)) r ⌝ }
 {
     match report_sheet(w0, st, w1, w2, out) {
         Reported::Short => Reported::Short,
         Reported::Written(n) => {
-            let mut line = [0u8; 2560];
-            let mut ends = [0u64; 64];
+            let mut line = [0u8; memory::LEAST_OUTPUT];
+            let mut ends = [0u64; memory::MOST_RULES as usize];
             rule_ends(w0, st, w1, w2, &mut line, &mut ends);
             store_board(w0, st, &ends, words);
             Reported::Written(n)

@@ -13,7 +13,7 @@ unfoldable pub joined : (ℕ → Bytes) → ℕ → Bytes
 joined f zero = []
 joined f (suc n) = joined f n ++ f n
 
--- ---- t tells which pieces are new
+-- ---- t names the pieces that are new
 
 -- the old ones that stay; a new one leaves nothing
 abbrev pub staying : (ℕ → Bool) → (ℕ → Bytes) → ℕ → Bytes

@@ -2,12 +2,13 @@
 ghost use mathlib.Core.Path.{_≡_};
 ghost use Prim.Native.Nat.{_-_, _<_, _≤_};
 ghost use lib.ListN.{length, getD};
+ghost use Rattle.sheet.specs.Sizes.{mostRules};
 ghost use Rattle.rows.specs.Bits.{bit};
 ghost use Rattle.moves.specs.Joined.{startIn, stayingSize, Told};
 use rows::seen::has_row;
 use types::classes::wide;
 
-// Where piece r begins: where the one before it ends.
+// Where piece r begins: where the piece before it ends.
 pub fn start_of(ends: &[u64], r: usize) -> usize
     requires { ⌜ r ≤ length (now ends) ⌝ }
     ensures { λ n. ⌜ n ≡ startIn (now (ends .entry)) r ⌝ }
@@ -18,6 +19,7 @@ pub fn start_of(ends: &[u64], r: usize) -> usize
     wide(ends[r - 1])
 }
 
+// How long piece r is.
 pub fn piece_size(ends: &[u64], r: usize) -> usize
     requires { ⌜ (r < length (now ends)) × (startIn (now ends) r ≤ getD (now ends) r 0) ⌝ }
     ensures { λ n. ⌜ n ≡ getD (now (ends .entry)) r 0 - startIn (now (ends .entry)) r ⌝ }
@@ -25,9 +27,9 @@ pub fn piece_size(ends: &[u64], r: usize) -> usize
     wide(ends[r]) - start_of(ends, r)
 }
 
-// The same, and 0 if the word names the piece.
+// How long piece r is, or 0 if it is among the new ones, which the bits of `new` name.
 pub fn staying_size(ends: &[u64], r: usize, new: u64) -> usize
-    requires { ⌜ (r < 64) × (r < length (now ends)) × (startIn (now ends) r ≤ getD (now ends) r 0) ⌝ }
+    requires { ⌜ (r < mostRules) × (r < length (now ends)) × (startIn (now ends) r ≤ getD (now ends) r 0) ⌝ }
     ensures { λ n. ⌜ n ≡ stayingSize (now (ends .entry)) (bit new) r ⌝ }
 {
     if has_row(new, r as u64) {
@@ -36,7 +38,7 @@ pub fn staying_size(ends: &[u64], r: usize, new: u64) -> usize
     piece_size(ends, r)
 }
 
-// Whether the words can be the ends of n pieces in these bytes: none is before the one ahead of it, and the last is within.
+// Whether the words can be the ends of n pieces in these bytes: none is before the end of the piece in front of it, and the last fits.
 pub fn can_stand(ends: &[u64], n: usize, out: &[u8]) -> bool
     requires { ⌜ n ≤ length (now ends) ⌝ }
     ensures { λ r. ⌜ Told (now (ends .entry)) (now (out .entry)) n r ⌝ }

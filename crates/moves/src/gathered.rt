@@ -1,6 +1,7 @@
 // The pieces that stay, gathered in front.
 ghost use Prim.Native.Nat.{_≤_};
 ghost use lib.ListN.{length};
+ghost use Rattle.sheet.specs.Sizes.{mostRules};
 ghost use Rattle.rows.specs.Bits.{bit};
 ghost use Rattle.moves.specs.Joined.{Standing};
 ghost use Rattle.moves.specs.Moves.{Gathers};
@@ -8,9 +9,9 @@ use crate::ends::start_of;
 use crate::ends::staying_size;
 use crate::shifted::shift_left;
 
-// The pieces that the word does not name are put one behind the other. None moves to the right, so each is found where it was.
+// Puts the pieces that stay one behind the other. None moves to the right, so that each is still found where it was.
 pub fn gather(ends: &[u64], n: usize, new: u64, out: &mut [u8])
-    requires { ⌜ (n ≤ 64) × (n ≤ length (now ends)) × Standing (now ends) (now out) n ⌝ }
+    requires { ⌜ (n ≤ mostRules) × (n ≤ length (now ends)) × Standing (now ends) (now out) n ⌝ }
     ensures { λ _. ⌜ Gathers (now (ends .entry)) n (bit new) (now (out .entry)) (now (out .exit)) ⌝ }
 {
     let mut at: usize = 0;

@@ -1,13 +1,14 @@
 // Where the pieces end once the new ones have arrived.
 ghost use Prim.Native.Nat.{_≤_};
 ghost use lib.ListN.{length};
+ghost use Rattle.sheet.specs.Sizes.{mostRules};
 ghost use Rattle.rows.specs.Bits.{bit};
 ghost use Rattle.moves.specs.Joined.{Rising};
 ghost use Rattle.moves.specs.Moves.{Places};
 use crate::ends::piece_size;
 use crate::ends::staying_size;
 
-// Puts the ends of all pieces into `placed`, the new ones where `fresh` tells how long they are; or they are longer than the room.
+// Puts the ends of all pieces into `placed`, where `fresh` has the ends of the new ones alone. False if all are longer than the room.
 pub fn place(
     ends: &[u64],
     fresh: &[u64],
@@ -16,7 +17,7 @@ pub fn place(
     room: usize,
     placed: &mut [u64],
 ) -> bool
-    requires { ⌜ (n ≤ 64) × (n ≤ length (now ends)) × (n ≤ length (now fresh)) × (n ≤ length (now placed)) ⌝ }
+    requires { ⌜ (n ≤ mostRules) × (n ≤ length (now ends)) × (n ≤ length (now fresh)) × (n ≤ length (now placed)) ⌝ }
     requires { ⌜ Rising (now ends) n × Rising (now fresh) n ⌝ }
     ensures { λ r. ⌜ Places (now (ends .entry)) (now (fresh .entry)) n (bit new) room (now (placed .entry)) (now (placed .exit)) r ⌝ }
 {

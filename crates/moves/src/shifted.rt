@@ -5,7 +5,7 @@ ghost use lib.ListN.{length};
 ghost use Rattle.text.specs.Written.{putBytes};
 ghost use Rattle.moves.specs.Moves.{part};
 
-// The n bytes from `from` on, put at `to`, which does not come after it.
+// Moves the n bytes from `from` on to `to`, which does not come after it.
 pub fn shift_left(out: &mut [u8], from: usize, to: usize, n: usize)
     requires { ⌜ (to ≤ from) × (from + n ≤ length (now out)) ⌝ }
     ensures { λ _. ⌜ now (out .exit) ≡ putBytes to (part from n (now (out .entry))) (now (out .entry)) ⌝ }

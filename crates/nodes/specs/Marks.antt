@@ -5,23 +5,25 @@ use mathlib.Core.Path.{_≡_}
 use Prim.Native.Nat.{ℕ, _+_, _%_}
 use lib.Dec.{ltb}
 use Rattle.laws.specs.Choice.{if_then_else_}
+use Rattle.memory.specs.Map as memory
 use Rattle.ocl.specs.Types.{Kind, sequence, bag, sameKind}
 use Rattle.ocl.specs.Marks.{Scale, integers, reals, Mark, ofRow, ofRows, ofNumbers, rowMarked, kindMarked, scaleMarked}
+use Rattle.sheet.specs.Sizes.{mostRows}
 
 unfoldable pub markWord : Mark → ℕ
 markWord (ofRow i) = i
-markWord (ofRows k i) = if sameKind k sequence then 64 + i else i
+markWord (ofRows k i) = if sameKind k sequence then memory.markSequence + i else i
 markWord (ofNumbers integers) = 0
-markWord (ofNumbers reals) = 128
+markWord (ofNumbers reals) = memory.markReals
 
 unfoldable pub kindIn : ℕ → Kind
-kindIn word = if ltb (word % 128) 64 then bag else sequence
+kindIn word = if ltb (word % memory.markReals) memory.markSequence then bag else sequence
 
 unfoldable pub scaleIn : ℕ → Scale
-scaleIn word = if ltb word 128 then integers else reals
+scaleIn word = if ltb word memory.markReals then integers else reals
 
 -- what evaluation reads in the word of a mark
 pub record Marked (word : ℕ) (m : Mark) : Type 0 where
-  pub row : rowMarked m ≡ word % 64
+  pub row : rowMarked m ≡ word % mostRows
   pub kind : kindMarked m ≡ kindIn word
   pub scale : scaleMarked m ≡ scaleIn word

@@ -7,6 +7,8 @@ use Prim.Native.Nat.{ℕ, zero, suc, _+_, _*_, _%_}
 use lib.ListN.{length, getD}
 use lib.Dec.{eqb, ltb}
 use Rattle.laws.specs.Choice.{if_then_else_}
+use Rattle.memory.specs.Map as memory
+use Rattle.memory.specs.Codes as code
 use Rattle.reals.specs.Words.{cell, numberIn}
 use Rattle.ocl.specs.Types.{Kind, set, sequence, bag, Ty}
 use Rattle.ocl.specs.Forms.{Arith, plus, minus, times, Division, div, modulo, Connective, and, or, Quantifier, forAll, exists, Access, ofObject, ofMembers, Leaf, truth, undef, number, self, var, all, Unary, negation, sizeOf, convert, castTo, Binary, equal, less, arith, divide, over, includes, including, union, Expr, node, Form, leaf, unary, binary, connective, isUndef, conditional, letIn, attribute, call, quantified, iterate, assemble, Operands, noOperand, operand, Definition}
@@ -15,7 +17,7 @@ use Rattle.types.specs.Word.{typeIn}
 
 -- word k of node n
 abbrev pub word : List ℕ → ℕ → ℕ → ℕ
-word t n k = getD t (8 * n + k) 0
+word t n k = getD t (memory.nodeWords * n + k) 0
 
 -- a variable's number, which an accepted sheet has below 16
 abbrev pub variable : ℕ → ℕ
@@ -27,62 +29,62 @@ classIn w = w % 256
 
 -- ---- a form by its code k and its words w
 
--- codes 0 to 6
+-- leaves
 unfoldable pub leafOf : ℕ → (ℕ → ℕ) → Leaf
 leafOf k w =
-    if eqb k 0 then truth false
-    else if eqb k 1 then truth true
-    else if eqb k 2 then undef
-    else if eqb k 3 then number (numberIn (w 1))
-    else if eqb k 4 then self
-    else if eqb k 5 then var (variable (w 1))
+    if eqb k code.false then truth false
+    else if eqb k code.true then truth true
+    else if eqb k code.undef then undef
+    else if eqb k code.number then number (numberIn (w 1))
+    else if eqb k code.self then self
+    else if eqb k code.var then var (variable (w 1))
     else all (classIn (w 1))
 
--- codes 7 to 12
+-- unary forms
 unfoldable pub unaryOf : ℕ → (ℕ → ℕ) → Unary
 unaryOf k w =
-    if eqb k 7 then negation
-    else if eqb k 8 then sizeOf
-    else if eqb k 9 then convert set
-    else if eqb k 10 then convert sequence
-    else if eqb k 11 then convert bag
+    if eqb k code.negation then negation
+    else if eqb k code.sizeOf then sizeOf
+    else if eqb k code.toSet then convert set
+    else if eqb k code.toSequence then convert sequence
+    else if eqb k code.toBag then convert bag
     else castTo (classIn (w 2))
 
--- codes 15 to 17 of the binary forms
+-- binary forms: arithmetic
 unfoldable pub arithByCode : ℕ → Arith
-arithByCode k = if eqb k 15 then plus else if eqb k 16 then minus else times
+arithByCode k = if eqb k code.plus then plus else if eqb k code.minus then minus else times
 
--- codes 18 and 19
+-- division
 unfoldable pub divisionByCode : ℕ → Division
-divisionByCode k = if eqb k 18 then div else modulo
+divisionByCode k = if eqb k code.div then div else modulo
 
--- codes 13 to 22, and 37
+-- all of them; the last one has a code far from the others
 unfoldable pub binaryOf : ℕ → Binary
 binaryOf k =
-    if eqb k 13 then equal
-    else if eqb k 14 then less
-    else if ltb k 18 then arith (arithByCode k)
-    else if ltb k 20 then divide (divisionByCode k)
-    else if eqb k 20 then includes
-    else if eqb k 21 then including
-    else if eqb k 37 then over
+    if eqb k code.equal then equal
+    else if eqb k code.less then less
+    else if ltb k code.div then arith (arithByCode k)
+    else if ltb k code.includes then divide (divisionByCode k)
+    else if eqb k code.includes then includes
+    else if eqb k code.including then including
+    else if eqb k code.over then over
     else union
 
--- codes 23 and 24
+-- connectives
 unfoldable pub connectiveOf : ℕ → Connective
-connectiveOf k = if eqb k 23 then and else or
+connectiveOf k = if eqb k code.and then and else or
 
--- codes 25 and 26
+-- quantifiers
 unfoldable pub quantifierOf : ℕ → Quantifier
-quantifierOf k = if eqb k 25 then forAll else exists
+quantifierOf k = if eqb k code.forAll then forAll else exists
 
--- codes 27 to 29
+-- collections that are written out
 unfoldable pub kindOf : ℕ → Kind
-kindOf k = if eqb k 27 then set else if eqb k 28 then sequence else bag
+kindOf k = if eqb k code.set then set else if eqb k code.sequence then sequence else bag
 
--- codes 33 and 34
+-- rows
 unfoldable pub accessOf : ℕ → Access
-accessOf k = if eqb k 33 then ofObject else ofMembers
+accessOf k = if eqb k code.ofObject then ofObject else ofMembers
 
 -- the first c operands, from word k on
 unfoldable pub operandsIn : (ℕ → Expr) → (ℕ → ℕ) → ℕ → ℕ → Operands
@@ -92,19 +94,19 @@ operandsIn f w (suc c) k = operand (f (w k)) (operandsIn f w c (k + 1))
 -- over the trees f of the nodes before it; what no accepted sheet has counts as `undef`
 unfoldable pub formOf : (ℕ → Expr) → (ℕ → ℕ) → ℕ → Form
 formOf f w k =
-    if ltb 37 k then leaf undef
-    else if ltb k 7 then leaf (leafOf k w)
-    else if ltb k 13 then unary (unaryOf k w) (f (w 1))
-    else if ltb k 23 then binary (binaryOf k) (f (w 1)) (f (w 2))
-    else if ltb k 25 then connective (connectiveOf k) (f (w 1)) (f (w 2))
-    else if ltb k 27 then quantified (quantifierOf k) (variable (w 3)) (f (w 1)) (f (w 2))
-    else if ltb k 30 then (if ltb 4 (w 5) then leaf undef else assemble (kindOf k) (operandsIn f w (w 5) 1))
-    else if eqb k 30 then isUndef (f (w 1))
-    else if eqb k 31 then conditional (f (w 1)) (f (w 2)) (f (w 3))
-    else if eqb k 32 then letIn (variable (w 3)) (f (w 1)) (f (w 2))
-    else if ltb k 35 then attribute (accessOf k) (w 2) (f (w 1))
-    else if eqb k 35 then iterate (variable (w 4)) (variable (w 5)) (typeIn (w 6)) (f (w 1)) (f (w 2)) (f (w 3))
-    else if eqb k 36 then call (classIn (w 3)) (typeIn (w 4)) (f (w 1)) (f (w 2))
+    if ltb code.over k then leaf undef
+    else if ltb k code.negation then leaf (leafOf k w)
+    else if ltb k code.equal then unary (unaryOf k w) (f (w 1))
+    else if ltb k code.and then binary (binaryOf k) (f (w 1)) (f (w 2))
+    else if ltb k code.forAll then connective (connectiveOf k) (f (w 1)) (f (w 2))
+    else if ltb k code.set then quantified (quantifierOf k) (variable (w 3)) (f (w 1)) (f (w 2))
+    else if ltb k code.isUndef then (if ltb 4 (w 5) then leaf undef else assemble (kindOf k) (operandsIn f w (w 5) 1))
+    else if eqb k code.isUndef then isUndef (f (w 1))
+    else if eqb k code.conditional then conditional (f (w 1)) (f (w 2)) (f (w 3))
+    else if eqb k code.letIn then letIn (variable (w 3)) (f (w 1)) (f (w 2))
+    else if ltb k code.iterate then attribute (accessOf k) (w 2) (f (w 1))
+    else if eqb k code.iterate then iterate (variable (w 4)) (variable (w 5)) (typeIn (w 6)) (f (w 1)) (f (w 2)) (f (w 3))
+    else if eqb k code.call then call (classIn (w 3)) (typeIn (w 4)) (f (w 1)) (f (w 2))
     else binary (binaryOf k) (f (w 1)) (f (w 2))
 
 -- the trees of the nodes below n; an operand that is not smaller, which no accepted sheet has, counts as `undef` at node 0
@@ -126,58 +128,58 @@ pub record Called : Type 0 where
   pub type : ℕ
 
 unfoldable pub leafWords : Leaf → ℕ × ℕ
-leafWords (truth false) = (0, 0)
-leafWords (truth true) = (1, 0)
-leafWords undef = (2, 0)
-leafWords (number x) = (3, cell x)
-leafWords self = (4, 0)
-leafWords (var i) = (5, i)
-leafWords (all c) = (6, c)
+leafWords (truth false) = (code.false, 0)
+leafWords (truth true) = (code.true, 0)
+leafWords undef = (code.undef, 0)
+leafWords (number x) = (code.number, cell x)
+leafWords self = (code.self, 0)
+leafWords (var i) = (code.var, i)
+leafWords (all c) = (code.all, c)
 
 -- a code, and a class where the form has one
 unfoldable pub unaryWords : Unary → ℕ × ℕ
-unaryWords negation = (7, 0)
-unaryWords sizeOf = (8, 0)
-unaryWords (convert set) = (9, 0)
-unaryWords (convert sequence) = (10, 0)
-unaryWords (convert bag) = (11, 0)
-unaryWords (castTo c) = (12, c)
+unaryWords negation = (code.negation, 0)
+unaryWords sizeOf = (code.sizeOf, 0)
+unaryWords (convert set) = (code.toSet, 0)
+unaryWords (convert sequence) = (code.toSequence, 0)
+unaryWords (convert bag) = (code.toBag, 0)
+unaryWords (castTo c) = (code.castTo, c)
 
 unfoldable pub arithCode : Arith → ℕ
-arithCode plus = 15
-arithCode minus = 16
-arithCode times = 17
+arithCode plus = code.plus
+arithCode minus = code.minus
+arithCode times = code.times
 
 unfoldable pub divisionCode : Division → ℕ
-divisionCode div = 18
-divisionCode modulo = 19
+divisionCode div = code.div
+divisionCode modulo = code.modulo
 
 unfoldable pub binaryCode : Binary → ℕ
-binaryCode equal = 13
-binaryCode less = 14
+binaryCode equal = code.equal
+binaryCode less = code.less
 binaryCode (arith o) = arithCode o
 binaryCode (divide o) = divisionCode o
-binaryCode over = 37
-binaryCode includes = 20
-binaryCode including = 21
-binaryCode union = 22
+binaryCode over = code.over
+binaryCode includes = code.includes
+binaryCode including = code.including
+binaryCode union = code.union
 
 unfoldable pub connectiveCode : Connective → ℕ
-connectiveCode and = 23
-connectiveCode or = 24
+connectiveCode and = code.and
+connectiveCode or = code.or
 
 unfoldable pub quantifierCode : Quantifier → ℕ
-quantifierCode forAll = 25
-quantifierCode exists = 26
+quantifierCode forAll = code.forAll
+quantifierCode exists = code.exists
 
 unfoldable pub accessCode : Access → ℕ
-accessCode ofObject = 33
-accessCode ofMembers = 34
+accessCode ofObject = code.ofObject
+accessCode ofMembers = code.ofMembers
 
 unfoldable pub assembleCode : Kind → ℕ
-assembleCode set = 27
-assembleCode sequence = 28
-assembleCode bag = 29
+assembleCode set = code.set
+assembleCode sequence = code.sequence
+assembleCode bag = code.bag
 
 -- operand k, of those that there are
 unfoldable pub operandWord : ℕ → List ℕ → ℕ → ℕ
@@ -188,13 +190,13 @@ shapeWords first type d line (Shape.leaf l) = leafWords l .0 ∷ leafWords l .1 
 shapeWords first type d line (Shape.unary op a) = unaryWords op .0 ∷ (first + a) ∷ unaryWords op .1 ∷ 0 ∷ 0 ∷ 0 ∷ 0 ∷ line ∷ []
 shapeWords first type d line (Shape.binary op a b) = binaryCode op ∷ (first + a) ∷ (first + b) ∷ 0 ∷ 0 ∷ 0 ∷ 0 ∷ line ∷ []
 shapeWords first type d line (Shape.connective c a b) = connectiveCode c ∷ (first + a) ∷ (first + b) ∷ 0 ∷ 0 ∷ 0 ∷ 0 ∷ line ∷ []
-shapeWords first type d line (Shape.isUndef a) = 30 ∷ (first + a) ∷ 0 ∷ 0 ∷ 0 ∷ 0 ∷ 0 ∷ line ∷ []
-shapeWords first type d line (Shape.conditional c a b) = 31 ∷ (first + c) ∷ (first + a) ∷ (first + b) ∷ 0 ∷ 0 ∷ 0 ∷ line ∷ []
-shapeWords first type d line (Shape.letIn i a b) = 32 ∷ (first + a) ∷ (first + b) ∷ i ∷ 0 ∷ 0 ∷ 0 ∷ line ∷ []
+shapeWords first type d line (Shape.isUndef a) = code.isUndef ∷ (first + a) ∷ 0 ∷ 0 ∷ 0 ∷ 0 ∷ 0 ∷ line ∷ []
+shapeWords first type d line (Shape.conditional c a b) = code.conditional ∷ (first + c) ∷ (first + a) ∷ (first + b) ∷ 0 ∷ 0 ∷ 0 ∷ line ∷ []
+shapeWords first type d line (Shape.letIn i a b) = code.letIn ∷ (first + a) ∷ (first + b) ∷ i ∷ 0 ∷ 0 ∷ 0 ∷ line ∷ []
 shapeWords first type d line (Shape.attribute x name a) = accessCode x ∷ (first + a) ∷ name ∷ 0 ∷ 0 ∷ 0 ∷ 0 ∷ line ∷ []
-shapeWords first type d line (Shape.call a n) = 36 ∷ (first + a) ∷ d .root ∷ d .context ∷ d .type ∷ 0 ∷ 0 ∷ line ∷ []
+shapeWords first type d line (Shape.call a n) = code.call ∷ (first + a) ∷ d .root ∷ d .context ∷ d .type ∷ 0 ∷ 0 ∷ line ∷ []
 shapeWords first type d line (Shape.quantified q i a b) = quantifierCode q ∷ (first + a) ∷ (first + b) ∷ i ∷ 0 ∷ 0 ∷ 0 ∷ line ∷ []
-shapeWords first type d line (Shape.iterate i j t a e b) = 35 ∷ (first + a) ∷ (first + e) ∷ (first + b) ∷ i ∷ j ∷ type ∷ line ∷ []
+shapeWords first type d line (Shape.iterate i j t a e b) = code.iterate ∷ (first + a) ∷ (first + e) ∷ (first + b) ∷ i ∷ j ∷ type ∷ line ∷ []
 shapeWords first type d line (Shape.assemble k es) =
     assembleCode k ∷ operandWord first es 0 ∷ operandWord first es 1 ∷ operandWord first es 2 ∷ operandWord first es 3 ∷ length es ∷ 0 ∷ line ∷ []
 

@@ -8,6 +8,7 @@ use native.Mathlib.Decide.{decLt}
 use lib.ListN.{length, getD, take, drop, set, length-set, length-append, length-drop}
 use lib.Seq.{length-take-le, drop-at, getD-drop, take-set-le, drop-set-lt, getD-set-same, getD-set-other}
 use Rattle.laws.proofs.Parts.{part-all}
+use Rattle.memory.specs.Map as memory
 use Rattle.ocl.specs.Types.{Class}
 use Rattle.ocl.specs.Environment.{start}
 use Rattle.ocl.specs.Model.{Schema}
@@ -36,11 +37,11 @@ then-kept a b = record { rest = b .rest ∙ a .rest; size = b .size ∙ a .size 
 module _ (w0 : List ℕ) (classes rows : ℕ) (w1 : List ℕ) (root context best : ℕ) (before part : List ℕ) (r : ℕ) where
   -- what is said of the first 768 words, of the whole
   pub root-found : (env : TypeEnv) → 8192 ≤ length before → length part ≡ length (take 768 before) → envOf env ≡ start (Class context)
-      → Finds (nodesIn w1) (take (length w1 - 6912) (drop 6912 w1)) (take classes w0) w0 rows root (λ k. outside k (treeAt (nodesIn w1) root) (envOf env)) best r
+      → Finds (nodesIn w1) (take (length w1 - memory.depths) (drop memory.depths w1)) (take classes w0) w0 rows root (λ k. outside k (treeAt (nodesIn w1) root) (envOf env)) best r
       → FindsRoot w0 classes rows w1 root context best before (part ++ drop 768 before) r
   unfolding outsideRule
   root-found env room size e d = record {
-    found = record { at = λ k h m. d .at k h (subst (λ l. CallsTold (nodesIn w1) l k (suc root)) (sym (part-all w1 6912)) m) ∙ rw e };
+    found = record { at = λ k h m. d .at k h (subst (λ l. CallsTold (nodesIn w1) l k (suc root)) (sym (part-all w1 memory.depths)) m) ∙ rw e };
     kept = record {
       rest = drop-at part (drop 768 before) 768 (size ∙ length-take-le 768 before (omega arith));
       size = let l = length-take-le 768 before (omega arith) in simp (length-append, length-drop) (omega arith);
@@ -93,17 +94,17 @@ tell-none w0 classes rows w1 w2 = record {
 }
 
 pub tell-more : {w0 : List ℕ} {classes rows : ℕ} {u1 v1 u2 v2 x2 : List ℕ} {n : ℕ} (r : ℕ) → 8192 ≤ length u1 → n < 768 → Telling w0 classes rows u1 v1 u2 v2 n
-    → FindsCalled w0 classes rows v1 n v2 x2 r → Telling w0 classes rows u1 (set v1 (6912 + n) r) u2 x2 (n + 1)
+    → FindsCalled w0 classes rows v1 n v2 x2 r → Telling w0 classes rows u1 (set v1 (memory.depths + n) r) u2 x2 (n + 1)
 tell-more {v1 = v1} {n = n} r room h c d =
-    let y = set v1 (6912 + n) r in
-    let same : nodesIn y ≡ nodesIn v1 = take-set-le 6144 v1 (6912 + n) r (omega arith) in
+    let y = set v1 (memory.depths + n) r in
+    let same : nodesIn y ≡ nodesIn v1 = take-set-le memory.nodesEnd v1 (memory.depths + n) r (omega arith) in
     record {
       told = λ k q. subst (λ t. CallsTold t (leastIn y) k (n + 1)) (sym same) (calls-more (c .told k q)
-          (λ m l. getD-drop 6912 y m 0 ∙ getD-set-other v1 (6912 + n) (6912 + m) r 0 (λ e. absurd (omega arith)) ∙ sym (getD-drop 6912 v1 m 0))
-          (getD-drop 6912 y n 0 ∙ getD-set-same v1 (6912 + n) r 0 (omega (arith, c .kept1 .size)))
+          (λ m l. getD-drop memory.depths y m 0 ∙ getD-set-other v1 (memory.depths + n) (memory.depths + m) r 0 (λ e. absurd (omega arith)) ∙ sym (getD-drop memory.depths v1 m 0))
+          (getD-drop memory.depths y n 0 ∙ getD-set-same v1 (memory.depths + n) r 0 (omega (arith, c .kept1 .size)))
           (d .found k q (c .told k q)));
       nodes = same ∙ c .nodes;
-      kept1 = record { size = length-set v1 (6912 + n) r ∙ c .kept1 .size; rest = drop-set-lt 8192 v1 (6912 + n) r (omega arith) ∙ c .kept1 .rest };
+      kept1 = record { size = length-set v1 (memory.depths + n) r ∙ c .kept1 .size; rest = drop-set-lt 8192 v1 (memory.depths + n) r (omega arith) ∙ c .kept1 .rest };
       kept = then-kept (c .kept) (d .kept);
     }
 
@@ -117,10 +118,10 @@ tell-done {w0 = w0} e f h c = record {
 }
 
 module _ {st : Counts} {w0 : List ℕ} {rules r : ℕ} (n : RootsIn st w0) (h : r < rules) (e : rules ≡ st .rules) where
-  pub low-context : getD w0 (4448 + r) 0 < 256
+  pub low-context : getD w0 (memory.contexts + r) 0 < 256
   low-context = n .context r (omega arith)
 
-  pub low-root : {root : ℕ} → root ≡ getD w0 (4512 + r) 0 → root < 768
+  pub low-root : {root : ℕ} → root ≡ getD w0 (memory.roots + r) 0 → root < 768
   low-root q = let l = n .root r (omega arith) in omega arith
 
 -- ---- all rules, of which those before r are done: what is left comes to what all come to
@@ -136,7 +137,7 @@ none-gone w0 classes rows w1 w2 rules = record {
   kept = types-kept w2;
 }
 
-rules-by : (k : Schema) (w0 t : List ℕ) (c d i : ℕ) → c ≡ suc d → rulesAt k w0 t c i ≡ outsideRule k (getD w0 (4448 + i) 0) (treeAt t (getD w0 (4512 + i) 0)) ++ rulesAt k w0 t d (i + 1)
+rules-by : (k : Schema) (w0 t : List ℕ) (c d i : ℕ) → c ≡ suc d → rulesAt k w0 t c i ≡ outsideRule k (getD w0 (memory.contexts + i) 0) (treeAt t (getD w0 (memory.roots + i) 0)) ++ rulesAt k w0 t d (i + 1)
 unfolding rulesAt
 rules-by k w0 t c d i e = rw e
 
@@ -145,13 +146,13 @@ unfolding rulesAt
 rules-none k w0 t c i e = rw e
 
 pub one-gone : {w0 : List ℕ} {classes rows : ℕ} {w1 u2 v2 x2 : List ℕ} {rules best r root context : ℕ} (y : ℕ) → Going w0 classes rows w1 u2 v2 rules best r → r < rules
-    → root < 768 → root ≡ getD w0 (4512 + r) 0 → context ≡ getD w0 (4448 + r) 0 → FindsRoot w0 classes rows w1 root context best v2 x2 y → Going w0 classes rows w1 u2 x2 rules y (r + 1)
+    → root < 768 → root ≡ getD w0 (memory.roots + r) 0 → context ≡ getD w0 (memory.contexts + r) 0 → FindsRoot w0 classes rows w1 root context best v2 x2 y → Going w0 classes rows w1 u2 x2 rules y (r + 1)
 one-gone {w0} {w1 = w1} {rules = rules} {best = best} {r = r} y g h low e f d =
     let t = nodesIn w1 in
     record {
       goes = λ k q m.
           ap (λ o. lowestWith t o (rulesAt k w0 t (rules - (r + 1)) (r + 1))) (d .found .at k q (calls-less (omega arith) m) ∙ rw (e, f))
-          ∙ sym (lowest-append t (lineOf t best) (outsideRule k (getD w0 (4448 + r) 0) (treeAt t (getD w0 (4512 + r) 0))) (rulesAt k w0 t (rules - (r + 1)) (r + 1)))
+          ∙ sym (lowest-append t (lineOf t best) (outsideRule k (getD w0 (memory.contexts + r) 0) (treeAt t (getD w0 (memory.roots + r) 0))) (rulesAt k w0 t (rules - (r + 1)) (r + 1)))
           ∙ ap (lowestWith t (lineOf t best)) (sym (rules-by k w0 t (rules - r) (rules - (r + 1)) r (omega arith)))
           ∙ g .goes k q m;
       kept = then-kept (g .kept) (d .kept);

@@ -5,6 +5,7 @@ use mathlib.Core.List.{List, []}
 use Prim.Native.Nat.{ℕ}
 use lib.Dec.{eqb, ltb}
 use Rattle.laws.specs.Choice.{if_then_else_}
+use Rattle.memory.specs.Codes as code
 use Rattle.ocl.specs.Types.{Ty, Class}
 use Rattle.ocl.specs.Environment.{Env, extend, start}
 use Rattle.ocl.specs.Model.{Schema}
@@ -22,17 +23,17 @@ memberCount c = if ltb 4 c then 0 else c
 
 -- `if` has three, `iter` two beside its body, `over` two
 unfoldable pub lateCount : ℕ → ℕ
-lateCount form = if eqb form 31 then 3 else if eqb form 35 then 2 else if eqb form 37 then 2 else 1
+lateCount form = if eqb form code.conditional then 3 else if eqb form code.iterate then 2 else if eqb form code.over then 2 else 1
 
 -- how many stand in the node's own environment; c is what a `coll` says of its members
 unfoldable pub operandCount : ℕ → ℕ → ℕ
 operandCount form c =
-    if ltb 37 form then 0
-    else if ltb form 7 then 0
-    else if ltb form 13 then 1
-    else if ltb form 25 then 2
-    else if ltb form 27 then 1
-    else if ltb form 30 then memberCount c
+    if ltb code.over form then 0
+    else if ltb form code.negation then 0
+    else if ltb form code.equal then 1
+    else if ltb form code.forAll then 2
+    else if ltb form code.set then 1
+    else if ltb form code.isUndef then memberCount c
     else lateCount form
 
 -- c operands from word i on
@@ -51,20 +52,20 @@ sourceType k t n Γ = typing k (treesBelow t n (word t n 1)) Γ .answer
 
 -- `forAll`, `exists`, `let`, `iter`
 unfoldable pub binds : ℕ → Bool
-binds form = if eqb form 32 then true else if eqb form 35 then true else if ltb form 25 then false else ltb form 27
+binds form = if eqb form code.letIn then true else if eqb form code.iterate then true else if ltb form code.forAll then false else ltb form code.set
 
 unfoldable pub bodyOperand : ℕ → ℕ
-bodyOperand form = if eqb form 35 then 3 else 2
+bodyOperand form = if eqb form code.iterate then 3 else 2
 
 -- whether there is one to enter: the first operand has type u
 unfoldable pub enters : ℕ → Ty → Bool
-enters form u = if eqb form 32 then true else onCollection u false (λ l m. true)
+enters form u = if eqb form code.letIn then true else onCollection u false (λ l m. true)
 
 -- the types of the variables in it
 unfoldable pub innerEnv : (ℕ → ℕ) → ℕ → Env Ty → Ty → Env Ty
 innerEnv w form Γ u =
-    if eqb form 32 then extend Γ (variable (w 3)) u
-    else if eqb form 35 then extend (extend Γ (variable (w 4)) (memberType u)) (variable (w 5)) (typeIn (w 6))
+    if eqb form code.letIn then extend Γ (variable (w 3)) u
+    else if eqb form code.iterate then extend (extend Γ (variable (w 4)) (memberType u)) (variable (w 5)) (typeIn (w 6))
     else extend Γ (variable (w 3)) (memberType u)
 
 unfoldable pub bodyOf : Schema → List ℕ → ℕ → ℕ → Env Ty → Ty → List ℕ
@@ -79,7 +80,7 @@ calledAt k t n = operandAt k t n 2 (start (Class (classIn (word t n 3))))
 
 unfoldable pub scopeAt : Schema → List ℕ → ℕ → ℕ → Env Ty → List ℕ
 scopeAt k t n form Γ =
-    if eqb form 36 then calledAt k t n
+    if eqb form code.call then calledAt k t n
     else if binds form then bodyAt k t n form Γ
     else []
 
@@ -87,7 +88,7 @@ scopeAt k t n form Γ =
 
 -- `including`, `union` and `collect` look at a type
 unfoldable pub looks : ℕ → Bool
-looks form = if eqb form 34 then true else if ltb form 21 then false else ltb form 23
+looks form = if eqb form code.ofMembers then true else if ltb form code.including then false else ltb form code.and
 
 unfoldable pub onSequence : Answer → Bool
 onSequence (typed u) = isSequence u
@@ -95,7 +96,7 @@ onSequence (refused n p) = false
 
 unfoldable pub isOwn : Schema → List ℕ → ℕ → ℕ → Env Ty → Bool
 isOwn k t n form Γ =
-    if eqb form 10 then true
-    else if eqb form 35 then true
+    if eqb form code.toSequence then true
+    else if eqb form code.iterate then true
     else if looks form then onSequence (sourceType k t n Γ)
     else false

@@ -2,7 +2,9 @@
 ghost use mathlib.Core.Path.{_≡_};
 ghost use Prim.Native.Nat.{_≤_, _<_};
 ghost use lib.ListN.{length};
+ghost use Rattle.memory.specs.Map as memory;
 ghost use Rattle.ocl.specs.Profile.{nodeIf};
+ghost use Rattle.sheet.specs.Sizes.{mostNodes};
 ghost use Rattle.types.specs.Flat.{tyOf};
 ghost use Rattle.nodes.specs.Nodes.{word};
 ghost use Rattle.judgements.specs.Replies.{envOf};
@@ -13,6 +15,7 @@ use super::lower;
 use judgements::Reply;
 use judgements::TypeEnv;
 use judgements::environment::bind;
+use memory::codes;
 use nodes::node_word;
 use types::FlatType;
 use types::parts::member_type;
@@ -57,20 +60,20 @@ fn on_sequence(
     outer_code(t) == 3
 }
 
-// Whether a form looks at the type of its first operand: `including`, `union` and `collect` do.
+// Whether the type of a form's first operand decides: that of `including`, `union` and `collect` does.
 fn looks(form: u64) -> bool
     ensures { λ r. ⌜ r ≡ looksForm form ⌝ }
 {
-    if form == 34 {
+    if form == codes::OF_MEMBERS {
         return true;
     }
-    if form < 21 {
+    if form < codes::INCLUDING {
         return false;
     }
-    form < 23
+    form < codes::AND
 }
 
-// Whether node n stands outside: `asSequence` and `iter` do, and those that look at a type where it is `Q(..)`.
+// Whether node n stands outside: `asSequence` and `iter` do, and `including`, `union` and `collect` on a type `Q(..)`.
 fn is_outside(
     nodes: &[u64],
     parents: &[u64],
@@ -84,10 +87,10 @@ fn is_outside(
     requires { ⌜ NodeRoom n rows (length (now tables)) (length (now nodes)) (length (now marks)) ⌝ }
     ensures { λ r. ⌜ Tests (now (parents .entry)) (now (tables .entry)) rows (λ k. isOwn k (now (nodes .entry)) n form (envOf env)) r ⌝ }
 {
-    if form == 10 {
+    if form == codes::TO_SEQUENCE {
         return true;
     }
-    if form == 35 {
+    if form == codes::ITERATE {
         return true;
     }
     if looks(form) {
@@ -96,7 +99,7 @@ fn is_outside(
     false
 }
 
-// Node n itself beside `best`, if it stands outside.
+// The lower of `best` and node n, if that stands outside; else `best`.
 pub fn own(
     nodes: &[u64],
     parents: &[u64],
@@ -117,11 +120,11 @@ pub fn own(
     best
 }
 
-// Whether there is a body to enter, where the first operand has type t: all forms but `let` want a collection.
+// Whether there is a body to enter, where the first operand has type t: for all forms but `let` that must be a collection.
 pub fn enters(form: u64, t: FlatType) -> bool
     ensures { λ r. ⌜ r ≡ entersForm form (tyOf t) ⌝ }
 {
-    if form == 32 {
+    if form == codes::LET_IN {
         return true;
     }
     outer_code(t) != 0
@@ -129,14 +132,14 @@ pub fn enters(form: u64, t: FlatType) -> bool
 
 // The types of the variables in the body.
 pub fn inner_env(nodes: &[u64], n: usize, form: u64, env: TypeEnv, t: FlatType) -> TypeEnv
-    requires { ⌜ (n < 768) × (6144 ≤ length (now nodes)) ⌝ }
+    requires { ⌜ (n < mostNodes) × (memory.nodesEnd ≤ length (now nodes)) ⌝ }
     ensures { λ r. ⌜ envOf r ≡ innerEnv (word (now (nodes .entry)) n) form (envOf env) (tyOf t) ⌝ }
 {
-    if form == 32 {
+    if form == codes::LET_IN {
         return bind(env, variable(nodes, n, 3), t);
     }
     let member = member_type(t);
-    if form == 35 {
+    if form == codes::ITERATE {
         let inner = bind(env, variable(nodes, n, 4), member);
         return bind(inner, variable(nodes, n, 5), unpack(node_word(nodes, n, 6)));
     }

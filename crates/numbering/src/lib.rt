@@ -1,12 +1,14 @@
 // Which nodes stand outside the free-numbering profile: the one with the lowest line. Document 02, F-12. It depends on `typing` for the
-// types that decide, on `nodes` for what a node's words say, and on `rows` for how many members a `coll` has. A node is told by its number,
-// and 768 is none.
+// types that decide, on `nodes` for what a node's words say, and on `rows` for how many members a `coll` has. A node is named by its number.
 ghost use mathlib.Core.Path.{_≡_};
 ghost use Prim.Native.Nat.{_≤_, _<_};
 ghost use lib.ListN.{length};
+ghost use Rattle.memory.specs.Map as memory;
+ghost use Rattle.sheet.specs.Sizes.{mostNodes};
 ghost use Rattle.nodes.specs.Nodes.{word};
 ghost use Rattle.numbering.specs.Lowest.{lineOf, lower as lowerLine};
 ghost use Rattle.numbering.specs.Forms.{lateCount, operandCount, bodyOperand, binds as bindsForm};
+use memory::codes;
 use nodes::node_word;
 use rows::seen::member_count;
 
@@ -14,15 +16,18 @@ pub mod forms; // what a node adds itself, and the environment of its body
 pub mod walk; // the recursion over operand nodes
 pub mod whole; // the calls and the rules of a whole sheet
 
+// The number that stands for no node.
+pub const NONE: usize = memory::NODES;
+
 // The one of two nodes that has the lower line.
 pub fn lower(nodes: &[u64], a: usize, b: usize) -> usize
-    requires { ⌜ 6144 ≤ length (now nodes) ⌝ }
+    requires { ⌜ memory.nodesEnd ≤ length (now nodes) ⌝ }
     ensures { λ r. ⌜ lineOf (now (nodes .entry)) r ≡ lowerLine (lineOf (now (nodes .entry)) a) (lineOf (now (nodes .entry)) b) ⌝ }
 {
-    if 768 <= b {
+    if NONE <= b {
         return a;
     }
-    if 768 <= a {
+    if NONE <= a {
         return b;
     }
     if node_word(nodes, b, 7) < node_word(nodes, a, 7) {
@@ -31,17 +36,17 @@ pub fn lower(nodes: &[u64], a: usize, b: usize) -> usize
     a
 }
 
-// How many operands of a form with a code of its own stand in the node's environment: `if` has three, `iter` and `over` two.
+// How many operands stand in the node's own environment, from `isUndef` on: `if` has three, `iter` and `over` two, the others one.
 fn late_count(form: u64) -> usize
     ensures { λ r. ⌜ (r ≡ lateCount form) × (r ≤ 4) ⌝ }
 {
-    if form == 31 {
+    if form == codes::CONDITIONAL {
         return 3;
     }
-    if form == 35 {
+    if form == codes::ITERATE {
         return 2;
     }
-    if form == 37 {
+    if form == codes::OVER {
         return 2;
     }
     1
@@ -49,25 +54,25 @@ fn late_count(form: u64) -> usize
 
 // How many operands of node n stand in its own environment.
 pub fn operand_count(nodes: &[u64], n: usize, form: u64) -> usize
-    requires { ⌜ (n < 768) × (6144 ≤ length (now nodes)) ⌝ }
+    requires { ⌜ (n < mostNodes) × (memory.nodesEnd ≤ length (now nodes)) ⌝ }
     ensures { λ r. ⌜ (r ≡ operandCount form (word (now (nodes .entry)) n 5)) × (r ≤ 4) ⌝ }
 {
-    if 37 < form {
+    if codes::OVER < form {
         return 0;
     }
-    if form < 7 {
+    if form < codes::NEGATION {
         return 0;
     }
-    if form < 13 {
+    if form < codes::EQUAL {
         return 1;
     }
-    if form < 25 {
+    if form < codes::FOR_ALL {
         return 2;
     }
-    if form < 27 {
+    if form < codes::SET {
         return 1;
     }
-    if form < 30 {
+    if form < codes::IS_UNDEF {
         return member_count(nodes, n);
     }
     late_count(form)
@@ -77,23 +82,23 @@ pub fn operand_count(nodes: &[u64], n: usize, form: u64) -> usize
 pub fn binds(form: u64) -> bool
     ensures { λ r. ⌜ r ≡ bindsForm form ⌝ }
 {
-    if form == 32 {
+    if form == codes::LET_IN {
         return true;
     }
-    if form == 35 {
+    if form == codes::ITERATE {
         return true;
     }
-    if form < 25 {
+    if form < codes::FOR_ALL {
         return false;
     }
-    form < 27
+    form < codes::SET
 }
 
 // Which operand the body is.
 pub fn body_operand(form: u64) -> usize
     ensures { λ r. ⌜ (r ≡ bodyOperand form) × (r < 8) ⌝ }
 {
-    if form == 35 {
+    if form == codes::ITERATE {
         return 3;
     }
     2

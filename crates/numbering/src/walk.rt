@@ -1,6 +1,6 @@
-// The recursion over operand nodes. Parameters: the node table; for each call the node that is found in its body; the parents and the
+// The recursion over operand nodes. Parameters: the node table; for each call the node that was found in its body; the parents and the
 // other tables of the sheet, with the number of rows; the node n; the types of the variables; words for the marks that typing makes, which
-// are not looked at; and the node found so far.
+// nobody reads; and the node found so far.
 ghost use Prim.Native.Nat.{_<_, _≤_};
 ghost use lib.ListN.{length};
 ghost use Rattle.ocl.specs.Profile.{outside};
@@ -19,10 +19,11 @@ use super::lower;
 use super::operand_count;
 use judgements::Reply;
 use judgements::TypeEnv;
+use memory::codes;
 use nodes::node_word;
 use types::classes::wide;
 
-// Node n: its operands, its body, itself.
+// Looks at the operands of node n, at its body, and at the node itself.
 pub fn node(
     nodes: &[u64],
     least: &[u64],
@@ -66,7 +67,7 @@ pub fn node(
     own(nodes, parents, tables, rows, n, form, env, marks, inner)
 }
 
-// The first operands of node n, so many.
+// The first `count` operands of node n.
 fn operands(
     nodes: &[u64],
     least: &[u64],
@@ -166,7 +167,7 @@ fn body(
     best
 }
 
-// The body that node n calls, or its own.
+// The body that node n calls, or the one that it has itself.
 fn scope(
     nodes: &[u64],
     least: &[u64],
@@ -183,7 +184,7 @@ fn scope(
     requires { ⌜ WalkRoom n rows (length (now tables)) (length (now nodes)) (length (now least)) (length (now marks)) ⌝ }
     ensures { λ r. ⌜ Finds (now (nodes .entry)) (now (least .entry)) (now (parents .entry)) (now (tables .entry)) rows n (λ k. scopeAt k (now (nodes .entry)) n form (envOf env)) best r ⌝ }
 {
-    if form == 36 {
+    if form == codes::CALL {
         return lower(nodes, best, wide(least[n]));
     }
     if binds(form) {

@@ -1,11 +1,14 @@
-// A sheet that lies in the words, all of it typed: first what is outside in the body of each call, in the order of the nodes, since a body
-// has only smaller nodes; then the rules. So no body is gone through more often than it is called.
+// A whole accepted sheet in the words: first what stands outside in the body of each call, in the order of the nodes, since a body has only
+// smaller nodes; then the rules. So a body is gone through once for each call of it.
 ghost use Prim.Native.Nat.{_≤_, _<_};
 ghost use lib.ListN.{length};
+ghost use Rattle.sheet.specs.Sizes.{leastWords, mostNodes, mostRules};
 ghost use Rattle.rules.specs.Accepted.{Known};
 ghost use Rattle.numbering.specs.Sheets.{SheetRoom, FindsRoot, FindsCalled, TellsCalls, RootsIn, FindsRules, FindsOutside};
+use super::NONE;
 use super::walk::node;
 use judgements::environment::start_env;
+use memory::codes::CALL;
 use nodes::node_word;
 use tables::Counts;
 use types::classes::wide;
@@ -21,14 +24,14 @@ fn root_outside(
     context: u8,
     best: usize,
 ) -> usize
-    requires { ⌜ root < 768 ⌝ }
+    requires { ⌜ root < mostNodes ⌝ }
     requires { ⌜ SheetRoom classes rows (length (now w0)) (length (now w1)) (length (now w2)) ⌝ }
     ensures { λ r. ⌜ FindsRoot (now (w0 .entry)) classes rows (now (w1 .entry)) root context best (now (w2 .entry)) (now (w2 .exit)) r ⌝ }
 {
     let parents = &w0[..classes];
-    let nodes = &w1[..6144];
-    let least = &w1[6912..];
-    let marks = &mut w2[..768];
+    let nodes = &w1[..memory::NODES_END];
+    let least = &w1[memory::DEPTHS..];
+    let marks = &mut w2[..memory::NODES];
     node(
         nodes,
         least,
@@ -51,23 +54,23 @@ fn called_outside(
     w2: &mut [u64],
     n: usize,
 ) -> usize
-    requires { ⌜ n < 768 ⌝ }
+    requires { ⌜ n < mostNodes ⌝ }
     requires { ⌜ SheetRoom classes rows (length (now w0)) (length (now w1)) (length (now w2)) ⌝ }
     ensures { λ r. ⌜ FindsCalled (now (w0 .entry)) classes rows (now (w1 .entry)) n (now (w2 .entry)) (now (w2 .exit)) r ⌝ }
 {
-    let nodes = &w1[..6144];
-    if node_word(nodes, n, 0) != 36 {
-        return 768;
+    let nodes = &w1[..memory::NODES_END];
+    if node_word(nodes, n, 0) != CALL {
+        return NONE;
     }
     let a = wide(node_word(nodes, n, 2));
     if n <= a {
-        return 768;
+        return NONE;
     }
     let context = (node_word(nodes, n, 3) % 256) as u8;
-    root_outside(w0, classes, rows, w1, w2, a, context, 768)
+    root_outside(w0, classes, rows, w1, w2, a, context, NONE)
 }
 
-// What is found in the body of each call is put into w1 from 6912 on, where depths were while the sheet was read.
+// Puts what is found in the body of each call into w1, where depths were while the sheet was read.
 fn tell_calls(w0: &[u64], st: Counts, w1: &mut [u64], w2: &mut [u64])
     requires { ⌜ SheetRoom (st .classes) (st .rows) (length (now w0)) (length (now w1)) (length (now w2)) ⌝ }
     ensures { λ _. ⌜ TellsCalls st (now (w0 .entry)) (now (w1 .entry)) (now (w1 .exit)) (now (w2 .entry)) (now (w2 .exit)) ⌝ }
@@ -75,36 +78,36 @@ fn tell_calls(w0: &[u64], st: Counts, w1: &mut [u64], w2: &mut [u64])
     let classes = wide(st.classes);
     let rows = wide(st.rows);
     let mut n: usize = 0;
-    while n < 768 {
+    while n < memory::NODES {
         let found = called_outside(w0, classes, rows, w1, w2, n);
-        w1[6912 + n] = found as u64;
+        w1[memory::DEPTHS + n] = found as u64;
         n += 1;
     }
 }
 
-// All rules, once the calls are told.
+// The lowest of all rules, once `tell_calls` has run.
 fn rules_outside(w0: &[u64], st: Counts, w1: &[u64], w2: &mut [u64]) -> usize
     requires { ⌜ SheetRoom (st .classes) (st .rows) (length (now w0)) (length (now w1)) (length (now w2)) ⌝ }
-    requires { ⌜ (st .rules ≤ 64) × RootsIn st (now w0) ⌝ }
+    requires { ⌜ (st .rules ≤ mostRules) × RootsIn st (now w0) ⌝ }
     ensures { λ r. ⌜ FindsRules st (now (w0 .entry)) (now (w1 .entry)) (now (w2 .entry)) (now (w2 .exit)) r ⌝ }
 {
     let classes = wide(st.classes);
     let rows = wide(st.rows);
     let rules = wide(st.rules);
-    let mut best: usize = 768;
+    let mut best: usize = NONE;
     let mut r: usize = 0;
     while r < rules {
-        let context = w0[4448 + r] as u8;
-        let root = wide(w0[4512 + r]);
+        let context = w0[memory::CONTEXTS + r] as u8;
+        let root = wide(w0[memory::ROOTS + r]);
         best = root_outside(w0, classes, rows, w1, w2, root, context, best);
         r += 1;
     }
     best
 }
 
-// The node with the lowest line outside the profile.
+// The node with the lowest line outside the profile, or NONE.
 pub fn lowest_outside(w0: &[u64], st: Counts, w1: &mut [u64], w2: &mut [u64]) -> usize
-    requires { ⌜ (8192 ≤ length (now w0)) × (8192 ≤ length (now w1)) × (8192 ≤ length (now w2)) ⌝ }
+    requires { ⌜ (leastWords ≤ length (now w0)) × (leastWords ≤ length (now w1)) × (leastWords ≤ length (now w2)) ⌝ }
     requires { ⌜ Known st (now w0) (now w1) ⌝ }
     ensures { λ r. ⌜ FindsOutside st (now (w0 .entry)) (now (w1 .entry)) (now (w1 .exit)) (now (w2 .entry)) (now (w2 .exit)) r ⌝ }
 {

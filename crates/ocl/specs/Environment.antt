@@ -4,11 +4,11 @@ use Prim.Native.Nat.{ℕ}
 use lib.Dec.{eqb}
 use Rattle.laws.specs.Choice.{if_then_else_}
 
--- what each variable stands for; variables are numbered from 1, and 0 is `self`
+-- what each variable stands for: "variables have numbers 1 to 15", and 0 is `self`
 abbrev pub Env : Type 0 → Type 0
 Env A = ℕ → Option A
 
--- a binding hides an outer one of the same variable; the caller still has the environment without it
+-- "An inner binding hides the outer one until its body ends": the caller still has the environment without it
 unfoldable pub extend : {A : Type 0} → Env A → ℕ → A → Env A
 extend ρ i x j = if eqb j i then some x else ρ j
 

@@ -16,27 +16,31 @@ use Rattle.ocl.specs.Operations.{Outcome, value, undefined, stuck, stop,
 abbrev pub Run : Type 0
 Run = Env Value → ℕ → Outcome
 
--- what follows a value, and what follows undefined; a stuck or stopped operand ends the whole
+-- what follows a value, and what follows undefined; stuck and stops end the whole: "no form turns" them "into a value or undefined"
 abbrev pub resume : Outcome → (Value → ℕ → Outcome) → (ℕ → Outcome) → Outcome
 resume (value v n) k u = k v n
 resume (undefined n) k u = u n
 resume stuck k u = stuck
 resume (stop c n) k u = stop c n
 
--- a strict form is undefined where its operand is
+-- "a strict form ends undefined at its first undefined operand"
 abbrev pub bind : Outcome → (Value → ℕ → Outcome) → Outcome
 bind (value v n) k = k v n
 bind (undefined n) k = undefined n
 bind stuck k = stuck
 bind (stop c n) k = stop c n
 
--- a node's beginning is one step; 16, document 01's step stop, where 1,000,000 have begun already
+-- so many steps may begin, before "a 1,000,001st step is due"
+abbrev pub mostSteps : ℕ
+mostSteps = 1000000
+
+-- "One step is counted as a node begins"; "The step stop is 16"
 unfoldable pub tick : Run → Run
-tick f ρ n = if ltb n 1000000 then f ρ (n + 1) else stop 16 n
+tick f ρ n = if ltb n mostSteps then f ρ (n + 1) else stop 16 n
 
 -- ---- each form over its operands' evaluations
 
--- an unbound variable ends the whole evaluation stuck
+-- "an unbound variable, ends the whole evaluation in the outcome *stuck*"
 abbrev pub bound : Option Value → ℕ → Outcome
 bound none n = stuck
 bound (some v) n = value v n
@@ -55,12 +59,12 @@ unaryRun s op f ρ n = bind (f ρ n) (λ v n. unaryApply s op v n)
 unfoldable pub binaryRun : Mark → Binary → Run → Run → Run
 binaryRun m op f g ρ n = bind (f ρ n) (λ v n. if leftFits m op v then bind (g ρ n) (λ w n. binaryApply m op v w n) else stuck)
 
--- the side that decides: false for `and`, true for `or`
+-- the side that decides: `and`, where "false on either side gives false", and "`or` likewise with true"
 unfoldable pub decides : Connective → Bool
 decides and = false
 decides or = true
 
--- a deciding left side leaves the right one unrun; a deciding right side decides even where the left is undefined
+-- "a false left side leaves the right unrun"; a side that does not decide: "else undefined on either side gives undefined"
 unfoldable pub connectiveRun : Connective → Run → Run → Run
 connectiveRun c f g ρ n = resume (f ρ n)
     (λ v n. onBool v (λ a. if Bool·beq a (decides c) then value (bool a) n else bind (g ρ n) (λ w n. onBool w (λ b. value (bool b) n))))
@@ -69,18 +73,18 @@ connectiveRun c f g ρ n = resume (f ρ n)
 unfoldable pub isUndefRun : Run → Run
 isUndefRun f ρ n = resume (f ρ n) (λ v n. value (bool false) n) (λ n. value (bool true) n)
 
--- `if` is strict in its condition, and one branch runs
+-- "`if`, strict in its condition only and running one branch"
 unfoldable pub conditionalRun : Run → Run → Run → Run
 conditionalRun f g h ρ n = bind (f ρ n) (λ v n. onBool v (λ b. if b then g ρ n else h ρ n))
 
--- `let` is strict
+-- `let` is strict; "letting `let` pass undefined on" is one of the mistakes to shut out
 unfoldable pub letRun : ℕ → Run → Run → Run
 letRun i f g ρ n = bind (f ρ n) (λ v n. g (extend ρ i v) n)
 
 unfoldable pub attributeRun : Model → Access → Mark → Run → Run
 attributeRun s x m f ρ n = bind (f ρ n) (λ v n. access s x m v n)
 
--- document 02, F-13: `call` takes an object of the definition's class or below and binds it as `self`; all other variables are hidden
+-- document 02, F-13: `call` "binds it as `self`, hides all other variables"; "Its kind is an object of c or below"
 unfoldable pub callRun : Model → ℕ → Run → Run → Run
 callRun s c f g ρ n = bind (f ρ n) (λ v n. onObj v (λ o. if isA s o (class c) then g (start (obj o)) n else stuck))
 
@@ -89,8 +93,8 @@ unfoldable pub endsAt : Quantifier → Bool
 endsAt forAll = false
 endsAt exists = true
 
--- members in their stored order, up to the first whose body ends it; blank: a body before these was undefined, so that the whole is
--- undefined where none of these ends it (document 02, F-2)
+-- document 02, F-2: "`forAll` runs members until one body is false and is then false; with none false it is undefined if any body was
+-- undefined, else true. `exists` mirrors it with true". blank: a body before these members was undefined
 unfoldable pub seek : Quantifier → (Value → ℕ → Outcome) → Bool → Values → ℕ → Outcome
 seek q body blank nil n = if blank then undefined n else value (bool (not (endsAt q))) n
 seek q body blank (cons v vs) n = resume (body v n)
@@ -100,7 +104,7 @@ seek q body blank (cons v vs) n = resume (body v n)
 unfoldable pub quantifiedRun : Quantifier → ℕ → Run → Run → Run
 quantifiedRun q i f g ρ n = bind (f ρ n) (λ v n. onColl v (λ k vs. seek q (λ x. g (extend ρ i x)) false vs n))
 
--- members in their stored order, up to the first undefined accumulator
+-- "`iter` goes through members in the stored order, ending undefined at the first undefined accumulator"
 unfoldable pub fold : (Value → Value → ℕ → Outcome) → Values → Value → ℕ → Outcome
 fold body nil a n = value a n
 fold body (cons v vs) a n = bind (body v a n) (λ b n. fold body vs b n)

@@ -82,14 +82,18 @@ mutual
     noOperand : Operands
     operand : Expr → Operands → Operands
 
--- a named definition: its class, its type, its body
+-- `D n c T`: a named definition, by its class, its type and its body
 pub record Definition : Type 0 where
   pub context : ℕ
   pub type : Ty
   pub body : Expr
 
--- reach (document 01's word): an upper bound of the steps. 1, and the operands' reaches; an iterated body counts 127 times, a
--- called body once
+-- a collection of size 128 has so many members at most: "a body counted 127 times"
+abbrev pub mostMembers : ℕ
+mostMembers = 127
+
+-- "Reach: 1 plus the operands' reaches, a body counted 127 times (`let`'s once)"; document 02, F-13: "reach adds the body's reach". It is
+-- an upper bound of the steps
 unfoldable mutual
   pub reach : Expr → ℕ
   reach (node n f) = suc (inside f)
@@ -104,15 +108,15 @@ unfoldable mutual
   inside (letIn i a b) = reach a + reach b
   inside (attribute x name a) = reach a
   inside (call c t a b) = reach a + reach b
-  inside (quantified q i a b) = reach a + 127 * reach b
-  inside (iterate i j t a e b) = reach a + (reach e + 127 * reach b)
+  inside (quantified q i a b) = reach a + mostMembers * reach b
+  inside (iterate i j t a e b) = reach a + (reach e + mostMembers * reach b)
   inside (assemble k es) = reaches es
 
   pub reaches : Operands → ℕ
   reaches noOperand = 0
   reaches (operand e es) = reach e + reaches es
 
--- the depth of a tree; its root alone is depth 1, and a called body lies below the call
+-- the depth of a tree, "the root being depth 1"; document 02, F-13: "Depth counts a called body's depth below the call"
 unfoldable mutual
   pub levels : Expr → ℕ
   levels (node n f) = suc (levelsIn f)
@@ -135,7 +139,7 @@ unfoldable mutual
   levelsOf noOperand = 0
   levelsOf (operand e es) = max (levels e) (levelsOf es)
 
--- the definitions that a tree reaches: those that it calls, with those that their bodies call
+-- document 02, F-13, "every definition it reaches": those that a tree calls, with those that their bodies call
 unfoldable mutual
   pub calls : Expr → List Definition
   calls (node n f) = callsIn f

@@ -8,7 +8,7 @@ use Rattle.reals.specs.Reals.{Number, int, real}
 use Rattle.ocl.specs.Types.{Simple, boolean, integer, class, exactly, Ty, void, simple, around, Parents, simpleSubtype, letterSubtype}
 use Rattle.ocl.specs.Values.{Value, bool, num, obj, coll, Values, nil, cons}
 
--- an attribute row: the class that declares it, its name, its type
+-- `A n c name T`: an attribute row, by the class that declares it, its name, its type
 pub record Row : Type 0 where
   pub owner : ℕ
   pub name : ℕ
@@ -27,7 +27,7 @@ pub record Model : Type 0 where
   pub row : ℕ → Row
   pub objectCount : ℕ
   pub classOf : ℕ → Option ℕ
-  -- the value of a row for an object, row last; none is undefined
+  -- the value of a row for an object, row last: "No line means `u`"
   pub valueOf : ℕ → ℕ → Option Value
 
 abbrev pub schemaOf : Model → Schema
@@ -38,7 +38,7 @@ unfoldable pub classIsA : Parents → Option ℕ → Simple → Bool
 classIsA parent none b = false
 classIsA parent (some c) b = simpleSubtype parent (class c) b
 
--- an object belongs to its class, to that class's ancestors and to Any
+-- an object belongs "to its class, that class's ancestors and Any"
 unfoldable pub isA : Model → ℕ → Simple → Bool
 isA s o b = classIsA (s .parent) (s .classOf o) b
 
@@ -52,7 +52,7 @@ unfoldable pub numberType : Number → Simple
 numberType (int z) = integer
 numberType (real r) = Simple.real
 
--- does the value belong to the type? A collection: to its kind, or to C, around each type that all its members belong to
+-- does the value belong to the type? "a collection to its kind, or C, around each type that all members belong to"
 unfoldable pub belongs : Model → Ty → Value → Bool
 belongs s void v = false
 belongs s (simple b) (bool c) = simpleSubtype (s .parent) boolean b
@@ -69,7 +69,7 @@ unfoldable pub declared : Schema → ℕ → ℕ → ℕ → Option ℕ
 declared s c name zero = none
 declared s c name (suc n) = if eqb (s .row n .owner) c && eqb (s .row n .name) name then some n else declared s c name n
 
--- the nearest declaration from class c upward, through at most n classes
+-- "the nearest declaration upward from that static class", c, through at most n classes
 unfoldable pub nearest : Schema → ℕ → ℕ → ℕ → Option ℕ
 nearest s name zero c = none
 nearest s name (suc n) c = orElse (declared s c name (s .rowCount)) (onSome (s .parent c) (nearest s name n))

@@ -7,7 +7,7 @@ use lib.Dec.{leb}
 use Rattle.laws.specs.Choice.{if_then_else_, onSome, mapSome}
 use Rattle.reals.specs.Reals.{Number, int, real, inRange, orderInt, isLess, Operation, Result, result, noResult, overRange, calculated, lesser}
 use Rattle.ocl.specs.Types.{class, Kind, sameKind}
-use Rattle.ocl.specs.Values.{Value, bool, num, obj, coll, Values, nil, cons, count, size, same, has, append, add, addAll}
+use Rattle.ocl.specs.Values.{Value, bool, num, obj, coll, Values, nil, cons, count, size, largest, same, has, append, add, addAll}
 use Rattle.ocl.specs.Model.{Model, isA, every}
 use Rattle.ocl.specs.Forms.{Arith, plus, minus, times, Division, div, modulo, Access, ofObject, ofMembers, Unary, negation, sizeOf, convert, castTo, Binary, equal, less, arith, divide, over, includes, including, union}
 use Rattle.ocl.specs.Marks.{Scale, integers, reals, Mark, rowMarked, kindMarked, scaleMarked}
@@ -33,16 +33,16 @@ stepsOf (undefined n) = n
 stepsOf stuck = 0
 stepsOf (stop c n) = n
 
--- a collection is formed; 17, document 01's size stop, where its size is over 128
+-- a collection is formed; 17 where "a value over 128 would be formed"
 unfoldable pub form : Value → ℕ → Outcome
-form v n = if leb (size v) 128 then value v n else stop 17 n
+form v n = if leb (size v) largest then value v n else stop 17 n
 
 -- a value, or undefined where there is none
 abbrev pub given : Option Value → ℕ → Outcome
 given none n = undefined n
 given (some v) n = value v n
 
--- ---- the kinds that an operand may have; one of any other kind ends the whole evaluation stuck
+-- ---- "An operand of a kind they don't name .. ends the whole evaluation in the outcome *stuck*"
 
 abbrev pub onBool : Value → (Bool → Outcome) → Outcome
 onBool (bool b) k = k b
@@ -83,7 +83,7 @@ onTwo reals v w f g = onNum v (λ x. onNum w (λ y. g x y))
 
 -- ---- numbers
 
--- document 02, F-5: over the range is a stop, and a zero divisor remains undefined; F-8: an infinite result is over the range
+-- document 02, F-5: "outside the Integer range is now a stop ..; a zero divisor remains undefined"; F-8: "An infinite result is 19"
 abbrev pub resulting : Result → ℕ → Outcome
 resulting (result x) n = value (num x) n
 resulting noResult n = undefined n
@@ -102,14 +102,14 @@ unlessZero (pos zero) r = noResult
 unlessZero (pos (suc n)) r = r
 unlessZero (negsuc n) r = r
 
--- `div` cuts toward zero
+-- "`div` cuts toward zero"
 unfoldable pub quotient : ℤ → ℤ → ℤ
 quotient (pos a) (pos b) = pos (a / b)
 quotient (pos a) (negsuc b) = negℤ (pos (a / suc b))
 quotient (negsuc a) (pos b) = negℤ (pos (suc a / b))
 quotient (negsuc a) (negsuc b) = pos (suc a / suc b)
 
--- `mod` is what `div` leaves, with the dividend's sign
+-- "`mod` is the exact remainder with the dividend's sign"
 unfoldable pub remainder : ℤ → ℤ → ℤ
 remainder (pos a) y = pos (a % natAbs y)
 remainder (negsuc a) y = negℤ (pos (suc a % natAbs y))
@@ -126,14 +126,14 @@ operationOf times = Operation.times
 
 -- ---- `all c`
 
--- the objects of c or below among the first n
+-- "`all` is every object of c or below": those among the first n
 unfoldable pub instances : Model → ℕ → ℕ → Values
 instances s c zero = nil
 instances s c (suc n) = if isA s n (class c) then append (obj n) (instances s c n) else instances s c n
 
 -- ---- one strict operand
 
--- `as`: a collection is of no kind that it takes; a simple value stays where it is an object of c or below
+-- "`as` takes any value but a collection and is undefined unless it is an object of c or below"
 unfoldable pub cast : Model → ℕ → Value → ℕ → Outcome
 cast s c (bool b) n = undefined n
 cast s c (num x) n = undefined n
@@ -143,7 +143,7 @@ cast s c (coll k vs) n = stuck
 unfoldable pub unaryApply : Model → Unary → Value → ℕ → Outcome
 unaryApply s negation v n = onBool v (λ b. value (bool (not b)) n)
 unaryApply s sizeOf v n = onColl v (λ k vs. value (num (int (pos (count vs)))) n)
--- members are added in their stored order, so a Sequence keeps it and a Set drops repeats
+-- "`asSequence` keeps the stored order; `asSet` drops repeats": members are added one by one in their stored order
 unaryApply s (convert k) v n = onColl v (λ j vs. form (coll k (addAll k vs nil)) n)
 unaryApply s (castTo c) v n = cast s c v n
 
@@ -172,7 +172,7 @@ abbrev pub onScale : Scale → Value → Bool
 onScale integers v = isInt v
 onScale reals v = isNum v
 
--- the left operand's kind, which is looked at before the right one runs
+-- the left operand's kind, "seen as soon as it is defined": before the right one runs
 unfoldable pub leftFits : Mark → Binary → Value → Bool
 leftFits m equal v = true
 leftFits m less v = onScale (scaleMarked m) v
@@ -194,12 +194,12 @@ binaryApply m (divide o) v w n = onInt v (λ x. onInt w (λ y. resulting (divisi
 binaryApply m over v w n = onNum v (λ x. onNum w (λ y. resulting (calculated Operation.over x y) n))
 binaryApply m includes v w n = onColl v (λ k vs. value (bool (has w vs)) n)
 binaryApply m including v w n = onColl v (λ k vs. form (coll k (add k w vs)) n)
--- two of one kind: Sets merge, Bags add up, Sequences join
+-- "`union` joins, merges or adds up" two of one kind
 binaryApply m union v w n = onColl v (λ j vs. onColl w (λ k ws. if sameKind j k then form (coll j (addAll j ws vs)) n else stuck))
 
 -- ---- attributes
 
--- is the value an object of the row's class or below
+-- is the value "an object of the row's class or below"
 unfoldable pub hasRow : Model → ℕ → Value → Bool
 hasRow s i (bool b) = false
 hasRow s i (num x) = false
@@ -218,12 +218,12 @@ unfoldable pub valuesInRow : Model → ℕ → Values → Option Values
 valuesInRow s i nil = some nil
 valuesInRow s i (cons v vs) = onSome (valueInRow s i v) (λ w. mapSome (cons w) (valuesInRow s i vs))
 
--- document 02, F-4: an undefined member makes the whole undefined, before 17; nothing is flattened
+-- document 02, F-4: "A member whose value is undefined makes the whole undefined, before 17. Nothing is flattened"
 abbrev pub formAll : Kind → Option Values → ℕ → Outcome
 formAll k none n = undefined n
 formAll k (some ws) n = form (coll k (addAll k ws nil)) n
 
--- `attr` takes an object of the class of its mark's row, or below it; `collect` a collection of such objects
+-- `attr` takes "an object of the row's class or below", `collect` "a collection of objects of the row's class or below"; a mark has the row
 unfoldable pub access : Model → Access → Mark → Value → ℕ → Outcome
 access s ofObject m v n = if hasRow s (rowMarked m) v then given (valueInRow s (rowMarked m) v) n else stuck
 access s ofMembers m v n = onColl v (λ k vs. if every (hasRow s (rowMarked m)) vs then formAll (kindMarked m) (valuesInRow s (rowMarked m) vs) n else stuck)

@@ -8,14 +8,14 @@ use lib.Dec.{T}
 use Rattle.laws.specs.Lists.{Each}
 use Rattle.reals.specs.Reals.{kept}
 use Rattle.ocl.specs.Types.{class, Ty}
-use Rattle.ocl.specs.Values.{Value, size}
+use Rattle.ocl.specs.Values.{Value, size, largest}
 use Rattle.ocl.specs.Model.{Model, schemaOf, isA, belongs}
 use Rattle.ocl.specs.Environment.{Env}
 use Rattle.ocl.specs.Forms.{Expr, Definition, reach, calls}
 use Rattle.ocl.specs.Marks.{Mark}
 use Rattle.ocl.specs.Typing.{typed, typeRule, typeDefinition}
 use Rattle.ocl.specs.Operations.{Outcome, value, stuck, stop, Stop, stepsOf}
-use Rattle.ocl.specs.Evaluation.{evaluation, evaluateRule}
+use Rattle.ocl.specs.Evaluation.{mostSteps, evaluation, evaluateRule}
 use Rattle.ocl.specs.Laws.{numbersKept, Formed, literals, Agree}
 
 -- what reading makes sure of
@@ -25,7 +25,7 @@ pub record AcceptedModel (s : Model) : Type 0 where
   -- a value belongs to its row's type
   pub values-belong : (o i : ℕ) (v : Value) → s .valueOf o i ≡ some v → T (belongs s (s .row i .type) v)
   -- is of an allowed size
-  pub values-small : (o i : ℕ) (v : Value) → s .valueOf o i ≡ some v → size v ≤ 128
+  pub values-small : (o i : ℕ) (v : Value) → s .valueOf o i ≡ some v → size v ≤ largest
   -- its numbers are kept: Integers in range, and binary64 numbers that are none
   pub values-kept : (o i : ℕ) (v : Value) → s .valueOf o i ≡ some v → T (numbersKept v)
   -- and it is formed: Sets strictly ascending, Bags ascending (5 refuses every other)
@@ -36,7 +36,7 @@ pub record Sound (s : Model) (t : Ty) (k : ℕ) (o : Outcome) : Type 0 where
   pub not-stuck : o ≢ stuck
   -- a value belongs to the rule's type, is of an allowed size, its numbers are kept, and it is formed
   pub of-type : (v : Value) (n : ℕ) → o ≡ value v n → T (belongs s t v)
-  pub of-size : (v : Value) (n : ℕ) → o ≡ value v n → size v ≤ 128
+  pub of-size : (v : Value) (n : ℕ) → o ≡ value v n → size v ≤ largest
   pub numbers-kept : (v : Value) (n : ℕ) → o ≡ value v n → T (numbersKept v)
   pub formed : (v : Value) (n : ℕ) → o ≡ value v n → Formed v
   -- a stop is one of those that are named
@@ -44,7 +44,7 @@ pub record Sound (s : Model) (t : Ty) (k : ℕ) (o : Outcome) : Type 0 where
   -- the steps are within the reach
   pub in-reach : stepsOf o ≤ k
   -- no step stop where the reach is within the limit
-  pub no-step-stop : k ≤ 1000000 → (n : ℕ) → o ≢ stop 16 n
+  pub no-step-stop : k ≤ mostSteps → (n : ℕ) → o ≢ stop 16 n
 
 -- a definition whose body gets its type, in a table that has its marks
 pub record TypedDefinition (s : Model) (mark : ℕ → Mark) (d : Definition) : Type 0 where
@@ -65,7 +65,7 @@ Soundness =
 -- each variable's value is kept, and of an allowed size
 pub record KeptEnv (ρ : Env Value) : Type 0 where
   pub bound-kept : (i : ℕ) (v : Value) → ρ i ≡ some v → T (numbersKept v)
-  pub bound-small : (i : ℕ) (v : Value) → ρ i ≡ some v → size v ≤ 128
+  pub bound-small : (i : ℕ) (v : Value) → ρ i ≡ some v → size v ≤ largest
 
 abbrev pub KeptEnds : Type 0
 KeptEnds =

@@ -1,8 +1,9 @@
 -- Document 02, F-5: every form passes a stop upward, 19 as it does 16 and 17, and each operation at the ends of the range.
 use mathlib.Core.Path.{_≡_}
 use mathlib.Core.Bool.{Bool, true, false, not}
-use Prim.Native.Nat.{ℕ}
+use Prim.Native.Nat.{ℕ, _-_}
 use lib.IntN.{ℤ, pos, negsuc}
+use Rattle.laws.specs.Integers.{integerEnd}
 use Rattle.reals.specs.Reals.{int, result, noResult, overRange}
 use Rattle.ocl.specs.Types.{class, Kind}
 use Rattle.ocl.specs.Values.{Value, bool, obj, coll, Values, cons}
@@ -55,10 +56,10 @@ pub record Upward : Type 0 where
       → fold body (cons v vs) a n ≡ stop c m
 
 unfoldable pub least : ℤ
-least = negsuc 2147483647
+least = negsuc (integerEnd - 1)
 
 unfoldable pub greatest : ℤ
-greatest = pos 2147483647
+greatest = pos (integerEnd - 1)
 
 pub record RangeEnds : Type 0 where
   pub plus-over : arithmetic plus greatest (pos 1) ≡ overRange

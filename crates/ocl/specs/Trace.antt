@@ -12,7 +12,7 @@ use Rattle.ocl.specs.Environment.{Env, extend, start}
 use Rattle.ocl.specs.Forms.{Connective, Quantifier, Access, Leaf, Unary, Binary, Expr, node, Form, leaf, unary, binary, connective, isUndef, conditional, letIn, attribute, call, quantified, iterate, assemble, Operands, noOperand, operand}
 use Rattle.ocl.specs.Marks.{Mark}
 use Rattle.ocl.specs.Operations.{Outcome, value, undefined, stuck, stop, form, unaryApply, leftFits, binaryApply, access}
-use Rattle.ocl.specs.Evaluation.{leafRun, decides, endsAt}
+use Rattle.ocl.specs.Evaluation.{mostSteps, leafRun, decides, endsAt}
 
 -- an outcome, whose undefined also has the node at which it arose and the step at which that node began
 pub data Traced : Type 0 where
@@ -154,7 +154,7 @@ assembleTrace p c g ρ n = g p n c nil ρ n
 
 -- its beginning is one step, so that the root, before which no step has begun, begins at step 1
 unfoldable pub tickT : Trace → Trace
-tickT f ρ n = if ltb n 1000000 then f ρ (n + 1) else stopT 16 n
+tickT f ρ n = if ltb n mostSteps then f ρ (n + 1) else stopT 16 n
 
 unfoldable mutual
   pub trace : Model → (ℕ → Mark) → Expr → Trace

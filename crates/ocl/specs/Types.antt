@@ -6,16 +6,16 @@ use Prim.Native.Nat.{ℕ, zero, suc}
 use lib.Dec.{eqb}
 use Rattle.laws.specs.Choice.{if_then_else_}
 
--- the types other than Void and those of collections
+-- "`Bool`, `Int`, `Any`, `#c` (class c)", and document 02, F-8: "the type `Real`"
 pub data Simple : Type 0 where
   any boolean integer real : Simple
   class : ℕ → Simple
 
--- the kinds of a collection value: Set, Sequence, Bag
+-- the kinds of a collection value: "a Set `S(..)`, Sequence `Q(..)`, Bag `B(..)`"
 pub data Kind : Type 0 where
   set sequence bag : Kind
 
--- the letters of a collection type: C for any kind, else one kind
+-- the letters of a collection type: "`S`, `Q`, `B` or `C` (Collection) around a type"
 pub data Letter : Type 0 where
   collection : Letter
   exactly : Kind → Letter
@@ -46,33 +46,33 @@ Real = simple real
 abbrev pub Class : ℕ → Ty
 Class c = simple (class c)
 
--- how many letters stand around the inmost type; three are the most that a type may have
+-- how many letters stand around the inmost type: "at most three such letters deep"
 unfoldable pub depth : Ty → ℕ
 depth void = 0
 depth (simple a) = 0
 depth (around l t) = suc (depth t)
 
--- each class's parent, if it has one
+-- each class's parent, if it has one: "parent p is `-` or a smaller class"
 abbrev pub Parents : Type 0
 Parents = ℕ → Option ℕ
 
--- the subtype relation: the least one that has these clauses
+-- the subtype relation: "the least reflexive, transitive relation with" these clauses
 pub data Subtype (parent : Parents) : Ty → Ty → Type 0 where
   reflexive : {t : Ty} → Subtype parent t t
   transitive : {t u w : Ty} → Subtype parent t u → Subtype parent u w → Subtype parent t w
-  -- Void is below every type
+  -- "Void below everything"
   void-below : {t : Ty} → Subtype parent void t
   -- document 02, F-8: "Int below Real and Real below Any"
   integer-real : Subtype parent Integer Real
   real-any : Subtype parent Real Any
-  -- Bool and each class are below Any
+  -- "Bool, Int, classes below Any"; Int by way of Real
   boolean-any : Subtype parent Boolean Any
   class-any : {c : ℕ} → Subtype parent (Class c) Any
-  -- a class is below its parent
+  -- "a class below its parent"
   class-parent : {c p : ℕ} → parent c ≡ some p → Subtype parent (Class c) (Class p)
-  -- a Set, Sequence or Bag type is below the Collection type of the same members
+  -- "S, Q, B of T below C of T"
   kind-collection : {k : Kind} {t : Ty} → Subtype parent (around (exactly k) t) (around collection t)
-  -- each letter follows its member type
+  -- "all four covariant"
   covariant : {l : Letter} {t u : Ty} → Subtype parent t u → Subtype parent (around l t) (around l u)
 
 -- ---- the same as a test (proofs/Types.antt: they agree). A simple type other than Any has one step up, and all steps lead to Any.
@@ -136,7 +136,7 @@ letterSubtype collection (exactly l) = false
 letterSubtype (exactly k) collection = true
 letterSubtype (exactly k) (exactly l) = sameKind k l
 
--- is the one type below the other? A collection is below no simple type, Any among them
+-- is the one type below the other? "No collection is below Any", nor below any other simple type
 unfoldable pub subtype : Parents → Ty → Ty → Bool
 subtype parent void u = true
 subtype parent (simple a) void = false
@@ -146,7 +146,7 @@ subtype parent (around k t) void = false
 subtype parent (around k t) (simple b) = false
 subtype parent (around k t) (around l u) = letterSubtype k l && subtype parent t u
 
--- ---- the common type of two types: their least upper bound, where there is one
+-- ---- "The common type of two is their least upper bound", where there is one
 
 -- the first, from a upward, that b is below
 unfoldable pub firstAbove : Parents → ℕ → Simple → Simple → Simple
@@ -168,7 +168,7 @@ unfoldable pub aroundSome : Letter → Option Ty → Option Ty
 aroundSome l none = none
 aroundSome l (some t) = some (around l t)
 
--- a collection and a simple type, as `S(Int)` and `Int`, have none
+-- "`S(Int)` and `Int` have none", nor have any other collection and simple type
 unfoldable pub join : Parents → Ty → Ty → Option Ty
 join parent void u = some u
 join parent (simple a) void = some (simple a)

@@ -34,32 +34,32 @@ unfoldable pub thenFor : Answer → Marks → (Ty → Typed) → Typed
 thenFor (typed t) m k = record { answer = k t .answer; marks = m ++ k t .marks }
 thenFor (refused n p) m k = record { answer = refused n p; marks = m }
 
--- operands are typed first, left to right: the first refusal is the answer
+-- "Typing goes operands first, left to right": the first refusal is the answer
 unfoldable pub andThen : Typed → (Ty → Typed) → Typed
 andThen x k = thenFor (x .answer) (x .marks) k
 
--- ---- what the node p asks of its operands' types: 11, then 10, then 12, then 13
+-- ---- what the node p asks of its operands' types: "at a node 11 comes first, then 10, 12, 13"
 
--- t is below u, else 11
+-- t is below u, else 11, "operand type not admitted"
 abbrev pub below : Schema → ℕ → Ty → Ty → Answer → Answer
 below s p t u a = if subtype (s .parent) t u then a else refused 11 p
 
--- there is a common type, else 10
+-- there is a common type, else 10, "no common type"
 unfoldable pub common : ℕ → Option Ty → (Ty → Answer) → Answer
 common p none k = refused 10 p
 common p (some w) k = k w
 
--- a letter around t is at most three deep, else 13
+-- a letter around t; 13, "type over three deep"
 unfoldable pub wrap : ℕ → Letter → Ty → Answer
 wrap p l t = if leb (depth t) 2 then typed (around l t) else refused 13 p
 
--- t is a collection type, which Void is not
+-- "A collection operand must have a collection type; Void is none"
 unfoldable pub onCollection : {A : Type 0} → Ty → A → (Letter → Ty → A) → A
 onCollection void no11 k = no11
 onCollection (simple b) no11 k = no11
 onCollection (around l t) no11 k = k l t
 
--- t is a class, which Void is not
+-- t is a class; "treating Void as a class" is one of the mistakes to shut out
 unfoldable pub onClass : {A : Type 0} → Ty → A → (ℕ → A) → A
 onClass void no11 k = no11
 onClass (simple any) no11 k = no11
@@ -69,19 +69,19 @@ onClass (simple real) no11 k = no11
 onClass (simple (class c)) no11 k = k c
 onClass (around l t) no11 k = no11
 
--- the letter is S, Q or B
+-- "kinds S, Q, B only"
 unfoldable pub onKind : Letter → Answer → (Kind → Answer) → Answer
 onKind collection no11 k = no11
 onKind (exactly c) no11 k = k c
 
--- the variable is bound, else 9
+-- the variable is bound, else 9, "unbound variable"
 unfoldable pub boundType : ℕ → Option Ty → Answer
 boundType p none = refused 9 p
 boundType p (some t) = typed t
 
 -- ---- the type of each form, given its operands' types
 
--- forms with no operand
+-- "`true`, `false`: Bool. `undef`: Void. `int n`: Int. `self`: the context class. `var i`: its binding"; "`all c`: `S(#c)`"
 unfoldable pub leafType : ℕ → Leaf → Env Ty → Answer
 leafType p (truth b) Γ = typed Boolean
 leafType p undef Γ = typed void
@@ -90,7 +90,7 @@ leafType p self Γ = boundType p (Γ 0)
 leafType p (var i) Γ = boundType p (Γ i)
 leafType p (all c) Γ = typed (around (exactly set) (Class c))
 
--- `as`: from Any, or from a class above or below c; an unrelated class is 10, any other type 11
+-- "e of type Any, of c, or of a class above or below c (another class is 10, any other type 11)"
 unfoldable pub castType : Schema → ℕ → ℕ → Ty → Answer
 castType s p c void = refused 11 p
 castType s p c (simple any) = typed (Class c)
@@ -105,7 +105,7 @@ castType s p c (around l t) = refused 11 p
 unfoldable pub unaryType : Schema → ℕ → Unary → Ty → Answer
 unaryType s p negation t = below s p t Boolean (typed Boolean)
 unaryType s p sizeOf t = onCollection t (refused 11 p) (λ l u. typed Integer)
--- the new kind around the member type
+-- "that kind around the member type"
 unaryType s p (convert k) t = onCollection t (refused 11 p) (λ l u. wrap p (exactly k) u)
 unaryType s p (castTo c) t = castType s p c t
 
@@ -128,16 +128,16 @@ onNumbers s p type t u =
     else if subtype (s .parent) t Real && subtype (s .parent) u Real then scaled p type reals
     else pure (refused 11 p)
 
--- `includes`: the member type and u must have a common type
+-- "`includes s e` (common type with the member type exists): Bool"
 unfoldable pub includesType : Schema → ℕ → Ty → Ty → Answer
 includesType s p t u = onCollection t (refused 11 p) (λ l m. common p (join (s .parent) m u) (λ w. typed Boolean))
 
--- `including`: S, Q or B, around the common type of its members and u
+-- `including`: "kinds S, Q, B only ..; the kind around the common member type"
 unfoldable pub includingType : Schema → ℕ → Ty → Ty → Answer
 includingType s p t u =
     onCollection t (refused 11 p) (λ l m. onKind l (refused 11 p) (λ k. common p (join (s .parent) m u) (wrap p (exactly k))))
 
--- `union`: both S, both Q or both B, around the common type of their members
+-- `union`: "kinds S, Q, B only, equal for union; the kind around the common member type"
 unfoldable pub unionType : Schema → ℕ → Ty → Ty → Answer
 unionType s p t u =
     onCollection t (refused 11 p) (λ l m. onKind l (refused 11 p) (λ j.
@@ -146,7 +146,7 @@ unionType s p t u =
 
 -- forms with two strict operands, of types t and u
 unfoldable pub binaryType : Schema → ℕ → Binary → Ty → Ty → Typed
--- `eq`: a common type must exist
+-- "`eq e e`: common type exists; Bool"
 binaryType s p equal t u = pure (common p (join (s .parent) t u) (λ w. typed Boolean))
 binaryType s p less t u = onNumbers s p (λ x. Boolean) t u
 binaryType s p (arith o) t u = onNumbers s p scaleType t u
@@ -156,31 +156,31 @@ binaryType s p includes t u = pure (includesType s p t u)
 binaryType s p including t u = pure (includingType s p t u)
 binaryType s p union t u = pure (unionType s p t u)
 
--- `if`: a condition below Bool (11), then the branches' common type (10)
+-- "`if e b b`: e below Bool; the common type": 11, then 10
 unfoldable pub conditionalType : Schema → ℕ → Ty → Ty → Ty → Answer
 conditionalType s p c t u = below s p c Boolean (common p (join (s .parent) t u) typed)
 
--- the row found, which is marked; none is 12
+-- the row found, which is marked; 12, "no attribute"
 unfoldable pub rowType : Schema → ℕ → (ℕ → Mark) → (Ty → Answer) → Option ℕ → Typed
 rowType s p mark k none = pure (refused 12 p)
 rowType s p mark k (some i) = record { answer = k (s .row i .type); marks = (p, mark i) ∷ [] }
 
--- document 02, F-4: a Sequence if s is typed `Q(..)`, otherwise a Bag
+-- document 02, F-4: "a Sequence of the row's type if s is typed `Q(..)`, otherwise a Bag"
 unfoldable pub collectKind : Letter → Kind
 collectKind collection = bag
 collectKind (exactly set) = bag
 collectKind (exactly sequence) = sequence
 collectKind (exactly bag) = bag
 
--- `attr`: of a class; `collect`: of a collection whose member type is a class (11). The row is the nearest declaration from that static
--- class upward (12); what `collect` puts around its type is at most three deep (13)
+-- `attr`: "e of class type; the nearest declaration upward from that static class is the row read"; `collect`: "s has a class as its
+-- member type, and the row is found from that class". "Numbers 11, 12, 13 and 17 apply as they do for `attr` and `coll`"
 unfoldable pub attributeType : Schema → ℕ → Access → ℕ → Ty → Typed
 attributeType s p ofObject name t = onClass t (pure (refused 11 p)) (λ c. rowType s p ofRow typed (rowRead s c name))
 attributeType s p ofMembers name t =
     onCollection t (pure (refused 11 p)) (λ l m. onClass m (pure (refused 11 p)) (λ c.
     rowType s p (ofRows (collectKind l)) (wrap p (exactly (collectKind l))) (rowRead s c name)))
 
--- document 02, F-13: `call` takes a class that is c or below, which Void is not (11), and has the definition's type
+-- document 02, F-13: `call` "takes e of class c or below (else 11)", which Void is not, and "has type T"
 unfoldable pub callType : Schema → ℕ → ℕ → Ty → Ty → Answer
 callType s p c t u = onClass u (refused 11 p) (λ d. below s p (Class d) (Class c) (typed t))
 
@@ -195,7 +195,7 @@ unaryTyping s p op f Γ = andThen (f Γ) (λ t. pure (unaryType s p op t))
 unfoldable pub binaryTyping : Schema → ℕ → Binary → Typing → Typing → Typing
 binaryTyping s p op f g Γ = andThen (f Γ) (λ t. andThen (g Γ) (λ u. binaryType s p op t u))
 
--- `and`, `or`: both below Bool
+-- "`and`, `or`, `not`: operands below Bool; Bool"
 unfoldable pub connectiveTyping : Schema → ℕ → Typing → Typing → Typing
 connectiveTyping s p f g Γ = andThen (f Γ) (λ t. andThen (g Γ) (λ u. pure (bothBelow s p Boolean Boolean t u)))
 
@@ -206,24 +206,24 @@ unfoldable pub conditionalTyping : Schema → ℕ → Typing → Typing → Typi
 conditionalTyping s p f g h Γ =
     andThen (f Γ) (λ c. andThen (g Γ) (λ t. andThen (h Γ) (λ u. pure (conditionalType s p c t u))))
 
--- `let`: the variable has e's type in the body
+-- "`let i e b`: i has e's type in b"
 unfoldable pub letTyping : ℕ → Typing → Typing → Typing
 letTyping i f g Γ = andThen (f Γ) (λ t. g (extend Γ i t))
 
 unfoldable pub attributeTyping : Schema → ℕ → Access → ℕ → Typing → Typing
 attributeTyping s p x name f Γ = andThen (f Γ) (attributeType s p x name)
 
--- the body is typed with its definition, not here
+-- the body is typed with its definition, not here: definitions "are typed in order before the rules"
 unfoldable pub callTyping : Schema → ℕ → ℕ → Ty → Typing → Typing
 callTyping s p c t f Γ = andThen (f Γ) (λ u. pure (callType s p c t u))
 
--- `forAll`, `exists`: the source is checked (11) before the body is typed; the body is below Bool
+-- "a form that binds variables checks its other operands (11) before its body is typed"; "b below Bool; Bool"
 unfoldable pub quantifiedTyping : Schema → ℕ → ℕ → Typing → Typing → Typing
 quantifiedTyping s p i f g Γ =
     andThen (f Γ) (λ t. onCollection t (pure (refused 11 p)) (λ l m.
     andThen (g (extend Γ i m)) (λ b. pure (below s p b Boolean (typed Boolean)))))
 
--- `iter`: source and start are typed and checked (11) before the body is typed; the start and the body are below T
+-- `iter`: source and start are typed and checked (11) before the body is typed; "e and b below T; T"
 unfoldable pub iterateTyping : Schema → ℕ → ℕ → ℕ → Ty → Typing → Typing → Typing → Typing
 iterateTyping s p i j t f g h Γ =
     andThen (f Γ) (λ c. andThen (g Γ) (λ e. onCollection c (pure (refused 11 p)) (λ l m.
@@ -231,7 +231,7 @@ iterateTyping s p i j t f g h Γ =
     then andThen (h (extend (extend Γ i m) j t)) (λ b. pure (below s p b t (typed t)))
     else pure (refused 11 p))))
 
--- `coll`: Void where there is no member
+-- `coll`: "k of the members' common type (Void if none)"
 unfoldable pub noOperandTyping : Typing
 noOperandTyping Γ = pure (typed void)
 
@@ -265,7 +265,7 @@ unfoldable mutual
   operandsTyping s p noOperand = noOperandTyping
   operandsTyping s p (operand e es) = operandTyping s p (typing s e) (operandsTyping s p es)
 
--- a rule with context class c: `self` has that class
+-- a rule with context class c: "`self`: the context class"
 unfoldable pub typeRule : Schema → ℕ → Expr → Typed
 typeRule s c e = typing s e (start (Class c))
 
@@ -273,7 +273,7 @@ typeRule s c e = typing s e (start (Class c))
 unfoldable pub root : Expr → ℕ
 root (node p f) = p
 
--- a definition: `self` has its class, no other variable is bound, and the body is below its type, else 11 at the root
+-- document 02, F-13: "`self` has class c", no other variable is bound; "A body must be below T, else 11 at its root"
 unfoldable pub typeDefinition : Schema → Definition → Typed
 typeDefinition s d =
     andThen (typeRule s (d .context) (d .body)) (λ t. pure (below s (root (d .body)) t (d .type) (typed (d .type))))

@@ -6,7 +6,7 @@ use lib.Dec.{isEq}
 use Rattle.reals.specs.Reals.{Number, units, orderInt}
 use Rattle.ocl.specs.Types.{Kind, set, sequence, bag}
 
--- what is defined: true or false, an Integer or a Real, an object, a collection. Undefined stands apart, since it is never a member
+-- a value that is defined: true or false, an Integer or a Real, an object, a collection. "Undefined is never a member", so it stands apart
 mutual
   pub data Value : Type 0 where
     bool : Bool → Value
@@ -18,12 +18,12 @@ mutual
     nil : Values
     cons : Value → Values → Values
 
--- how many members
+-- "`size` is the number of members"
 unfoldable pub count : Values → ℕ
 count nil = 0
 count (cons v vs) = suc (count vs)
 
--- a value counts 1, and a collection also its members' sizes
+-- "Size: 1, plus the sizes of the members"
 unfoldable mutual
   pub size : Value → ℕ
   size (bool b) = 1
@@ -34,6 +34,10 @@ unfoldable mutual
   pub sizes : Values → ℕ
   sizes nil = 0
   sizes (cons v vs) = size v + sizes vs
+
+-- "at most 128"
+abbrev pub largest : ℕ
+largest = 128
 
 -- does the test hold of each part of a value that is no collection, at every depth
 unfoldable mutual
@@ -55,7 +59,7 @@ thenOrder Ordering·lt q = Ordering·lt
 thenOrder Ordering·eq q = q
 thenOrder Ordering·gt q = Ordering·gt
 
--- truth values, numbers, objects, Sets, Sequences, Bags come in this order
+-- "Order of values: `f`, `t`, Integers, objects by number, Sets, Sequences, Bags", with Reals among the Integers
 unfoldable pub sort : Value → ℕ
 sort (bool b) = 0
 sort (num x) = 1
@@ -88,7 +92,7 @@ members (coll k vs) = vs
 unfoldable pub headOrder : Value → Value → Ordering
 headOrder v w = thenOrder (compare (sort v) (sort w)) (orderInt (rank v) (rank w))
 
--- two collections of one kind and as many members: the first members that differ decide
+-- "within one collection kind fewer members first, then member by member"
 unfoldable mutual
   pub order : Value → Value → Ordering
   order (bool b) w = headOrder (bool b) w
@@ -101,17 +105,17 @@ unfoldable mutual
   orders (cons v vs) nil = Ordering·gt
   orders (cons v vs) (cons w ws) = thenOrder (order v w) (orders vs ws)
 
--- are the two one and the same value: neither comes before the other (proofs/Order.antt: this is equality,
+-- "`eq` is true exactly when both values are the same": neither comes before the other (proofs/Order.antt: this is equality,
 -- where numbers are kept)
 unfoldable pub same : Value → Value → Bool
 same v w = isEq (order v w)
 
--- is v one of the members
+-- "`includes` is true exactly when a member is the same value as e"
 unfoldable pub has : Value → Values → Bool
 has v nil = false
 has v (cons w ws) = same v w || has v ws
 
--- ---- adding a member: a Set stays strictly ascending, a Bag ascending, a Sequence grows at its end
+-- ---- adding a member: "Sets are strictly ascending, Bags ascending with repeats, Sequences as given"
 
 -- v before the member w, in its place (a second time, or not), or further on
 unfoldable pub put : Bool → Ordering → Value → Value → Values → Values → Values
@@ -125,7 +129,7 @@ unfoldable pub insert : Bool → Value → Values → Values
 insert repeats v nil = cons v nil
 insert repeats v (cons w ws) = put repeats (order v w) v w ws (insert repeats v ws)
 
--- at the end
+-- "in a Sequence at the end"
 unfoldable pub append : Value → Values → Values
 append v nil = cons v nil
 append v (cons w ws) = cons w (append v ws)

@@ -1,12 +1,12 @@
-// The program of document 02, F-9: standard input to the lines of the rows that its rules see. It depends on `input` and on `printing`.
+// The program of document 02, F-9: it reads a sheet from standard input and prints the rows that each rule sees. It depends on `input` and
+// on `printing`.
 use input::Filled;
 use input::read_input;
 use printing::printed_rows;
 
 fn main() {
-    // one byte more than a sheet may have, so that a sheet which is too long still is after reading
-    let mut text: [u8; 49153] = [0; 49153];
-    let mut out: [u8; 65536] = [0; 65536];
+    let mut text: [u8; memory::PROGRAM_TEXT] = [0; memory::PROGRAM_TEXT];
+    let mut out: [u8; memory::PROGRAM_OUTPUT] = [0; memory::PROGRAM_OUTPUT];
     let Filled::With(n) = read_input(libc::STDIN_FILENO, &mut text) else {
         os::fail(b"standard input");
         return;

@@ -1,10 +1,11 @@
 // How every call begins and ends: the lengths of what is lent, a text read and all its definitions and rules typed, what a call returns,
-// and the words set to zero. Document 01, Calls. It depends on `reader` for the sheet, on `rules` for typing and on `report` for what
-// lines come to.
+// and the words set to zero. Document 01, Calls. It depends on `reader` for the sheet, on `rules` for typing and on `report` for how
+// putting lines ends.
 ghost use mathlib.Core.Bool.{_||_};
 ghost use mathlib.Core.Path.{_≡_};
 ghost use Prim.Native.Nat.{_≤_};
 ghost use lib.ListN.{length};
+ghost use Rattle.sheet.specs.Sizes.{leastWords};
 ghost use Rattle.sheet.specs.Calls.{Verdict, refusalAt, shortWords, shortOutput};
 ghost use Rattle.rules.specs.Accepted.{Known};
 ghost use Rattle.report.specs.Reports.{SaysReport};
@@ -50,7 +51,7 @@ pub fn written(end: usize, steps: u64) -> Answer
     }
 }
 
-// What lines come to that are put into the output: their length; or 18, where they are longer than it.
+// The answer for lines that are put into the output: their length; or 18 where they are longer than it.
 pub fn lines_answer(r: Reported) -> Answer
     ensures { λ a. ⌜ ((v : Verdict) → SaysReport r v → a ≡ answerOf v) ⌝ }
 {
@@ -64,13 +65,13 @@ pub fn lines_answer(r: Reported) -> Answer
 pub fn short(w0: &[u64], w1: &[u64], w2: &[u64]) -> bool
     ensures { λ r. ⌜ r ≡ shortWords (now (w0 .entry)) (now (w1 .entry)) (now (w2 .entry)) ⌝ }
 {
-    if w0.len() < 8192 {
+    if w0.len() < memory::LEAST_WORDS {
         return true;
     }
-    if w1.len() < 8192 {
+    if w1.len() < memory::LEAST_WORDS {
         return true;
     }
-    w2.len() < 8192
+    w2.len() < memory::LEAST_WORDS
 }
 
 // Whether a word slice has fewer than 8,192 words, or the output fewer than 2,560 bytes.
@@ -80,23 +81,23 @@ pub fn short_lent(w0: &[u64], w1: &[u64], w2: &[u64], out: &[u8]) -> bool
     if short(w0, w1, w2) {
         return true;
     }
-    out.len() < 2560
+    out.len() < memory::LEAST_OUTPUT
 }
 
-// A text of any length: its sheet in the words, or a refusal.
+// Reads a text of any length: its sheet in the words, or a refusal.
 pub fn read_text(text: &[u8], w0: &mut [u64], w1: &mut [u64], w2: &mut [u64]) -> SheetRead
-    requires { ⌜ (8192 ≤ length (now w0)) × (8192 ≤ length (now w1)) × (8192 ≤ length (now w2)) ⌝ }
+    requires { ⌜ (leastWords ≤ length (now w0)) × (leastWords ≤ length (now w1)) × (leastWords ≤ length (now w2)) ⌝ }
     ensures { λ r. ⌜ ReadsText (now (text .entry)) r (now (w0 .entry)) (now (w1 .entry)) (now (w2 .entry)) (now (w0 .exit)) (now (w1 .exit)) (now (w2 .exit)) ⌝ }
 {
-    if 49152 < text.len() {
+    if memory::MOST_BYTES < text.len() {
         return SheetRead::Refused(2, 0);
     }
     read(text, w0, w1, w2)
 }
 
-// The sheet that lies in the words, once all its definitions and rules are typed, or the first refusal.
+// Types all definitions and rules of the sheet that lies in the words: the sheet is accepted, or the first refusal is given.
 pub fn accept_sheet(w0: &[u64], st: Counts, w1: &mut [u64], w2: &mut [u64]) -> SheetRead
-    requires { ⌜ (8192 ≤ length (now w0)) × (8192 ≤ length (now w1)) × (8192 ≤ length (now w2)) ⌝ }
+    requires { ⌜ (leastWords ≤ length (now w0)) × (leastWords ≤ length (now w1)) × (leastWords ≤ length (now w2)) ⌝ }
     requires { ⌜ Known st (now w0) (now w1) ⌝ }
     ensures { λ r. ⌜ AcceptsSheet st (now (w0 .entry)) (now (w1 .entry)) (now (w2 .entry)) (now (w1 .exit)) (now (w2 .exit)) r ⌝ }
 {
@@ -108,7 +109,7 @@ pub fn accept_sheet(w0: &[u64], st: Counts, w1: &mut [u64], w2: &mut [u64]) -> S
 
 // Opens a text for a call: it is read, and all its definitions and rules are typed. Every call begins so, and refuses alike.
 pub fn open_text(text: &[u8], w0: &mut [u64], w1: &mut [u64], w2: &mut [u64]) -> SheetRead
-    requires { ⌜ (8192 ≤ length (now w0)) × (8192 ≤ length (now w1)) × (8192 ≤ length (now w2)) ⌝ }
+    requires { ⌜ (leastWords ≤ length (now w0)) × (leastWords ≤ length (now w1)) × (leastWords ≤ length (now w2)) ⌝ }
     ensures { λ r. ⌜ OpensText (now (text .entry)) r (now (w0 .entry)) (now (w1 .entry)) (now (w2 .entry)) (now (w0 .exit)) (now (w1 .exit)) (now (w2 .exit)) ⌝ }
 {
     match read_text(text, w0, w1, w2) {
@@ -117,9 +118,9 @@ pub fn open_text(text: &[u8], w0: &mut [u64], w1: &mut [u64], w2: &mut [u64]) ->
     }
 }
 
-// The first 8,192 words of each slice are set to 0.
+// Sets the first 8,192 words of each slice to 0.
 pub fn wipe_all(w0: &mut [u64], w1: &mut [u64], w2: &mut [u64])
-    requires { ⌜ (8192 ≤ length (now w0)) × (8192 ≤ length (now w1)) × (8192 ≤ length (now w2)) ⌝ }
+    requires { ⌜ (leastWords ≤ length (now w0)) × (leastWords ≤ length (now w1)) × (leastWords ≤ length (now w2)) ⌝ }
     ensures { λ _. ⌜ Wipes (now (w0 .entry)) (now (w1 .entry)) (now (w2 .entry)) (now (w0 .exit)) (now (w1 .exit)) (now (w2 .exit)) ⌝ }
 {
     tables::wipe(w0);

@@ -22,11 +22,11 @@ use Rattle.values.specs.declared.Formed.{Formed}
 use Rattle.values.proofs.Heads.{shape, Shape, shape-bool, shape-num, shape-obj, shape-coll}
 use Rattle.values.proofs.Adding.{header}
 use Rattle.nodes.specs.Nodes.{binaryOf, arithByCode as arithCodeOf, divisionByCode as divisionCodeOf}
-use Rattle.operations.specs.declared.Ended.{Ended}
-use Rattle.operations.specs.declared.Ended.the-variants as ended
-use Rattle.operations.specs.Answers.{Ran, Gives, formedAs}
+use Rattle.outcomes.specs.declared.Ended.{Ended}
+use Rattle.outcomes.specs.declared.Ended.the-variants as ended
+use Rattle.outcomes.specs.Answers.{Ran, Gives, formedAs}
 use Rattle.operations.specs.Operations.{AnyMark, OfTwo, FitsScale, FitsLeft}
-use Rattle.operations.proofs.Words.{formed-small, formed-ran}
+use Rattle.outcomes.proofs.Words.{formed-small, formed-ran}
 use Rattle.operations.proofs.Sorts.{no-coll, is-coll, sorted, num-test, coll-test, same-kind}
 use Rattle.operations.proofs.OperationLaws.{ran-stuck}
 

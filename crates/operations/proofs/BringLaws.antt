@@ -17,15 +17,15 @@ use Rattle.values.proofs.Encoding.{size-law}
 use Rattle.values.proofs.Members.{Left, none-left}
 use Rattle.tables.specs.declared.Counts.{Counts}
 use Rattle.tables.specs.Stored.{HoldsModel}
-use Rattle.operations.specs.declared.Ended.{Ended}
-use Rattle.operations.specs.declared.Ended.the-variants as ended
-use Rattle.operations.specs.declared.Place.{Place}
-use Rattle.operations.specs.declared.Place.the-variants as place
-use Rattle.operations.specs.Answers.{Lies, Ends, ends-value, Under, Ran}
-use Rattle.operations.specs.Tables.{Plain, RowSlot, SlotHolds, SlotStands}
+use Rattle.outcomes.specs.declared.Ended.{Ended}
+use Rattle.outcomes.specs.declared.Ended.the-variants as ended
+use Rattle.outcomes.specs.declared.Place.{Place}
+use Rattle.outcomes.specs.declared.Place.the-variants as place
+use Rattle.outcomes.specs.Answers.{Lies, Ends, ends-value, Under, Ran}
+use Rattle.outcomes.specs.Tables.{Plain, RowSlot, SlotHolds, SlotStands}
 use Rattle.operations.specs.Collect.{standing, worst, brought, too-many, FewCells, BringsAll}
-use Rattle.operations.proofs.Words.{under-refl, under-then, under-down, head-at, Other}
-use Rattle.operations.proofs.Lookups.{Object, has-object}
+use Rattle.outcomes.proofs.Words.{under-refl, under-then, under-down, head-at, Other}
+use Rattle.outcomes.proofs.Lookups.{Object, has-object}
 use Rattle.operations.proofs.StandingLaws.{standing-least, given-by, all-given, values-cons}
 
 pub no-value : {A : Type 0} (n s : ℕ) → Other (ended.Value n s) → A

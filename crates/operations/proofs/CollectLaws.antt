@@ -23,12 +23,12 @@ use Rattle.values.proofs.Growing.{addAll-sizes}
 use Rattle.nodes.specs.Marks.{kindIn}
 use Rattle.tables.specs.declared.Counts.{Counts}
 use Rattle.tables.specs.Stored.{HoldsModel}
-use Rattle.operations.specs.declared.Ended.{Ended}
-use Rattle.operations.specs.declared.Ended.the-variants as ended
-use Rattle.operations.specs.Answers.{Ends, ends-undefined, ends-stuck, ends-stop, Under, Ran, SmallAnswer, formedAs}
-use Rattle.operations.specs.Tables.{Plain, Accesses}
+use Rattle.outcomes.specs.declared.Ended.{Ended}
+use Rattle.outcomes.specs.declared.Ended.the-variants as ended
+use Rattle.outcomes.specs.Answers.{Ends, ends-undefined, ends-stuck, ends-stop, Under, Ran, SmallAnswer, formedAs}
+use Rattle.outcomes.specs.Tables.{Plain, Accesses}
 use Rattle.operations.specs.Collect.{worst, WorstOf, Brought, brought, too-many, FewCells, BringsAll}
-use Rattle.operations.proofs.Words.{under-refl, under-then, under-down, Other, formed-small, formed-ran}
+use Rattle.outcomes.proofs.Words.{under-refl, under-then, under-down, Other, formed-small, formed-ran}
 use Rattle.operations.proofs.Sorts.{no-coll, is-coll}
 use Rattle.operations.proofs.StandingLaws.{all-have, one-other, all-given, one-lacks}
 use Rattle.operations.proofs.BringLaws.{no-value}

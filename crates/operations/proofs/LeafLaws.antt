@@ -29,12 +29,12 @@ use Rattle.values.proofs.Growing.{nil-fits}
 use Rattle.nodes.specs.Nodes.{leafOf}
 use Rattle.tables.specs.declared.Counts.{Counts}
 use Rattle.tables.specs.Stored.{HoldsModel}
-use Rattle.operations.specs.declared.Ended.{Ended}
-use Rattle.operations.specs.declared.Ended.the-variants as ended
-use Rattle.operations.specs.Answers.{Lies, Under, Ran, GivesCell, Gives, formedAs}
-use Rattle.operations.specs.Tables.{IsA, WithObject, Instances}
+use Rattle.outcomes.specs.declared.Ended.{Ended}
+use Rattle.outcomes.specs.declared.Ended.the-variants as ended
+use Rattle.outcomes.specs.Answers.{Lies, Under, Ran, GivesCell, Gives, formedAs}
+use Rattle.outcomes.specs.Tables.{IsA, WithObject, Instances}
 use Rattle.operations.specs.Runs.{ModelIn, Held, free, held, Evals, Variable, leafFor}
-use Rattle.operations.proofs.Words.{under-refl, under-then, lies-above, formed-small, formed-ran, formed-value}
+use Rattle.outcomes.proofs.Words.{under-refl, under-then, lies-above, formed-small, formed-ran, formed-value}
 use Rattle.operations.proofs.OperationLaws.{ran-stuck, ran-undefined}
 
 -- ---- variables

@@ -1,5 +1,3 @@
-pub mod Words
-pub mod Lookups
 pub mod Sorts
 pub mod OperationLaws
 pub mod StandingLaws

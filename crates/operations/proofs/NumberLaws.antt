@@ -31,11 +31,11 @@ use Rattle.values.specs.declared.Computed.{Computed}
 use Rattle.values.specs.declared.Computed.the-variants as num-in
 use Rattle.values.proofs.Heads.{shape, bias-small}
 use Rattle.nodes.specs.Marks.{Marked, scaleIn}
-use Rattle.operations.specs.declared.Ended.{Ended}
-use Rattle.operations.specs.declared.Ended.the-variants as ended
-use Rattle.operations.specs.Answers.{Ran, SmallAnswer, GivesCell, Gives}
+use Rattle.outcomes.specs.declared.Ended.{Ended}
+use Rattle.outcomes.specs.declared.Ended.the-variants as ended
+use Rattle.outcomes.specs.Answers.{Ran, SmallAnswer, GivesCell, Gives}
 use Rattle.operations.specs.Operations.{AnyMark, OfTwo, ofIntegers, ofNumbers, Calculated, Settled, GoesByReals, FitsScale}
-use Rattle.operations.proofs.Words.{head-at}
+use Rattle.outcomes.proofs.Words.{head-at}
 use Rattle.operations.proofs.Sorts.{no-ints, no-int, is-int, int-stuck, no-nums, no-num, is-num, num-stuck, num-test}
 use Rattle.operations.proofs.OperationLaws.{ran-stuck, ran-undefined, ran-stop}
 

@@ -13,10 +13,10 @@ use Rattle.values.specs.declared.Simple.the-variants as simple
 use Rattle.nodes.specs.Nodes.{unaryOf, accessOf}
 use Rattle.tables.specs.declared.Counts.{Counts}
 use Rattle.tables.specs.Stored.{HoldsModel}
-use Rattle.operations.specs.declared.Ended.{Ended}
-use Rattle.operations.specs.declared.Ended.the-variants as ended
-use Rattle.operations.specs.Answers.{Gives}
-use Rattle.operations.specs.Tables.{Accesses}
+use Rattle.outcomes.specs.declared.Ended.{Ended}
+use Rattle.outcomes.specs.declared.Ended.the-variants as ended
+use Rattle.outcomes.specs.Answers.{Gives}
+use Rattle.outcomes.specs.Tables.{Accesses}
 use Rattle.operations.specs.Operations.{OfOne, unaryFor}
 use Rattle.operations.specs.Operand.{ofValue, ofUndefined, FromValue, FromUndefined}
 use Rattle.operations.proofs.OperationLaws.{ran-undefined}

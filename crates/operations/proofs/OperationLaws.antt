@@ -23,14 +23,14 @@ use Rattle.values.proofs.Heads.{Shape, shape-bool, shape-num, shape-obj, shape-
 use Rattle.nodes.specs.Nodes.{unaryOf}
 use Rattle.tables.specs.declared.Counts.{Counts}
 use Rattle.tables.specs.Stored.{HoldsModel}
-use Rattle.operations.specs.declared.Ended.{Ended}
-use Rattle.operations.specs.declared.Ended.the-variants as ended
-use Rattle.operations.specs.Answers.{Lies, ends-value, ends-undefined, ends-stuck, ends-stop, Ran, Gives, formedAs, Truth}
-use Rattle.operations.specs.Tables.{IsA}
+use Rattle.outcomes.specs.declared.Ended.{Ended}
+use Rattle.outcomes.specs.declared.Ended.the-variants as ended
+use Rattle.outcomes.specs.Answers.{Lies, ends-value, ends-undefined, ends-stuck, ends-stop, Ran, Gives, formedAs, Truth}
+use Rattle.outcomes.specs.Tables.{IsA}
 use Rattle.operations.specs.Operations.{AnyModel, OfOne, kindFor, unaryFor}
-use Rattle.operations.proofs.Words.{under-refl, head-at, formed-small, formed-ran}
+use Rattle.outcomes.proofs.Words.{under-refl, head-at, formed-small, formed-ran}
 use Rattle.operations.proofs.Sorts.{no-bool, is-bool, bit-zero, no-coll, IsColl, is-coll, count-is, sorted, known, truth-T}
-use Rattle.operations.proofs.Lookups.{is-object}
+use Rattle.outcomes.proofs.Lookups.{is-object}
 
 -- ---- answers with no cells of their own
 

@@ -19,8 +19,8 @@ use Rattle.values.specs.Cells.{bit, bias, payload, AllFit}
 use Rattle.values.specs.Contracts.{SortOf, PayloadOf}
 use Rattle.values.proofs.Heads.{shape, Shape, shape-bool, shape-num, shape-obj, shape-coll}
 use Rattle.values.proofs.Scanning.{Integral, integral, no-integral, integral-of}
-use Rattle.operations.specs.Answers.{Lies, truthOf}
-use Rattle.operations.proofs.Words.{head-at}
+use Rattle.outcomes.specs.Answers.{Lies, truthOf}
+use Rattle.outcomes.proofs.Words.{head-at}
 
 -- ---- truth values
 

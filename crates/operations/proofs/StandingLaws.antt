@@ -17,13 +17,13 @@ use Rattle.values.proofs.Encoding.{size-law}
 use Rattle.values.proofs.Members.{Left, next-member, none-left}
 use Rattle.tables.specs.declared.Counts.{Counts}
 use Rattle.tables.specs.Stored.{HoldsModel}
-use Rattle.operations.specs.declared.Place.{Place}
-use Rattle.operations.specs.declared.Place.the-variants as place
-use Rattle.operations.specs.Answers.{Lies}
-use Rattle.operations.specs.Tables.{Plain, HasRow, RowSlot}
+use Rattle.outcomes.specs.declared.Place.{Place}
+use Rattle.outcomes.specs.declared.Place.the-variants as place
+use Rattle.outcomes.specs.Answers.{Lies}
+use Rattle.outcomes.specs.Tables.{Plain, HasRow, RowSlot}
 use Rattle.operations.specs.Collect.{ifNone, standing, worst, StandingOf, WorstOf}
-use Rattle.operations.proofs.Words.{head-at}
-use Rattle.operations.proofs.Lookups.{has-object}
+use Rattle.outcomes.proofs.Words.{head-at}
+use Rattle.outcomes.proofs.Lookups.{has-object}
 
 -- ---- how one value stands
 

@@ -8,13 +8,14 @@ use Rattle.laws.specs.Choice.{if_then_else_}
 use Rattle.ocl.specs.Values.{Value, Values, nil, cons, sizes}
 use Rattle.ocl.specs.Model.{Model}
 use Rattle.ocl.specs.Operations.{hasRow, valueInRow, valuesInRow}
+use Rattle.ocl.specs.Forms.{mostMembers}
 use Rattle.values.specs.Cells.{head, encs, Fits, AllFit}
 use Rattle.tables.specs.declared.Counts.{Counts}
 use Rattle.tables.specs.Stored.{HoldsModel}
-use Rattle.operations.specs.declared.Ended.{Ended}
-use Rattle.operations.specs.declared.Ended.the-variants as ended
-use Rattle.operations.specs.Answers.{Under}
-use Rattle.operations.specs.Tables.{Plain}
+use Rattle.outcomes.specs.declared.Ended.{Ended}
+use Rattle.outcomes.specs.declared.Ended.the-variants as ended
+use Rattle.outcomes.specs.Answers.{Under}
+use Rattle.outcomes.specs.Tables.{Plain}
 
 unfoldable pub ifNone : Option Value → ℕ
 ifNone none = 1
@@ -38,11 +39,11 @@ pub record WorstOf (st : Counts) (w0 : List ℕ) (i from end : ℕ) (S : List �
 -- the values stand from `end` on, or are too many for a collection
 pub data Brought (end s : ℕ) (A : List ℕ) (ws : Values) : Ended → Type 0 where
   brought : {n : ℕ} → n ≡ sizes ws → AllFit ws → slice end (end + n) A ≡ encs ws → Brought end s A ws (ended.Value n s)
-  too-many : 127 < sizes ws → Brought end s A ws (ended.Stop 17 s)
+  too-many : mostMembers < sizes ws → Brought end s A ws (ended.Stop 17 s)
 
 -- whatever the words stand for, the values have at most 127 cells together
 abbrev pub FewCells : Ended → Type 0
-FewCells (ended.Value n s) = n ≤ 127
+FewCells (ended.Value n s) = n ≤ mostMembers
 FewCells (ended.Undef s) = Unit {0}
 FewCells ended.Stuck = Unit {0}
 FewCells (ended.Stop c s) = Unit {0}

@@ -1,5 +1,3 @@
-pub mod Answers
-pub mod Tables
 pub mod Runs
 pub mod Operations
 pub mod Collect

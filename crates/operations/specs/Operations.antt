@@ -18,8 +18,8 @@ use Rattle.values.specs.Integers.{numOf}
 use Rattle.values.specs.declared.Computed.{Computed}
 use Rattle.nodes.specs.Nodes.{unaryOf, binaryOf}
 use Rattle.nodes.specs.Marks.{Marked, scaleIn}
-use Rattle.operations.specs.declared.Ended.{Ended}
-use Rattle.operations.specs.Answers.{Lies, Ran, SmallAnswer}
+use Rattle.outcomes.specs.declared.Ended.{Ended}
+use Rattle.outcomes.specs.Answers.{Lies, Ran, SmallAnswer}
 
 -- any model
 pub record AnyModel (m : Model) : Type 0 where

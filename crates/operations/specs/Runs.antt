@@ -5,7 +5,7 @@ use mathlib.Core.Option.{Option, none, some}
 use mathlib.Core.List.{List}
 use Prim.Native.Nat.{ℕ, _+_, _≤_}
 use lib.ListN.{length, getD}
-use Rattle.ocl.specs.Values.{Value}
+use Rattle.ocl.specs.Values.{Value, largest}
 use Rattle.ocl.specs.Environment.{Env}
 use Rattle.ocl.specs.Model.{Model}
 use Rattle.ocl.specs.Marks.{Mark}
@@ -13,8 +13,8 @@ use Rattle.ocl.specs.Evaluation.{Run, bound, leafRun}
 use Rattle.nodes.specs.Nodes.{leafOf}
 use Rattle.tables.specs.declared.Counts.{Counts}
 use Rattle.tables.specs.Stored.{HoldsModel}
-use Rattle.operations.specs.declared.Ended.{Ended}
-use Rattle.operations.specs.Answers.{Lies, Ran, SmallAnswer}
+use Rattle.outcomes.specs.declared.Ended.{Ended}
+use Rattle.outcomes.specs.Answers.{Lies, Ran, SmallAnswer}
 
 -- ---- what is evaluated over
 
@@ -30,7 +30,7 @@ pub record ModelIn (st : Counts) (w0 : List ℕ) (w : World) : Type 0 where
 
 pub data Held (S : List ℕ) (sp at : ℕ) : Option Value → Type 0 where
   free : at ≡ 0 → Held S sp at none
-  held : (p : ℕ) {v : Value} {len : ℕ} → at ≡ p + 1 → Lies v p len S → len ≤ 128 → p + len ≤ sp → Held S sp at (some v)
+  held : (p : ℕ) {v : Value} {len : ℕ} → at ≡ p + 1 → Lies v p len S → len ≤ largest → p + len ≤ sp → Held S sp at (some v)
 
 pub record Rel (env S : List ℕ) (sp : ℕ) (ρ : Env Value) : Type 0 where
   pub slots : length env ≡ 16

@@ -1,16 +1,17 @@
 // The strict forms, given their operands' values: the first lies at sp, a second after it, and the result takes their place.
-use crate::Ended;
-use crate::answers::formed;
-use crate::answers::put;
-use crate::answers::truth;
 use crate::integers::arithmetic;
 use crate::integers::division;
-use crate::lookup::REALS;
-use crate::lookup::is_a;
 use crate::widened::operation;
+use floats::numbers::ZERO;
+use memory::codes;
+use outcomes::Ended;
+use outcomes::answers::formed;
+use outcomes::answers::put;
+use outcomes::answers::truth;
+use outcomes::lookup::is_a;
 use tables::Counts;
 use values::Simple;
-use values::arith::ZERO;
+use values::cells::LARGEST;
 use values::cells::NUMBER;
 use values::cells::OBJECT;
 use values::cells::SET;
@@ -24,17 +25,19 @@ use values::order::equal;
 use values::order::includes;
 ghost use Prim.Native.Nat.{_+_, _≤_, _<_};
 ghost use lib.ListN.{length};
+ghost use Rattle.memory.specs.Codes as code;
 ghost use Rattle.ocl.specs.Forms.{negation, sizeOf, castTo, equal as equalForm, less as lessForm, arith, includes as includesForm, including as includingForm, union as unionForm, convert as convertForm};
 ghost use Rattle.ocl.specs.Operations.{unaryApply, binaryApply};
+ghost use Rattle.ocl.specs.Values.{largest};
 ghost use Rattle.values.specs.Integers.{arithOf};
 ghost use Rattle.nodes.specs.Nodes.{binaryOf};
 ghost use Rattle.nodes.specs.Marks.{Marked};
 ghost use Rattle.tables.specs.Stored.{HoldsModel};
-ghost use Rattle.operations.specs.Tables.{Bounds};
+ghost use Rattle.outcomes.specs.Tables.{Bounds};
 ghost use Rattle.operations.specs.Operations.{AnyModel, AnyMark, OfOne, OfTwo, GoesByReals, FitsScale, FitsLeft, kindFor, unaryFor};
 
 // The most cells that a value may have.
-const LARGEST: u64 = 128;
+const LARGEST_SIZE: u64 = LARGEST as u64;
 
 // `not`
 fn negate(stack: &mut [u64], sp: usize, len: usize, steps: u64) -> Ended
@@ -50,7 +53,7 @@ fn negate(stack: &mut [u64], sp: usize, len: usize, steps: u64) -> Ended
 
 // `size`
 fn member_total(stack: &mut [u64], sp: usize, len: usize, steps: u64) -> Ended
-    requires { ⌜ (sp < length (now stack)) × (len ≤ 128) ⌝ }
+    requires { ⌜ (sp < length (now stack)) × (len ≤ largest) ⌝ }
     ensures { λ r. ⌜ OfOne AnyModel (λ m. unaryApply m sizeOf) sp len steps (now (stack .entry)) (now (stack .exit)) r ⌝ }
 {
     let cell = stack[sp];
@@ -58,7 +61,7 @@ fn member_total(stack: &mut [u64], sp: usize, len: usize, steps: u64) -> Ended
         return Ended::Stuck;
     }
     let count = payload_of(cell);
-    if LARGEST < count {
+    if LARGEST_SIZE < count {
         return Ended::Stuck;
     }
     put(
@@ -82,7 +85,7 @@ fn change(kind: u64, stack: &mut [u64], sp: usize, len: usize, steps: u64) -> En
     formed(convert(stack, sp, sp + len, kind), steps)
 }
 
-// `as`: an object of class c or below stays as it is, any other simple value becomes undefined
+// `as`: an object of class c or below stays as it is, and any other simple value becomes undefined.
 fn cast(
     tables: &[u64],
     st: Counts,
@@ -92,7 +95,7 @@ fn cast(
     len: usize,
     steps: u64,
 ) -> Ended
-    requires { ⌜ Bounds st (length (now tables)) × (sp < length (now stack)) × (1 ≤ len) × (len ≤ 128) ⌝ }
+    requires { ⌜ Bounds st (length (now tables)) × (sp < length (now stack)) × (1 ≤ len) × (len ≤ largest) ⌝ }
     ensures { λ r. ⌜ OfOne (HoldsModel st (now (tables .entry))) (λ m. unaryApply m (castTo c)) sp len steps (now (stack .entry)) (now (stack .exit)) r ⌝ }
 {
     let cell = stack[sp];
@@ -121,14 +124,14 @@ pub fn unary_apply(
     len: usize,
     steps: u64,
 ) -> Ended
-    requires { ⌜ (7 ≤ form) × (form < 13) × Bounds st (length (now tables)) ⌝ }
-    requires { ⌜ (1 ≤ len) × (len ≤ 128) × (sp + 384 ≤ length (now stack)) ⌝ }
+    requires { ⌜ (code.negation ≤ form) × (form < code.equal) × Bounds st (length (now tables)) ⌝ }
+    requires { ⌜ (1 ≤ len) × (len ≤ largest) × (sp + 384 ≤ length (now stack)) ⌝ }
     ensures { λ r. ⌜ OfOne (HoldsModel st (now (tables .entry))) (λ m. unaryApply m (unaryFor form c)) sp len steps (now (stack .entry)) (now (stack .exit)) r ⌝ }
 {
     match form {
-        7 => negate(stack, sp, len, steps),
-        8 => member_total(stack, sp, len, steps),
-        9..=11 => change(form - 9, stack, sp, len, steps),
+        codes::NEGATION => negate(stack, sp, len, steps),
+        codes::SIZE_OF => member_total(stack, sp, len, steps),
+        codes::TO_SET..=codes::TO_BAG => change(form - codes::TO_SET, stack, sp, len, steps),
         _ => cast(tables, st, c % 256, stack, sp, len, steps),
     }
 }
@@ -137,7 +140,7 @@ pub fn unary_apply(
 fn by_reals(mark: u64) -> bool
     ensures { λ r. ⌜ GoesByReals mark r ⌝ }
 {
-    REALS <= mark
+    memory::MARK_REALS <= mark
 }
 
 // Whether the value with this first cell is an Integer, or where numbers go by Reals any number.
@@ -152,14 +155,14 @@ fn fits_scale(mark: u64, cell: u64) -> bool
 
 // Whether the form with this code accepts a value with this first cell as its left operand.
 pub fn left_fits(form: u64, mark: u64, cell: u64) -> bool
-    requires { ⌜ 13 ≤ form ⌝ }
+    requires { ⌜ code.equal ≤ form ⌝ }
     ensures { λ r. ⌜ FitsLeft form mark cell r ⌝ }
 {
     match form {
-        13 => true,
-        14..=17 => fits_scale(mark, cell),
-        18..=19 => is_integer(cell),
-        37 => sort_of(cell) == NUMBER,
+        codes::EQUAL => true,
+        codes::LESS..=codes::TIMES => fits_scale(mark, cell),
+        codes::DIV..=codes::MODULO => is_integer(cell),
+        codes::OVER => sort_of(cell) == NUMBER,
         _ => SET <= sort_of(cell),
     }
 }
@@ -222,7 +225,7 @@ fn contains(stack: &mut [u64], sp: usize, la: usize, lb: usize, steps: u64) -> E
 
 // `including`
 fn including(stack: &mut [u64], sp: usize, la: usize, lb: usize, steps: u64) -> Ended
-    requires { ⌜ (1 ≤ la) × (la ≤ 128) × (lb ≤ 128) × (sp + 256 ≤ length (now stack)) ⌝ }
+    requires { ⌜ (1 ≤ la) × (la ≤ largest) × (lb ≤ largest) × (sp + 256 ≤ length (now stack)) ⌝ }
     ensures { λ r. ⌜ OfTwo AnyMark (λ k. binaryApply k includingForm) sp la lb steps (now (stack .entry)) (now (stack .exit)) r ⌝ }
 {
     if sort_of(stack[sp]) < SET {
@@ -233,7 +236,7 @@ fn including(stack: &mut [u64], sp: usize, la: usize, lb: usize, steps: u64) -> 
 
 // `union` of two collections of one kind
 fn united(stack: &mut [u64], sp: usize, la: usize, lb: usize, steps: u64) -> Ended
-    requires { ⌜ (1 ≤ la) × (la ≤ 128) × (1 ≤ lb) × (sp + la + lb + 256 ≤ length (now stack)) ⌝ }
+    requires { ⌜ (1 ≤ la) × (la ≤ largest) × (1 ≤ lb) × (sp + la + lb + 256 ≤ length (now stack)) ⌝ }
     ensures { λ r. ⌜ OfTwo AnyMark (λ k. binaryApply k unionForm) sp la lb steps (now (stack .entry)) (now (stack .exit)) r ⌝ }
 {
     let sort = sort_of(stack[sp]);
@@ -256,18 +259,26 @@ pub fn binary_apply(
     lb: usize,
     steps: u64,
 ) -> Ended
-    requires { ⌜ 13 ≤ form ⌝ }
-    requires { ⌜ (1 ≤ la) × (la ≤ 128) × (1 ≤ lb) × (lb ≤ 128) × (sp + 512 ≤ length (now stack)) ⌝ }
+    requires { ⌜ code.equal ≤ form ⌝ }
+    requires { ⌜ (1 ≤ la) × (la ≤ largest) × (1 ≤ lb) × (lb ≤ largest) × (sp + 512 ≤ length (now stack)) ⌝ }
     ensures { λ r. ⌜ OfTwo (Marked mark) (λ k. binaryApply k (binaryOf form)) sp la lb steps (now (stack .entry)) (now (stack .exit)) r ⌝ }
 {
     match form {
-        13 => same_value(stack, sp, la, lb, steps),
-        14 => compared(mark, stack, sp, la, lb, steps),
-        15..=17 => calculation(form - 15, mark, stack, sp, la, lb, steps),
-        18..=19 => division(form - 18, stack, sp, la, lb, steps),
-        20 => contains(stack, sp, la, lb, steps),
-        21 => including(stack, sp, la, lb, steps),
-        37 => operation(3, stack, sp, la, lb, steps),
+        codes::EQUAL => same_value(stack, sp, la, lb, steps),
+        codes::LESS => compared(mark, stack, sp, la, lb, steps),
+        codes::PLUS..=codes::TIMES => calculation(
+            form - codes::PLUS,
+            mark,
+            stack,
+            sp,
+            la,
+            lb,
+            steps,
+        ),
+        codes::DIV..=codes::MODULO => division(form - codes::DIV, stack, sp, la, lb, steps),
+        codes::INCLUDES => contains(stack, sp, la, lb, steps),
+        codes::INCLUDING => including(stack, sp, la, lb, steps),
+        codes::OVER => operation(3, stack, sp, la, lb, steps),
         _ => united(stack, sp, la, lb, steps),
     }
 }

@@ -1,13 +1,12 @@
 // `collect`: the values of a row for the members of a collection. Document 02, F-4.
-use crate::Ended;
-use crate::Place;
-use crate::answers::formed;
-use crate::lookup::REALS;
-use crate::lookup::ROWS;
-use crate::lookup::bring;
-use crate::lookup::has_row;
-use crate::lookup::row_slot;
+use outcomes::Ended;
+use outcomes::Place;
+use outcomes::answers::formed;
+use outcomes::lookup::bring;
+use outcomes::lookup::has_row;
+use outcomes::lookup::row_slot;
 use tables::Counts;
+use values::cells::LARGEST;
 use values::cells::SET;
 use values::cells::skip;
 use values::cells::sort_of;
@@ -17,17 +16,19 @@ ghost use Prim.Native.Nat.{_+_, _≤_, _<_, max};
 ghost use lib.ListN.{length};
 ghost use Rattle.ocl.specs.Forms.{ofMembers};
 ghost use Rattle.ocl.specs.Types.{kindCode};
+ghost use Rattle.ocl.specs.Values.{largest};
+ghost use Rattle.sheet.specs.Sizes.{mostRows};
 ghost use Rattle.nodes.specs.Marks.{kindIn};
-ghost use Rattle.operations.specs.Tables.{Bounds, Accesses};
+ghost use Rattle.outcomes.specs.Tables.{Bounds, Accesses};
 ghost use Rattle.operations.specs.Collect.{StandingOf, WorstOf, BringsAll};
 
 // The most cells that a collection's members may have.
-const MOST: usize = 127;
+const MOST: usize = LARGEST - 1;
 
 // How the value with this first cell stands to row i: 0 if it has a value there, 1 if it has none, 2 if it is no object of the row's
 // class or below.
 fn standing(tables: &[u64], st: Counts, i: u64, cell: u64) -> u64
-    requires { ⌜ Bounds st (length (now tables)) × (i < 64) ⌝ }
+    requires { ⌜ Bounds st (length (now tables)) × (i < mostRows) ⌝ }
     ensures { λ r. ⌜ StandingOf st (now (tables .entry)) i cell r ⌝ }
 {
     if has_row(tables, st, i, cell) {
@@ -47,9 +48,9 @@ fn larger(a: u64, b: u64) -> u64
     if a < b { b } else { a }
 }
 
-// How the members from `from` to end stand to row i: as that one which stands worst.
+// How the members from `from` to end stand to row i: as the one that stands worst.
 fn worst(tables: &[u64], st: Counts, i: u64, stack: &[u64], from: usize, end: usize) -> u64
-    requires { ⌜ Bounds st (length (now tables)) × (i < 64) ⌝ }
+    requires { ⌜ Bounds st (length (now tables)) × (i < mostRows) ⌝ }
     requires { ⌜ (from ≤ end) × (end ≤ length (now stack)) ⌝ }
     ensures { λ r. ⌜ WorstOf st (now (tables .entry)) i from end (now (stack .entry)) r ⌝ }
 {
@@ -74,7 +75,7 @@ fn bring_all(
     end: usize,
     steps: u64,
 ) -> Ended
-    requires { ⌜ Bounds st (length (now tables)) × (i < 64) ⌝ }
+    requires { ⌜ Bounds st (length (now tables)) × (i < mostRows) ⌝ }
     requires { ⌜ (from ≤ end) × (end + 256 ≤ length (now stack)) ⌝ }
     ensures { λ r. ⌜ BringsAll st (now (tables .entry)) i from end steps (now (stack .entry)) (now (stack .exit)) r ⌝ }
 {
@@ -101,7 +102,11 @@ fn bring_all(
 fn kind_marked(mark: u64) -> u64
     ensures { λ r. ⌜ r ≡ kindCode (kindIn mark) ⌝ }
 {
-    if mark % REALS < ROWS { 2 } else { 1 }
+    if mark % memory::MARK_REALS < memory::MARK_SEQUENCE {
+        2
+    } else {
+        1
+    }
 }
 
 // The values of the row that the node is marked with for the members of the len cells at sp, as a collection of the kind that it is
@@ -116,13 +121,13 @@ pub fn collect(
     steps: u64,
 ) -> Ended
     requires { ⌜ Bounds st (length (now tables)) ⌝ }
-    requires { ⌜ (1 ≤ len) × (len ≤ 128) × (sp + 512 ≤ length (now stack)) ⌝ }
+    requires { ⌜ (1 ≤ len) × (len ≤ largest) × (sp + 512 ≤ length (now stack)) ⌝ }
     ensures { λ r. ⌜ Accesses ofMembers st (now (tables .entry)) mark sp len steps (now (stack .entry)) (now (stack .exit)) r ⌝ }
 {
     if sort_of(stack[sp]) < SET {
         return Ended::Stuck;
     }
-    let i = mark % ROWS;
+    let i = mark % memory::MOST_ROWS;
     let end = sp + len;
     let all = worst(tables, st, i, stack, sp + 1, end);
     if 1 < all {

@@ -1,11 +1,11 @@
 // The forms on two Integers, the first at sp and the second la words after it: each is read in its word and goes back into one.
-use crate::Ended;
-use crate::answers::put_cell;
 use floats::Whole;
 use floats::cells::integer_cell;
 use floats::cells::integer_in;
+use floats::numbers::END;
+use outcomes::Ended;
+use outcomes::answers::put_cell;
 use values::Computed;
-use values::arith::END;
 use values::arith::calculate;
 use values::arith::divide;
 ghost use Prim.Native.Nat.{_+_, _≤_, _<_};

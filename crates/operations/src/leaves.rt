@@ -1,10 +1,11 @@
 // The forms without operands: `true` and `false`, `undef`, numbers, `self`, variables, and all objects of a class.
-use crate::Ended;
-use crate::answers::formed;
-use crate::answers::put;
-use crate::answers::put_cell;
-use crate::lookup::is_a;
 use floats::cells::word_in;
+use memory::codes;
+use outcomes::Ended;
+use outcomes::answers::formed;
+use outcomes::answers::put;
+use outcomes::answers::put_cell;
+use outcomes::lookup::is_a;
 use tables::Counts;
 use types::classes::wide;
 use values::Formed;
@@ -14,12 +15,15 @@ use values::cells::push_copy;
 use values::collections::append_simple;
 ghost use Prim.Native.Nat.{_+_, _≤_, _<_};
 ghost use lib.ListN.{length};
-ghost use Rattle.operations.specs.Tables.{Bounds, WithObject, Instances};
+ghost use Rattle.memory.specs.Codes as code;
+ghost use Rattle.ocl.specs.Values.{largest};
+ghost use Rattle.sheet.specs.Sizes.{mostObjects};
+ghost use Rattle.outcomes.specs.Tables.{Bounds, WithObject, Instances};
 ghost use Rattle.operations.specs.Runs.{Variable, Evals, ModelIn, leafFor};
 
 // Copies the value of variable i to sp.
 pub fn variable(i: usize, env: &[usize; 16], stack: &mut [u64], sp: usize, steps: u64) -> Ended
-    requires { ⌜ (i < 16) × (sp + 128 ≤ length (now stack)) ⌝ }
+    requires { ⌜ (i < 16) × (sp + largest ≤ length (now stack)) ⌝ }
     ensures { λ r. ⌜ Variable i (now (env .entry)) sp steps (now (stack .entry)) (now (stack .exit)) r ⌝ }
 {
     let at = env[i];
@@ -44,7 +48,7 @@ fn with_object(
     o: u64,
 ) -> Formed
     requires { ⌜ Bounds st (length (now tables)) × (sp + 256 ≤ length (now stack)) ⌝ }
-    requires { ⌜ (1 ≤ len) × (len ≤ 128) × (o < 96) ⌝ }
+    requires { ⌜ (1 ≤ len) × (len ≤ largest) × (o < mostObjects) ⌝ }
     ensures { λ r. ⌜ WithObject st (now (tables .entry)) c sp len o (now (stack .entry)) (now (stack .exit)) r ⌝ }
 {
     if is_a(tables, st, o, c) {
@@ -54,7 +58,7 @@ fn with_object(
     }
 }
 
-// The Set of all objects of class c or below, in ascending order, so that each is added at the end.
+// The Set of all objects of class c or below. They come in ascending order, so that each is added at the end.
 pub fn instances(tables: &[u64], st: Counts, c: u64, stack: &mut [u64], sp: usize) -> Formed
     requires { ⌜ Bounds st (length (now tables)) × (sp + 256 ≤ length (now stack)) ⌝ }
     ensures { λ r. ⌜ Instances st (now (tables .entry)) c sp (now (stack .entry)) (now (stack .exit)) r ⌝ }
@@ -84,16 +88,16 @@ pub fn leaf(
     sp: usize,
     steps: u64,
 ) -> Ended
-    requires { ⌜ (form < 7) × Bounds st (length (now tables)) × (sp + 256 ≤ length (now stack)) ⌝ }
+    requires { ⌜ (form < code.negation) × Bounds st (length (now tables)) × (sp + 256 ≤ length (now stack)) ⌝ }
     ensures { λ r. ⌜ Evals (ModelIn st (now (tables .entry))) (leafFor form word) (now (env .entry)) sp steps (now (stack .entry)) (now (stack .exit)) r ⌝ }
 {
     match form {
-        0 => put(stack, sp, Simple::Bool { b: false }, steps),
-        1 => put(stack, sp, Simple::Bool { b: true }, steps),
-        2 => Ended::Undef { steps },
-        3 => put_cell(stack, sp, word_in(word), steps),
-        4 => variable(0, env, stack, sp, steps),
-        5 => variable(wide(word % 16), env, stack, sp, steps),
+        codes::FALSE => put(stack, sp, Simple::Bool { b: false }, steps),
+        codes::TRUE => put(stack, sp, Simple::Bool { b: true }, steps),
+        codes::UNDEF => Ended::Undef { steps },
+        codes::NUMBER => put_cell(stack, sp, word_in(word), steps),
+        codes::SELF => variable(0, env, stack, sp, steps),
+        codes::VAR => variable(wide(word % 16), env, stack, sp, steps),
         _ => formed(instances(tables, st, word % 256, stack, sp), steps),
     }
 }

@@ -1,10 +1,10 @@
 // The forms on two numbers of either kind: both are widened and one binary64 operation decides (document 02, F-8).
-use crate::Ended;
-use crate::answers::put_cell;
 use floats::Computed;
 use floats::cells::cell_of;
 use floats::cells::number_of;
 use floats::numbers::calculate;
+use outcomes::Ended;
+use outcomes::answers::put_cell;
 use values::cells::NUMBER;
 use values::cells::sort_of;
 ghost use Prim.Native.Nat.{_+_, _≤_, _<_};

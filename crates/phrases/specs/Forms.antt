@@ -1,10 +1,11 @@
--- The forms of a text's trees by the codes of the node table (crates/nodes).
+-- The forms of a text's trees by their codes in the node table (memory/specs/Codes.antt).
 use mathlib.Core.Bool.{Bool, _&&_}
 use mathlib.Core.Option.{Option, none}
 use mathlib.Core.List.{[], _∷_}
 use Prim.Native.Nat.{ℕ}
 use lib.Dec.{eqb, leb, ltb}
 use Rattle.laws.specs.Choice.{if_then_else_, onSome, mapSome}
+use Rattle.memory.specs.Codes as code
 use Rattle.ocl.specs.Forms.{castTo}
 use Rattle.sheet.specs.Grammar.Tokens.{Tokens}
 use Rattle.sheet.specs.Grammar.Trees.{One, unary, isUndef, attribute, call, Two, binary, connective, letIn, quantified}
@@ -12,20 +13,21 @@ use Rattle.sheet.specs.Grammar.Words.{named, labelled, classWord, kinds}
 use Rattle.sheet.specs.Grammar.Sentences.{Level, disjunction, conjunction, comparison, sum, product}
 use Rattle.sheet.specs.Grammar.Parser.{after, taking, Start, instancesStart, startBy, Next, plain}
 use Rattle.tokens.specs.Codes.{afterCode}
+use Rattle.tokens.specs.Signs as sign
 use Rattle.nodes.specs.Nodes.{unaryWords, accessCode, binaryCode, connectiveCode, quantifierCode}
 
 -- a form's code, and the class, attribute or definition that it holds
 unfoldable pub oneWords : One → ℕ × ℕ
 oneWords (unary op) = unaryWords op
-oneWords isUndef = (30, 0)
+oneWords isUndef = (code.isUndef, 0)
 oneWords (attribute x name) = (accessCode x, name)
-oneWords (call n) = (36, n)
+oneWords (call n) = (code.call, n)
 
 -- a form's code, and the variable that it holds
 unfoldable pub twoWords : Two → ℕ × ℕ
 twoWords (binary op) = (binaryCode op, 0)
 twoWords (connective c) = (connectiveCode c, 0)
-twoWords (letIn i) = (32, i)
+twoWords (letIn i) = (code.letIn, i)
 twoWords (quantified q i) = (quantifierCode q, i)
 
 -- the levels that have signs, the loosest first
@@ -40,35 +42,35 @@ levelOf n =
 -- the number of the level that a code's sign is of, 5 where it is no two-sided sign
 unfoldable pub signLevel : ℕ → ℕ
 signLevel k =
-    if eqb k 24 then 0
-    else if eqb k 23 then 1
-    else if ltb k 13 then 5
-    else if ltb k 15 then 2
-    else if ltb k 17 then 3
-    else if ltb k 20 then 4
-    else if eqb k 37 then 4
+    if eqb k code.or then 0
+    else if eqb k code.and then 1
+    else if ltb k code.equal then 5
+    else if ltb k code.plus then 2
+    else if ltb k code.times then 3
+    else if ltb k code.includes then 4
+    else if eqb k code.over then 4
     else 5
 
 -- what stands in the brackets of a form by its word's code: 1 nothing, 2 an operand, 3 a variable and a body, 4 an attribute, 5 the
 -- variables, type and operands of `iter`; 0 for what is no such form
 unfoldable pub callKind : ℕ → ℕ
 callKind k =
-    if ltb k 8 then 0
-    else if ltb k 12 then 1
-    else if ltb k 20 then 0
-    else if ltb k 23 then 2
-    else if ltb k 25 then 0
-    else if ltb k 27 then 3
-    else if eqb k 34 then 4
-    else if eqb k 35 then 5
+    if ltb k code.sizeOf then 0
+    else if ltb k code.castTo then 1
+    else if ltb k code.includes then 0
+    else if ltb k code.and then 2
+    else if ltb k code.forAll then 0
+    else if ltb k code.set then 3
+    else if eqb k code.ofMembers then 4
+    else if eqb k code.iterate then 5
     else 0
 
 -- the codes of `Set`, `Sequence`, `Bag`, and of the letters of collection types
 unfoldable pub isCollection : ℕ → Bool
-isCollection k = leb 27 k && leb k 29
+isCollection k = leb code.set k && leb k code.bag
 
 unfoldable pub isLetter : ℕ → Bool
-isLetter k = leb 59 k && leb k 62
+isLetter k = leb sign.setLetter k && leb k sign.collectionLetter
 
 -- a number behind a letter, and then a token of code k
 unfoldable pub labelledBefore : ℕ → ℕ → Tokens → Option (ℕ × Tokens)

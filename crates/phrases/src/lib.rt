@@ -1,6 +1,6 @@
 // What begins at a token of a text, without recursion but for types: words, `let` heads, signs, postfix steps, primaries. Document 02,
-// F-7. It depends on `tokens`, whose codes tell one word from another, and on `types` for the type in `iter`; on `nodes` for the
-// codes of forms alone. Numbers are those that crates/text reads, a million at most; `next` is the token that comes next.
+// F-7. It depends on `tokens`, whose codes tell one word from another, on `types` for the type in `iter`, and on `memory` and `nodes` for
+// the codes of forms. Numbers are those that `text` reads, a million at most; `next` is the token that comes next.
 use tokens::Token;
 use types::GotType;
 

@@ -3,6 +3,7 @@ ghost use mathlib.Core.Path.{_≡_};
 ghost use mathlib.Core.Logic.{_≢_};
 ghost use mathlib.Core.Bool.{true};
 ghost use Rattle.tokens.specs.Contracts.{onward, Ahead};
+ghost use Rattle.tokens.specs.Signs as sign;
 ghost use Rattle.phrases.specs.Forms.{isCollection, classStart, otherStart};
 ghost use Rattle.phrases.specs.Contracts.{OpeningAs};
 use super::After;
@@ -10,31 +11,33 @@ use super::Labelled;
 use super::Opening;
 use super::words::after;
 use super::words::labelled_at;
+use memory::codes;
 use tokens::Token;
 use tokens::next_token;
+use tokens::signs;
 
 // `#1.allInstances()`
 fn instances(s: &[u8], t: Token) -> Opening
-    requires { ⌜ Ahead (now s) t × (t .code ≢ 65) ⌝ }
+    requires { ⌜ Ahead (now s) t × (t .code ≢ sign.end) ⌝ }
     ensures { λ r. ⌜ OpeningAs (now (s .entry)) t (classStart (onward (now (s .entry)) t)) r ⌝ }
 {
     let class = labelled_at(s, t, b'#');
     let Labelled::Is { n, next } = class else {
         return Opening::No;
     };
-    let dot = after(s, next, 48);
+    let dot = after(s, next, signs::DOT);
     let After::At(word) = dot else {
         return Opening::No;
     };
-    let called = after(s, word, 6);
+    let called = after(s, word, codes::ALL);
     let After::At(bracket) = called else {
         return Opening::No;
     };
-    let opened = after(s, bracket, 40);
+    let opened = after(s, bracket, signs::OPEN_BRACKET);
     let After::At(close) = opened else {
         return Opening::No;
     };
-    let closed = after(s, close, 41);
+    let closed = after(s, close, signs::CLOSE_BRACKET);
     let After::At(last) = closed else {
         return Opening::No;
     };
@@ -50,11 +53,11 @@ fn collection(s: &[u8], t: Token) -> Opening
     ensures { λ r. ⌜ OpeningAs (now (s .entry)) t (otherStart (onward (now (s .entry)) t)) r ⌝ }
 {
     let e = t.end;
-    let opened = after(s, next_token(s, e), 42);
+    let opened = after(s, next_token(s, e), signs::OPEN_BRACE);
     let After::At(u) = opened else {
         return Opening::No;
     };
-    let closed = after(s, u, 43);
+    let closed = after(s, u, signs::CLOSE_BRACE);
     match closed {
         After::At(next) => Opening::Empty { code: t.code, next },
         After::No => Opening::Members {
@@ -64,13 +67,14 @@ fn collection(s: &[u8], t: Token) -> Opening
     }
 }
 
+// Whether the code is that of `Set`, `Sequence` or `Bag`.
 fn is_collection(code: u64) -> bool
     ensures { λ r. ⌜ r ≡ isCollection code ⌝ }
 {
-    if code < 27 {
+    if code < codes::SET {
         return false;
     }
-    code <= 29
+    code <= codes::BAG
 }
 
 // A primary that is no leaf, if one begins here.
@@ -84,9 +88,9 @@ pub fn opening(s: &[u8], t: Token) -> Opening
         return collection(s, t);
     }
     match code {
-        31 => Opening::Condition(next_token(s, e)),
-        40 => Opening::Bracket(next_token(s, e)),
-        65 => Opening::No,
+        codes::CONDITIONAL => Opening::Condition(next_token(s, e)),
+        signs::OPEN_BRACKET => Opening::Bracket(next_token(s, e)),
+        signs::END => Opening::No,
         _ => instances(s, t),
     }
 }

@@ -9,6 +9,7 @@ ghost use Rattle.sheet.specs.Grammar.Parser.{plain, orBroken, afterCall, dotSte
 ghost use Rattle.nodes.specs.Nodes.{quantifierCode};
 ghost use Rattle.tokens.specs.Codes.{codeOf, afterCode};
 ghost use Rattle.tokens.specs.Contracts.{onward, Ahead};
+ghost use Rattle.tokens.specs.Signs as sign;
 ghost use Rattle.phrases.specs.Forms.{castStep, callKind};
 ghost use Rattle.phrases.specs.Contracts.{StepAs, StandsAs};
 use super::After;
@@ -19,15 +20,17 @@ use super::typed::type_in;
 use super::words::after;
 use super::words::labelled_at;
 use super::words::labelled_before;
+use memory::codes;
 use tokens::Token;
 use tokens::next_token;
+use tokens::signs;
 
 // `)`, and the step is done.
 fn closing(s: &[u8], t: Token, code: u64, x: u64) -> Step
     requires { ⌜ Ahead (now s) t ⌝ }
-    ensures { λ r. ⌜ ((f : One) → StandsAs f code x → StepAs (now (s .entry)) t (orBroken (mapSome (plain f) (afterCode 41 (onward (now (s .entry)) t)))) r) ⌝ }
+    ensures { λ r. ⌜ ((f : One) → StandsAs f code x → StepAs (now (s .entry)) t (orBroken (mapSome (plain f) (afterCode sign.closeBracket (onward (now (s .entry)) t)))) r) ⌝ }
 {
-    let closed = after(s, t, 41);
+    let closed = after(s, t, signs::CLOSE_BRACKET);
     let After::At(next) = closed else {
         return Step::Broken;
     };
@@ -39,7 +42,7 @@ fn empty_call(s: &[u8], t: Token, code: u64, x: u64) -> Step
     requires { ⌜ Ahead (now s) t ⌝ }
     ensures { λ r. ⌜ ((f : One) → StandsAs f code x → StepAs (now (s .entry)) t (orBroken (mapSome (plain f) (afterCall (onward (now (s .entry)) t)))) r) ⌝ }
 {
-    let opened = after(s, t, 40);
+    let opened = after(s, t, signs::OPEN_BRACKET);
     let After::At(u) = opened else {
         return Step::Broken;
     };
@@ -51,16 +54,16 @@ fn cast_step(s: &[u8], t: Token) -> Step
     requires { ⌜ Ahead (now s) t ⌝ }
     ensures { λ r. ⌜ StepAs (now (s .entry)) t (orBroken (castStep (onward (now (s .entry)) t))) r ⌝ }
 {
-    let opened = after(s, t, 40);
+    let opened = after(s, t, signs::OPEN_BRACKET);
     let After::At(u) = opened else {
         return Step::Broken;
     };
-    let class = labelled_before(s, u, b'#', 41);
+    let class = labelled_before(s, u, b'#', signs::CLOSE_BRACKET);
     let Labelled::Is { n, next } = class else {
         return Step::Broken;
     };
     Step::Plain {
-        code: 12,
+        code: codes::CAST_TO,
         x: n,
         next,
     }
@@ -74,20 +77,20 @@ fn dot_step(s: &[u8], t: Token) -> Step
     let attribute = labelled_at(s, t, b'a');
     if let Labelled::Is { n, next } = attribute {
         return Step::Plain {
-            code: 33,
+            code: codes::OF_OBJECT,
             x: n,
             next,
         };
     }
     let definition = labelled_at(s, t, b'd');
     if let Labelled::Is { n, next } = definition {
-        return empty_call(s, next, 36, n);
+        return empty_call(s, next, codes::CALL, n);
     }
     let e = t.end;
     let code = t.code;
     match code {
-        30 => empty_call(s, next_token(s, e), 30, 0),
-        12 => cast_step(s, next_token(s, e)),
+        codes::IS_UNDEF => empty_call(s, next_token(s, e), codes::IS_UNDEF, 0),
+        codes::CAST_TO => cast_step(s, next_token(s, e)),
         _ => Step::Broken,
     }
 }
@@ -97,7 +100,7 @@ fn quantified_step(s: &[u8], t: Token, code: u64) -> Step
     requires { ⌜ Ahead (now s) t ⌝ }
     ensures { λ r. ⌜ ((q : Quantifier) → quantifierCode q ≡ code → StepAs (now (s .entry)) t (orBroken (quantifiedStep (quantified q) (onward (now (s .entry)) t))) r) ⌝ }
 {
-    let variable = labelled_before(s, t, b'v', 47);
+    let variable = labelled_before(s, t, b'v', signs::BAR);
     let Labelled::Is { n, next } = variable else {
         return Step::Broken;
     };
@@ -113,12 +116,12 @@ fn collect_step(s: &[u8], t: Token) -> Step
     requires { ⌜ Ahead (now s) t ⌝ }
     ensures { λ r. ⌜ StepAs (now (s .entry)) t (orBroken (collectStep (onward (now (s .entry)) t))) r ⌝ }
 {
-    let attribute = labelled_before(s, t, b'a', 41);
+    let attribute = labelled_before(s, t, b'a', signs::CLOSE_BRACKET);
     let Labelled::Is { n, next } = attribute else {
         return Step::Broken;
     };
     Step::Plain {
-        code: 34,
+        code: codes::OF_MEMBERS,
         x: n,
         next,
     }
@@ -129,11 +132,11 @@ fn iterate_step(s: &[u8], t: Token) -> Step
     requires { ⌜ Ahead (now s) t ⌝ }
     ensures { λ r. ⌜ StepAs (now (s .entry)) t (orBroken (iterateStep (onward (now (s .entry)) t))) r ⌝ }
 {
-    let member = labelled_before(s, t, b'v', 45);
+    let member = labelled_before(s, t, b'v', signs::SEMICOLON);
     let Labelled::Is { n: i, next: u } = member else {
         return Step::Broken;
     };
-    let result = labelled_before(s, u, b'v', 46);
+    let result = labelled_before(s, u, b'v', signs::COLON);
     let Labelled::Is { n: j, next: v } = result else {
         return Step::Broken;
     };
@@ -141,7 +144,7 @@ fn iterate_step(s: &[u8], t: Token) -> Step
     let TypeFound::Is { of, next: w } = typed else {
         return Step::Broken;
     };
-    let equals = after(s, w, 13);
+    let equals = after(s, w, codes::EQUAL);
     let After::At(next) = equals else {
         return Step::Broken;
     };
@@ -153,31 +156,31 @@ fn iterate_step(s: &[u8], t: Token) -> Step
 fn call_kind(code: u64) -> u64
     ensures { λ r. ⌜ r ≡ callKind code ⌝ }
 {
-    if code < 8 {
+    if code < codes::SIZE_OF {
         return 0;
     }
-    if code < 12 {
+    if code < codes::CAST_TO {
         return 1;
     }
-    if code < 20 {
+    if code < codes::INCLUDES {
         return 0;
     }
-    if code < 23 {
+    if code < codes::AND {
         return 2;
     }
-    if code < 25 {
+    if code < codes::FOR_ALL {
         return 0;
     }
-    if code < 27 {
+    if code < codes::SET {
         return 3;
     }
-    if code == 34 {
+    if code == codes::OF_MEMBERS {
         return 4;
     }
-    if code == 35 { 5 } else { 0 }
+    if code == codes::ITERATE { 5 } else { 0 }
 }
 
-// By the code of the form's word; t follows its bracket, and the whole step begins before that.
+// The step by the code of its form's word; t is the token after the bracket.
 fn call_step(s: &[u8], t: Token, code: u64) -> Step
     requires { ⌜ Ahead (now s) t ⌝ }
     ensures { λ r. ⌜ ((b : Token) (w : Bytes) → b .start < t .start → codeOf w ≡ code → StepAs (now (s .entry)) b (orBroken (callStep w (onward (now (s .entry)) t))) r) ⌝ }
@@ -201,11 +204,11 @@ fn arrow_step(s: &[u8], t: Token) -> Step
     requires { ⌜ Ahead (now s) t ⌝ }
     ensures { λ r. ⌜ StepAs (now (s .entry)) t (orBroken (arrowStep (onward (now (s .entry)) t))) r ⌝ }
 {
-    if t.code == 65 {
+    if t.code == signs::END {
         return Step::Broken;
     }
     let e = t.end;
-    let opened = after(s, next_token(s, e), 40);
+    let opened = after(s, next_token(s, e), signs::OPEN_BRACKET);
     let After::At(u) = opened else {
         return Step::Broken;
     };
@@ -220,8 +223,8 @@ pub fn step(s: &[u8], t: Token) -> Step
     let e = t.end;
     let code = t.code;
     match code {
-        48 => dot_step(s, next_token(s, e)),
-        49 => arrow_step(s, next_token(s, e)),
+        signs::DOT => dot_step(s, next_token(s, e)),
+        signs::ARROW => arrow_step(s, next_token(s, e)),
         _ => Step::Ends,
     }
 }

@@ -5,19 +5,22 @@ ghost use Prim.Native.Nat.{_<_};
 ghost use Rattle.sheet.specs.Grammar.Words.{labelled};
 ghost use Rattle.sheet.specs.Grammar.Parser.{taking, binding as bindingOf, signOf};
 ghost use Rattle.tokens.specs.Contracts.{onward, Ahead};
+ghost use Rattle.tokens.specs.Signs as sign;
 ghost use Rattle.phrases.specs.Forms.{levelOf, signLevel, labelledBefore};
 ghost use Rattle.phrases.specs.Contracts.{AfterIs, LabelledAs, SignAs};
 use super::After;
 use super::Labelled;
 use super::Sign;
+use memory::codes;
 use text::numbers::Num;
 use tokens::Token;
 use tokens::label;
 use tokens::next_token;
+use tokens::signs;
 
 // The token after one of this code.
 pub fn after(s: &[u8], t: Token, code: u64) -> After
-    requires { ⌜ Ahead (now s) t × (code ≢ 65) ⌝ }
+    requires { ⌜ Ahead (now s) t × (code ≢ sign.end) ⌝ }
     ensures { λ r. ⌜ AfterIs (now (s .entry)) t code r ⌝ }
 {
     if t.code != code {
@@ -32,7 +35,7 @@ pub fn labelled_at(s: &[u8], t: Token, letter: u8) -> Labelled
     requires { ⌜ Ahead (now s) t ⌝ }
     ensures { λ r. ⌜ LabelledAs (now (s .entry)) t (taking (labelled letter) (onward (now (s .entry)) t)) r ⌝ }
 {
-    if t.code == 65 {
+    if t.code == signs::END {
         return Labelled::No;
     }
     let Num::Is(n) = label(s, t, letter) else {
@@ -47,7 +50,7 @@ pub fn labelled_at(s: &[u8], t: Token, letter: u8) -> Labelled
 
 // A number behind this letter, and the token after one more token, of this code.
 pub fn labelled_before(s: &[u8], t: Token, letter: u8, code: u64) -> Labelled
-    requires { ⌜ Ahead (now s) t × (code ≢ 65) ⌝ }
+    requires { ⌜ Ahead (now s) t × (code ≢ sign.end) ⌝ }
     ensures { λ r. ⌜ LabelledAs (now (s .entry)) t (labelledBefore letter code (onward (now (s .entry)) t)) r ⌝ }
 {
     let Labelled::Is { n, next } = labelled_at(s, t, letter) else {
@@ -64,32 +67,32 @@ pub fn binding(s: &[u8], t: Token) -> Labelled
     requires { ⌜ Ahead (now s) t ⌝ }
     ensures { λ r. ⌜ LabelledAs (now (s .entry)) t (bindingOf (onward (now (s .entry)) t)) r ⌝ }
 {
-    labelled_before(s, t, b'v', 13)
+    labelled_before(s, t, b'v', codes::EQUAL)
 }
 
 // The number of the level that a code's sign is of: `or`, `and`, comparisons, sums, products; 5 for no two-sided sign.
 fn sign_level(code: u64) -> u64
     ensures { λ r. ⌜ r ≡ signLevel code ⌝ }
 {
-    if code == 24 {
+    if code == codes::OR {
         return 0;
     }
-    if code == 23 {
+    if code == codes::AND {
         return 1;
     }
-    if code < 13 {
+    if code < codes::EQUAL {
         return 5;
     }
-    if code < 15 {
+    if code < codes::PLUS {
         return 2;
     }
-    if code < 17 {
+    if code < codes::TIMES {
         return 3;
     }
-    if code < 20 {
+    if code < codes::INCLUDES {
         return 4;
     }
-    if code == 37 { 4 } else { 5 }
+    if code == codes::OVER { 4 } else { 5 }
 }
 
 // A sign of the level.

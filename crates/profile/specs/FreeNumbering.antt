@@ -7,6 +7,7 @@ use lib.ListN.{length}
 use Rattle.laws.specs.Choice.{mapSome}
 use Rattle.ocl.specs.Values.{Value}
 use Rattle.ocl.specs.Operations.{Stop}
+use Rattle.sheet.specs.Sizes.{mostBytes}
 use Rattle.sheet.specs.Text.{Bytes, bytes}
 use Rattle.sheet.specs.Spelling.{spellValue}
 use Rattle.sheet.specs.Reading.{sheetIn}
@@ -50,7 +51,7 @@ FreeNumberingLaw =
     (text : Bytes) (w0 w1 w2 : List ℕ) (out : Bytes) → Lent w0 w1 w2 out → readCall text w0 w1 w2 out .number ≡ 0
     → (p : Permutation (length (sheetIn text .objects)))
     → (other : Bytes) (v0 v1 v2 : List ℕ) (put : Bytes) → Lent v0 v1 v2 put
-    → Renumbers (p .to) (p .back) text other → length other ≤ 49152
+    → Renumbers (p .to) (p .back) text other → length other ≤ mostBytes
     → FreeNumbering text other w0 w1 w2 out v0 v1 v2 put (p .to)
 
 -- and such a text there is

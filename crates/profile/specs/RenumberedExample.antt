@@ -1,4 +1,4 @@
--- A small sheet, and the sheet with its objects numbered anew.
+-- Document 02, F-12: a small sheet, and the sheet with its objects numbered anew.
 use mathlib.Core.List.{List, [], _∷_}
 use Prim.Native.Nat.{ℕ, zero, suc}
 use Prim.Native.String.{String}

@@ -1,10 +1,11 @@
-// Reads a sheet line by line into the tables of the lent words. Document 01, The sheet. It depends on `text`, which splits the
+// A sheet read line by line into the tables of the lent words. Document 01, The sheet. It depends on `text`, which splits the
 // text, on `declarations`, `slots`, `trees` and `texts`, which take the lines, and on `tables`.
 ghost use mathlib.Core.Path.{_≡_};
 ghost use mathlib.Core.Bool.{true, false};
 ghost use mathlib.Core.List.{List, []};
 ghost use Prim.Native.Nat.{ℕ, _+_, _≤_, _<_};
 ghost use lib.ListN.{length, getD};
+ghost use Rattle.sheet.specs.Sizes.{leastWords, mostBytes};
 ghost use Rattle.sheet.specs.Text.{fieldsOf};
 ghost use Rattle.text.specs.Parts.{Cut};
 ghost use Rattle.text.specs.Words.{byteKind, onlyByte};
@@ -41,7 +42,7 @@ pub enum SheetRead {
     Refused(u64, u64),
 }
 
-// Whether a line of this kind belongs to the open definition or rule: a node line or an X line.
+// Whether a line of this kind (`byte_kind`) belongs to the open definition or rule: an N line (6) or an X line (9).
 fn in_body(kind: u64) -> bool
     ensures { λ r. ⌜ r ≡ bodyKind kind ⌝ }
 {
@@ -51,7 +52,7 @@ fn in_body(kind: u64) -> bool
     kind == 9
 }
 
-// The line k, which belongs to the open definition or rule.
+// Takes line k, which belongs to the open definition or rule.
 fn body_line(
     kind: u64,
     line: &[u8],
@@ -62,7 +63,7 @@ fn body_line(
     st: Counts,
     k: u64,
 ) -> Step
-    requires { ⌜ Cut (now line) f × (kind ≡ byteKind (onlyByte (getD (fieldsOf (now line)) 0 []))) × (bodyKind kind ≡ true) × (8192 ≤ length (now w0)) × (8192 ≤ length (now w1)) × (8192 ≤ length (now w2)) × Fine st ⌝ }
+    requires { ⌜ Cut (now line) f × (kind ≡ byteKind (onlyByte (getD (fieldsOf (now line)) 0 []))) × (bodyKind kind ≡ true) × (leastWords ≤ length (now w0)) × (leastWords ≤ length (now w1)) × (leastWords ≤ length (now w2)) × Fine st ⌝ }
     ensures { λ r. ⌜ TookText st k (now (line .entry)) r (now (w0 .entry)) (now (w1 .entry)) (now (w2 .entry)) (now (w1 .exit)) (now (w2 .exit)) ⌝ }
 {
     if kind == 6 {
@@ -71,9 +72,9 @@ fn body_line(
     text_line(line, f, w0, w1, w2, st, k)
 }
 
-// Any other line, by the kind of its letter.
+// Takes any other line, by its kind: C, A, O, V and R lines are 1 to 5, D lines 8.
 fn other_line(kind: u64, line: &[u8], f: Fields, w0: &mut [u64], st: Counts) -> Step
-    requires { ⌜ Cut (now line) f × (kind ≡ byteKind (onlyByte (getD (fieldsOf (now line)) 0 []))) × (bodyKind kind ≡ false) × (8192 ≤ length (now w0)) × Fine st ⌝ }
+    requires { ⌜ Cut (now line) f × (kind ≡ byteKind (onlyByte (getD (fieldsOf (now line)) 0 []))) × (bodyKind kind ≡ false) × (leastWords ≤ length (now w0)) × Fine st ⌝ }
     ensures { λ r. ⌜ ((w1 : List ℕ) (k : ℕ) → TookLine st k (now (line .entry)) r (now (w0 .entry)) w1 (now (w0 .exit)) w1) ⌝ }
 {
     match kind {
@@ -87,7 +88,7 @@ fn other_line(kind: u64, line: &[u8], f: Fields, w0: &mut [u64], st: Counts) -> 
     }
 }
 
-// A step with its line, where it refuses.
+// A line's step, with the line's number where it refuses.
 fn placed(s: Step, k: u64) -> LineRead
     ensures { λ r. ⌜ r ≡ placedAt s k ⌝ }
 {
@@ -97,7 +98,7 @@ fn placed(s: Step, k: u64) -> LineRead
     }
 }
 
-// One line, after k others. An open definition or rule ends before a line that does not belong to it.
+// Takes one line, after k others. An open definition or rule ends before a line that does not belong to it.
 fn line_read(
     line: &[u8],
     w0: &mut [u64],
@@ -106,7 +107,7 @@ fn line_read(
     st: Counts,
     k: u64,
 ) -> LineRead
-    requires { ⌜ (8192 ≤ length (now w0)) × (8192 ≤ length (now w1)) × (8192 ≤ length (now w2)) × HeldSheet st (now w0) (now w1) × (k < 100000) ⌝ }
+    requires { ⌜ (leastWords ≤ length (now w0)) × (leastWords ≤ length (now w1)) × (leastWords ≤ length (now w2)) × HeldSheet st (now w0) (now w1) × (k < 100000) ⌝ }
     ensures { λ r. ⌜ TookWhole st k (now (line .entry)) r (now (w0 .entry)) (now (w1 .entry)) (now (w2 .entry)) (now (w0 .exit)) (now (w1 .exit)) (now (w2 .exit)) ⌝ }
 {
     let f = cut(line);
@@ -123,7 +124,7 @@ fn line_read(
 
 // The text's last part, after k lines: it must be empty, and an open definition or rule ends with the text.
 fn last_read(part: &[u8], w0: &mut [u64], w1: &[u64], st: Counts, k: u64) -> SheetRead
-    requires { ⌜ (8192 ≤ length (now w0)) × (8192 ≤ length (now w1)) × HeldSheet st (now w0) (now w1) × (k < 100000) ⌝ }
+    requires { ⌜ (leastWords ≤ length (now w0)) × (leastWords ≤ length (now w1)) × HeldSheet st (now w0) (now w1) × (k < 100000) ⌝ }
     ensures { λ r. ⌜ TookLast st k (now (part .entry)) r (now (w0 .entry)) (now (w1 .entry)) (now (w0 .exit)) (now (w1 .entry)) ⌝ }
 {
     let f = cut(part);
@@ -143,9 +144,9 @@ fn last_read(part: &[u8], w0: &mut [u64], w1: &[u64], st: Counts, k: u64) -> She
     }
 }
 
-// A text of at most 49,152 bytes. The nodes of an X line wait in w2 while they are judged; nothing of it is read afterwards.
+// Reads a text of at most 49,152 bytes. The nodes of an X line wait in w2 while they are judged; nothing reads them afterwards.
 pub fn read(text: &[u8], w0: &mut [u64], w1: &mut [u64], w2: &mut [u64]) -> SheetRead
-    requires { ⌜ (8192 ≤ length (now w0)) × (8192 ≤ length (now w1)) × (8192 ≤ length (now w2)) × (length (now text) ≤ 49152) ⌝ }
+    requires { ⌜ (leastWords ≤ length (now w0)) × (leastWords ≤ length (now w1)) × (leastWords ≤ length (now w2)) × (length (now text) ≤ mostBytes) ⌝ }
     ensures { λ r. ⌜ ReadsTo (now (text .entry)) r (now (w0 .entry)) (now (w1 .entry)) (now (w2 .entry)) (now (w0 .exit)) (now (w1 .exit)) (now (w2 .exit)) ⌝ }
 {
     let mut rest = text;

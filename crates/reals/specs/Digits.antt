@@ -1,4 +1,4 @@
--- Lower-case hexadecimal digits, written and read.
+-- Document 02, F-8: "lower-case hexadecimal digits", written and read.
 use mathlib.Core.Bool.{_&&_}
 use mathlib.Core.Option.{Option, none, some}
 use mathlib.Core.List.{List, [], _∷_, _++_}

@@ -6,6 +6,7 @@ use Prim.Native.Nat.{ℕ, zero, suc, _+_, _-_, _*_, _/_, _%_, _^_, compare, Orde
 use lib.IntN.{ℤ, pos, negsuc, negℤ}
 use lib.Dec.{leb, ltb, eqb}
 use Rattle.laws.specs.Choice.{if_then_else_}
+use Rattle.laws.specs.Integers.{integerEnd}
 
 -- the sign (true below zero), the significand and the exponent. The number is significand · 2^exponent units, and a unit is
 -- the smallest number above zero, 2^-1074
@@ -96,8 +97,8 @@ pub data Number : Type 0 where
 
 -- -2147483648 to 2147483647 (document 01)
 unfoldable pub inRange : ℤ → Bool
-inRange (pos n) = ltb n 2147483648
-inRange (negsuc n) = ltb n 2147483648
+inRange (pos n) = ltb n integerEnd
+inRange (negsuc n) = ltb n integerEnd
 
 -- n with its sign; there is one zero
 unfoldable pub signed : Bool → ℕ → ℤ
@@ -124,7 +125,7 @@ unfoldable pub kept : Number → Bool
 kept (int z) = inRange z
 kept (real r) = isBinary64 r && isReal (held r)
 
--- a units as a Real, where nothing is lost: a has 53 digits at most before its closing zeros
+-- a units as a Real, where nothing is lost ("Integers widened without loss"): a has 53 digits at most before its closing zeros
 unfoldable pub ofUnits : Bool → ℕ → Real
 ofUnits s a = binary s (a / 2 ^ exponent a) (exponent a)
 

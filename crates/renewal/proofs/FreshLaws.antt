@@ -6,6 +6,7 @@ use Prim.Native.Nat.{ℕ, _+_, _*_, _-_, _≤_, _<_, min}
 use native.Mathlib.Omega.{arith}
 use native.Mathlib.Numerals.{add-one}
 use lib.ListN.{length, getD}
+use Rattle.memory.specs.Map as memory
 use Rattle.ocl.specs.Types.{class, Ty}
 use Rattle.ocl.specs.Model.{isA}
 use Rattle.ocl.specs.Operations.{Outcome, stepsOf}
@@ -19,9 +20,9 @@ use Rattle.text.proofs.WrittenLaws.{puts-length}
 use Rattle.board.specs.Board.{objectSteps}
 use Rattle.tables.specs.declared.Counts.{Counts}
 use Rattle.tables.proofs.Tables.{kept-refl, kept-then}
-use Rattle.operations.specs.declared.Ended.{Ended}
-use Rattle.operations.specs.Answers.{Ends}
-use Rattle.operations.specs.Tables.{IsA}
+use Rattle.outcomes.specs.declared.Ended.{Ended}
+use Rattle.outcomes.specs.Answers.{Ends}
+use Rattle.outcomes.specs.Tables.{IsA}
 use Rattle.rules.specs.Numbered.{EvaluatesNumbered}
 use Rattle.rules.proofs.Ready.{ready}
 use Rattle.rules.proofs.Lengths.{width-within, line-length}
@@ -37,7 +38,7 @@ steps-few : (s : Sheet) (x : Rule) (o : ℕ) → stepsOf (outcomeOf s x o) ≤ 1
 unfolding outcomeOf
 steps-few s x o = steps-limited (modelOf s) _ (x .body) o
 
-module _ {st : Counts} {w0 w1 : List ℕ} {r o : ℕ} {b : Bool} (a : IsA st w0 o (getD w0 (4448 + r) 0) b) where
+module _ {st : Counts} {w0 w1 : List ℕ} {r o : ℕ} {b : Bool} (a : IsA st w0 o (getD w0 (memory.contexts + r) 0) b) where
   class-is : {s : Sheet} {x : Rule} {t : Ty} → TypedRule st w0 w1 r s x t → isA (modelOf s) o (class (x .context)) ≡ b
   class-is {s} {x} m =
       let all = ready (m .lies) in

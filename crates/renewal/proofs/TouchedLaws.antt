@@ -11,6 +11,7 @@ use lib.Pow.{shl-exact}
 use lib.ListN.{getD}
 use borrow.Author.Tests.{eq-eqb, ne-eqb}
 use Rattle.laws.proofs.Elements.{elem-at}
+use Rattle.memory.specs.Map as memory
 use Rattle.tables.specs.declared.Counts.{Counts}
 use Rattle.rows.specs.Bits.{bit}
 use Rattle.rows.proofs.BitLaws.{no-bit, one-bit, or-bit}
@@ -34,7 +35,7 @@ bit-left word i e = record { at = λ k. rw e (sym (by (bit word k))) }
 -- ---- the bits of the first r rules
 
 pub record TouchedTo (rules : ℕ) (w0 w2 : List ℕ) (a touched r : ℕ) : Type 0 where
-  pub at : (i : ℕ) → i < r → bit touched i ≡ bit (getD w2 (getD w0 (4512 + i) 0) 0) a
+  pub at : (i : ℕ) → i < r → bit touched i ≡ bit (getD w2 (getD w0 (memory.roots + i) 0) 0) a
   pub none : (i : ℕ) → r ≤ i → bit touched i ≡ false
   pub within : r ≤ rules
 
@@ -42,7 +43,7 @@ module _ {rules : ℕ} {w0 w2 : List ℕ} {a : ℕ} where
   pub touched-none : TouchedTo rules w0 w2 a 0 0
   touched-none = record { at = λ i h. absurd (omega arith); none = λ i h. no-bit i; within = omega arith }
 
-  pub touched-next : {touched r root after : ℕ} {on : Bool} → TouchedTo rules w0 w2 a touched r → r < rules → root ≡ getD w0 (4512 + r) 0
+  pub touched-next : {touched r root after : ℕ} {on : Bool} → TouchedTo rules w0 w2 a touched r → r < rules → root ≡ getD w0 (memory.roots + r) 0
       → on ≡ bit (getD w2 root 0) a → SetsBit touched r on after → TouchedTo rules w0 w2 a after (r + 1)
   touched-next {touched} {r} {root} {after} {on} so h e sees set = record {
     at = λ i l. by i (decLt i r) (omega arith);
@@ -62,7 +63,7 @@ module _ {rules : ℕ} {w0 w2 : List ℕ} {a : ℕ} where
       whole true = refl
       whole false = refl
 
-      by : (i : ℕ) → Dec (i < r) → i ≤ r → bit after i ≡ bit (getD w2 (getD w0 (4512 + i) 0) 0) a
+      by : (i : ℕ) → Dec (i < r) → i ≤ r → bit after i ≡ bit (getD w2 (getD w0 (memory.roots + i) 0) 0) a
       by i (yes l) q = set .at i ∙ rw (ne-eqb i r (λ z. omega arith)) (same (bit touched i) on) ∙ so .at i l
       by i (no l) q =
           let z : i ≡ r = omega arith in

@@ -8,6 +8,7 @@ use Rattle.laws.specs.Choice.{if_then_else_}
 use Rattle.ocl.specs.Types.{class, Ty}
 use Rattle.ocl.specs.Model.{isA}
 use Rattle.ocl.specs.Operations.{stepsOf}
+use Rattle.sheet.specs.Sizes.{leastOutput}
 use Rattle.sheet.specs.Text.{Bytes}
 use Rattle.sheet.specs.Sheet.{Rule, Sheet, modelOf}
 use Rattle.sheet.specs.Calls.{outcomeOf}
@@ -26,7 +27,7 @@ use Rattle.renewal.specs.Touched.{Touches}
 -- w are the bytes so far. The buffer holds them but for its last 2,560 bytes, where lines go that have no room any more
 pub record Buffers (buf w : Bytes) (end : ℕ) : Type 0 where
   pub long : end ≡ length w
-  pub holds : (h : ℕ) → h + 2560 ≤ length buf → h ≤ length w → take h buf ≡ take h w
+  pub holds : (h : ℕ) → h + leastOutput ≤ length buf → h ≤ length w → take h buf ≡ take h w
 
 -- some sheet is accepted
 pub record KnownAccepted (st : Counts) (w0 w1 : List ℕ) : Type 0 where
@@ -78,7 +79,7 @@ pub record PutsAgain (f : Sheet → Rule → Bytes) (st : Counts) (w0 w1 : List 
   pub size : length now ≡ length out
   pub kept : Kept before after
 
--- ---- the rules that t tells
+-- ---- the rules that t names
 
 abbrev pub toldLines : (ℕ → Bool) → ℕ → Sheet → Rule → Bytes
 toldLines t r s x = if t r then allLines r s x else []

@@ -17,7 +17,7 @@ use Rattle.renewal.specs.Fresh.{Buffers, linesAt}
 
 -- ---- fresh lines
 
--- the buffer has the lines of the rules that t tells, and `fresh` where they end
+-- the buffer has the lines of the rules that t names, and `fresh` where they end
 pub record Held (st : Counts) (w0 w1 : List ℕ) (t : ℕ → Bool) (fresh : List ℕ) (buf : Bytes) (s : Sheet) (ts : List Ty) : Type 0 where
   pub accepted : Accepted st w0 w1 s ts
   pub end : ℕ

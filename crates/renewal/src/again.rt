@@ -1,13 +1,14 @@
-// The lines of a rule put at a place, where the buffer did not hold them: the rule is evaluated once more.
+// The lines of a rule that the buffer had no room for: the rule is evaluated once more, and its lines are put where they belong.
 ghost use Prim.Native.Nat.{_<_, _≤_};
 ghost use lib.ListN.{length};
+ghost use Rattle.sheet.specs.Sizes.{leastWords};
 ghost use Rattle.renewal.specs.Fresh.{lineFor, allLines, RoomAgain, PutsAgain};
 use crate::fresh::Sums;
 use crate::fresh::fresh_line;
 use tables::Counts;
 use text::spelling::put_bytes;
 
-// The line for object o, formed in bytes of its own.
+// Puts the line for object o, which is formed in bytes of its own.
 fn again_line(
     w0: &[u64],
     st: Counts,
@@ -18,7 +19,7 @@ fn again_line(
     at: usize,
     out: &mut [u8],
 ) -> usize
-    requires { ⌜ (8192 ≤ length (now w0)) × (8192 ≤ length (now w1)) × (8192 ≤ length (now w2)) × (o < st .objects) ⌝ }
+    requires { ⌜ (leastWords ≤ length (now w0)) × (leastWords ≤ length (now w1)) × (leastWords ≤ length (now w2)) × (o < st .objects) ⌝ }
     requires { ⌜ RoomAgain (lineFor r o) st (now w0) (now w1) r at (length (now out)) ⌝ }
     ensures { λ n. ⌜ PutsAgain (lineFor r o) st (now (w0 .entry)) (now (w1 .entry)) r at (now (w2 .entry)) (now (w2 .exit)) (now (out .entry)) (now (out .exit)) n ⌝ }
 {
@@ -29,7 +30,7 @@ fn again_line(
     put_bytes(out, at, &line[..size])
 }
 
-// The lines for all objects.
+// Puts the lines for all objects.
 pub fn again_lines(
     w0: &[u64],
     st: Counts,
@@ -39,7 +40,7 @@ pub fn again_lines(
     at: usize,
     out: &mut [u8],
 ) -> usize
-    requires { ⌜ (8192 ≤ length (now w0)) × (8192 ≤ length (now w1)) × (8192 ≤ length (now w2)) ⌝ }
+    requires { ⌜ (leastWords ≤ length (now w0)) × (leastWords ≤ length (now w1)) × (leastWords ≤ length (now w2)) ⌝ }
     requires { ⌜ RoomAgain (allLines r) st (now w0) (now w1) r at (length (now out)) ⌝ }
     ensures { λ n. ⌜ PutsAgain (allLines r) st (now (w0 .entry)) (now (w1 .entry)) r at (now (w2 .entry)) (now (w2 .exit)) (now (out .entry)) (now (out .exit)) n ⌝ }
 {

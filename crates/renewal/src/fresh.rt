@@ -3,9 +3,11 @@
 ghost use mathlib.Core.Path.{_≡_};
 ghost use Prim.Native.Nat.{_-_, _<_, _≤_, min};
 ghost use lib.ListN.{length};
+ghost use Rattle.ocl.specs.Evaluation.{mostSteps};
+ghost use Rattle.sheet.specs.Sizes.{leastOutput, leastWords, mostRules};
 ghost use Rattle.rows.specs.Bits.{bit};
 ghost use Rattle.renewal.specs.Fresh.{KnownAccepted, SomeRule, lineFor, allLines, objectStep, allSteps, AddsFresh, toldLines, toldSteps, FreshAll};
-use operations::lookup::is_a;
+use outcomes::lookup::is_a;
 use report::lines::put_line;
 use report::lines::steps_of;
 use rows::seen::has_row;
@@ -19,18 +21,18 @@ pub struct Sums {
     pub steps: u64,
 }
 
-// Where the next line goes, if so many bytes are there.
+// Where the next line goes: behind so many bytes, or at the last place that has room for a line, if that comes first.
 fn line_place(bytes: usize, room: usize) -> usize
-    requires { ⌜ 2560 ≤ room ⌝ }
-    ensures { λ n. ⌜ n ≡ min bytes (room - 2560) ⌝ }
+    requires { ⌜ leastOutput ≤ room ⌝ }
+    ensures { λ n. ⌜ n ≡ min bytes (room - leastOutput) ⌝ }
 {
-    if bytes <= room - 2560 {
+    if bytes <= room - memory::LEAST_OUTPUT {
         return bytes;
     }
-    room - 2560
+    room - memory::LEAST_OUTPUT
 }
 
-// Rule r for object o, if it is of the rule's class or below.
+// Adds the line and the steps of rule r for object o, if it is of the rule's class or below.
 pub fn fresh_line(
     w0: &[u64],
     st: Counts,
@@ -41,11 +43,11 @@ pub fn fresh_line(
     buf: &mut [u8],
     sums: Sums,
 ) -> Sums
-    requires { ⌜ (8192 ≤ length (now w0)) × (8192 ≤ length (now w1)) × (8192 ≤ length (now w2)) × SomeRule st (now w0) (now w1) r × (o < st .objects) ⌝ }
-    requires { ⌜ (2560 ≤ length (now buf)) × (sums .bytes ≤ 20000000) × (sums .steps ≤ 10000000000) ⌝ }
-    ensures { λ n. ⌜ AddsFresh (lineFor r o) (objectStep o) 2319 1000000 st (now (w0 .entry)) (now (w1 .entry)) r sums (now (w2 .entry)) (now (w2 .exit)) (now (buf .entry)) (now (buf .exit)) n ⌝ }
+    requires { ⌜ (leastWords ≤ length (now w0)) × (leastWords ≤ length (now w1)) × (leastWords ≤ length (now w2)) × SomeRule st (now w0) (now w1) r × (o < st .objects) ⌝ }
+    requires { ⌜ (leastOutput ≤ length (now buf)) × (sums .bytes ≤ 20000000) × (sums .steps ≤ 10000000000) ⌝ }
+    ensures { λ n. ⌜ AddsFresh (lineFor r o) (objectStep o) 2319 mostSteps st (now (w0 .entry)) (now (w1 .entry)) r sums (now (w2 .entry)) (now (w2 .exit)) (now (buf .entry)) (now (buf .exit)) n ⌝ }
 {
-    if is_a(w0, st, o, w0[4448 + r]) {
+    if is_a(w0, st, o, w0[memory::CONTEXTS + r]) {
         let e = evaluate_numbered(w0, st, w1, w2, r, o);
         let at = line_place(sums.bytes, buf.len());
         let end = put_line(buf, at, r as u64, o, w2, e);
@@ -57,7 +59,7 @@ pub fn fresh_line(
     sums
 }
 
-// Rule r for all objects.
+// The same for all objects.
 fn fresh_lines(
     w0: &[u64],
     st: Counts,
@@ -67,8 +69,8 @@ fn fresh_lines(
     buf: &mut [u8],
     was: Sums,
 ) -> Sums
-    requires { ⌜ (8192 ≤ length (now w0)) × (8192 ≤ length (now w1)) × (8192 ≤ length (now w2)) × SomeRule st (now w0) (now w1) r ⌝ }
-    requires { ⌜ (2560 ≤ length (now buf)) × (was .bytes ≤ 14247936) × (was .steps ≤ 6144000000) ⌝ }
+    requires { ⌜ (leastWords ≤ length (now w0)) × (leastWords ≤ length (now w1)) × (leastWords ≤ length (now w2)) × SomeRule st (now w0) (now w1) r ⌝ }
+    requires { ⌜ (leastOutput ≤ length (now buf)) × (was .bytes ≤ 14247936) × (was .steps ≤ 6144000000) ⌝ }
     ensures { λ n. ⌜ AddsFresh (allLines r) allSteps 222624 96000000 st (now (w0 .entry)) (now (w1 .entry)) r was (now (w2 .entry)) (now (w2 .exit)) (now (buf .entry)) (now (buf .exit)) n ⌝ }
 {
     let mut sums = was;
@@ -80,7 +82,7 @@ fn fresh_lines(
     sums
 }
 
-// The same, if the word names the rule.
+// The same, if rule r is among those that the word names.
 fn told_lines(
     w0: &[u64],
     st: Counts,
@@ -91,8 +93,8 @@ fn told_lines(
     buf: &mut [u8],
     was: Sums,
 ) -> Sums
-    requires { ⌜ (8192 ≤ length (now w0)) × (8192 ≤ length (now w1)) × (8192 ≤ length (now w2)) × SomeRule st (now w0) (now w1) r × (r < 64) ⌝ }
-    requires { ⌜ (2560 ≤ length (now buf)) × (was .bytes ≤ 14247936) × (was .steps ≤ 6144000000) ⌝ }
+    requires { ⌜ (leastWords ≤ length (now w0)) × (leastWords ≤ length (now w1)) × (leastWords ≤ length (now w2)) × SomeRule st (now w0) (now w1) r × (r < mostRules) ⌝ }
+    requires { ⌜ (leastOutput ≤ length (now buf)) × (was .bytes ≤ 14247936) × (was .steps ≤ 6144000000) ⌝ }
     ensures { λ n. ⌜ AddsFresh (toldLines (bit touched) r) (toldSteps (bit touched) r) 222624 96000000 st (now (w0 .entry)) (now (w1 .entry)) r was (now (w2 .entry)) (now (w2 .exit)) (now (buf .entry)) (now (buf .exit)) n ⌝ }
 {
     if has_row(touched, r as u64) {
@@ -101,7 +103,7 @@ fn told_lines(
     was
 }
 
-// The rules that the word names. Where the lines of each end is put into `ends`; a rule that is not named adds none.
+// The same for all rules that the word names. Where the lines of each end is put into `ends`; a rule that is not named adds none.
 pub fn fresh_rules(
     w0: &[u64],
     st: Counts,
@@ -111,8 +113,8 @@ pub fn fresh_rules(
     buf: &mut [u8],
     ends: &mut [u64],
 ) -> Sums
-    requires { ⌜ (8192 ≤ length (now w0)) × (8192 ≤ length (now w1)) × (8192 ≤ length (now w2)) × KnownAccepted st (now w0) (now w1) ⌝ }
-    requires { ⌜ (2560 ≤ length (now buf)) × (64 ≤ length (now ends)) ⌝ }
+    requires { ⌜ (leastWords ≤ length (now w0)) × (leastWords ≤ length (now w1)) × (leastWords ≤ length (now w2)) × KnownAccepted st (now w0) (now w1) ⌝ }
+    requires { ⌜ (leastOutput ≤ length (now buf)) × (mostRules ≤ length (now ends)) ⌝ }
     ensures { λ n. ⌜ FreshAll st (now (w0 .entry)) (now (w1 .entry)) touched (now (w2 .entry)) (now (w2 .exit)) (now (buf .entry)) (now (buf .exit)) (now (ends .entry)) (now (ends .exit)) n ⌝ }
 {
     let rules = wide(st.rules);

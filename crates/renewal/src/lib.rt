@@ -8,6 +8,7 @@ pub mod touched; // which rules are evaluated again
 
 ghost use Prim.Native.Nat.{_≤_, _<_};
 ghost use lib.ListN.{length};
+ghost use Rattle.sheet.specs.Sizes.{leastWords, mostRules, mostRows};
 ghost use Rattle.moves.specs.Joined.{Standing};
 ghost use Rattle.renewal.specs.Fresh.{KnownAccepted};
 ghost use Rattle.renewal.specs.Renewed.{RenewsTouched, Renews};
@@ -21,14 +22,15 @@ use tables::Counts;
 use touched::touched_rules;
 use types::classes::wide;
 
-// What renewing comes to: so many bytes and steps; verdicts that are longer than their bytes; or a board that no call has made.
+// How renewing ends: with so many bytes and steps; with verdicts that are longer than their bytes; or on a board that no call has made.
 pub enum Renewal {
     Written(usize, u64),
     Short,
     Foreign,
 }
 
-// The verdicts after the rules that the word names were evaluated again. Nothing is written before it is known that all fit.
+// Evaluates the rules that the word names again and puts all verdicts where they belong. Nothing is written before it is known that all
+// fit. The buffer holds 16,384 bytes of fresh lines and, behind them, one line that is only counted.
 fn renew_touched(
     w0: &[u64],
     st: Counts,
@@ -39,12 +41,12 @@ fn renew_touched(
     out: &mut [u8],
     placed: &mut [u64],
 ) -> Renewal
-    requires { ⌜ (8192 ≤ length (now w0)) × (8192 ≤ length (now w1)) × (8192 ≤ length (now w2)) × KnownAccepted st (now w0) (now w1) ⌝ }
-    requires { ⌜ (64 ≤ length (now ends)) × (64 ≤ length (now placed)) × Standing (now ends) (now out) (st .rules) ⌝ }
+    requires { ⌜ (leastWords ≤ length (now w0)) × (leastWords ≤ length (now w1)) × (leastWords ≤ length (now w2)) × KnownAccepted st (now w0) (now w1) ⌝ }
+    requires { ⌜ (mostRules ≤ length (now ends)) × (mostRules ≤ length (now placed)) × Standing (now ends) (now out) (st .rules) ⌝ }
     ensures { λ r. ⌜ RenewsTouched st (now (w0 .entry)) (now (w1 .entry)) (now (w2 .entry)) (now (w2 .exit)) touched (now (ends .entry)) (now (out .entry)) (now (out .exit)) (now (placed .entry)) (now (placed .exit)) r ⌝ }
 {
     let mut buf = [0u8; 18944];
-    let mut fresh = [0u64; 64];
+    let mut fresh = [0u64; memory::MOST_RULES as usize];
     let rules = wide(st.rules);
     let sums = fresh_rules(w0, st, w1, w2, touched, &mut buf, &mut fresh);
     if place(ends, &fresh, rules, touched, out.len(), placed) {
@@ -54,8 +56,8 @@ fn renew_touched(
     Renewal::Short
 }
 
-// The verdicts after an edit of the row, where w0 has the slots after it. `ends` is where each rule's verdicts ended, and `placed` gets where
-// they end now.
+// Renews the verdicts after an edit of the row, where w0 has the slots after it. `ends` is where each rule's verdicts ended, and `placed`
+// gets where they end now.
 pub fn renew(
     w0: &[u64],
     st: Counts,
@@ -66,8 +68,8 @@ pub fn renew(
     out: &mut [u8],
     placed: &mut [u64],
 ) -> Renewal
-    requires { ⌜ (8192 ≤ length (now w0)) × (8192 ≤ length (now w1)) × (8192 ≤ length (now w2)) × KnownAccepted st (now w0) (now w1) ⌝ }
-    requires { ⌜ (row < 64) × (64 ≤ length (now ends)) × (64 ≤ length (now placed)) ⌝ }
+    requires { ⌜ (leastWords ≤ length (now w0)) × (leastWords ≤ length (now w1)) × (leastWords ≤ length (now w2)) × KnownAccepted st (now w0) (now w1) ⌝ }
+    requires { ⌜ (row < mostRows) × (mostRules ≤ length (now ends)) × (mostRules ≤ length (now placed)) ⌝ }
     ensures { λ r. ⌜ Renews st (now (w0 .entry)) (now (w1 .entry)) (now (w2 .entry)) (now (w2 .exit)) row (now (ends .entry)) (now (out .entry)) (now (out .exit)) (now (placed .entry)) (now (placed .exit)) r ⌝ }
 {
     see_rows(w1, w2);

@@ -1,6 +1,7 @@
 // All lines put where they belong, from the last rule to the first, so that no old line is overwritten before it has moved.
 ghost use Prim.Native.Nat.{_<_, _≤_};
 ghost use lib.ListN.{length};
+ghost use Rattle.sheet.specs.Sizes.{leastOutput, leastWords, mostRules};
 ghost use Rattle.moves.specs.Joined.{Standing};
 ghost use Rattle.renewal.specs.Spread.{FreshFits, PutsFresh, SomePlacing, PutsRule, SpreadsRules, Rearranges};
 use crate::again::again_lines;
@@ -13,7 +14,7 @@ use tables::Counts;
 use text::spelling::put_bytes;
 use types::classes::wide;
 
-// The fresh lines of rule r at a place: from the buffer if it holds them, else the rule is evaluated once more.
+// Puts the fresh lines of rule r at a place: from the buffer if it holds them, else the rule is evaluated once more.
 fn put_fresh(
     w0: &[u64],
     st: Counts,
@@ -25,20 +26,20 @@ fn put_fresh(
     at: usize,
     out: &mut [u8],
 )
-    requires { ⌜ (8192 ≤ length (now w0)) × (8192 ≤ length (now w1)) × (8192 ≤ length (now w2)) × (r < st .rules) × (64 ≤ length (now fresh)) × (2560 ≤ length (now buf)) ⌝ }
+    requires { ⌜ (leastWords ≤ length (now w0)) × (leastWords ≤ length (now w1)) × (leastWords ≤ length (now w2)) × (r < st .rules) × (mostRules ≤ length (now fresh)) × (leastOutput ≤ length (now buf)) ⌝ }
     requires { ⌜ FreshFits st (now w0) (now w1) (now fresh) (now buf) r at (length (now out)) ⌝ }
     ensures { λ _. ⌜ PutsFresh st (now (w0 .entry)) (now (w1 .entry)) (now (fresh .entry)) (now (buf .entry)) r at (now (w2 .entry)) (now (w2 .exit)) (now (out .entry)) (now (out .exit)) ⌝ }
 {
     let start = start_of(fresh, r);
     let end = wide(fresh[r]);
-    if end <= buf.len() - 2560 {
+    if end <= buf.len() - memory::LEAST_OUTPUT {
         put_bytes(out, at, &buf[start..end]);
         return;
     }
     again_lines(w0, st, w1, w2, r, at, out);
 }
 
-// The lines of rule r where they belong.
+// Puts the lines of rule r where they belong.
 fn put_rule(
     w0: &[u64],
     st: Counts,
@@ -51,8 +52,8 @@ fn put_rule(
     r: usize,
     out: &mut [u8],
 )
-    requires { ⌜ (8192 ≤ length (now w0)) × (8192 ≤ length (now w1)) × (8192 ≤ length (now w2)) × (r < st .rules) × (64 ≤ length (now fresh)) × (2560 ≤ length (now buf)) ⌝ }
-    requires { ⌜ (64 ≤ length (now placed)) × SomePlacing st (now w0) (now w1) touched (now fresh) (now buf) (now placed) (length (now out)) ⌝ }
+    requires { ⌜ (leastWords ≤ length (now w0)) × (leastWords ≤ length (now w1)) × (leastWords ≤ length (now w2)) × (r < st .rules) × (mostRules ≤ length (now fresh)) × (leastOutput ≤ length (now buf)) ⌝ }
+    requires { ⌜ (mostRules ≤ length (now placed)) × SomePlacing st (now w0) (now w1) touched (now fresh) (now buf) (now placed) (length (now out)) ⌝ }
     ensures { λ _. ⌜ PutsRule st (now (w0 .entry)) (now (w1 .entry)) touched (now (fresh .entry)) (now (buf .entry)) (now (placed .entry)) r (now (w2 .entry)) (now (w2 .exit)) (now (out .entry)) (now (out .exit)) ⌝ }
 {
     let at = start_of(placed, r);
@@ -64,7 +65,7 @@ fn put_rule(
     shift_right(out, from, at, piece_size(placed, r));
 }
 
-// The lines of all rules, once the old ones that stay have been gathered in front.
+// Puts the lines of all rules, once the old ones that stay have been gathered in front.
 fn spread_rules(
     w0: &[u64],
     st: Counts,
@@ -76,8 +77,8 @@ fn spread_rules(
     placed: &[u64],
     out: &mut [u8],
 )
-    requires { ⌜ (8192 ≤ length (now w0)) × (8192 ≤ length (now w1)) × (8192 ≤ length (now w2)) × (64 ≤ length (now fresh)) × (2560 ≤ length (now buf)) ⌝ }
-    requires { ⌜ (64 ≤ length (now placed)) × SomePlacing st (now w0) (now w1) touched (now fresh) (now buf) (now placed) (length (now out)) ⌝ }
+    requires { ⌜ (leastWords ≤ length (now w0)) × (leastWords ≤ length (now w1)) × (leastWords ≤ length (now w2)) × (mostRules ≤ length (now fresh)) × (leastOutput ≤ length (now buf)) ⌝ }
+    requires { ⌜ (mostRules ≤ length (now placed)) × SomePlacing st (now w0) (now w1) touched (now fresh) (now buf) (now placed) (length (now out)) ⌝ }
     ensures { λ _. ⌜ SpreadsRules st (now (w0 .entry)) (now (w1 .entry)) touched (now (fresh .entry)) (now (buf .entry)) (now (placed .entry)) (now (w2 .entry)) (now (w2 .exit)) (now (out .entry)) (now (out .exit)) ⌝ }
 {
     let mut r = wide(st.rules);
@@ -87,7 +88,7 @@ fn spread_rules(
     }
 }
 
-// The lines of all rules: those that stay are gathered in front, so that there is room for the fresh ones between them.
+// Puts the lines of all rules: those that stay are gathered in front first, so that there is room for the fresh ones between them.
 pub fn rearrange(
     w0: &[u64],
     st: Counts,
@@ -100,8 +101,8 @@ pub fn rearrange(
     placed: &[u64],
     out: &mut [u8],
 )
-    requires { ⌜ (8192 ≤ length (now w0)) × (8192 ≤ length (now w1)) × (8192 ≤ length (now w2)) × (64 ≤ length (now ends)) × (64 ≤ length (now fresh)) × (2560 ≤ length (now buf)) ⌝ }
-    requires { ⌜ (64 ≤ length (now placed)) × SomePlacing st (now w0) (now w1) touched (now fresh) (now buf) (now placed) (length (now out)) × Standing (now ends) (now out) (st .rules) ⌝ }
+    requires { ⌜ (leastWords ≤ length (now w0)) × (leastWords ≤ length (now w1)) × (leastWords ≤ length (now w2)) × (mostRules ≤ length (now ends)) × (mostRules ≤ length (now fresh)) × (leastOutput ≤ length (now buf)) ⌝ }
+    requires { ⌜ (mostRules ≤ length (now placed)) × SomePlacing st (now w0) (now w1) touched (now fresh) (now buf) (now placed) (length (now out)) × Standing (now ends) (now out) (st .rules) ⌝ }
     ensures { λ _. ⌜ Rearranges st (now (w0 .entry)) (now (w1 .entry)) touched (now (ends .entry)) (now (fresh .entry)) (now (buf .entry)) (now (placed .entry)) (now (w2 .entry)) (now (w2 .exit)) (now (out .entry)) (now (out .exit)) ⌝ }
 {
     gather(ends, wide(st.rules), touched, out);

@@ -8,6 +8,7 @@ use native.Mathlib.Omega.{arith}
 use borrow.Author.Tests.{lt-ltb, le-ltb, ne-eqb}
 use lib.ListN.{length, getD, drop}
 use lib.Dec.{eqb}
+use Rattle.memory.specs.Map as memory
 use Rattle.ocl.specs.Types.{class}
 use Rattle.ocl.specs.Model.{isA}
 use Rattle.sheet.specs.Text.{Bytes, bytes, fieldsOf}
@@ -132,8 +133,8 @@ module _ {st : Counts} {o a : ℕ} {w0 w1 : List ℕ} where
           ));
         }
 
-        module _ (there : a < st .rows) (room : 8192 ≤ length w0) (fine : Fine st) {P Q : List ℕ} {i : ℕ} (p : P ≡ tab 0 (st .classes) w0) (q : Q ≡ tab 256 (st .objects) w0) (e : i ≡ a)
-            {b : Bool} (ob : ObjectSuits P Q o (getD w0 (64 + i) 0) b) where
+        module _ (there : a < st .rows) (room : 8192 ≤ length w0) (fine : Fine st) {P Q : List ℕ} {i : ℕ} (p : P ≡ tab memory.parents (st .classes) w0) (q : Q ≡ tab memory.objects (st .objects) w0) (e : i ≡ a)
+            {b : Bool} (ob : ObjectSuits P Q o (getD w0 (memory.owners + i) 0) b) where
           owner : (s : Sheet) → Holds st w0 w1 s → b ≡ isA (modelOf s) o (class (modelOf s .row a .owner))
           owner s h = its-object room fine p q e ob there h
 

@@ -10,6 +10,7 @@ use lib.Seq.{slice, paste, paste-suc, take-paste, drop-paste, take-length, drop-
 use lib.Dec.{T, ltb, leb, leb→le}
 use Rattle.laws.proofs.Tests.{and-r, test-fails}
 use Rattle.laws.proofs.Slices.{trim}
+use Rattle.memory.specs.Map as memory
 use Rattle.ocl.specs.Values.{size}
 use Rattle.sheet.specs.Sheet.{Slot, Sheet}
 use Rattle.sheet.specs.Limits.{totalSize, valueWithin, withinLimits}
@@ -25,7 +26,7 @@ use Rattle.tables.proofs.Steps.{over-limits}
 use Rattle.slots.specs.Slots.{SlotTook}
 use Rattle.slots.proofs.LineLaws.{kept-behind, holds-behind}
 use Rattle.replay.specs.Values.{IsValue}
-use Rattle.replay.specs.Slots.{CellsTook}
+use Rattle.replay.specs.Slots.{CellsTook, mostKeys}
 use Rattle.replay.proofs.TakingLaws.{stop-next}
 
 -- ---- a slot's cells
@@ -52,13 +53,13 @@ module _ {cells : List ℕ} {key : ℕ} {st : Counts} (w0 w1 : List ℕ) {b : Bo
           (and-r (ltb (x .object) 96 && ltb (x .row) 64 && valueWithin (x .value) && ltb (length (s .slots)) 1024) (leb (totalSize (s .slots) + size (x .value)) 2048) t) in
           omega (arith, size-law (x .value), ap length e, g .counted .cells)
 
-  module _ (yes : b ≡ true) (low : key < 6144) (fine : Fine st) (long : 8192 ≤ length w0) (room : st .cells + length cells ≤ 2048) {used : ℕ} (count : used ≡ st .cells) {v0 : List ℕ}
-      (copied : v0 ≡ paste w0 (2400 + used) cells (length cells)) (same : length v0 ≡ length w0) where
+  module _ (yes : b ≡ true) (low : key < mostKeys) (fine : Fine st) (long : 8192 ≤ length w0) (room : st .cells + length cells ≤ 2048) {used : ℕ} (count : used ≡ st .cells) {v0 : List ℕ}
+      (copied : v0 ≡ paste w0 (memory.cells + used) cells (length cells)) (same : length v0 ≡ length w0) where
     abbrev at : ℕ
-    at = 2400 + st .cells
+    at = memory.cells + st .cells
 
     pasted : v0 ≡ paste w0 at cells (length cells)
-    pasted = copied ∙ ap (λ (i : ℕ). paste w0 (2400 + i) cells (length cells)) count
+    pasted = copied ∙ ap (λ (i : ℕ). paste w0 (memory.cells + i) cells (length cells)) count
 
     up-to : take (at + length cells) v0 ≡ take at w0 ++ cells
     up-to = ap (take (at + length cells)) pasted ∙ take-paste w0 at cells (length cells) (omega arith) (omega arith) ∙ ap (λ (l : List ℕ). take at w0 ++ l) (take-length cells)
@@ -66,13 +67,13 @@ module _ {cells : List ℕ} {key : ℕ} {st : Counts} (w0 w1 : List ℕ) {b : Bo
     front : take at v0 ≡ take at w0
     front = trim at (length cells) v0 (take at w0) cells (length-take-le at w0 (omega arith)) up-to
 
-    back : drop 4448 v0 ≡ drop 4448 w0
+    back : drop memory.cellsEnd v0 ≡ drop memory.cellsEnd w0
     back =
         let m = at + length cells in
-        let z : m + (4448 - m) ≡ 4448 = omega arith in
-        ap (λ (i : ℕ). drop i v0) (sym z) ∙ sym (drop-drop (4448 - m) m v0)
-        ∙ ap (drop (4448 - m)) (ap (drop m) pasted ∙ drop-paste w0 at cells (length cells) (omega arith) (omega arith))
-        ∙ drop-drop (4448 - m) m w0 ∙ ap (λ (i : ℕ). drop i w0) z
+        let z : m + (memory.cellsEnd - m) ≡ memory.cellsEnd = omega arith in
+        ap (λ (i : ℕ). drop i v0) (sym z) ∙ sym (drop-drop (memory.cellsEnd - m) m v0)
+        ∙ ap (drop (memory.cellsEnd - m)) (ap (drop m) pasted ∙ drop-paste w0 at cells (length cells) (omega arith) (omega arith))
+        ∙ drop-drop (memory.cellsEnd - m) m w0 ∙ ap (λ (i : ℕ). drop i w0) z
 
     lies : slice at (at + length cells) v0 ≡ cells
     lies = ap (drop at) up-to ∙ drop-at (take at w0) cells at (length-take-le at w0 (omega arith))

@@ -14,6 +14,7 @@ use Rattle.laws.specs.Choice.{if_then_else_}
 use Rattle.laws.specs.Lists.{Each}
 use Rattle.laws.proofs.Tests.{and-l, and-r, test-true}
 use Rattle.laws.proofs.Lists.{each-head, each-imp, each-right}
+use Rattle.memory.specs.Map as memory
 use Rattle.ocl.specs.Values.{Value, size, everyPart}
 use Rattle.sheet.specs.Sheet.{Slot, Sheet, empty}
 use Rattle.sheet.specs.Limits.{totalSize, partWithin, nesting, valueWithin}
@@ -99,11 +100,11 @@ module _ (words : List ℕ) (xs : List Slot) (lies : SlotsLie words xs) (room : 
     contexts = refl;
   }
 
-  end-is : (j : ℕ) → 2400 + endIn words (getD words 0 0) j ≡ endAt counts words j
+  end-is : (j : ℕ) → memory.cells + endIn words (getD words 0 0) j ≡ endAt counts words j
   unfolding endIn
   end-is j = rw (add-one j) (by (eqb (suc j) (getD words 0 0)))
     where
-      by : (b : Bool) → 2400 + (if b then getD words 1 0 else getD words (1376 + suc j) 0) ≡ (if b then 2400 + getD words 1 0 else 2400 + getD words (1376 + suc j) 0)
+      by : (b : Bool) → memory.cells + (if b then getD words 1 0 else getD words (memory.starts + suc j) 0) ≡ (if b then memory.cells + getD words 1 0 else memory.cells + getD words (memory.starts + suc j) 0)
       by true = refl
       by false = refl
 
@@ -138,7 +139,7 @@ module _ (words : List ℕ) (xs : List Slot) (lies : SlotsLie words xs) (room : 
           within = test-true (valueWithin (x .value)) (and-r (ltb (x .object) 96 && ltb (x .row) 64) (valueWithin (x .value)) (f .low));
           up = omega arith;
           room = omega (arith, lies .size);
-          cells = subst (λ i. slice (2400 + getD words (1376 + length before) 0) i words ≡ enc (x .value)) (sym (end-is (length before))) c;
+          cells = subst (λ i. slice (memory.cells + getD words (memory.starts + length before) 0) i words ≡ enc (x .value)) (sym (end-is (length before))) c;
         }
 
   slots-from : (before rest : List Slot) → xs ≡ before ++ rest → SlotsAt words (getD words 0 0) (getD words 0 0) (length before) rest
@@ -227,8 +228,8 @@ module _ (o a : ℕ) (low : a < 64) where
       place : ℕ
       up : i ≤ place
       few : place ≤ n
-      below : (j : ℕ) → i ≤ j → j < place → getD words (352 + j) 0 < key
-      at : place < n → key ≤ getD words (352 + place) 0
+      below : (j : ℕ) → i ≤ j → j < place → getD words (memory.keys + j) 0 < key
+      at : place < n → key ≤ getD words (memory.keys + place) 0
       before : SlotsAt words n place i (slotsBefore xs o a)
       after : SlotsAt words n n (afterIn words n place key) (slotsAfter xs o a)
 
@@ -244,7 +245,7 @@ module _ (o a : ℕ) (low : a < 64) where
       after = rw e (f .after);
     }
       where
-        by : (j : ℕ) → i ≤ j → j < f .place → Dec (i < j) → getD words (352 + j) 0 < key
+        by : (j : ℕ) → i ≤ j → j < f .place → Dec (i < j) → getD words (memory.keys + j) 0 < key
         by j l m (yes k) = f .below j (omega arith) m
         by j l m (no k) = let z : j ≡ i = omega arith in rw (z, s .key) (before-key x (s .row) e)
 
@@ -257,7 +258,7 @@ module _ (o a : ℕ) (low : a < 64) where
       below = λ j l m. absurd (omega arith);
       at = λ l. rw (s .key) (after-key x (s .row) e);
       before = rw e (none-left refl);
-      after = rw e (tail (ltb i n && eqb (getD words (352 + i) 0) key) (eqb (x .object) o && eqb (x .row) a) (rw (lt-ltb i n l, s .key, same-key x (s .row))));
+      after = rw e (tail (ltb i n && eqb (getD words (memory.keys + i) 0) key) (eqb (x .object) o && eqb (x .row) a) (rw (lt-ltb i n l, s .key, same-key x (s .row))));
     }
       where
         tail : (b c : Bool) → b ≡ c → SlotsAt words n n (if b then i + 1 else i) (if c then xs else x ∷ xs)

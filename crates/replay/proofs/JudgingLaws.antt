@@ -6,6 +6,7 @@ use mathlib.Core.List.{List, [], _∷_}
 use Prim.Native.Nat.{ℕ, _+_, _*_, _<_}
 use native.Mathlib.Omega.{arith}
 use lib.ListN.{getD}
+use Rattle.memory.specs.Map as memory
 use Rattle.ocl.specs.Values.{Value}
 use Rattle.sheet.specs.Text.{Bytes, bytes, fieldsOf}
 use Rattle.sheet.specs.Lines.{valueLine, is, next}
@@ -53,9 +54,9 @@ first-slot s o a v t e =
     let m = met-of (withSlots s 3 []) 1 o a v (subst Passed (sym e) (unfold Passed in tt)) in
     (sym (taken-same (sym (met-taken (withSlots s 3 []) 1 (slotOf o a v) m) ∙ e)), slot-ok (withSlots s 3 []) o a v m .low-row)
 
-first-key : {st : Counts} {v0 w1 : List ℕ} (s : Sheet) (o a : ℕ) (v : Value) → Holds st v0 w1 (withSlots s 3 (slotOf o a v ∷ [])) → getD v0 352 0 ≡ o * 64 + a
+first-key : {st : Counts} {v0 w1 : List ℕ} (s : Sheet) (o a : ℕ) (v : Value) → Holds st v0 w1 (withSlots s 3 (slotOf o a v ∷ [])) → getD v0 memory.keys 0 ≡ o * 64 + a
 unfolding withSlots slotKey
-first-key {v0 = v0} s o a v g = sym (tab-at 352 1 v0 0 (omega arith)) ∙ ap (λ (l : List ℕ). getD l 0 0) (g .tables .keys)
+first-key {v0 = v0} s o a v g = sym (tab-at memory.keys 1 v0 0 (omega arith)) ∙ ap (λ (l : List ℕ). getD l 0 0) (g .tables .keys)
 
 emptied-again : {st next : Counts} {w0 v0 w1 : List ℕ} (s : Sheet) (xs : List Slot) → Holds st w0 w1 s → Holds next v0 w1 (withSlots s 3 xs) → Holds (emptyCounts st) v0 w1 (withSlots s 3 [])
 unfolding withSlots
@@ -75,11 +76,11 @@ module _ {line : Bytes} {st : Counts} {w0 v0 : List ℕ} {r : CodeStep} (letter 
       by : (s : Sheet) → Moved v0 w1 (step-code.Stop n) (judgedEdit s (editOf (fieldsOf line))) → JudgedAs line st s v0 w1 (code.Stop n)
       by s m = judged-stop (stopped m)
 
-  pub value-next : {next : Counts} → r ≡ step-code.Next next → (w1 : List ℕ) → Judges line st (code.Key (getD v0 352 0)) w0 w1 v0
+  pub value-next : {next : Counts} → r ≡ step-code.Next next → (w1 : List ℕ) → Judges line st (code.Key (getD v0 memory.keys 0)) w0 w1 v0
   unfolding judgedEdit judged
   value-next {next} e w1 = record { is = λ s h. by s h (edit-line (fieldsOf line) letter clears) (subst (λ c. Moved v0 w1 c (judgedEdit s (editOf (fieldsOf line)))) e (stepped w1 s h)); kept = took w1 1 .kept0 }
     where
-      by : (s : Sheet) → Holds st w0 w1 s → EditLine (fieldsOf line) → Moved v0 w1 (step-code.Next next) (judgedEdit s (editOf (fieldsOf line))) → JudgedAs line st s v0 w1 (code.Key (getD v0 352 0))
+      by : (s : Sheet) → Holds st w0 w1 s → EditLine (fieldsOf line) → Moved v0 w1 (step-code.Next next) (judgedEdit s (editOf (fieldsOf line))) → JudgedAs line st s v0 w1 (code.Key (getD v0 memory.keys 0))
       by s h (neither i j) m = not-taken (sym (ap (judgedEdit s) j) ∙ onward m .is)
       by s h (both o a v i j) m =
           let t = onward m in

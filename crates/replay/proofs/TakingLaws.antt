@@ -13,6 +13,7 @@ use Rattle.laws.specs.Choice.{if_then_else_}
 use Rattle.laws.specs.Lists.{each-nil, each-cons}
 use Rattle.laws.proofs.Lists.{each-append}
 use Rattle.laws.proofs.Slices.{cut-part}
+use Rattle.memory.specs.Map as memory
 use Rattle.sheet.specs.Sheet.{Slot, Sheet, added}
 use Rattle.sheet.specs.Reading.{Step, taken, refuse, stepLine}
 use Rattle.sheet.proofs.GoodLines.{slot-ok}
@@ -26,7 +27,7 @@ use Rattle.tables.specs.declared.Step.the-variants as code
 use Rattle.tables.specs.Layout.{slotKey, Holds, Fine, Kept, Moved, moved-next, moved-stop}
 use Rattle.tables.proofs.Tables.{kept-refl, kept-then}
 use Rattle.slots.specs.Slots.{SmallRows}
-use Rattle.replay.specs.Slots.{Lying, endIn, SlotAt, SlotsAt, none-left, one-more, FirstFrom, afterIn, CellsTook, SlotReplayed, SlotsReplayed}
+use Rattle.replay.specs.Slots.{Lying, endIn, SlotAt, SlotsAt, none-left, one-more, FirstFrom, afterIn, CellsTook, SlotReplayed, SlotsReplayed, mostKeys}
 
 pub stop-next : {A : Type 0} {n : ℕ} {su : Counts} → code.Stop n ≡ code.Next su → A
 stop-next e = absurd (let z : _≡_ {A = ℕ} 0 1 = cc in omega arith)
@@ -38,25 +39,25 @@ module _ (words : List ℕ) (n j : ℕ) where
   unfolding endIn
   end-last e = rw (eq-eqb (j + 1) n e)
 
-  pub end-next : (j + 1 ≡ n → ⊥) → getD words (1376 + (j + 1)) 0 ≡ endIn words n j
+  pub end-next : (j + 1 ≡ n → ⊥) → getD words (memory.starts + (j + 1)) 0 ≡ endIn words n j
   unfolding endIn
   end-next e = rw (ne-eqb (j + 1) n e)
 
 module _ (words : List ℕ) {n p : ℕ} (key : ℕ) where
-  pub after-same : p < n → getD words (352 + p) 0 ≡ key → p + 1 ≡ afterIn words n p key
+  pub after-same : p < n → getD words (memory.keys + p) 0 ≡ key → p + 1 ≡ afterIn words n p key
   unfolding afterIn
-  after-same l e = rw (lt-ltb p n l, eq-eqb (getD words (352 + p) 0) key e)
+  after-same l e = rw (lt-ltb p n l, eq-eqb (getD words (memory.keys + p) 0) key e)
 
-  pub after-other : p < n → (getD words (352 + p) 0 ≡ key → ⊥) → p ≡ afterIn words n p key
+  pub after-other : p < n → (getD words (memory.keys + p) 0 ≡ key → ⊥) → p ≡ afterIn words n p key
   unfolding afterIn
-  after-other l e = rw (lt-ltb p n l, ne-eqb (getD words (352 + p) 0) key e)
+  after-other l e = rw (lt-ltb p n l, ne-eqb (getD words (memory.keys + p) 0) key e)
 
   pub after-low : {q : ℕ} → p ≤ n → q ≡ afterIn words n p key → q ≤ n
   unfolding afterIn
   after-low {q} l e = by (decLt p n)
     where
       by : Dec (p < n) → q ≤ n
-      by (yes k) = low (eqb (getD words (352 + p) 0) key) (e ∙ rw (lt-ltb p n k))
+      by (yes k) = low (eqb (getD words (memory.keys + p) 0) key) (e ∙ rw (lt-ltb p n k))
         where
           low : (b : Bool) → q ≡ (if b then p + 1 else p) → q ≤ n
           low true e = omega arith
@@ -70,34 +71,34 @@ module _ (words : List ℕ) {n p : ℕ} (key : ℕ) where
 -- ---- slot j of n
 
 -- the cells between two places, as they are lent and as a slice
-part-is : (words : List ℕ) (n j from to : ℕ) → from ≡ getD words (1376 + j) 0 → to ≡ endIn words n j → to ≤ 2048 → from < to → 8192 ≤ length words
-    → take (2400 + to - (2400 + from)) (drop (2400 + from) words) ≡ slice (2400 + getD words (1376 + j) 0) (2400 + endIn words n j) words
+part-is : (words : List ℕ) (n j from to : ℕ) → from ≡ getD words (memory.starts + j) 0 → to ≡ endIn words n j → to ≤ 2048 → from < to → 8192 ≤ length words
+    → take (memory.cells + to - (memory.cells + from)) (drop (memory.cells + from) words) ≡ slice (memory.cells + getD words (memory.starts + j) 0) (memory.cells + endIn words n j) words
 part-is words n j from to start end room up long =
-    let z : 2400 + from + (2400 + to - (2400 + from)) ≡ 2400 + to = omega arith in
-    sym (ap (λ (i : ℕ). drop (2400 + from) (take i words)) (sym z) ∙ cut-part (2400 + from) (2400 + to - (2400 + from)) words (omega arith))
-    ∙ ap (λ (i : ℕ). slice (2400 + i) (2400 + to) words) start ∙ ap (λ (i : ℕ). slice (2400 + getD words (1376 + j) 0) (2400 + i) words) end
+    let z : memory.cells + from + (memory.cells + to - (memory.cells + from)) ≡ memory.cells + to = omega arith in
+    sym (ap (λ (i : ℕ). drop (memory.cells + from) (take i words)) (sym z) ∙ cut-part (memory.cells + from) (memory.cells + to - (memory.cells + from)) words (omega arith))
+    ∙ ap (λ (i : ℕ). slice (memory.cells + i) (memory.cells + to) words) start ∙ ap (λ (i : ℕ). slice (memory.cells + getD words (memory.starts + j) 0) (memory.cells + i) words) end
 
 module _ (words : List ℕ) (n j : ℕ) {st : Counts} {w0 w1 : List ℕ} where
   none-there : ((x : Slot) → SlotAt words n j x → ⊥) → SlotReplayed words n j st (code.Stop 4) w0 w1 w0
   none-there h = record { is = λ s x g m a. absurd (h x a); found = λ e. stop-next e; kept = kept-refl w0 }
 
-  pub high-key : 6144 ≤ getD words (352 + j) 0 → SlotReplayed words n j st (code.Stop 4) w0 w1 w0
+  pub high-key : mostKeys ≤ getD words (memory.keys + j) 0 → SlotReplayed words n j st (code.Stop 4) w0 w1 w0
   high-key h = none-there (λ x a. let k = a .key in let l = a .low in omega arith)
 
   pub high-end : {to : ℕ} → to ≡ endIn words n j → 2048 < to → SlotReplayed words n j st (code.Stop 4) w0 w1 w0
   high-end e h = none-there (λ x a. let l = a .room in omega arith)
 
-  pub no-cell : {from to : ℕ} → from ≡ getD words (1376 + j) 0 → to ≡ endIn words n j → to ≤ from → SlotReplayed words n j st (code.Stop 4) w0 w1 w0
+  pub no-cell : {from to : ℕ} → from ≡ getD words (memory.starts + j) 0 → to ≡ endIn words n j → to ≤ from → SlotReplayed words n j st (code.Stop 4) w0 w1 w0
   no-cell f e h = none-there (λ x a. let l = a .up in omega arith)
 
-  module _ {from to : ℕ} (start : from ≡ getD words (1376 + j) 0) (end : to ≡ endIn words n j) (low : getD words (352 + j) 0 < 6144) (room : to ≤ 2048) (up : from < to) (long : 8192 ≤ length words) where
-    pub slot-took : {r : CodeStep} {v0 : List ℕ} → CellsTook (take (2400 + to - (2400 + from)) (drop (2400 + from) words)) (getD words (352 + j) 0) st r w0 w1 v0 → SlotReplayed words n j st r w0 w1 v0
+  module _ {from to : ℕ} (start : from ≡ getD words (memory.starts + j) 0) (end : to ≡ endIn words n j) (low : getD words (memory.keys + j) 0 < mostKeys) (room : to ≤ 2048) (up : from < to) (long : 8192 ≤ length words) where
+    pub slot-took : {r : CodeStep} {v0 : List ℕ} → CellsTook (take (memory.cells + to - (memory.cells + from)) (drop (memory.cells + from) words)) (getD words (memory.keys + j) 0) st r w0 w1 v0 → SlotReplayed words n j st r w0 w1 v0
     unfolding slotKey
     slot-took took = record {
       is = λ s x h m a. took .is s x h m (a .key) (a .row) (a .fits) (a .within) (part-is words n j from to start end room up long ∙ a .cells);
       found = λ e.
           let v = took .found e in (
-            record { object = getD words (352 + j) 0 / 64; row = getD words (352 + j) 0 % 64; value = v .value },
+            record { object = getD words (memory.keys + j) 0 / 64; row = getD words (memory.keys + j) 0 % 64; value = v .value },
             record { row = omega arith; key = omega arith; low = omega arith; fits = v .fits; within = v .within; up = omega arith; room = omega arith; cells = sym (part-is words n j from to start end room up long) ∙ v .lies },
           );
       kept = took .kept;
@@ -233,15 +234,15 @@ module _ {words : List ℕ} {n from to : ℕ} {st : Counts} {u0 : List ℕ} {su 
 
 -- ---- what comes before a key
 
-pub first-none : {words : List ℕ} {n key : ℕ} {p : ℕ} → (p ≤ n) → ((j : ℕ) → j < p → getD words (352 + j) 0 < key) → n ≤ p → FirstFrom words n key p
+pub first-none : {words : List ℕ} {n key : ℕ} {p : ℕ} → (p ≤ n) → ((j : ℕ) → j < p → getD words (memory.keys + j) 0 < key) → n ≤ p → FirstFrom words n key p
 first-none l h e = record { low = l; below = h; at = λ q. absurd (omega arith) }
 
-pub first-here : {words : List ℕ} {n key : ℕ} {p : ℕ} → p < n → ((j : ℕ) → j < p → getD words (352 + j) 0 < key) → key ≤ getD words (352 + p) 0 → FirstFrom words n key p
+pub first-here : {words : List ℕ} {n key : ℕ} {p : ℕ} → p < n → ((j : ℕ) → j < p → getD words (memory.keys + j) 0 < key) → key ≤ getD words (memory.keys + p) 0 → FirstFrom words n key p
 first-here l h e = record { low = omega arith; below = h; at = λ q. e }
 
-pub below-more : (words : List ℕ) {key p : ℕ} → ((j : ℕ) → j < p → getD words (352 + j) 0 < key) → getD words (352 + p) 0 < key → (j : ℕ) → j < p + 1 → getD words (352 + j) 0 < key
+pub below-more : (words : List ℕ) {key p : ℕ} → ((j : ℕ) → j < p → getD words (memory.keys + j) 0 < key) → getD words (memory.keys + p) 0 < key → (j : ℕ) → j < p + 1 → getD words (memory.keys + j) 0 < key
 below-more words {key} {p} h l j k = by (decLt j p)
   where
-    by : Dec (j < p) → getD words (352 + j) 0 < key
+    by : Dec (j < p) → getD words (memory.keys + j) 0 < key
     by (yes m) = h j m
     by (no m) = let z : j ≡ p = omega arith in rw z l

@@ -6,6 +6,7 @@ use mathlib.Core.List.{List, []}
 use Prim.Native.Nat.{ℕ, _+_, _*_, _<_, min}
 use lib.ListN.{length, getD}
 use lib.Dec.{eqb}
+use Rattle.sheet.specs.Sizes.{mostRows, mostObjects}
 use Rattle.sheet.specs.Text.{Bytes, bytes, fieldsOf}
 use Rattle.sheet.specs.Lines.{is}
 use Rattle.sheet.specs.Sheet.{Sheet}
@@ -43,7 +44,7 @@ clearsLine fs = eqb (length fs) 4 && is (getD fs 3 []) (bytes "-")
 
 -- row a cleared for object o
 pub data ClearedAs (s : Sheet) (o a : ℕ) : Judged → Type 0 where
-  cleared : o < 96 → a < 64 → judgedValue s o a none ≡ taken s → ClearedAs s o a (code.Key (o * 64 + a))
+  cleared : o < mostObjects → a < mostRows → judgedValue s o a none ≡ taken s → ClearedAs s o a (code.Key (o * mostRows + a))
   not-cleared : {n : ℕ} → judgedValue s o a none ≡ refuse n → ClearedAs s o a (code.Stop n)
 
 -- the code has o' and a' as o and a, a million at most
@@ -58,8 +59,8 @@ judgedEdit s (some e) = judged s e
 -- refused; or its key, with the sheet without values in the words
 pub data JudgedAs (line : Bytes) (st : Counts) (s : Sheet) (v0 w1 : List ℕ) : Judged → Type 0 where
   judged-stop : {n : ℕ} → judgedEdit s (editOf (fieldsOf line)) ≡ refuse n → JudgedAs line st s v0 w1 (code.Stop n)
-  judged-key : (e : Edit) (t : Sheet) → editOf (fieldsOf line) ≡ some e → judged s e ≡ taken t → e .row < 64
-      → Holds (emptyCounts st) v0 w1 (withSlots s 3 []) → JudgedAs line st s v0 w1 (code.Key (e .object * 64 + e .row))
+  judged-key : (e : Edit) (t : Sheet) → editOf (fieldsOf line) ≡ some e → judged s e ≡ taken t → e .row < mostRows
+      → Holds (emptyCounts st) v0 w1 (withSlots s 3 []) → JudgedAs line st s v0 w1 (code.Key (e .object * mostRows + e .row))
 
 pub record Judges (line : Bytes) (st : Counts) (r : Judged) (w0 w1 v0 : List ℕ) : Type 0 where
   pub is : (s : Sheet) → Holds st w0 w1 s → JudgedAs line st s v0 w1 r

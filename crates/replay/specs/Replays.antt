@@ -6,6 +6,7 @@ use mathlib.Core.List.{List, _++_}
 use Prim.Native.Nat.{ℕ, _≤_, _<_}
 use lib.ListN.{getD}
 use Rattle.ocl.specs.Types.{Ty}
+use Rattle.sheet.specs.Sizes.{mostRows, mostValues}
 use Rattle.sheet.specs.Text.{Bytes, fieldsOf}
 use Rattle.sheet.specs.Sheet.{Slot, Sheet}
 use Rattle.sheet.specs.Reading.{Step, taken, refuse}
@@ -45,7 +46,7 @@ lastCounts st = record {
 
 -- the slots in the words that come before the key, and those that come after it
 pub record Parted (words : List ℕ) (key : ℕ) (xs ys : List Slot) : Type 0 where
-  pub few : getD words 0 0 ≤ 1024
+  pub few : getD words 0 0 ≤ mostValues
   pub place : ℕ
   pub first : FirstFrom words (getD words 0 0) key place
   pub before : SlotsAt words (getD words 0 0) place 0 xs
@@ -70,7 +71,7 @@ pub record Replaying (line : Bytes) (key : ℕ) (words : List ℕ) (st : Counts)
 -- refused at place 1; or made, with the slots xs on the sheet s, whose rules have the types ts
 pub data ReplayedAs (edit : Option Edit) (words : List ℕ) (s : Sheet) (ts : List Ty) (v0 w1 : List ℕ) : Replayed → Type 0 where
   refused : {n : ℕ} → ((b : Board) → BoardLies words s b → (room : ℕ) → editOn room s b edit ≡ refusalAt n 1) → ReplayedAs edit words s ts v0 w1 (code.Refused n)
-  replayed : {st : Counts} (e : Edit) (xs : List Slot) → edit ≡ some e → e .row < 64 → Accepted st v0 w1 (valued s xs) ts
+  replayed : {st : Counts} (e : Edit) (xs : List Slot) → edit ≡ some e → e .row < mostRows → Accepted st v0 w1 (valued s xs) ts
       → ((b : Board) → BoardLies words s b → (xs ≡ edited (b .slots) e) × ((room : ℕ) → editOn room s b edit ≡ answered room s b e))
       → ReplayedAs edit words s ts v0 w1 (code.Is st (e .row))
 

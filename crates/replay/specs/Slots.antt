@@ -2,11 +2,13 @@
 use mathlib.Core.Path.{_≡_}
 use mathlib.Core.Bool.{true, _&&_}
 use mathlib.Core.List.{List, [], _∷_}
-use Prim.Native.Nat.{ℕ, _+_, _<_, _≤_}
+use Prim.Native.Nat.{ℕ, _+_, _*_, _<_, _≤_}
 use lib.ListN.{getD}
 use lib.Seq.{slice}
 use lib.Dec.{eqb, ltb}
 use Rattle.laws.specs.Choice.{if_then_else_}
+use Rattle.memory.specs.Map as memory
+use Rattle.sheet.specs.Sizes.{mostCells, mostRows, mostObjects}
 use Rattle.sheet.specs.Lines.{valueLine}
 use Rattle.sheet.specs.Sheet.{Slot, Sheet}
 use Rattle.sheet.specs.Limits.{valueWithin}
@@ -30,18 +32,22 @@ pub record Lying (st : Counts) (w0 : List ℕ) : Type 0 where
 
 -- where the cells of slot j of n end: where those of the next one start, or behind the last cell
 unfoldable pub endIn : List ℕ → ℕ → ℕ → ℕ
-endIn words n j = if eqb (j + 1) n then getD words 1 0 else getD words (1376 + (j + 1)) 0
+endIn words n j = if eqb (j + 1) n then getD words 1 0 else getD words (memory.starts + (j + 1)) 0
+
+-- keys are below this
+abbrev pub mostKeys : ℕ
+mostKeys = mostObjects * mostRows
 
 -- slot j of n is x
 pub record SlotAt (words : List ℕ) (n j : ℕ) (x : Slot) : Type 0 where
-  pub row : x .row < 64
-  pub key : getD words (352 + j) 0 ≡ slotKey x
-  pub low : slotKey x < 6144
+  pub row : x .row < mostRows
+  pub key : getD words (memory.keys + j) 0 ≡ slotKey x
+  pub low : slotKey x < mostKeys
   pub fits : Fits (x .value)
   pub within : valueWithin (x .value) ≡ true
-  pub up : getD words (1376 + j) 0 < endIn words n j
-  pub room : endIn words n j ≤ 2048
-  pub cells : slice (2400 + getD words (1376 + j) 0) (2400 + endIn words n j) words ≡ enc (x .value)
+  pub up : getD words (memory.starts + j) 0 < endIn words n j
+  pub room : endIn words n j ≤ mostCells
+  pub cells : slice (memory.cells + getD words (memory.starts + j) 0) (memory.cells + endIn words n j) words ≡ enc (x .value)
 
 -- the slots from i to k
 pub data SlotsAt (words : List ℕ) (n k : ℕ) : ℕ → List Slot → Type 0 where
@@ -51,16 +57,16 @@ pub data SlotsAt (words : List ℕ) (n k : ℕ) : ℕ → List Slot → Type 0 w
 -- p of n slots come before the key
 pub record FirstFrom (words : List ℕ) (n key p : ℕ) : Type 0 where
   pub low : p ≤ n
-  pub below : (j : ℕ) → j < p → getD words (352 + j) 0 < key
-  pub at : p < n → key ≤ getD words (352 + p) 0
+  pub below : (j : ℕ) → j < p → getD words (memory.keys + j) 0 < key
+  pub at : p < n → key ≤ getD words (memory.keys + p) 0
 
 -- the first that comes after it
 unfoldable pub afterIn : List ℕ → ℕ → ℕ → ℕ → ℕ
-afterIn words n p key = if ltb p n && eqb (getD words (352 + p) 0) key then p + 1 else p
+afterIn words n p key = if ltb p n && eqb (getD words (memory.keys + p) 0) key then p + 1 else p
 
 -- the slot with this key and these cells
 pub record CellsTook (cells : List ℕ) (key : ℕ) (st : Counts) (r : Step) (w0 w1 v0 : List ℕ) : Type 0 where
-  pub is : (s : Sheet) (x : Slot) → Holds st w0 w1 s → SmallRows s → key ≡ slotKey x → x .row < 64 → Fits (x .value) → valueWithin (x .value) ≡ true
+  pub is : (s : Sheet) (x : Slot) → Holds st w0 w1 s → SmallRows s → key ≡ slotKey x → x .row < mostRows → Fits (x .value) → valueWithin (x .value) ≡ true
       → cells ≡ enc (x .value) → Moved v0 w1 r (stepLine s 1 (valueLine (x .object) (x .row) (x .value)))
   pub found : {su : Counts} → r ≡ code.Next su → Whole cells
   pub kept : Kept w0 v0

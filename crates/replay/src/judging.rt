@@ -4,6 +4,7 @@ ghost use mathlib.Core.Bool.{true, false};
 ghost use mathlib.Core.List.{List, []};
 ghost use Prim.Native.Nat.{ℕ, _≤_};
 ghost use lib.ListN.{length, getD};
+ghost use Rattle.sheet.specs.Sizes.{leastWords};
 ghost use Rattle.sheet.specs.Text.{bytes, fieldsOf};
 ghost use Rattle.sheet.specs.Lines.{is};
 ghost use Rattle.text.specs.Parts.{Cut};
@@ -20,7 +21,7 @@ use text::parts::Fields;
 use text::parts::field;
 use types::classes::wide;
 
-// The key of the edited slot, its object times 64 and its row; or a refusal's number.
+// The key of the edited slot; or a refusal's number.
 pub enum Judged {
     Key(u64),
     Stop(u64),
@@ -53,15 +54,15 @@ fn clears(line: &[u8], f: Fields) -> bool
     last[0] == b'-'
 }
 
-// Clearing row a for object o, each a million at most.
+// Judges the clearing of row a for object o; both numbers are a million at most.
 fn judge_cleared(w0: &[u64], st: Counts, o: u64, a: u64) -> Judged
-    requires { ⌜ (8192 ≤ length (now w0)) × Fine st ⌝ }
+    requires { ⌜ (leastWords ≤ length (now w0)) × Fine st ⌝ }
     ensures { λ r. ⌜ ((w1 : List ℕ) → ClearingAs st o a (now (w0 .entry)) w1 r) ⌝ }
 {
-    if 96 <= o {
+    if memory::MOST_OBJECTS <= o {
         return Judged::Stop(4);
     }
-    if 64 <= a {
+    if memory::MOST_ROWS <= a {
         return Judged::Stop(4);
     }
     if st.objects <= o {
@@ -71,17 +72,22 @@ fn judge_cleared(w0: &[u64], st: Counts, o: u64, a: u64) -> Judged
         return Judged::Stop(6);
     }
     let classes = wide(st.classes);
-    let objects_end = 256 + wide(st.objects);
+    let objects_end = memory::OBJECTS + wide(st.objects);
     let i = wide(a);
-    if !object_suits(&w0[..classes], &w0[256..objects_end], o, w0[64 + i]) {
+    if !object_suits(
+        &w0[..classes],
+        &w0[memory::OBJECTS..objects_end],
+        o,
+        w0[memory::OWNERS + i],
+    ) {
         return Judged::Stop(7);
     }
-    Judged::Key(o * 64 + a)
+    Judged::Key(o * memory::MOST_ROWS + a)
 }
 
-// A line that clears.
+// Judges a line that clears.
 fn judge_clearing(line: &[u8], f: Fields, w0: &[u64], st: Counts) -> Judged
-    requires { ⌜ Cut (now line) f × (is (getD (fieldsOf (now line)) 0 []) (bytes "V") ≡ true) × (clearsLine (fieldsOf (now line)) ≡ true) × (8192 ≤ length (now w0)) × Fine st ⌝ }
+    requires { ⌜ Cut (now line) f × (is (getD (fieldsOf (now line)) 0 []) (bytes "V") ≡ true) × (clearsLine (fieldsOf (now line)) ≡ true) × (leastWords ≤ length (now w0)) × Fine st ⌝ }
     ensures { λ r. ⌜ ((w1 : List ℕ) → Judges (now (line .entry)) st r (now (w0 .entry)) w1 (now (w0 .entry))) ⌝ }
 {
     let Num::Is(o) = number(field(line, f, 1)) else {
@@ -93,20 +99,20 @@ fn judge_clearing(line: &[u8], f: Fields, w0: &[u64], st: Counts) -> Judged
     judge_cleared(w0, st, o, a)
 }
 
-// Any other line: its value is taken as the first one, and its key read where it then lies.
+// Any other line: its value is taken as the sheet's first one, and its key is read where it then lies.
 fn judge_value(line: &[u8], f: Fields, w0: &mut [u64], st: Counts) -> Judged
-    requires { ⌜ Cut (now line) f × (is (getD (fieldsOf (now line)) 0 []) (bytes "V") ≡ true) × (clearsLine (fieldsOf (now line)) ≡ false) × (8192 ≤ length (now w0)) × Fine st ⌝ }
+    requires { ⌜ Cut (now line) f × (is (getD (fieldsOf (now line)) 0 []) (bytes "V") ≡ true) × (clearsLine (fieldsOf (now line)) ≡ false) × (leastWords ≤ length (now w0)) × Fine st ⌝ }
     ensures { λ r. ⌜ ((w1 : List ℕ) → Judges (now (line .entry)) st r (now (w0 .entry)) w1 (now (w0 .exit))) ⌝ }
 {
     match value_line(line, f, w0, emptied(st)) {
         Step::Stop(n) => Judged::Stop(n),
-        Step::Next(_) => Judged::Key(w0[352]),
+        Step::Next(_) => Judged::Key(w0[memory::KEYS]),
     }
 }
 
-// The edit's line, whose first field is `V`.
+// Judges the edit's line, whose first field is `V`.
 pub fn judge(line: &[u8], f: Fields, w0: &mut [u64], st: Counts) -> Judged
-    requires { ⌜ Cut (now line) f × (is (getD (fieldsOf (now line)) 0 []) (bytes "V") ≡ true) × (8192 ≤ length (now w0)) × Fine st ⌝ }
+    requires { ⌜ Cut (now line) f × (is (getD (fieldsOf (now line)) 0 []) (bytes "V") ≡ true) × (leastWords ≤ length (now w0)) × Fine st ⌝ }
     ensures { λ r. ⌜ ((w1 : List ℕ) → Judges (now (line .entry)) st r (now (w0 .entry)) w1 (now (w0 .exit))) ⌝ }
 {
     if clears(line, f) {
@@ -115,9 +121,9 @@ pub fn judge(line: &[u8], f: Fields, w0: &mut [u64], st: Counts) -> Judged
     judge_value(line, f, w0, st)
 }
 
-// The edit's own slot in its place, if it has one.
+// Takes the edit's own slot, if it has one: a line that clears has none.
 pub fn own_slot(line: &[u8], f: Fields, w0: &mut [u64], st: Counts) -> Step
-    requires { ⌜ Cut (now line) f × (is (getD (fieldsOf (now line)) 0 []) (bytes "V") ≡ true) × (8192 ≤ length (now w0)) × Lying st (now w0) ⌝ }
+    requires { ⌜ Cut (now line) f × (is (getD (fieldsOf (now line)) 0 []) (bytes "V") ≡ true) × (leastWords ≤ length (now w0)) × Lying st (now w0) ⌝ }
     ensures { λ r. ⌜ ((w1 : List ℕ) → OwnTook (now (line .entry)) st r (now (w0 .entry)) w1 (now (w0 .exit))) ⌝ }
 {
     if clears(line, f) {

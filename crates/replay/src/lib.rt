@@ -6,8 +6,10 @@ ghost use mathlib.Core.Bool.{true};
 ghost use mathlib.Core.List.{List, []};
 ghost use Prim.Native.Nat.{ℕ, _<_, _≤_};
 ghost use lib.ListN.{length, getD};
+ghost use Rattle.sheet.specs.Sizes.{leastWords};
 ghost use Rattle.sheet.specs.Text.{bytes, fieldsOf};
 ghost use Rattle.sheet.specs.Lines.{is};
+ghost use Rattle.board.specs.Calls.{leastBoard};
 ghost use Rattle.text.specs.Parts.{Cut};
 ghost use Rattle.replay.specs.Slots.{Lying};
 ghost use Rattle.replay.specs.Replays.{lastCounts, Spelled, Replaying, EditTook, Replays};
@@ -47,13 +49,16 @@ fn finished(st: Counts) -> Counts
     r
 }
 
-// The slots with the edit made: those before it, its own, and those after it.
+// How many slots there may be.
+const MOST_SLOTS: usize = memory::MOST_VALUES as usize;
+
+// Takes the slots with the edit made: those before it, its own, and those after it.
 fn replay(own: &[u8], f: Fields, key: u64, words: &[u64], w0: &mut [u64], st: Counts) -> Step
-    requires { ⌜ Cut (now own) f × (is (getD (fieldsOf (now own)) 0 []) (bytes "V") ≡ true) × Spelled (now own) × (8192 ≤ length (now words)) × (8192 ≤ length (now w0)) × Lying st (now w0) ⌝ }
+    requires { ⌜ Cut (now own) f × (is (getD (fieldsOf (now own)) 0 []) (bytes "V") ≡ true) × Spelled (now own) × (leastBoard ≤ length (now words)) × (leastWords ≤ length (now w0)) × Lying st (now w0) ⌝ }
     ensures { λ r. ⌜ ((w1 : List ℕ) → Replaying (now (own .entry)) key (now (words .entry)) st r (now (w0 .entry)) w1 (now (w0 .exit))) ⌝ }
 {
     let n = wide(words[0]);
-    if 1024 < n {
+    if MOST_SLOTS < n {
         return Step::Stop(4);
     }
     let p = slots_before(words, n, key);
@@ -68,7 +73,7 @@ fn replay(own: &[u8], f: Fields, key: u64, words: &[u64], w0: &mut [u64], st: Co
 
 // The edit's line, whose first field is `V`.
 fn edit_slots(own: &[u8], f: Fields, words: &[u64], w0: &mut [u64], st: Counts) -> Replayed
-    requires { ⌜ Cut (now own) f × (is (getD (fieldsOf (now own)) 0 []) (bytes "V") ≡ true) × (8192 ≤ length (now words)) × (8192 ≤ length (now w0)) × Lying st (now w0) ⌝ }
+    requires { ⌜ Cut (now own) f × (is (getD (fieldsOf (now own)) 0 []) (bytes "V") ≡ true) × (leastBoard ≤ length (now words)) × (leastWords ≤ length (now w0)) × Lying st (now w0) ⌝ }
     ensures { λ r. ⌜ ((w1 : List ℕ) → EditTook (now (own .entry)) (now (words .entry)) st r (now (w0 .entry)) w1 (now (w0 .exit))) ⌝ }
 {
     match judge(own, f, w0, st) {
@@ -76,7 +81,7 @@ fn edit_slots(own: &[u8], f: Fields, words: &[u64], w0: &mut [u64], st: Counts) 
         Judged::Key(key) => {
             match replay(own, f, key, words, w0, emptied(st)) {
                 Step::Stop(_) => Replayed::Refused(21),
-                Step::Next(su) => Replayed::Is(finished(su), key % 64),
+                Step::Next(su) => Replayed::Is(finished(su), key % memory::MOST_ROWS),
             }
         }
     }
@@ -84,7 +89,7 @@ fn edit_slots(own: &[u8], f: Fields, words: &[u64], w0: &mut [u64], st: Counts) 
 
 // The edit's line, without its line feed.
 fn edit_line(own: &[u8], words: &[u64], w0: &mut [u64], st: Counts) -> Replayed
-    requires { ⌜ (8192 ≤ length (now words)) × (8192 ≤ length (now w0)) × Lying st (now w0) ⌝ }
+    requires { ⌜ (leastBoard ≤ length (now words)) × (leastWords ≤ length (now w0)) × Lying st (now w0) ⌝ }
     ensures { λ r. ⌜ ((w1 : List ℕ) → EditTook (now (own .entry)) (now (words .entry)) st r (now (w0 .entry)) w1 (now (w0 .exit))) ⌝ }
 {
     let f = cut(own);
@@ -97,7 +102,7 @@ fn edit_line(own: &[u8], words: &[u64], w0: &mut [u64], st: Counts) -> Replayed
 // The edit of a board that lies in `words`, made on the accepted sheet in w0: one line with its line feed, and nothing behind it. Whatever
 // else the words hold, a sheet lies in w0 afterwards, or the edit is refused.
 pub fn replay_edit(line: &[u8], words: &[u64], w0: &mut [u64], st: Counts) -> Replayed
-    requires { ⌜ (8192 ≤ length (now words)) × (8192 ≤ length (now w0)) × Lying st (now w0) ⌝ }
+    requires { ⌜ (leastBoard ≤ length (now words)) × (leastWords ≤ length (now w0)) × Lying st (now w0) ⌝ }
     ensures { λ r. ⌜ ((w1 : List ℕ) → Replays (now (line .entry)) (now (words .entry)) st (now (w0 .entry)) w1 (now (w0 .exit)) r) ⌝ }
 {
     let e = find(line, 10);

@@ -4,33 +4,29 @@ ghost use mathlib.Core.List.{List};
 ghost use Prim.Native.Nat.{ℕ, _+_, _<_, _≤_};
 ghost use lib.ListN.{length};
 ghost use lib.Seq.{paste};
-ghost use Rattle.replay.specs.Slots.{endIn, afterIn, FirstFrom, Lying, CellsTook, SlotReplayed, SlotsReplayed};
+ghost use Rattle.sheet.specs.Sizes.{leastWords, mostValues};
+ghost use Rattle.board.specs.Calls.{leastBoard};
+ghost use Rattle.replay.specs.Slots.{endIn, afterIn, FirstFrom, Lying, CellsTook, SlotReplayed, SlotsReplayed, mostKeys};
 use crate::value::is_value;
 use slots::line::put_slot;
 use tables::Counts;
 use tables::Step;
 use types::classes::wide;
 
-// Where the tables start, in w0 and in the board's words.
-const KEYS: usize = 352;
-
-const STARTS: usize = 1376;
-
-const CELLS: usize = 2400;
-// Keys are below 96 objects times 64 rows.
-const MOST_KEYS: u64 = 6144;
+// Keys are below this.
+const MOST_KEYS: u64 = memory::MOST_OBJECTS * memory::MOST_ROWS;
 // There are at most this many cells.
-const MOST_CELLS: usize = 2048;
+const MOST_CELLS: usize = memory::MOST_CELLS as usize;
 
 // Where the cells of slot j of n end: where those of the next one start, or behind the last cell.
 fn end_of(words: &[u64], n: usize, j: usize) -> u64
-    requires { ⌜ (8192 ≤ length (now words)) × (j < n) × (n ≤ 1024) ⌝ }
+    requires { ⌜ (leastBoard ≤ length (now words)) × (j < n) × (n ≤ mostValues) ⌝ }
     ensures { λ r. ⌜ r ≡ endIn (now (words .entry)) n j ⌝ }
 {
     if j + 1 == n {
         return words[1];
     }
-    words[STARTS + (j + 1)]
+    words[memory::STARTS + (j + 1)]
 }
 
 // Copies the cells to `at`.
@@ -45,9 +41,9 @@ fn copy_cells(w0: &mut [u64], at: usize, cells: &[u64])
     }
 }
 
-// The slot with this key and these cells.
+// Takes the slot with this key and these cells.
 fn take_cells(cells: &[u64], key: u64, w0: &mut [u64], st: Counts) -> Step
-    requires { ⌜ (8192 ≤ length (now w0)) × Lying st (now w0) × (0 < length (now cells)) × (key < 6144) ⌝ }
+    requires { ⌜ (leastWords ≤ length (now w0)) × Lying st (now w0) × (0 < length (now cells)) × (key < mostKeys) ⌝ }
     ensures { λ r. ⌜ ((w1 : List ℕ) → CellsTook (now (cells .entry)) key st r (now (w0 .entry)) w1 (now (w0 .exit))) ⌝ }
 {
     if !is_value(cells) {
@@ -57,20 +53,26 @@ fn take_cells(cells: &[u64], key: u64, w0: &mut [u64], st: Counts) -> Step
     if MOST_CELLS - used < cells.len() {
         return Step::Stop(4);
     }
-    copy_cells(w0, CELLS + used, cells);
-    put_slot(w0, st, key / 64, key % 64, cells.len())
+    copy_cells(w0, memory::CELLS + used, cells);
+    put_slot(
+        w0,
+        st,
+        key / memory::MOST_ROWS,
+        key % memory::MOST_ROWS,
+        cells.len(),
+    )
 }
 
-// Slot j of the n slots in the words.
+// Takes slot j of the n slots in the words.
 fn take_slot(words: &[u64], n: usize, j: usize, w0: &mut [u64], st: Counts) -> Step
-    requires { ⌜ (8192 ≤ length (now words)) × (8192 ≤ length (now w0)) × Lying st (now w0) × (j < n) × (n ≤ 1024) ⌝ }
+    requires { ⌜ (leastBoard ≤ length (now words)) × (leastWords ≤ length (now w0)) × Lying st (now w0) × (j < n) × (n ≤ mostValues) ⌝ }
     ensures { λ r. ⌜ ((w1 : List ℕ) → SlotReplayed (now (words .entry)) n j st r (now (w0 .entry)) w1 (now (w0 .exit))) ⌝ }
 {
-    let key = words[KEYS + j];
+    let key = words[memory::KEYS + j];
     if MOST_KEYS <= key {
         return Step::Stop(4);
     }
-    let from = wide(words[STARTS + j]);
+    let from = wide(words[memory::STARTS + j]);
     let to = wide(end_of(words, n, j));
     if MOST_CELLS < to {
         return Step::Stop(4);
@@ -78,12 +80,12 @@ fn take_slot(words: &[u64], n: usize, j: usize, w0: &mut [u64], st: Counts) -> S
     if to <= from {
         return Step::Stop(4);
     }
-    let a = CELLS + from;
-    let e = CELLS + to;
+    let a = memory::CELLS + from;
+    let e = memory::CELLS + to;
     take_cells(&words[a..e], key, w0, st)
 }
 
-// The slots from `from` to `to` of the n slots in the words, one after the other.
+// Takes the slots from `from` to `to` of the n slots in the words, one after the other.
 pub fn take_slots(
     words: &[u64],
     n: usize,
@@ -92,7 +94,7 @@ pub fn take_slots(
     w0: &mut [u64],
     st: Counts,
 ) -> Step
-    requires { ⌜ (8192 ≤ length (now words)) × (8192 ≤ length (now w0)) × Lying st (now w0) × (from ≤ to) × (to ≤ n) × (n ≤ 1024) ⌝ }
+    requires { ⌜ (leastBoard ≤ length (now words)) × (leastWords ≤ length (now w0)) × Lying st (now w0) × (from ≤ to) × (to ≤ n) × (n ≤ mostValues) ⌝ }
     ensures { λ r. ⌜ ((w1 : List ℕ) → SlotsReplayed (now (words .entry)) n from to st r (now (w0 .entry)) w1 (now (w0 .exit))) ⌝ }
 {
     let mut su = st;
@@ -113,12 +115,12 @@ pub fn take_slots(
 
 // How many of the n slots come before the key.
 pub fn slots_before(words: &[u64], n: usize, key: u64) -> usize
-    requires { ⌜ (8192 ≤ length (now words)) × (n ≤ 1024) ⌝ }
+    requires { ⌜ (leastBoard ≤ length (now words)) × (n ≤ mostValues) ⌝ }
     ensures { λ r. ⌜ FirstFrom (now (words .entry)) n key r ⌝ }
 {
     let mut p: usize = 0;
     while p < n {
-        if key <= words[KEYS + p] {
+        if key <= words[memory::KEYS + p] {
             return p;
         }
         p += 1;
@@ -128,11 +130,11 @@ pub fn slots_before(words: &[u64], n: usize, key: u64) -> usize
 
 // The first of the n slots that comes after the key, where p come before it.
 pub fn slot_after(words: &[u64], n: usize, p: usize, key: u64) -> usize
-    requires { ⌜ (8192 ≤ length (now words)) × (p ≤ n) × (n ≤ 1024) ⌝ }
+    requires { ⌜ (leastBoard ≤ length (now words)) × (p ≤ n) × (n ≤ mostValues) ⌝ }
     ensures { λ r. ⌜ r ≡ afterIn (now (words .entry)) n p key ⌝ }
 {
     if p < n {
-        if words[KEYS + p] == key {
+        if words[memory::KEYS + p] == key {
             return p + 1;
         }
     }

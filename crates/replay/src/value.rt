@@ -1,4 +1,4 @@
-// Whether words are the cells of a value within its limits: those of a board may hold anything.
+// Whether words are the cells of a value within its limits: the words of a board may hold anything.
 ghost use Rattle.replay.specs.Values.{SimpleCell, EndsAt, IsValue};
 use floats::cells::word_in;
 use values::cells::COLLECTIONS;
@@ -8,7 +8,7 @@ use values::cells::OBJECTS;
 use values::cells::TOP;
 use values::cells::member_count;
 
-// Whether it is the cell of a truth value, of a number or of one of 96 objects.
+// Whether the cell is that of a truth value, of a number or of one of 96 objects.
 fn simple_cell(cell: u64) -> bool
     ensures { λ r. ⌜ SimpleCell cell r ⌝ }
 {
@@ -18,7 +18,7 @@ fn simple_cell(cell: u64) -> bool
     if cell < OBJECTS {
         return word_in(cell) == cell;
     }
-    cell - OBJECTS < 96
+    cell - OBJECTS < memory::MOST_OBJECTS
 }
 
 // The place after the value that begins at p and has at most `deep` collections inside one another; 0 where none begins.

@@ -8,6 +8,7 @@ use native.Mathlib.Nat.{mul-le-mul}
 use native.Mathlib.Numerals.{add-one}
 use lib.ListN.{length, getD}
 use Rattle.laws.specs.Choice.{if_then_else_}
+use Rattle.memory.specs.Map as memory
 use Rattle.ocl.specs.Types.{Ty}
 use Rattle.ocl.specs.Model.{Model}
 use Rattle.sheet.specs.Sheet.{Rule, Sheet, modelOf}
@@ -18,7 +19,7 @@ use Rattle.types.specs.Word.{typeIn}
 use Rattle.types.proofs.Members.{ends, goes-on}
 use Rattle.tables.specs.declared.Counts.{Counts}
 use Rattle.tables.specs.Stored.{HoldsModel}
-use Rattle.operations.specs.Tables.{Bounds, IsA}
+use Rattle.outcomes.specs.Tables.{Bounds, IsA}
 use Rattle.rules.specs.Accepted.{Accepted, TypesIn}
 use Rattle.rules.specs.Width.{width}
 use Rattle.rules.proofs.Lengths.{width-within}
@@ -92,7 +93,7 @@ module _ (origins : Bool) {st : Counts} {w0 : List ℕ} {c n w : ℕ} (t : Ty) (
 
 -- a rule of an accepted sheet, by its words
 lines-bound-is : {origins : Bool} {st : Counts} {w0 w1 : List ℕ} {r n : ℕ} {s : Sheet} {x : Rule} {t : Ty} → TypedRule st w0 w1 r s x t
-    → BoundsLines origins st w0 (getD w0 (4448 + r) 0) t n → n ≡ linesBound origins s x t (length (s .objects))
+    → BoundsLines origins st w0 (getD w0 (memory.contexts + r) 0) t n → n ≡ linesBound origins s x t (length (s .objects))
 unfolding linesBound
 lines-bound-is {r = r} {s = s} {x = x} m b =
     let all = ready (m .lies) in
@@ -111,7 +112,7 @@ module _ {origins : Bool} {st : Counts} {w0 w2 : List ℕ} where
   bounded-none = record { is = λ w1 s ts a w. refl; few = omega arith; within = omega arith }
 
   pub bounded-next : {rules bound r n : ℕ} {t : Ty} → rules ≡ st .rules → BoundedTo origins st w0 w2 bound r → r < rules → t ≡ typeIn (getD w2 (768 + r) 0)
-      → BoundsLines origins st w0 (getD w0 (4448 + r) 0) t n → BoundedTo origins st w0 w2 (bound + n) (r + 1)
+      → BoundsLines origins st w0 (getD w0 (memory.contexts + r) 0) t n → BoundedTo origins st w0 w2 (bound + n) (r + 1)
   bounded-next {rules} {bound} {r} {n} {t} count so h e b = record {
     is = λ w1 s ts a w.
         let there : r < st .rules = omega arith in

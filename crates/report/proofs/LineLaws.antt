@@ -18,9 +18,9 @@ use Rattle.values.proofs.Encoding.{some-cells, size-law}
 use Rattle.spelling.specs.Contracts.{ValueFits}
 use Rattle.spelling.proofs.PutLaws.{puts-behind}
 use Rattle.nodes.specs.Nodes.{word}
-use Rattle.operations.specs.declared.Ended.{Ended}
-use Rattle.operations.specs.declared.Ended.the-variants as ended
-use Rattle.operations.specs.Answers.{Lies, Ends, ends-value, ends-undefined, ends-stuck, ends-stop}
+use Rattle.outcomes.specs.declared.Ended.{Ended}
+use Rattle.outcomes.specs.declared.Ended.the-variants as ended
+use Rattle.outcomes.specs.Answers.{Lies, Ends, ends-value, ends-undefined, ends-stuck, ends-stop}
 use Rattle.evaluation.specs.declared.Traced.{Traced}
 use Rattle.evaluation.specs.declared.Traced.the-variants as traced
 use Rattle.evaluation.specs.Traces.{SmallTraced}

@@ -9,6 +9,7 @@ use native.Mathlib.Numerals.{add-one}
 use lib.Dec.{T}
 use lib.ListN.{length, getD, take, drop, take-append-drop, length-append}
 use Rattle.laws.proofs.Elements.{elem-at}
+use Rattle.memory.specs.Map as memory
 use Rattle.ocl.specs.Types.{class, Ty}
 use Rattle.ocl.specs.Model.{isA}
 use Rattle.sheet.specs.Text.{Bytes}
@@ -17,7 +18,7 @@ use Rattle.text.proofs.WrittenLaws.{puts-then}
 use Rattle.tables.specs.declared.Counts.{Counts}
 use Rattle.tables.specs.Layout.{Kept}
 use Rattle.tables.proofs.Tables.{kept-refl, kept-then}
-use Rattle.operations.specs.Tables.{IsA}
+use Rattle.outcomes.specs.Tables.{IsA}
 use Rattle.rules.specs.Accepted.{Known}
 use Rattle.rules.proofs.Ready.{ready}
 use Rattle.report.specs.Bound.{lineWidth, linesBound}
@@ -52,7 +53,7 @@ module _ {st : Counts} {w0 w1 : List ℕ} {r : ℕ} {s : Sheet} {x : Rule} {t : 
   sheet-known : Known st w0 w1
   sheet-known = record { sheet = s; lies = m .lies }
 
-  module _ {o : ℕ} {b : Bool} (a : IsA st w0 o (getD w0 (4448 + r) 0) b) where
+  module _ {o : ℕ} {b : Bool} (a : IsA st w0 o (getD w0 (memory.contexts + r) 0) b) where
     class-is : isA (modelOf s) o (class (x .context)) ≡ b
     class-is =
         let all = ready (m .lies) in
@@ -73,7 +74,7 @@ module _ {st : Counts} {w0 w1 : List ℕ} {r : ℕ} {s : Sheet} {x : Rule} {t : 
     unfolding lineBound
     bound-some origins e = rw (class-is, e)
 
-module _ (origins : Bool) {st : Counts} {w0 w1 : List ℕ} {r o : ℕ} {keep : Bool} {total : ℕ} {b : Bool} (a : IsA st w0 o (getD w0 (4448 + r) 0) b) where
+module _ (origins : Bool) {st : Counts} {w0 w1 : List ℕ} {r o : ℕ} {keep : Bool} {total : ℕ} {b : Bool} (a : IsA st w0 o (getD w0 (memory.contexts + r) 0) b) where
   -- an object that is not of the class
   pub no-line : b ≡ false → (w2 : List ℕ) (out : Bytes) → AddsLines (objectLine origins r o) (lineBound origins o) st w0 w1 r keep total w2 w2 out out total
   no-line e w2 out = record {

@@ -27,8 +27,8 @@ use Rattle.sheet.proofs.Good.{Good}
 use Rattle.sheet.proofs.Origin.{node-on-sheet}
 use Rattle.text.specs.Written.{Puts}
 use Rattle.tables.specs.declared.Counts.{Counts}
-use Rattle.operations.specs.declared.Ended.{Ended}
-use Rattle.operations.specs.Answers.{Ends}
+use Rattle.outcomes.specs.declared.Ended.{Ended}
+use Rattle.outcomes.specs.Answers.{Ends}
 use Rattle.evaluation.specs.declared.Traced.{Traced as Answer}
 use Rattle.evaluation.specs.Traces.{EndsT, ends-value, ends-undefined, ends-stuck, ends-stop, SmallTraced}
 use Rattle.rules.specs.Numbered.{EvaluatesNumbered, TracesNumbered}

@@ -8,6 +8,7 @@ use lib.ListN.{length}
 use Rattle.laws.specs.Choice.{if_then_else_}
 use Rattle.ocl.specs.Types.{class, Ty}
 use Rattle.ocl.specs.Model.{Model, isA}
+use Rattle.sheet.specs.Sizes.{mostObjects}
 use Rattle.sheet.specs.Sheet.{Rule, Sheet, modelOf}
 use Rattle.tables.specs.declared.Counts.{Counts}
 use Rattle.tables.specs.Stored.{HoldsModel}
@@ -23,7 +24,7 @@ objectsOf m c (suc n) = objectsOf m c n + (if isA m n (class c) then 1 else 0)
 
 pub record CountsObjects (st : Counts) (w0 : List ℕ) (c n : ℕ) : Type 0 where
   pub is : (m : Model) → HoldsModel st w0 m → n ≡ objectsOf m c (st .objects)
-  pub few : n ≤ 96
+  pub few : n ≤ mostObjects
 
 -- ---- how many bytes lines can take (proofs/PassLaws.antt: they take no more)
 

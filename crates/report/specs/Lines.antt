@@ -3,13 +3,14 @@
 use mathlib.Core.List.{List, []}
 use Prim.Native.Nat.{ℕ, _+_, _/_, _%_, _≤_}
 use lib.ListN.{length}
+use Rattle.memory.specs.Map as memory
 use Rattle.ocl.specs.Operations.{Outcome}
 use Rattle.sheet.specs.Text.{Bytes}
 use Rattle.sheet.specs.Report.{spellOutcome, reportLine}
 use Rattle.sheet.specs.Origin.{placeLine}
 use Rattle.nodes.specs.Nodes.{word}
-use Rattle.operations.specs.Answers.{Ends}
-use Rattle.operations.specs.declared.Ended.{Ended}
+use Rattle.outcomes.specs.Answers.{Ends}
+use Rattle.outcomes.specs.declared.Ended.{Ended}
 use Rattle.evaluation.specs.declared.Traced.{Traced}
 use Rattle.evaluation.specs.declared.Traced.the-variants as traced
 
@@ -29,7 +30,7 @@ pub record PlaceFits (at rule object line step room : ℕ) : Type 0 where
 -- the node's line is its word 7
 unfoldable pub originBy : ℕ → ℕ → List ℕ → Traced → Bytes
 originBy r o w1 (traced.Value len n) = []
-originBy r o w1 (traced.Undef n place) = placeLine r o (word w1 (place % 1024) 7) (place / 1024)
+originBy r o w1 (traced.Undef n place) = placeLine r o (word w1 (place % memory.placeStep) 7) (place / memory.placeStep)
 originBy r o w1 traced.Stuck = []
 originBy r o w1 (traced.Stop c n) = []
 

@@ -13,6 +13,7 @@ use Rattle.laws.specs.Lists.{Each}
 use Rattle.ocl.specs.Types.{class, Ty}
 use Rattle.ocl.specs.Model.{isA}
 use Rattle.ocl.specs.Typing.{typed}
+use Rattle.sheet.specs.Sizes.{leastOutput}
 use Rattle.sheet.specs.Text.{Bytes}
 use Rattle.sheet.specs.Sheet.{Rule, Sheet, modelOf}
 use Rattle.sheet.specs.Calls.{typingOf, outcomeOf}
@@ -35,7 +36,7 @@ pub record AddsBytes (keep : Bool) (total : ℕ) (b before after : Bytes) (r : �
 -- numbers stay small
 pub record HasRoom (keep : Bool) (total n b room : ℕ) : Type 0 where
   pub all : keep ≡ true → (total + b ≤ room) ⊎ (total + n ≤ room)
-  pub line : 2560 ≤ room
+  pub line : leastOutput ≤ room
   pub few : total + b ≤ 14247936
 
 -- ---- one rule

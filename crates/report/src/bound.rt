@@ -3,18 +3,19 @@
 ghost use mathlib.Core.Path.{_≡_};
 ghost use Prim.Native.Nat.{_≤_};
 ghost use lib.ListN.{length};
+ghost use Rattle.sheet.specs.Sizes.{leastWords};
 ghost use Rattle.types.specs.Flat.{tyOf};
-ghost use Rattle.operations.specs.Tables.{Bounds};
+ghost use Rattle.outcomes.specs.Tables.{Bounds};
 ghost use Rattle.rules.specs.Width.{width as widthOf};
 ghost use Rattle.report.specs.Bound.{CountsObjects, lineWidth, BoundsLines, BoundsAll};
-use operations::lookup::is_a;
+use outcomes::lookup::is_a;
 use tables::Counts;
 use types::Base;
 use types::FlatType;
 use types::classes::wide;
 use types::word::unpack;
 
-// How many bytes a value of the type, or a stop, can take in a line.
+// How many bytes a value of the type, or a stop, can take in a line: one of size 128 at most 2,304 (rules/specs/Width.antt).
 fn width(t: FlatType) -> usize
     ensures { λ n. ⌜ n ≡ widthOf (tyOf t) ⌝ }
 {
@@ -32,7 +33,7 @@ fn width(t: FlatType) -> usize
     }
 }
 
-// How many bytes a line can take, for a rule of the type.
+// How many bytes a line can take, for a rule of the type: 15 beside the value; or 20 where it says where undefined came from.
 fn line_width(t: FlatType, origins: bool) -> usize
     ensures { λ n. ⌜ n ≡ lineWidth origins (tyOf t) ⌝ }
 {
@@ -69,14 +70,20 @@ fn lines_bound(w0: &[u64], st: Counts, c: u64, t: FlatType, origins: bool) -> us
 
 // How many bytes the lines of all rules can take.
 pub fn all_bound(w0: &[u64], st: Counts, w2: &[u64], origins: bool) -> usize
-    requires { ⌜ Bounds st (length (now w0)) × (8192 ≤ length (now w2)) ⌝ }
+    requires { ⌜ Bounds st (length (now w0)) × (leastWords ≤ length (now w2)) ⌝ }
     ensures { λ n. ⌜ BoundsAll origins st (now (w0 .entry)) (now (w2 .entry)) n ⌝ }
 {
     let rules = wide(st.rules);
     let mut bound: usize = 0;
     let mut r: usize = 0;
     while r < rules {
-        bound += lines_bound(w0, st, w0[4448 + r], unpack(w2[768 + r]), origins);
+        bound += lines_bound(
+            w0,
+            st,
+            w0[memory::CONTEXTS + r],
+            unpack(w2[memory::RULE_TYPES + r]),
+            origins,
+        );
         r += 1;
     }
     bound

@@ -9,19 +9,20 @@ pub mod places; // what a place names
 
 ghost use Prim.Native.Nat.{_≤_};
 ghost use lib.ListN.{length};
+ghost use Rattle.sheet.specs.Sizes.{leastOutput, leastWords};
 ghost use Rattle.rules.specs.Accepted.{KnownTyped};
 ghost use Rattle.report.specs.Reports.{linesOn, reportOn, originsOn, Bounded, Measures, TellsFit, Reports};
 use bound::all_bound;
 use passes::rule_lines;
 use tables::Counts;
 
-// What the lines come to: so many bytes are written; or they are longer than the output.
+// How putting the lines ends: so many bytes are written; or they are longer than the output, and none is.
 pub enum Reported {
     Written(usize),
     Short,
 }
 
-// The length of the lines. Each is formed in separate bytes, so the output stays as it is.
+// The length of the lines. They are formed in bytes of their own, so that the output stays as it is.
 fn measured(
     w0: &[u64],
     st: Counts,
@@ -30,11 +31,11 @@ fn measured(
     bound: usize,
     origins: bool,
 ) -> usize
-    requires { ⌜ (8192 ≤ length (now w0)) × (8192 ≤ length (now w1)) × (8192 ≤ length (now w2)) ⌝ }
+    requires { ⌜ (leastWords ≤ length (now w0)) × (leastWords ≤ length (now w1)) × (leastWords ≤ length (now w2)) ⌝ }
     requires { ⌜ Bounded origins st (now w0) (now w1) bound ⌝ }
     ensures { λ n. ⌜ Measures origins st (now (w0 .entry)) (now (w1 .entry)) (now (w2 .entry)) (now (w2 .exit)) n ⌝ }
 {
-    let mut line = [0u8; 2560];
+    let mut line = [0u8; memory::LEAST_OUTPUT];
     rule_lines(w0, st, w1, w2, &mut line, false, origins)
 }
 
@@ -48,7 +49,7 @@ fn lines_fit(
     room: usize,
     origins: bool,
 ) -> bool
-    requires { ⌜ (8192 ≤ length (now w0)) × (8192 ≤ length (now w1)) × (8192 ≤ length (now w2)) ⌝ }
+    requires { ⌜ (leastWords ≤ length (now w0)) × (leastWords ≤ length (now w1)) × (leastWords ≤ length (now w2)) ⌝ }
     requires { ⌜ Bounded origins st (now w0) (now w1) bound ⌝ }
     ensures { λ r. ⌜ TellsFit origins st (now (w0 .entry)) (now (w1 .entry)) (now (w2 .entry)) (now (w2 .exit)) bound room r ⌝ }
 {
@@ -58,7 +59,7 @@ fn lines_fit(
     measured(w0, st, w1, w2, bound, origins) <= room
 }
 
-// The lines of the accepted sheet in the words. An output that is too short is left as it is.
+// Writes the lines of the accepted sheet in the words. An output that is too short is left as it is.
 fn sheet_lines(
     w0: &[u64],
     st: Counts,
@@ -67,8 +68,8 @@ fn sheet_lines(
     out: &mut [u8],
     origins: bool,
 ) -> Reported
-    requires { ⌜ (8192 ≤ length (now w0)) × (8192 ≤ length (now w1)) × (8192 ≤ length (now w2)) ⌝ }
-    requires { ⌜ KnownTyped st (now w0) (now w1) (now w2) × (2560 ≤ length (now out)) ⌝ }
+    requires { ⌜ (leastWords ≤ length (now w0)) × (leastWords ≤ length (now w1)) × (leastWords ≤ length (now w2)) ⌝ }
+    requires { ⌜ KnownTyped st (now w0) (now w1) (now w2) × (leastOutput ≤ length (now out)) ⌝ }
     ensures { λ r. ⌜ Reports (linesOn origins) st (now (w0 .entry)) (now (w1 .entry)) (now (w2 .entry)) (now (w2 .exit)) (now (out .entry)) (now (out .exit)) r ⌝ }
 {
     let bound = all_bound(w0, st, w2, origins);
@@ -79,19 +80,19 @@ fn sheet_lines(
     }
 }
 
-// The report.
+// Writes the report.
 pub fn report_sheet(w0: &[u64], st: Counts, w1: &[u64], w2: &mut [u64], out: &mut [u8]) -> Reported
-    requires { ⌜ (8192 ≤ length (now w0)) × (8192 ≤ length (now w1)) × (8192 ≤ length (now w2)) ⌝ }
-    requires { ⌜ KnownTyped st (now w0) (now w1) (now w2) × (2560 ≤ length (now out)) ⌝ }
+    requires { ⌜ (leastWords ≤ length (now w0)) × (leastWords ≤ length (now w1)) × (leastWords ≤ length (now w2)) ⌝ }
+    requires { ⌜ KnownTyped st (now w0) (now w1) (now w2) × (leastOutput ≤ length (now out)) ⌝ }
     ensures { λ r. ⌜ Reports reportOn st (now (w0 .entry)) (now (w1 .entry)) (now (w2 .entry)) (now (w2 .exit)) (now (out .entry)) (now (out .exit)) r ⌝ }
 {
     sheet_lines(w0, st, w1, w2, out, false)
 }
 
-// Where each undefined verdict came from.
+// Writes where each undefined verdict came from.
 pub fn origins_sheet(w0: &[u64], st: Counts, w1: &[u64], w2: &mut [u64], out: &mut [u8]) -> Reported
-    requires { ⌜ (8192 ≤ length (now w0)) × (8192 ≤ length (now w1)) × (8192 ≤ length (now w2)) ⌝ }
-    requires { ⌜ KnownTyped st (now w0) (now w1) (now w2) × (2560 ≤ length (now out)) ⌝ }
+    requires { ⌜ (leastWords ≤ length (now w0)) × (leastWords ≤ length (now w1)) × (leastWords ≤ length (now w2)) ⌝ }
+    requires { ⌜ KnownTyped st (now w0) (now w1) (now w2) × (leastOutput ≤ length (now out)) ⌝ }
     ensures { λ r. ⌜ Reports originsOn st (now (w0 .entry)) (now (w1 .entry)) (now (w2 .entry)) (now (w2 .exit)) (now (out .entry)) (now (out .exit)) r ⌝ }
 {
     sheet_lines(w0, st, w1, w2, out, true)

@@ -1,5 +1,5 @@
 // One line of the report: rule, object, outcome, steps. A rule that ended with a value left its cells at 1 in the stack.
-use operations::Ended;
+use outcomes::Ended;
 use spelling::put_value;
 use text::spelling::put_byte;
 use text::spelling::put_bytes;
@@ -12,10 +12,10 @@ ghost use Rattle.ocl.specs.Operations.{Outcome, stepsOf};
 ghost use Rattle.sheet.specs.Text.{spellNumber};
 ghost use Rattle.sheet.specs.Report.{spellOutcome, reportLine};
 ghost use Rattle.text.specs.Written.{Puts};
-ghost use Rattle.operations.specs.Answers.{Ends};
+ghost use Rattle.outcomes.specs.Answers.{Ends};
 ghost use Rattle.report.specs.Lines.{OutcomeFits, LineFits};
 
-// The value, `u`, or a stop's number behind `!`.
+// Puts the value, `u`, or a stop's number behind `!`.
 fn put_outcome(out: &mut [u8], at: usize, stack: &[u64], e: Ended) -> usize
     requires { ⌜ OutcomeFits at (now stack) e (length (now out)) ⌝ }
     ensures { λ r. ⌜ ((x : Outcome) → Ends 1 (now (stack .entry)) x e → Puts at (spellOutcome x) (now (out .entry)) (now (out .exit)) r) ⌝ }
@@ -31,6 +31,7 @@ fn put_outcome(out: &mut [u8], at: usize, stack: &[u64], e: Ended) -> usize
     }
 }
 
+// The steps that an evaluation returns.
 pub fn steps_of(e: Ended) -> u64
     ensures { λ r. ⌜ ((stack : List ℕ) (x : Outcome) → Ends 1 stack x e → r ≡ stepsOf x) ⌝ }
 {
@@ -42,7 +43,7 @@ pub fn steps_of(e: Ended) -> u64
     }
 }
 
-// A number and a blank.
+// Puts a number and a space.
 pub fn put_column(out: &mut [u8], at: usize, n: u64) -> usize
     requires { ⌜ at + length (spellNumber n) + 1 ≤ length (now out) ⌝ }
     ensures { λ r. ⌜ Puts at (spellNumber n ++ (32 ∷ [])) (now (out .entry)) (now (out .exit)) r ⌝ }
@@ -51,7 +52,7 @@ pub fn put_column(out: &mut [u8], at: usize, n: u64) -> usize
     put_byte(out, blank, b' ')
 }
 
-// A blank, the steps, and the line feed.
+// Puts a space, the steps, and the line feed.
 pub fn put_steps(out: &mut [u8], at: usize, steps: u64) -> usize
     requires { ⌜ at + length (spellNumber steps) + 2 ≤ length (now out) ⌝ }
     ensures { λ r. ⌜ Puts at (32 ∷ spellNumber steps ++ (10 ∷ [])) (now (out .entry)) (now (out .exit)) r ⌝ }
@@ -61,6 +62,7 @@ pub fn put_steps(out: &mut [u8], at: usize, steps: u64) -> usize
     put_byte(out, end, b'\n')
 }
 
+// Puts the line of a rule and an object.
 pub fn put_line(out: &mut [u8], at: usize, rule: u64, object: u64, stack: &[u64], e: Ended) -> usize
     requires { ⌜ LineFits at rule object (now stack) e (length (now out)) ⌝ }
     ensures { λ r. ⌜ ((x : Outcome) → Ends 1 (now (stack .entry)) x e → Puts at (reportLine rule object x) (now (out .entry)) (now (out .exit)) r) ⌝ }

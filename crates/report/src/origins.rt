@@ -2,6 +2,7 @@
 // undefined has none. Document 02, F-11.
 ghost use Prim.Native.Nat.{_≤_};
 ghost use lib.ListN.{length};
+ghost use Rattle.sheet.specs.Sizes.{leastWords};
 ghost use Rattle.sheet.specs.Origin.{placeLine};
 ghost use Rattle.text.specs.Written.{Puts};
 ghost use Rattle.evaluation.specs.Traces.{SmallTraced};
@@ -13,6 +14,7 @@ use crate::places::place_step;
 use evaluation::Traced;
 use text::spelling::put_number;
 
+// Puts the line itself.
 fn put_place(out: &mut [u8], at: usize, rule: u64, object: u64, line: u64, step: u64) -> usize
     requires { ⌜ PlaceFits at rule object line step (length (now out)) ⌝ }
     ensures { λ r. ⌜ Puts at (placeLine rule object line step) (now (out .entry)) (now (out .exit)) r ⌝ }
@@ -23,8 +25,9 @@ fn put_place(out: &mut [u8], at: usize, rule: u64, object: u64, line: u64, step:
     put_steps(out, last, step)
 }
 
+// Puts the line of a verdict, if that is undefined.
 pub fn put_origin(out: &mut [u8], at: usize, rule: u64, object: u64, w1: &[u64], t: Traced) -> usize
-    requires { ⌜ (8192 ≤ length (now w1)) × SmallTraced t ⌝ }
+    requires { ⌜ (leastWords ≤ length (now w1)) × SmallTraced t ⌝ }
     requires { ⌜ OriginFits at rule object (now w1) t (length (now out)) ⌝ }
     ensures { λ r. ⌜ Puts at (originBy rule object (now (w1 .entry)) t) (now (out .entry)) (now (out .exit)) r ⌝ }
 {

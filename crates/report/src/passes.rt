@@ -1,18 +1,19 @@
 // The lines of an accepted sheet, rule by rule and object by object: the report's, or those that say where undefined came from (`origins`).
-// Lines that are kept are put one behind the other; lines that are only counted overwrite one another, so room for one is enough.
+// Lines that are kept are put one behind the other; lines that are only counted overwrite one another, so that room for one is enough.
 // `total` is the number of bytes so far.
 ghost use Prim.Native.Nat.{_≤_, _<_};
 ghost use lib.ListN.{length};
+ghost use Rattle.sheet.specs.Sizes.{leastWords};
 ghost use Rattle.report.specs.Passes.{RoomForLine, PutsVerdict, objectLine, allObjects, lineBound, allBound, RoomFor, AddsLines, RoomForAll, AddsAll};
 use crate::lines::put_line;
 use crate::origins::put_origin;
-use operations::lookup::is_a;
+use outcomes::lookup::is_a;
 use rules::evaluated::evaluate_numbered;
 use rules::evaluated::trace_numbered;
 use tables::Counts;
 use types::classes::wide;
 
-// The line of rule r for object o, which is of the rule's class or below.
+// Puts the line of rule r for object o, which is of the rule's class or below.
 fn put_verdict(
     w0: &[u64],
     st: Counts,
@@ -24,7 +25,7 @@ fn put_verdict(
     at: usize,
     origins: bool,
 ) -> usize
-    requires { ⌜ (8192 ≤ length (now w0)) × (8192 ≤ length (now w1)) × (8192 ≤ length (now w2)) ⌝ }
+    requires { ⌜ (leastWords ≤ length (now w0)) × (leastWords ≤ length (now w1)) × (leastWords ≤ length (now w2)) ⌝ }
     requires { ⌜ RoomForLine origins st (now w0) (now w1) r o at (length (now out)) × (o < st .objects) ⌝ }
     ensures { λ n. ⌜ PutsVerdict origins st (now (w0 .entry)) (now (w1 .entry)) r o at (now (w2 .entry)) (now (w2 .exit)) (now (out .entry)) (now (out .exit)) n ⌝ }
 {
@@ -36,7 +37,7 @@ fn put_verdict(
     put_line(out, at, r as u64, o, w2, e)
 }
 
-// The line of rule r for object o, if it is of the rule's class or below.
+// Puts the line of rule r for object o, if it is of the rule's class or below.
 fn object_line(
     w0: &[u64],
     st: Counts,
@@ -49,11 +50,11 @@ fn object_line(
     keep: bool,
     origins: bool,
 ) -> usize
-    requires { ⌜ (8192 ≤ length (now w0)) × (8192 ≤ length (now w1)) × (8192 ≤ length (now w2)) ⌝ }
+    requires { ⌜ (leastWords ≤ length (now w0)) × (leastWords ≤ length (now w1)) × (leastWords ≤ length (now w2)) ⌝ }
     requires { ⌜ RoomFor (objectLine origins r o) (lineBound origins o) st (now w0) (now w1) r keep total (length (now out)) × (o < st .objects) ⌝ }
     ensures { λ n. ⌜ AddsLines (objectLine origins r o) (lineBound origins o) st (now (w0 .entry)) (now (w1 .entry)) r keep total (now (w2 .entry)) (now (w2 .exit)) (now (out .entry)) (now (out .exit)) n ⌝ }
 {
-    if is_a(w0, st, o, w0[4448 + r]) {
+    if is_a(w0, st, o, w0[memory::CONTEXTS + r]) {
         if keep {
             return put_verdict(w0, st, w1, w2, r, o, out, total, origins);
         }
@@ -62,7 +63,7 @@ fn object_line(
     total
 }
 
-// The lines of rule r.
+// Puts the lines of rule r.
 pub fn object_lines(
     w0: &[u64],
     st: Counts,
@@ -74,7 +75,7 @@ pub fn object_lines(
     keep: bool,
     origins: bool,
 ) -> usize
-    requires { ⌜ (8192 ≤ length (now w0)) × (8192 ≤ length (now w1)) × (8192 ≤ length (now w2)) ⌝ }
+    requires { ⌜ (leastWords ≤ length (now w0)) × (leastWords ≤ length (now w1)) × (leastWords ≤ length (now w2)) ⌝ }
     requires { ⌜ RoomFor (allObjects origins r) (allBound origins) st (now w0) (now w1) r keep total (length (now out)) ⌝ }
     ensures { λ n. ⌜ AddsLines (allObjects origins r) (allBound origins) st (now (w0 .entry)) (now (w1 .entry)) r keep total (now (w2 .entry)) (now (w2 .exit)) (now (out .entry)) (now (out .exit)) n ⌝ }
 {
@@ -87,7 +88,7 @@ pub fn object_lines(
     sum
 }
 
-// The lines of all rules.
+// Puts the lines of all rules.
 pub fn rule_lines(
     w0: &[u64],
     st: Counts,
@@ -97,7 +98,7 @@ pub fn rule_lines(
     keep: bool,
     origins: bool,
 ) -> usize
-    requires { ⌜ (8192 ≤ length (now w0)) × (8192 ≤ length (now w1)) × (8192 ≤ length (now w2)) ⌝ }
+    requires { ⌜ (leastWords ≤ length (now w0)) × (leastWords ≤ length (now w1)) × (leastWords ≤ length (now w2)) ⌝ }
     requires { ⌜ RoomForAll origins st (now w0) (now w1) keep (length (now out)) ⌝ }
     ensures { λ n. ⌜ AddsAll origins st (now (w0 .entry)) (now (w1 .entry)) (now (w2 .entry)) (now (w2 .exit)) keep (now (out .entry)) (now (out .exit)) n ⌝ }
 {

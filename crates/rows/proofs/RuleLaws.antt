@@ -7,6 +7,7 @@ use native.Mathlib.Omega.{arith}
 use native.Mathlib.Numerals.{add-one}
 use lib.ListN.{length, getD, getElem?, take}
 use lib.Seq.{take-length}
+use Rattle.memory.specs.Map as memory
 use Rattle.ocl.specs.Types.{Ty}
 use Rattle.sheet.specs.Text.{Bytes}
 use Rattle.sheet.specs.Sheet.{Rule, Sheet}
@@ -29,10 +30,10 @@ module _ {st : Counts} {w0 w1 : List ℕ} {s : Sheet} {ts : List Ty} (a : Accept
 
   -- the word of a rule's root
   pub rule-bits : {w2 : List ℕ} → AllSeen w1 w2 → (r : ℕ) (x : Rule) → getElem? (s .rules) r ≡ some x
-      → Bits (getD w2 (getD w0 (4512 + r) 0) 0) (rowsSeen s x)
+      → Bits (getD w2 (getD w0 (memory.roots + r) 0) 0) (rowsSeen s x)
   rule-bits {w2} seen r x e =
       let k = ready (a .lies) .rule r x e in
-      let b = rw (k .body) at (seen (marksOf s) rows-marked .at (getD w0 (4512 + r) 0) (k .root)) in
+      let b = rw (k .body) at (seen (marksOf s) rows-marked .at (getD w0 (memory.roots + r) 0) (k .root)) in
       record { is = λ i. b .is i ∙ rows-in-table s (a .lies .good) (a .defined) (a .typed) r x e i }
 
   line-bits : {w2 : List ℕ} → AllSeen w1 w2 → (r : ℕ) (x : Rule) → getElem? (s .rules) r ≡ some x → lineOf (st .rows) r (rowsSeen s x) ≡ rowsLine s r x
@@ -47,7 +48,7 @@ accepted-rooted a =
 pub rooted : {st : Counts} {w0 w1 w2 : List ℕ} → KnownTyped st w0 w1 w2 → Rooted st w0
 rooted k = accepted-rooted (k .accepted)
 
-pub root-low : {st : Counts} {w0 : List ℕ} {rules r root : ℕ} → Rooted st w0 → rules ≡ st .rules → r < rules → root ≡ getD w0 (4512 + r) 0 → root < 768
+pub root-low : {st : Counts} {w0 : List ℕ} {rules r root : ℕ} → Rooted st w0 → rules ≡ st .rules → r < rules → root ≡ getD w0 (memory.roots + r) 0 → root < 768
 root-low {r = r} k e h q = omega (arith, k .root r (omega arith))
 
 -- ---- the lines of the first r rules
@@ -76,7 +77,7 @@ module _ {st : Counts} {w0 w2 : List ℕ} where
     pub line-room : r < rules → end + 195 ≤ length now
     line-room h = omega (arith, so .size, so .within, k .rules)
 
-    pub lines-next : {after : Bytes} {n root : ℕ} → r < rules → root ≡ getD w0 (4512 + r) 0
+    pub lines-next : {after : Bytes} {n root : ℕ} → r < rules → root ≡ getD w0 (memory.roots + r) 0
         → PutsRows (lineOf (st .rows) r) 195 (getD w2 root 0) end now after n → length after ≡ length now → LinesTo st w0 w2 before after (r + 1) n
     lines-next {after} {n} h e p z = record {
       is = λ w1 seen s ts a.

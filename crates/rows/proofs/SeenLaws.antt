@@ -17,6 +17,7 @@ use borrow.Author.Tests.{eq-eqb, ne-eqb, ltb-true, ltb-false, lt-ltb, le-ltb}
 use Rattle.laws.specs.Choice.{if_then_else_}
 use Rattle.laws.specs.Lists.{member}
 use Rattle.laws.proofs.Lists.{member-append}
+use Rattle.memory.specs.Map as memory
 use Rattle.ocl.specs.Forms.{Form}
 use Rattle.ocl.specs.Marks.{Mark, rowMarked}
 use Rattle.ocl.specs.Unseen.{treeRows, treeRowsIn}
@@ -158,10 +159,10 @@ module _ {w1 : List ℕ} {n k : ℕ} (e : k ≡ word w1 n 0) where
   pub behind-own : 34 < k → SeesOwn w1 n 0
   behind-own h = record { is = λ mark m. rw (not-own w1 n k e (λ q. omega arith) (λ q. omega arith) mark) no-bits }
 
-  pub at-own : 33 ≤ k → k ≤ 34 → n < 768 → SeesOwn w1 n (1 * 2 ^ (getD w1 (6144 + n) 0 % 64) % 18446744073709551616)
+  pub at-own : 33 ≤ k → k ≤ 34 → n < 768 → SeesOwn w1 n (1 * 2 ^ (getD w1 (memory.marks + n) 0 % 64) % 18446744073709551616)
   at-own l h z = record {
     is = λ mark m.
-        let i = getD w1 (6144 + n) 0 % 64 in
+        let i = getD w1 (memory.marks + n) 0 % 64 in
         let one : 1 * 2 ^ i % 2 ^ 64 ≡ 2 ^ i = shl-exact 1 i 64 (omega arith) (omega arith) ∙ one-mul (2 ^ i) in
         rw (one, own-row w1 n k e l (omega arith) mark, m .at n z) (row-bits i);
   }

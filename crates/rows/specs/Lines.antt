@@ -5,7 +5,9 @@ use mathlib.Core.Path.{_≡_}
 use lib.ListN.{length, getD}
 use Rattle.laws.specs.Choice.{if_then_else_}
 use Rattle.laws.specs.Lists.{member}
+use Rattle.memory.specs.Map as memory
 use Rattle.ocl.specs.Types.{Ty}
+use Rattle.sheet.specs.Sizes.{mostRows, mostRules, mostNodes}
 use Rattle.sheet.specs.Text.{Bytes, bytes, spellNumber}
 use Rattle.sheet.specs.Sheet.{Sheet}
 use Rattle.sheet.specs.Calls.{Verdict, outputAfter}
@@ -41,9 +43,9 @@ lineOf n rule rows = spellNumber rule ++ rowFields rows n ++ bytes "\n"
 
 -- the counts are small, and each rule's root is a node
 pub record Rooted (st : Counts) (w0 : List ℕ) : Type 0 where
-  pub rules : st .rules ≤ 64
-  pub rows : st .rows ≤ 64
-  pub root : (r : ℕ) → r < st .rules → getD w0 (4512 + r) 0 < 768
+  pub rules : st .rules ≤ mostRules
+  pub rows : st .rows ≤ mostRows
+  pub root : (r : ℕ) → r < st .rules → getD w0 (memory.roots + r) 0 < mostNodes
 
 -- all lines are put from the first byte on
 pub record PutsLines (st : Counts) (w0 w2 : List ℕ) (before after : Bytes) (n : ℕ) : Type 0 where

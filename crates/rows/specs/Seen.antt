@@ -6,8 +6,11 @@ use Prim.Native.Nat.{ℕ, _+_, _%_, _≤_, _<_}
 use lib.Dec.{eqb}
 use lib.ListN.{getD}
 use Rattle.laws.specs.Choice.{if_then_else_}
+use Rattle.memory.specs.Codes as code
+use Rattle.memory.specs.Map as memory
 use Rattle.ocl.specs.Marks.{Mark, rowMarked}
 use Rattle.ocl.specs.Unseen.{treeRows, treeRowsOf}
+use Rattle.sheet.specs.Sizes.{mostRows, mostNodes}
 use Rattle.nodes.specs.Nodes.{word, operandsIn, treesBelow, treeAt}
 use Rattle.tables.specs.Layout.{Kept}
 use Rattle.rows.specs.Bits.{Bits}
@@ -16,7 +19,7 @@ use Rattle.rows.specs.Bits.{Bits}
 
 -- the row that a node with code k was resolved to: of `attr` and `collect`
 unfoldable pub ownRow : (ℕ → Mark) → ℕ → ℕ → List ℕ
-ownRow mark n k = if eqb k 33 || eqb k 34 then rowMarked (mark n) ∷ [] else []
+ownRow mark n k = if eqb k code.ofObject || eqb k code.ofMembers then rowMarked (mark n) ∷ [] else []
 
 -- the rows of operand k of node n, and of c operands from word k on
 abbrev pub operandRows : (ℕ → Mark) → List ℕ → ℕ → ℕ → List ℕ
@@ -34,7 +37,7 @@ pub record Parts (t : List ℕ) (n c : ℕ) : Type 0 where
 
 -- the marks that are kept in w1 have each node's row
 pub record RowsMarked (w1 : List ℕ) (mark : ℕ → Mark) : Type 0 where
-  pub at : (p : ℕ) → p < 768 → rowMarked (mark p) ≡ getD w1 (6144 + p) 0 % 64
+  pub at : (p : ℕ) → p < mostNodes → rowMarked (mark p) ≡ getD w1 (memory.marks + p) 0 % mostRows
 
 -- the words of the first n nodes
 pub record SeenTo (mark : ℕ → Mark) (w1 w2 : List ℕ) (n : ℕ) : Type 0 where
@@ -52,7 +55,7 @@ pub record SeesNode (w1 w2 : List ℕ) (n r : ℕ) : Type 0 where
 
 -- every node's word is there
 abbrev pub AllSeen : List ℕ → List ℕ → Type 0
-AllSeen w1 w2 = (mark : ℕ → Mark) → RowsMarked w1 mark → SeenTo mark w1 w2 768
+AllSeen w1 w2 = (mark : ℕ → Mark) → RowsMarked w1 mark → SeenTo mark w1 w2 mostNodes
 
 -- w2 was `before`
 pub record SeesAll (w1 before after : List ℕ) : Type 0 where

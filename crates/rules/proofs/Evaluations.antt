@@ -5,6 +5,7 @@ use Prim.Native.Nat.{ℕ, _+_, _≤_, _<_}
 use native.Mathlib.Omega.{arith}
 use lib.ListN.{length, getD, take, drop, length-append, length-drop}
 use lib.Seq.{length-take-le, take-append-le, drop-at}
+use Rattle.memory.specs.Map as memory
 use Rattle.ocl.specs.Forms.{levels}
 use Rattle.ocl.specs.Trace.{Traced, traceRule}
 use Rattle.sheet.specs.Sheet.{Rule, Sheet, modelOf}
@@ -13,7 +14,7 @@ use Rattle.sheet.specs.Origin.{traceOf}
 use Rattle.sheet.proofs.Origin.{traced-outcome}
 use Rattle.nodes.specs.Nodes.{treeAt}
 use Rattle.tables.specs.declared.Counts.{Counts}
-use Rattle.operations.specs.declared.Ended.{Ended}
+use Rattle.outcomes.specs.declared.Ended.{Ended}
 use Rattle.evaluation.specs.declared.Traced.{Traced as Answer}
 use Rattle.evaluation.specs.Traces.{EndsT, ends-value, ends-undefined, ends-stuck, ends-stop, withoutPlace}
 use Rattle.evaluation.specs.Evaluating.{ReadsWorld, TracesRule, StackRoom}
@@ -32,17 +33,17 @@ ends-above rest room ends-stuck = ends-stuck
 ends-above rest room ends-stop = ends-stop
 
 -- what evaluation reads at the rule's place is the rule's
-rule-trace : {w0 w1 : List ℕ} {r root : ℕ} (s : Sheet) (x : Rule) (o : ℕ) → RuleIn w0 w1 r x → root ≡ getD w0 (4512 + r) 0
+rule-trace : {w0 w1 : List ℕ} {r root : ℕ} (s : Sheet) (x : Rule) (o : ℕ) → RuleIn w0 w1 r x → root ≡ getD w0 (memory.roots + r) 0
     → traceRule (modelOf s) (marksOf s) (treeAt w1 root) o ≡ traceOf s x o
 unfolding traceOf
 rule-trace s x o i e = rw (e, i .body)
 
 -- the rule is shallow enough for the stack
-pub rule-shallow : {st : Counts} {w0 w1 : List ℕ} {r root : ℕ} → Known st w0 w1 → r < st .rules → root ≡ getD w0 (4512 + r) 0 → levels (treeAt w1 root) ≤ 19
+pub rule-shallow : {st : Counts} {w0 w1 : List ℕ} {r root : ℕ} → Known st w0 w1 → r < st .rules → root ≡ getD w0 (memory.roots + r) 0 → levels (treeAt w1 root) ≤ 19
 rule-shallow k h e = let i = rule-known k h .1 in rw (e, i .body) (omega (arith, i .shallow))
 
 -- which has room for it in the first words
-pub rule-room : {st : Counts} {w0 w1 : List ℕ} {r root : ℕ} (w2 : List ℕ) → (8192 ≤ length w0) × (8192 ≤ length w1) × (8192 ≤ length w2) → Known st w0 w1 → r < st .rules → root ≡ getD w0 (4512 + r) 0
+pub rule-room : {st : Counts} {w0 w1 : List ℕ} {r root : ℕ} (w2 : List ℕ) → (8192 ≤ length w0) × (8192 ≤ length w1) × (8192 ≤ length w2) → Known st w0 w1 → r < st .rules → root ≡ getD w0 (memory.roots + r) 0
     → StackRoom st (length w0) (length w1) (length (take 8192 w2)) root 1 19
 rule-room w2 lent k h e = record {
   fine = k .lies .fine;
@@ -61,7 +62,7 @@ module _ {st : Counts} {w0 w1 : List ℕ} where
       record { holds = a .model; plain = a .plain; mark = λ p h. rw (m .at p h) (a .mark p) }
 
   pub traces-numbered : {r o root : ℕ} {before part : List ℕ} {e : Answer} → 8192 ≤ length before → length part ≡ length (take 8192 before)
-      → root ≡ getD w0 (4512 + r) 0 → TracesRule (ReadsWorld st w0 w1) (treeAt w1 root) o part e
+      → root ≡ getD w0 (memory.roots + r) 0 → TracesRule (ReadsWorld st w0 w1) (treeAt w1 root) o part e
       → TracesNumbered st w0 w1 r o before (part ++ drop 8192 before) e
   traces-numbered {r} {o} {root} {before} {part} {e} room long at t =
       let size : length part ≡ 8192 = long ∙ length-take-le 8192 before room in

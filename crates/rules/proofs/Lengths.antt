@@ -33,8 +33,8 @@ use Rattle.sheet.proofs.Soundness.{sound-rule}
 use Rattle.sheet.proofs.Lengths.{length-laws}
 use Rattle.values.specs.Cells.{Fits, fits-num, fits-coll, AllFit, fit-nil, fit-cons}
 use Rattle.tables.specs.declared.Counts.{Counts}
-use Rattle.operations.specs.declared.Ended.{Ended}
-use Rattle.operations.specs.Answers.{Ends, ends-value, ends-undefined, ends-stuck, ends-stop}
+use Rattle.outcomes.specs.declared.Ended.{Ended}
+use Rattle.outcomes.specs.Answers.{Ends, ends-value, ends-undefined, ends-stuck, ends-stop}
 use Rattle.rules.specs.Accepted.{InWords}
 use Rattle.rules.specs.Width.{width}
 

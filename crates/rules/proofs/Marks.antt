@@ -12,6 +12,7 @@ use lib.Dec.{eqb}
 use borrow.Author.Tests.{eqb-true, eqb-false}
 use Rattle.laws.specs.Choice.{if_then_else_}
 use Rattle.laws.specs.Lists.{Each, each-nil, each-cons}
+use Rattle.memory.specs.Map as memory
 use Rattle.ocl.specs.Types.{kindCode, sameKind}
 use Rattle.ocl.specs.Forms.{levels}
 use Rattle.ocl.specs.Marks.{Mark, ofRow, rowMarked, kindMarked, Marks, markOr, markIn}
@@ -30,27 +31,27 @@ use Rattle.rules.specs.All.{KeepsMarks}
 
 pub record Copying (w2 before : List ℕ) (i : ℕ) (now : List ℕ) : Type 0 where
   pub within : i ≤ 768
-  pub at : (p : ℕ) → p < i → getD now (6144 + p) 0 ≡ getD w2 p 0
-  pub below : take 6144 now ≡ take 6144 before
-  pub above : drop 6912 now ≡ drop 6912 before
+  pub at : (p : ℕ) → p < i → getD now (memory.marks + p) 0 ≡ getD w2 p 0
+  pub below : take memory.nodesEnd now ≡ take memory.nodesEnd before
+  pub above : drop memory.depths now ≡ drop memory.depths before
   pub size : length now ≡ length before
 
 pub copy-none : (w2 before : List ℕ) → Copying w2 before 0 before
 copy-none w2 before = record { within = omega arith; at = λ p h. absurd (omega arith); below = refl; above = refl; size = refl }
 
 pub copy-more : {w2 before now : List ℕ} {i : ℕ} → 8192 ≤ length before → i < 768 → Copying w2 before i now
-    → Copying w2 before (i + 1) (set now (6144 + i) (getD w2 i 0))
+    → Copying w2 before (i + 1) (set now (memory.marks + i) (getD w2 i 0))
 copy-more {w2} {before} {now} {i} room h c =
     let x = getD w2 i 0 in
-    let v = set now (6144 + i) x in
+    let v = set now (memory.marks + i) x in
     record {
       within = omega arith;
-      at = below-more (λ (p : ℕ). getD v (6144 + p) 0 ≡ getD w2 p 0) i
-          (λ p l. getD-set-other now (6144 + i) (6144 + p) x 0 (λ e. absurd (omega arith)) ∙ c .at p l)
-          (getD-set-same now (6144 + i) x 0 (omega (arith, c .size)));
-      below = take-set-le 6144 now (6144 + i) x (omega arith) ∙ c .below;
-      above = drop-set-lt 6912 now (6144 + i) x (omega arith) ∙ c .above;
-      size = length-set now (6144 + i) x ∙ c .size;
+      at = below-more (λ (p : ℕ). getD v (memory.marks + p) 0 ≡ getD w2 p 0) i
+          (λ p l. getD-set-other now (memory.marks + i) (memory.marks + p) x 0 (λ e. absurd (omega arith)) ∙ c .at p l)
+          (getD-set-same now (memory.marks + i) x 0 (omega (arith, c .size)));
+      below = take-set-le memory.nodesEnd now (memory.marks + i) x (omega arith) ∙ c .below;
+      above = drop-set-lt memory.depths now (memory.marks + i) x (omega arith) ∙ c .above;
+      size = length-set now (memory.marks + i) x ∙ c .size;
     }
 
 pub copy-done : {w2 before now : List ℕ} {i : ℕ} → 768 ≤ i → Copying w2 before i now → KeepsMarks w2 before now
@@ -60,10 +61,10 @@ copy-done h c = record { at = λ p l. c .at p (omega (arith, c .within)); below 
 
 module _ {w2 w1 v1 : List ℕ} (k : KeepsMarks w2 w1 v1) where
   node-words : (i : ℕ) → i < 8 * 768 → getD v1 i 0 ≡ getD w1 i 0
-  node-words i h = sym (getD-take 6144 v1 i 0 (omega arith)) ∙ ap (λ (l : List ℕ). getD l i 0) (k .below) ∙ getD-take 6144 w1 i 0 (omega arith)
+  node-words i h = sym (getD-take memory.nodesEnd v1 i 0 (omega arith)) ∙ ap (λ (l : List ℕ). getD l i 0) (k .below) ∙ getD-take memory.nodesEnd w1 i 0 (omega arith)
 
-  depth-words : (i : ℕ) → getD v1 (6912 + i) 0 ≡ getD w1 (6912 + i) 0
-  depth-words i = sym (getD-drop 6912 v1 i 0) ∙ ap (λ (l : List ℕ). getD l i 0) (k .above) ∙ getD-drop 6912 w1 i 0
+  depth-words : (i : ℕ) → getD v1 (memory.depths + i) 0 ≡ getD w1 (memory.depths + i) 0
+  depth-words i = sym (getD-drop memory.depths v1 i 0) ∙ ap (λ (l : List ℕ). getD l i 0) (k .above) ∙ getD-drop memory.depths w1 i 0
 
   tree-same : (n : ℕ) → n < 768 → treeAt v1 n ≡ treeAt w1 n
   tree-same = tree-keep v1 w1 768 node-words
@@ -72,8 +73,8 @@ module _ {w2 w1 v1 : List ℕ} (k : KeepsMarks w2 w1 v1) where
   trees-same b h [] each-nil = refl
   trees-same b h (n ∷ ns) (each-cons l ls) = rw (tree-same n (omega arith), trees-same b h ns ls)
 
-  depths-same : (b : ℕ) → b ≤ 768 → (ns : List ℕ) → Each (λ n. n < b) ns → Each (λ n. getD w1 (6912 + n) 0 / 2 ≡ levels (treeAt w1 n)) ns
-      → Each (λ n. getD v1 (6912 + n) 0 / 2 ≡ levels (treeAt v1 n)) ns
+  depths-same : (b : ℕ) → b ≤ 768 → (ns : List ℕ) → Each (λ n. n < b) ns → Each (λ n. getD w1 (memory.depths + n) 0 / 2 ≡ levels (treeAt w1 n)) ns
+      → Each (λ n. getD v1 (memory.depths + n) 0 / 2 ≡ levels (treeAt v1 n)) ns
   depths-same b h [] each-nil each-nil = each-nil
   depths-same b h (n ∷ ns) (each-cons l ls) (each-cons e es) = each-cons {n = n} (rw (depth-words n, tree-same n (omega arith)) e) (depths-same b h ns ls es)
 
@@ -105,7 +106,7 @@ module _ {w2 w1 v1 : List ℕ} (k : KeepsMarks w2 w1 v1) where
       let small : length (s .lines) ≤ 768 = omega (arith, a .fine .nodes, a .holds .counted .nodes) in
       let h = a .holds .rules in
       let d = a .holds .definitions in
-      let roots = tab 4640 (length (s .definitions)) w0 in
+      let roots = tab memory.definitionRoots (length (s .definitions)) w0 in
       record {
         good = a .good;
         low = a .low;
@@ -122,7 +123,7 @@ module _ {w2 w1 v1 : List ℕ} (k : KeepsMarks w2 w1 v1) where
             depths = depths-same (length (s .lines)) small roots (d .roots) (d .depths);
           };
           rules = record {
-            bodies = trees-same (length (s .lines)) small (tab 4512 (length (s .rules)) w0) (h .roots) ∙ h .bodies;
+            bodies = trees-same (length (s .lines)) small (tab memory.roots (length (s .rules)) w0) (h .roots) ∙ h .bodies;
             roots = h .roots;
             lines = lines-same (length (s .lines)) small ∙ h .lines;
           };
@@ -131,7 +132,7 @@ module _ {w2 w1 v1 : List ℕ} (k : KeepsMarks w2 w1 v1) where
       }
 
 pub marks-kept : {w2 w1 v1 : List ℕ} → KeepsMarks w2 w1 v1 → Kept w1 v1
-marks-kept {w2} {w1} {v1} k = record { size = k .size; rest = sym (drop-drop 1280 6912 v1) ∙ ap (drop 1280) (k .above) ∙ drop-drop 1280 6912 w1 }
+marks-kept {w2} {w1} {v1} k = record { size = k .size; rest = sym (drop-drop 1280 memory.depths v1) ∙ ap (drop 1280) (k .above) ∙ drop-drop 1280 memory.depths w1 }
 
 -- only marks change
 pub kept-behind : {u v : List ℕ} → drop 768 v ≡ drop 768 u → length v ≡ length u → Kept u v

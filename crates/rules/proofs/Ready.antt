@@ -11,6 +11,7 @@ use borrow.Author.Tests.{lt-ltb, le-ltb}
 use Rattle.laws.specs.Choice.{if_then_else_}
 use Rattle.laws.proofs.Lists.{each-imp}
 use Rattle.laws.proofs.Elements.{elem-some, elem-none}
+use Rattle.memory.specs.Map as memory
 use Rattle.ocl.specs.Model.{Row}
 use Rattle.sheet.specs.Sheet.{Slot, Sheet, noRow, modelOf}
 use Rattle.sheet.proofs.Good.{Good}
@@ -20,7 +21,7 @@ use Rattle.tables.specs.declared.Counts.{Counts}
 use Rattle.tables.specs.Layout.{Holds, Fine}
 use Rattle.tables.specs.Stored.{HoldsModel}
 use Rattle.tables.proofs.Tables.{tab-at}
-use Rattle.operations.specs.Tables.{Plain}
+use Rattle.outcomes.specs.Tables.{Plain}
 use Rattle.rules.specs.Accepted.{InWords, Ready}
 use Rattle.rules.proofs.Classes.{classes-held}
 use Rattle.rules.proofs.Slots.{LowRows, slots-ascend, slots-stored}
@@ -30,7 +31,7 @@ module _ {st : Counts} {w0 w1 : List ℕ} {s : Sheet} (fine : Fine st) (holds : 
   low-rows : LowRows (s .slots)
   low-rows = each-imp (λ (x : Slot) h. h .low-row) (good .slots)
 
-  object-class : (o : ℕ) → Dec (o < st .objects) → getElem? (s .objects) o ≡ (if ltb o (st .objects) then some (getD w0 (256 + o) 0) else none)
+  object-class : (o : ℕ) → Dec (o < st .objects) → getElem? (s .objects) o ≡ (if ltb o (st .objects) then some (getD w0 (memory.objects + o) 0) else none)
   object-class o (yes l) =
       let z : o < length (s .objects) = (let c = holds .counted .objects in omega arith) in
       rw (lt-ltb o (st .objects) l)

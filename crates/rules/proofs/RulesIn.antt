@@ -11,6 +11,7 @@ use lib.Seq.{getD-at}
 use lib.Dec.{T, ltb→lt}
 use Rattle.laws.specs.Lists.{Each}
 use Rattle.laws.proofs.Elements.{elem-some, elem-none, elem-at, each-elem}
+use Rattle.memory.specs.Map as memory
 use Rattle.ocl.specs.Types.{void}
 use Rattle.ocl.specs.Forms.{undef, node, Form, Expr, Definition}
 use Rattle.nodes.specs.Marks.{markWord, Marked}
@@ -76,10 +77,10 @@ module _ {st : Counts} {w0 w1 : List ℕ} {s : Sheet} (fine : Fine st) (holds : 
       let a = elem-at (s .definitions) d x e in
       let h = holds .definitions in
       record {
-        context = entry-of (λ (y : Definition). y .context) 4576 w0 (s .definitions) x (h .contexts) d (a .0) ∙ ap (λ (y : Definition). y .context) (a .1);
-        type = entry-by typeIn (λ (y : Definition). y .type) 4608 w0 (s .definitions) x (h .types) d (a .0) ∙ ap (λ (y : Definition). y .type) (a .1);
-        body = entry-by (treeAt w1) (λ (y : Definition). y .body) 4640 w0 (s .definitions) x (h .bodies) d (a .0) ∙ ap (λ (y : Definition). y .body) (a .1);
-        root = root-below (λ (y : Definition). y .body) 4640 (s .definitions) (h .bodies) (h .roots) d (a .0);
+        context = entry-of (λ (y : Definition). y .context) memory.definitionContexts w0 (s .definitions) x (h .contexts) d (a .0) ∙ ap (λ (y : Definition). y .context) (a .1);
+        type = entry-by typeIn (λ (y : Definition). y .type) memory.definitionTypes w0 (s .definitions) x (h .types) d (a .0) ∙ ap (λ (y : Definition). y .type) (a .1);
+        body = entry-by (treeAt w1) (λ (y : Definition). y .body) memory.definitionRoots w0 (s .definitions) x (h .bodies) d (a .0) ∙ ap (λ (y : Definition). y .body) (a .1);
+        root = root-below (λ (y : Definition). y .body) memory.definitionRoots (s .definitions) (h .bodies) (h .roots) d (a .0);
         low-context = low-class (x .context) (each-elem d (good .definitions) e .body .context);
       }
 
@@ -94,9 +95,9 @@ module _ {st : Counts} {w0 w1 : List ℕ} {s : Sheet} (fine : Fine st) (holds : 
   rule-in good r x e =
       let a = elem-at (s .rules) r x e in
       record {
-        context = entry-of (λ (y : Rule). y .context) 4448 w0 (s .rules) x (holds .tables .contexts) r (a .0) ∙ ap (λ (y : Rule). y .context) (a .1);
-        body = entry-by (treeAt w1) (λ (y : Rule). y .body) 4512 w0 (s .rules) x (holds .rules .bodies) r (a .0) ∙ ap (λ (y : Rule). y .body) (a .1);
-        root = root-below (λ (y : Rule). y .body) 4512 (s .rules) (holds .rules .bodies) (holds .rules .roots) r (a .0);
+        context = entry-of (λ (y : Rule). y .context) memory.contexts w0 (s .rules) x (holds .tables .contexts) r (a .0) ∙ ap (λ (y : Rule). y .context) (a .1);
+        body = entry-by (treeAt w1) (λ (y : Rule). y .body) memory.roots w0 (s .rules) x (holds .rules .bodies) r (a .0) ∙ ap (λ (y : Rule). y .body) (a .1);
+        root = root-below (λ (y : Rule). y .body) memory.roots (s .rules) (holds .rules .bodies) (holds .rules .roots) r (a .0);
         shallow = each-elem r (good .rules) e .shallow;
         low-context = low-class (x .context) (each-elem r (good .rules) e .context);
       }

@@ -14,6 +14,7 @@ use Rattle.laws.specs.Lists.{Each, each-nil, each-cons, concat}
 use Rattle.laws.proofs.Tests.{and-l, and-r, by-if}
 use Rattle.laws.proofs.Lists.{each-right, each-head}
 use Rattle.laws.proofs.Slices.{cut-part, split-left, split-right}
+use Rattle.memory.specs.Map as memory
 use Rattle.ocl.specs.Values.{Value, size}
 use Rattle.sheet.specs.Sheet.{Slot, Sheet, lookup}
 use Rattle.sheet.specs.Limits.{totalSize}
@@ -121,10 +122,10 @@ middle w off n A B C more e is =
 
 module _ {st : Counts} {w0 : List ℕ} {s : Sheet} (fine : Fine st) (counted : Counted st s) (h : HoldsTables w0 s) where
   pub key-at : (j : ℕ) → j < length (s .slots) → keyAt w0 j ≡ getD (map slotKey (s .slots)) j 0
-  key-at j l = sym (tab-at 352 (length (s .slots)) w0 j l) ∙ ap (λ (k : List ℕ). getD k j 0) (h .keys)
+  key-at j l = sym (tab-at memory.keys (length (s .slots)) w0 j l) ∙ ap (λ (k : List ℕ). getD k j 0) (h .keys)
 
-  start-at : (j : ℕ) → j < length (s .slots) → getD w0 (1376 + j) 0 ≡ getD (startsFrom 0 (s .slots)) j 0
-  start-at j l = sym (tab-at 1376 (length (s .slots)) w0 j l) ∙ ap (λ (k : List ℕ). getD k j 0) (h .starts)
+  start-at : (j : ℕ) → j < length (s .slots) → getD w0 (memory.starts + j) 0 ≡ getD (startsFrom 0 (s .slots)) j 0
+  start-at j l = sym (tab-at memory.starts (length (s .slots)) w0 j l) ∙ ap (λ (k : List ℕ). getD k j 0) (h .starts)
 
   pub slots-ascend : LowRows (s .slots) → Ascending (s .slots) → (j k : ℕ) → j < k → k < st .slots → keyAt w0 j < keyAt w0 k
   slots-ascend low up j k l m =
@@ -135,15 +136,15 @@ module _ {st : Counts} {w0 : List ℕ} {s : Sheet} (fine : Fine st) (counted : C
     length-parts : (after : List Slot) → s .slots ≡ before ++ x ∷ after → st .slots ≡ length before + suc (length after)
     length-parts after e = counted .slots ∙ ap length e ∙ length-append before (x ∷ after)
 
-    pub begins : (after : List Slot) → s .slots ≡ before ++ x ∷ after → startAt w0 (length before) ≡ 2400 + totalSize before
+    pub begins : (after : List Slot) → s .slots ≡ before ++ x ∷ after → startAt w0 (length before) ≡ memory.cells + totalSize before
     begins after e =
         let n = length-parts after e in
         let c = counted .slots in
-        ap (λ (i : ℕ). 2400 + i)
+        ap (λ (i : ℕ). memory.cells + i)
         (start-at (length before) (omega arith) ∙ ap (λ (l : List Slot). getD (startsFrom 0 l) (length before) 0) e ∙ starts-at 0 before x after ∙ omega arith)
 
     -- where the next slot begins, or behind the last cell
-    pub ends : (after : List Slot) → s .slots ≡ before ++ x ∷ after → endAt st w0 (length before) ≡ 2400 + (totalSize before + size (x .value))
+    pub ends : (after : List Slot) → s .slots ≡ before ++ x ∷ after → endAt st w0 (length before) ≡ memory.cells + (totalSize before + size (x .value))
     unfolding totalSize
     ends [] e =
         let n = length-parts [] e in
@@ -152,7 +153,7 @@ module _ {st : Counts} {w0 : List ℕ} {s : Sheet} (fine : Fine st) (counted : C
         let n = length-parts (y ∷ after) e in
         let c = counted .slots in
         rw (ne-eqb (suc (length before)) (st .slots) (λ q. omega arith))
-        (ap (λ (i : ℕ). 2400 + i)
+        (ap (λ (i : ℕ). memory.cells + i)
         (start-at (suc (length before)) (omega arith) ∙ ap (λ (l : List Slot). getD (startsFrom 0 l) (suc (length before)) 0) e ∙ starts-next 0 before x y after ∙ omega arith))
 
     module _ (after : List Slot) (e : s .slots ≡ before ++ x ∷ after) where
@@ -162,10 +163,10 @@ module _ {st : Counts} {w0 : List ℕ} {s : Sheet} (fine : Fine st) (counted : C
           let b = size-law (x .value) in
           let c = cells-length after in
           let n = ap totalSize e ∙ size-parts before x after in
-          let p : startAt w0 (length before) ≡ 2400 + length (cellsOf before) = begins after e ∙ omega arith in
-          let q : endAt st w0 (length before) ≡ 2400 + length (cellsOf before) + length (enc (x .value)) = ends after e ∙ omega arith in
+          let p : startAt w0 (length before) ≡ memory.cells + length (cellsOf before) = begins after e ∙ omega arith in
+          let q : endAt st w0 (length before) ≡ memory.cells + length (cellsOf before) + length (enc (x .value)) = ends after e ∙ omega arith in
           rw (p, q)
-          (middle w0 2400 (totalSize (s .slots)) (cellsOf before) (enc (x .value)) (cellsOf after) (some-cells (x .value)) (omega arith)
+          (middle w0 memory.cells (totalSize (s .slots)) (cellsOf before) (enc (x .value)) (cellsOf after) (some-cells (x .value)) (omega arith)
           (h .cells ∙ ap cellsOf e ∙ cells-parts before x after))
 
       pub slot-there : (o i : ℕ) → slotKey x ≡ o * 64 + i → Stored st w0 o i (some (x .value))

@@ -4,7 +4,9 @@ use mathlib.Core.List.{List, _++_}
 use Prim.Native.Nat.{ℕ, _+_, _<_}
 use lib.ListN.{length, getD, take, drop, replicate}
 use Rattle.laws.specs.Lists.{Each}
+use Rattle.memory.specs.Map as memory
 use Rattle.ocl.specs.Types.{Ty}
+use Rattle.sheet.specs.Sizes.{mostNodes}
 use Rattle.sheet.specs.Sheet.{Sheet, schemaIn}
 use Rattle.sheet.specs.Calls.{Verdict, refusalAt, onTypes, onDefinitions, definitionMarks, ruleMarks}
 use Rattle.sheet.specs.Laws.{AllTyped, Defined}
@@ -15,9 +17,9 @@ use Rattle.rules.specs.Accepted.{InWords, Accepted, TypesIn}
 use Rattle.rules.specs.declared.all.RulesTyped.{RulesTyped}
 use Rattle.rules.specs.declared.all.RulesTyped.the-variants as code
 
--- the first 768 words are 0, and the others are as they were
+-- the words of all marks are 0, and the others are as they were
 abbrev pub clearedMarks : List ℕ → List ℕ
-clearedMarks w = replicate 768 0 ++ drop 768 w
+clearedMarks w = replicate mostNodes 0 ++ drop mostNodes w
 
 -- whatever follows the definitions, the first refusal of one is the answer
 abbrev pub RefusesDefinition : Sheet → ℕ → ℕ → Type 0
@@ -34,28 +36,28 @@ Refuses s n k = (f : List Ty → Verdict) → onDefinitions s (s .definitions) (
 -- the first refusal; or the marks of all definitions in w2
 pub data DefinesAs (s : Sheet) (before after : List ℕ) : RulesTyped → Type 0 where
   not-defined : {n k : ℕ} → RefusesDefinition s n k → DefinesAs s before after (code.No n k)
-  all-defined : Each (Defined s) (s .definitions) → take 768 after ≡ writeMarks (take 768 before) (definitionMarks (schemaIn s) (s .definitions))
+  all-defined : Each (Defined s) (s .definitions) → take mostNodes after ≡ writeMarks (take mostNodes before) (definitionMarks (schemaIn s) (s .definitions))
       → DefinesAs s before after code.Yes
 
 pub record DefinesAll (st : Counts) (w0 w1 before after : List ℕ) (r : RulesTyped) : Type 0 where
   pub is : (s : Sheet) → InWords st w0 w1 s → DefinesAs s before after r
   pub kept : Kept before after
 
--- the first refusal; or the types in w2 from 768 on, and the marks of all rules before them
+-- the first refusal; or the types in w2, and the marks of all rules before them
 pub data TypesAs (s : Sheet) (before after : List ℕ) : RulesTyped → Type 0 where
   a-refusal : {n k : ℕ} → RefusesRule s n k → TypesAs s before after (code.No n k)
   all-typed : (ts : List Ty) → AllTyped s (s .rules) ts → TypesIn after ts
-      → take 768 after ≡ writeMarks (take 768 before) (ruleMarks (schemaIn s) (s .rules)) → TypesAs s before after code.Yes
+      → take mostNodes after ≡ writeMarks (take mostNodes before) (ruleMarks (schemaIn s) (s .rules)) → TypesAs s before after code.Yes
 
 pub record TypesAll (st : Counts) (w0 w1 before after : List ℕ) (r : RulesTyped) : Type 0 where
   pub is : (s : Sheet) → InWords st w0 w1 s → TypesAs s before after r
   pub kept : Kept before after
 
--- the first 768 words of w2 are put into w1 from 6144 on
+-- the marks in w2 are put into w1
 pub record KeepsMarks (w2 before after : List ℕ) : Type 0 where
-  pub at : (p : ℕ) → p < 768 → getD after (6144 + p) 0 ≡ getD w2 p 0
-  pub below : take 6144 after ≡ take 6144 before
-  pub above : drop 6912 after ≡ drop 6912 before
+  pub at : (p : ℕ) → p < mostNodes → getD after (memory.marks + p) 0 ≡ getD w2 p 0
+  pub below : take memory.nodesEnd after ≡ take memory.nodesEnd before
+  pub above : drop memory.depths after ≡ drop memory.depths before
   pub size : length after ≡ length before
 
 -- the first refusal; or the sheet is accepted, and its rules' types wait in w2

@@ -6,6 +6,7 @@ use Prim.Native.Nat.{ℕ}
 use lib.ListN.{length, getElem?, take, drop}
 use Rattle.ocl.specs.Forms.{Definition}
 use Rattle.ocl.specs.Typing.{typeDefinition}
+use Rattle.sheet.specs.Sizes.{mostNodes}
 use Rattle.sheet.specs.Sheet.{Rule, Sheet, schemaIn}
 use Rattle.sheet.specs.Calls.{typingOf, outcomeOf}
 use Rattle.sheet.specs.Origin.{traceOf}
@@ -13,8 +14,8 @@ use Rattle.tables.specs.declared.Counts.{Counts}
 use Rattle.tables.specs.Layout.{Kept}
 use Rattle.judgements.specs.declared.Reply.{Reply}
 use Rattle.judgements.specs.Replies.{meaning, writeMarks}
-use Rattle.operations.specs.declared.Ended.{Ended}
-use Rattle.operations.specs.Answers.{Ends, SmallAnswer}
+use Rattle.outcomes.specs.declared.Ended.{Ended}
+use Rattle.outcomes.specs.Answers.{Ends, SmallAnswer}
 use Rattle.evaluation.specs.declared.Traced.{Traced}
 use Rattle.evaluation.specs.Traces.{EndsT, SmallTraced}
 use Rattle.rules.specs.Accepted.{InWords, MarksIn}
@@ -23,16 +24,16 @@ use Rattle.rules.specs.Accepted.{InWords, MarksIn}
 pub record TypesNumbered (st : Counts) (w0 w1 : List ℕ) (r : ℕ) (before after : List ℕ) (reply : Reply) : Type 0 where
   pub is : (s : Sheet) → InWords st w0 w1 s → (x : Rule) → getElem? (s .rules) r ≡ some x → meaning reply ≡ typingOf s x .answer
   pub marked : (s : Sheet) → InWords st w0 w1 s → (x : Rule) → getElem? (s .rules) r ≡ some x
-      → take 768 after ≡ writeMarks (take 768 before) (typingOf s x .marks)
-  pub rest : drop 768 after ≡ drop 768 before
+      → take mostNodes after ≡ writeMarks (take mostNodes before) (typingOf s x .marks)
+  pub rest : drop mostNodes after ≡ drop mostNodes before
   pub size : length after ≡ length before
 
 -- the typing of definition d, in the same way
 pub record DefinesNumbered (st : Counts) (w0 w1 : List ℕ) (d : ℕ) (before after : List ℕ) (reply : Reply) : Type 0 where
   pub is : (s : Sheet) → InWords st w0 w1 s → (x : Definition) → getElem? (s .definitions) d ≡ some x → meaning reply ≡ typeDefinition (schemaIn s) x .answer
   pub marked : (s : Sheet) → InWords st w0 w1 s → (x : Definition) → getElem? (s .definitions) d ≡ some x
-      → take 768 after ≡ writeMarks (take 768 before) (typeDefinition (schemaIn s) x .marks)
-  pub rest : drop 768 after ≡ drop 768 before
+      → take mostNodes after ≡ writeMarks (take mostNodes before) (typeDefinition (schemaIn s) x .marks)
+  pub rest : drop mostNodes after ≡ drop mostNodes before
   pub size : length after ≡ length before
 
 -- the evaluation of rule r for object o, with where undefined arose: a value's cells lie in w2 from 1 on

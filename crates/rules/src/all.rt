@@ -3,6 +3,7 @@
 ghost use mathlib.Core.Path.{_≡_};
 ghost use Prim.Native.Nat.{_≤_};
 ghost use lib.ListN.{length};
+ghost use Rattle.sheet.specs.Sizes.{leastWords};
 ghost use Rattle.rules.specs.Accepted.{Known};
 ghost use Rattle.rules.specs.All.{clearedMarks, DefinesAll, TypesAll, KeepsMarks, Accepts};
 use crate::typed::define_numbered;
@@ -13,19 +14,19 @@ use tables::Counts;
 use types::classes::wide;
 use types::word::pack;
 
-// What typing definitions or rules comes to: each is typed; or the first refusal and its line.
+// How typing definitions or rules ends: each has its type; or the first refusal and its line.
 pub enum RulesTyped {
     Yes,
     No(u64, u64),
 }
 
-// No node is marked.
+// Sets all marks in w2 to 0.
 fn clear_marks(w2: &mut [u64])
-    requires { ⌜ 8192 ≤ length (now w2) ⌝ }
+    requires { ⌜ leastWords ≤ length (now w2) ⌝ }
     ensures { λ _. ⌜ now (w2 .exit) ≡ clearedMarks (now (w2 .entry)) ⌝ }
 {
     let mut i = 0;
-    while i < 768 {
+    while i < memory::NODES {
         w2[i] = 0;
         i += 1;
     }
@@ -33,7 +34,7 @@ fn clear_marks(w2: &mut [u64])
 
 // Types each definition: its marks are added to those in w2.
 fn type_definitions(w0: &[u64], st: Counts, w1: &[u64], w2: &mut [u64]) -> RulesTyped
-    requires { ⌜ (8192 ≤ length (now w0)) × (8192 ≤ length (now w1)) × (8192 ≤ length (now w2)) ⌝ }
+    requires { ⌜ (leastWords ≤ length (now w0)) × (leastWords ≤ length (now w1)) × (leastWords ≤ length (now w2)) ⌝ }
     requires { ⌜ Known st (now w0) (now w1) ⌝ }
     ensures { λ a. ⌜ DefinesAll st (now (w0 .entry)) (now (w1 .entry)) (now (w2 .entry)) (now (w2 .exit)) a ⌝ }
 {
@@ -50,7 +51,7 @@ fn type_definitions(w0: &[u64], st: Counts, w1: &[u64], w2: &mut [u64]) -> Rules
 
 // Types each rule: its marks are added to those in w2, and its type is put behind them.
 fn type_all(w0: &[u64], st: Counts, w1: &[u64], w2: &mut [u64]) -> RulesTyped
-    requires { ⌜ (8192 ≤ length (now w0)) × (8192 ≤ length (now w1)) × (8192 ≤ length (now w2)) ⌝ }
+    requires { ⌜ (leastWords ≤ length (now w0)) × (leastWords ≤ length (now w1)) × (leastWords ≤ length (now w2)) ⌝ }
     requires { ⌜ Known st (now w0) (now w1) ⌝ }
     ensures { λ a. ⌜ TypesAll st (now (w0 .entry)) (now (w1 .entry)) (now (w2 .entry)) (now (w2 .exit)) a ⌝ }
 {
@@ -62,7 +63,7 @@ fn type_all(w0: &[u64], st: Counts, w1: &[u64], w2: &mut [u64]) -> RulesTyped
                 return RulesTyped::No(number, node_line(w1, p));
             }
             Reply::Is(t) => {
-                w2[768 + r] = pack(t);
+                w2[memory::RULE_TYPES + r] = pack(t);
             }
         }
         r += 1;
@@ -70,21 +71,21 @@ fn type_all(w0: &[u64], st: Counts, w1: &[u64], w2: &mut [u64]) -> RulesTyped
     RulesTyped::Yes
 }
 
-// The marks that typing left in w2, put into w1: evaluation needs w2 for its values.
+// Copies the marks that typing left in w2 to w1: evaluation needs w2 for its values.
 fn keep_marks(w2: &[u64], w1: &mut [u64])
-    requires { ⌜ (8192 ≤ length (now w1)) × (8192 ≤ length (now w2)) ⌝ }
+    requires { ⌜ (leastWords ≤ length (now w1)) × (leastWords ≤ length (now w2)) ⌝ }
     ensures { λ _. ⌜ KeepsMarks (now (w2 .entry)) (now (w1 .entry)) (now (w1 .exit)) ⌝ }
 {
     let mut p = 0;
-    while p < 768 {
-        w1[6144 + p] = w2[p];
+    while p < memory::NODES {
+        w1[memory::MARKS + p] = w2[p];
         p += 1;
     }
 }
 
 // Types the definitions and then the rules of the sheet that lies in the words, and keeps their marks.
 pub fn accept(w0: &[u64], st: Counts, w1: &mut [u64], w2: &mut [u64]) -> RulesTyped
-    requires { ⌜ (8192 ≤ length (now w0)) × (8192 ≤ length (now w1)) × (8192 ≤ length (now w2)) ⌝ }
+    requires { ⌜ (leastWords ≤ length (now w0)) × (leastWords ≤ length (now w1)) × (leastWords ≤ length (now w2)) ⌝ }
     requires { ⌜ Known st (now w0) (now w1) ⌝ }
     ensures { λ a. ⌜ Accepts st (now (w0 .entry)) (now (w1 .entry)) (now (w2 .entry)) (now (w1 .exit)) (now (w2 .exit)) a ⌝ }
 {

@@ -1,17 +1,19 @@
 // The evaluation of the rule with a number for an object, on a sheet whose marks are kept in w1.
 ghost use Prim.Native.Nat.{_≤_, _<_};
 ghost use lib.ListN.{length};
+ghost use Rattle.sheet.specs.Sizes.{leastWords};
+ghost use Rattle.values.specs.Cells.{sortSpan};
 ghost use Rattle.rules.specs.Accepted.{Known};
 ghost use Rattle.rules.specs.Numbered.{EvaluatesNumbered, TracesNumbered};
 use evaluation::Traced;
 use evaluation::answers::untraced;
 use evaluation::rule::trace_rule;
-use operations::Ended;
+use outcomes::Ended;
 use tables::Counts;
 use types::classes::wide;
 
-// Rule r for object o: a value's cells lie in w2 from 1 on. Where it is undefined, that arose at node place % 1024, which began at step
-// place / 1024.
+// Rule r for object o: a value's cells lie in w2 from 1 on. Undefined comes with its place, the node at which it arose and the step at
+// which that node began, as one word.
 pub fn trace_numbered(
     w0: &[u64],
     st: Counts,
@@ -20,12 +22,12 @@ pub fn trace_numbered(
     r: usize,
     o: u64,
 ) -> Traced
-    requires { ⌜ (8192 ≤ length (now w0)) × (8192 ≤ length (now w1)) × (8192 ≤ length (now w2)) ⌝ }
-    requires { ⌜ Known st (now w0) (now w1) × (r < st .rules) × (o < 4294967296) ⌝ }
+    requires { ⌜ (leastWords ≤ length (now w0)) × (leastWords ≤ length (now w1)) × (leastWords ≤ length (now w2)) ⌝ }
+    requires { ⌜ Known st (now w0) (now w1) × (r < st .rules) × (o < sortSpan) ⌝ }
     ensures { λ e. ⌜ TracesNumbered st (now (w0 .entry)) (now (w1 .entry)) r o (now (w2 .entry)) (now (w2 .exit)) e ⌝ }
 {
-    let root = wide(w0[4512 + r]);
-    let stack = &mut w2[..8192];
+    let root = wide(w0[memory::ROOTS + r]);
+    let stack = &mut w2[..memory::LEAST_WORDS];
     trace_rule(w0, st, w1, stack, root, o)
 }
 
@@ -38,8 +40,8 @@ pub fn evaluate_numbered(
     r: usize,
     o: u64,
 ) -> Ended
-    requires { ⌜ (8192 ≤ length (now w0)) × (8192 ≤ length (now w1)) × (8192 ≤ length (now w2)) ⌝ }
-    requires { ⌜ Known st (now w0) (now w1) × (r < st .rules) × (o < 4294967296) ⌝ }
+    requires { ⌜ (leastWords ≤ length (now w0)) × (leastWords ≤ length (now w1)) × (leastWords ≤ length (now w2)) ⌝ }
+    requires { ⌜ Known st (now w0) (now w1) × (r < st .rules) × (o < sortSpan) ⌝ }
     ensures { λ e. ⌜ EvaluatesNumbered st (now (w0 .entry)) (now (w1 .entry)) r o (now (w2 .entry)) (now (w2 .exit)) e ⌝ }
 {
     untraced(trace_numbered(w0, st, w1, w2, r, o))

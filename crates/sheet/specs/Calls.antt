@@ -13,6 +13,7 @@ use Rattle.ocl.specs.Marks.{Mark, Marks, markIn}
 use Rattle.ocl.specs.Typing.{Answer, typed, refused, Typed, typeRule, typeDefinition}
 use Rattle.ocl.specs.Operations.{Outcome, value, undefined, stuck, stop}
 use Rattle.ocl.specs.Evaluation.{evaluateRule}
+use Rattle.sheet.specs.Sizes.{leastWords, leastOutput}
 use Rattle.sheet.specs.Text.{Bytes, byte, bytes}
 use Rattle.sheet.specs.Spelling.{spellType, spellValue}
 use Rattle.sheet.specs.Sheet.{Rule, Sheet, schemaIn, modelOf}
@@ -38,26 +39,26 @@ refusal n = refusalAt n 0
 
 -- ---- memory: the words and the output after a call
 
--- the first 8,192 words zero, the others as they were
+-- "the first 8,192 words of each word slice end as zero and the rest is untouched"
 unfoldable pub wiped : List ℕ → List ℕ
-wiped w = replicate 8192 0 ++ drop 8192 w
+wiped w = replicate leastWords 0 ++ drop leastWords w
 
--- 1 leaves all words as they were
+-- "Except after 1, which leaves all untouched"
 unfoldable pub wordsAfter : Verdict → List ℕ → List ℕ
 wordsAfter v w = if eqb (v .number) 1 then w else wiped w
 
--- what is written stands in front; the other bytes are as they were
+-- "A refusal leaves the output untouched; an answer changes only its length"
 unfoldable pub outputAfter : Verdict → Bytes → Bytes
 outputAfter v out = v .output ++ drop (length (v .output)) out
 
--- 1: a word slice below 8,192 words, or an output below 2,560 bytes
+-- 1, "a lent slice below its minimum": of words, and of output bytes
 unfoldable pub shortWords : List ℕ → List ℕ → List ℕ → Bool
-shortWords w0 w1 w2 = ltb (length w0) 8192 || ltb (length w1) 8192 || ltb (length w2) 8192
+shortWords w0 w1 w2 = ltb (length w0) leastWords || ltb (length w1) leastWords || ltb (length w2) leastWords
 
 unfoldable pub shortOutput : Bytes → Bool
-shortOutput out = ltb (length out) 2560
+shortOutput out = ltb (length out) leastOutput
 
--- ---- read: the sheet is read, and all its definitions and then all its rules are typed in order
+-- ---- document 02, F-6: "It reads the sheet, types all rules in order and writes one type a line"; definitions come first (F-13)
 
 -- 2 to 8, 20, 23 or 24, or what follows for a sheet
 unfoldable pub onSheet : Reading → (Sheet → Verdict) → Verdict
@@ -67,7 +68,7 @@ onSheet (rejected n k) f = refusalAt n k
 unfoldable pub typingOf : Sheet → Rule → Typed
 typingOf s r = typeRule (schemaIn s) (r .context) (r .body)
 
--- 9 to 13 at the node's line, or what follows for a type
+-- "9 to 13 (place: that N line)", or what follows for a type
 unfoldable pub onType : Sheet → Answer → (Ty → Verdict) → Verdict
 onType s (typed t) f = f t
 onType s (refused n p) f = refusalAt n (getD (s .lines) p 0)
@@ -77,7 +78,7 @@ unfoldable pub onTypes : Sheet → List Rule → (List Ty → Verdict) → Verdi
 onTypes s [] f = f []
 onTypes s (x ∷ xs) f = onType s (typingOf s x .answer) (λ t. onTypes s xs (λ ts. f (t ∷ ts)))
 
--- document 02, F-13: the first refusal, or what follows
+-- document 02, F-13: "typed in order before the rules, writing no line": the first refusal, or what follows
 unfoldable pub onDefinitions : Sheet → List Definition → Verdict → Verdict
 onDefinitions s [] v = v
 onDefinitions s (d ∷ ds) v = onType s (typeDefinition (schemaIn s) d .answer) (λ t. onDefinitions s ds v)
@@ -87,7 +88,7 @@ onDefinitions s (d ∷ ds) v = onType s (typeDefinition (schemaIn s) d .answer) 
 unfoldable pub onAccepted : Bytes → (Sheet → List Ty → Verdict) → Verdict
 onAccepted text f = onSheet (readText text) (λ s. onDefinitions s (s .definitions) (onTypes s (s .rules) (f s)))
 
--- one type of a rule a line, each ended by a line feed
+-- document 02, F-6: "writes one type a line, each ended by a line feed"
 unfoldable pub typeLines : List Ty → Bytes
 typeLines [] = []
 typeLines (t ∷ ts) = spellType t ++ byte "\n" ∷ typeLines ts
@@ -96,14 +97,14 @@ unfoldable pub readCall : Bytes → List ℕ → List ℕ → List ℕ → Bytes
 readCall text w0 w1 w2 out =
     if shortWords w0 w1 w2 || shortOutput out then refusal 1 else onAccepted text (λ s ts. answer (typeLines ts))
 
--- ---- evaluate a rule for an object: it rests on an accepted sheet
+-- ---- "evaluate a rule for an object"; document 02, F-6: "Evaluate and report rest on it"
 
--- 14 where there is no such rule
+-- 14, "rule or object asked for isn't there"
 unfoldable pub onRule : Option Rule → (Rule → Verdict) → Verdict
 onRule none f = refusal 14
 onRule (some r) f = f r
 
--- 14 where there is no such object, 15 where it is not of the class or below
+-- 14 likewise; 15, "object not of the context class or below"
 unfoldable pub onObject : Model → Option ℕ → ℕ → ℕ → Verdict → Verdict
 onObject m none o c v = refusal 14
 onObject m (some d) o c v = if isA m o (class c) then v else refusal 15

@@ -9,8 +9,9 @@ use lib.Dec.{eqb, leb, ltb}
 use Rattle.laws.specs.Lists.{allOf}
 use Rattle.reals.specs.Reals.{kept}
 use Rattle.ocl.specs.Types.{Simple, any, boolean, integer, real, class, Ty, void, simple, around, depth}
-use Rattle.ocl.specs.Values.{Value, bool, num, obj, coll, Values, nil, cons, size, everyPart}
+use Rattle.ocl.specs.Values.{Value, bool, num, obj, coll, Values, nil, cons, size, largest, everyPart}
 use Rattle.ocl.specs.Forms.{Leaf, truth, undef, number, self, var, all, Unary, negation, sizeOf, convert, castTo}
+use Rattle.sheet.specs.Sizes.{mostClasses, mostRows, mostNames, mostObjects, mostValues, mostCells, mostDefinitions, mostRules, mostNodes}
 use Rattle.sheet.specs.Lines.{Shape, leaf, unary, binary, connective, isUndef, conditional, letIn, attribute, call, quantified, iterate, assemble, Line, classLine, rowLine, objectLine, valueLine, definitionLine, ruleLine, nodeLine, textLine}
 use Rattle.sheet.specs.Texts.{nodesOf}
 use Rattle.sheet.specs.Sheet.{Slot, Sheet, operandsOf}
@@ -30,14 +31,14 @@ classBelow n void = true
 classBelow n (simple a) = simpleClassBelow n a
 classBelow n (around l t) = classBelow n t
 
--- an Integer is in range, a Real neither an infinity nor a NaN (document 02, F-8), an object's number below 96
+-- an Integer is in range, "object 0 to 95"; document 02, F-8: "Bits of an infinity or a NaN are 4"
 unfoldable pub partWithin : Value → Bool
 partWithin (bool b) = true
 partWithin (num x) = kept x
-partWithin (obj o) = ltb o 96
+partWithin (obj o) = ltb o mostObjects
 partWithin (coll k vs) = true
 
--- how many collections stand inside one another
+-- how many collections stand inside one another: "at most three such letters deep, in a sheet's values too"
 unfoldable mutual
   pub nesting : Value → ℕ
   nesting (bool b) = 0
@@ -49,25 +50,25 @@ unfoldable mutual
   nestings nil = 0
   nestings (cons v vs) = max (nesting v) (nestings vs)
 
--- classes 0 to 63, variables 1 to 15, nodes 0 to 767
+-- "class 0 to 63", "variables have numbers 1 to 15", "node numbers 0 to 767"
 unfoldable pub isClass : ℕ → Bool
-isClass c = ltb c 64
+isClass c = ltb c mostClasses
 
 unfoldable pub isVariable : ℕ → Bool
 isVariable i = leb 1 i && leb i 15
 
 unfoldable pub isNode : ℕ → Bool
-isNode a = ltb a 768
+isNode a = ltb a mostNodes
 
--- definitions 0 to 31
+-- document 02, F-13: "numbered 0 to 31 without gap"
 unfoldable pub isDefinition : ℕ → Bool
-isDefinition n = ltb n 32
+isDefinition n = ltb n mostDefinitions
 
 unfoldable pub typeWithin : Ty → Bool
-typeWithin t = leb (depth t) 3 && classBelow 64 t
+typeWithin t = leb (depth t) 3 && classBelow mostClasses t
 
 unfoldable pub valueWithin : Value → Bool
-valueWithin v = everyPart partWithin v && leb (size v) 128 && leb (nesting v) 3
+valueWithin v = everyPart partWithin v && leb (size v) largest && leb (nesting v) 3
 
 -- ---- what a form holds besides its operands
 
@@ -115,7 +116,7 @@ heldBy (connective c a b) = nothing
 heldBy (isUndef a) = nothing
 heldBy (conditional c a b) = nothing
 heldBy (letIn i a b) = limited (isVariable i)
-heldBy (attribute x name a) = limited (ltb name 256)
+heldBy (attribute x name a) = limited (ltb name mostNames)
 heldBy (call a d) = record { within = isDefinition d; apart = true; known = λ n. true; called = λ n. ltb d n }
 heldBy (quantified q i a b) = limited (isVariable i)
 heldBy (iterate i j t a e b) = record {
@@ -142,13 +143,13 @@ totalSize (x ∷ xs) = size (x .value) + totalSize xs
 
 unfoldable pub withinLimits : Sheet → Line → Bool
 withinLimits s (classLine n p) = isClass n && parentWithin p
-withinLimits s (rowLine n c name t) = ltb n 64 && isClass c && ltb name 256 && typeWithin t
-withinLimits s (objectLine n c) = ltb n 96 && isClass c
--- at most 1,024 V lines, of sizes that come to at most 2,048
+withinLimits s (rowLine n c name t) = ltb n mostRows && isClass c && ltb name mostNames && typeWithin t
+withinLimits s (objectLine n c) = ltb n mostObjects && isClass c
+-- "At most 1,024 lines, sizes together at most 2,048"
 withinLimits s (valueLine o a v) =
-    ltb o 96 && ltb a 64 && valueWithin v && ltb (length (s .slots)) 1024 && leb (totalSize (s .slots) + size v) 2048
+    ltb o mostObjects && ltb a mostRows && valueWithin v && ltb (length (s .slots)) mostValues && leb (totalSize (s .slots) + size v) mostCells
 withinLimits s (definitionLine n c t) = isDefinition n && isClass c && typeWithin t
-withinLimits s (ruleLine n c) = ltb n 64 && isClass c
--- at most 768 nodes in all definitions and rules
-withinLimits s (nodeLine n x) = isNode n && formWithin x && allOf isNode (operandsOf x) && ltb (length (s .lines)) 768
-withinLimits s (textLine x) = allOf formWithin (nodesOf x) && leb (length (s .lines) + length (nodesOf x)) 768
+withinLimits s (ruleLine n c) = ltb n mostRules && isClass c
+-- "at most 768 nodes in all rules together"; document 02, F-13: "Definitions share the 768 nodes"
+withinLimits s (nodeLine n x) = isNode n && formWithin x && allOf isNode (operandsOf x) && ltb (length (s .lines)) mostNodes
+withinLimits s (textLine x) = allOf formWithin (nodesOf x) && leb (length (s .lines) + length (nodesOf x)) mostNodes

@@ -86,11 +86,11 @@ anInteger f = whole integerParser f
 unfoldable pub aReal : Bytes → Option Real
 aReal f = whole realParser f
 
--- `-` or a class
+-- "parent p is `-` or a smaller class"
 unfoldable pub aParent : Bytes → Option (Option ℕ)
 aParent f = if is f (bytes "-") then some none else mapSome some (aNumber f)
 
--- `S`, `Q` or `B`
+-- "k one of S Q B"
 unfoldable pub aKind : Bytes → Option Kind
 aKind f = whole (either (literal "S" set) (either (literal "Q" sequence) (literal "B" bag))) f
 
@@ -117,7 +117,7 @@ iterateFields =
     next aNumber (λ s. next aNumber (λ i. next aNumber (λ j. next readType (λ t.
     next aNumber (λ e. next aNumber (λ b. done (iterate i j t s e b)))))))
 
--- `k e..`, at most four operands
+-- `k e..`, "none to four e (five is 3)"
 unfoldable pub atMostFour : Kind → List ℕ → Option Shape
 atMostFour k es = if leb (length es) 4 then some (assemble k es) else none
 
@@ -173,7 +173,7 @@ shapeOf w fs = onSome (named forms w) (λ fields. readFields fields fs)
 unfoldable pub aWord : Bytes → Option Bytes
 aWord f = some f
 
--- a line's letter and the fields after it
+-- a line's letter and the fields after it; 3, "spelling, field count, unknown letter or form"
 unfoldable pub lineOf : List Bytes → Option Line
 lineOf [] = none
 lineOf (w ∷ fs) =
@@ -188,7 +188,7 @@ lineOf (w ∷ fs) =
     else if is w (bytes "X") then next aWord (λ text. done (textLine text)) fs
     else none
 
--- is the line's first field `N` or `X`, so that it belongs to an open definition or rule
+-- does the line belong to an open definition or rule: it "ends .. before a line whose first field isn't `N`", or `X` (document 02, F-7)
 unfoldable pub inBody : List Bytes → Bool
 inBody [] = false
 inBody (w ∷ fs) = is w (bytes "N") || is w (bytes "X")

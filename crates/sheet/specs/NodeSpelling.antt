@@ -1,4 +1,4 @@
--- Document 01, The forms: how a node line is written, from its form.
+-- Document 01, The forms and their typing: how a node line is written, from its form.
 use mathlib.Core.Bool.{true, false}
 use mathlib.Core.List.{List, [], _∷_, map}
 use Prim.Native.Nat.{ℕ, suc}

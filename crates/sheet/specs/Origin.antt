@@ -12,6 +12,7 @@ use Rattle.sheet.specs.Text.{Bytes, bytes, spellNumber}
 use Rattle.sheet.specs.Sheet.{Rule, Sheet, modelOf}
 use Rattle.sheet.specs.Calls.{Verdict, refusal, shortWords, shortOutput, onAccepted, marksOf}
 use Rattle.sheet.specs.Report.{fitting, printed}
+use Rattle.sheet.specs.Sizes.{programOutput}
 
 -- a rule for an object, with where its undefined arose
 unfoldable pub traceOf : Sheet → Rule → ℕ → Traced
@@ -47,4 +48,4 @@ originCall text w0 w1 w2 out = if shortWords w0 w1 w2 || shortOutput out then re
 
 -- it lends 65,536 output bytes
 unfoldable pub originProgram : Bytes → Bytes
-originProgram text = printed (originsOf text 65536)
+originProgram text = printed (originsOf text programOutput)

@@ -1,4 +1,4 @@
--- What is proved of the call that holds a sheet to the free-numbering profile: the statements.
+-- Document 02, F-12: what is proved of the call that holds a sheet to the free-numbering profile, the statements.
 use mathlib.Core.Path.{_≡_}
 use mathlib.Core.Logic.{_≢_}
 use mathlib.Core.Option.{Option, none, some}

@@ -6,6 +6,7 @@ use mathlib.Core.List.{List, [], _∷_}
 use lib.ListN.{length}
 use lib.Dec.{ltb}
 use Rattle.laws.specs.Choice.{if_then_else_}
+use Rattle.sheet.specs.Sizes.{mostBytes}
 use Rattle.sheet.specs.Text.{Bytes, linesOf, fieldsOf}
 use Rattle.sheet.specs.Lines.{Line, lineOf, inBody}
 use Rattle.sheet.specs.Texts.{bracketsWithin, isSentence, onText}
@@ -23,7 +24,7 @@ unfoldable pub must : Bool → ℕ → Step → Step
 must true n x = x
 must false n x = refuse n
 
--- 4 to 8 in number order, with 23 and 24 after 6; k is the line's number
+-- "line by line 3 to 8 in number order", 23 "ranked after 6" and 24 "ranked after 23"; k is the line's number
 unfoldable pub stepLine : Sheet → ℕ → Line → Step
 stepLine s k l =
     must (withinLimits s l) 4 (must (inOrder s l) 5 (must (partsKnown s l) 6 (must (callsSmaller s l) 23 (must (callsKnown s l) 24
@@ -47,17 +48,17 @@ unfoldable pub onStep : Step → ℕ → (Sheet → Reading) → Reading
 onStep (taken s) k f = f s
 onStep (refuse n) k f = rejected n k
 
--- a definition or rule that ends badly is 8 at its last line, k
+-- a definition or rule that ends badly is 8 at its last line, k: "rule ends (place: the rule's last line) before the next line"
 unfoldable pub onEnd : Option Sheet → ℕ → (Sheet → Reading) → Reading
 onEnd none k f = rejected 8 k
 onEnd (some s) k f = f s
 
--- before a line whose first field is neither `N` nor `X`, and at the text's end, an open definition or rule ends; k lines stand before
--- this one
+-- "A rule ends with the text or before a line whose first field isn't `N`", or `X` (document 02, F-7); a definition likewise. k lines
+-- stand before this one
 unfoldable pub closing : Sheet → ℕ → List Bytes → (Sheet → Reading) → Reading
 closing s k fields f = if inBody fields then f s else onEnd (endRule s) k f
 
--- the text's last part is empty, else it is a line without a line feed: 3
+-- the text's last part is empty, else it is a line with "no line feed": 3
 unfoldable pub readLast : ℕ → Bytes → Sheet → Reading
 readLast k [] s = accepted s
 readLast k (b ∷ l) s = rejected 3 (suc k)
@@ -68,9 +69,9 @@ readLines s k [] = accepted s
 readLines s k (l ∷ []) = closing s k (fieldsOf l) (readLast k l)
 readLines s k (l ∷ m ∷ ls) = closing s k (fieldsOf l) (λ t. onStep (step t (suc k) (fieldsOf l)) (suc k) (λ u. readLines u (suc k) (m ∷ ls)))
 
--- over 49,152 bytes are 2
+-- 2, "over 49,152 bytes"
 unfoldable pub readText : Bytes → Reading
-readText text = if ltb 49152 (length text) then rejected 2 0 else readLines empty 0 (linesOf text)
+readText text = if ltb mostBytes (length text) then rejected 2 0 else readLines empty 0 (linesOf text)
 
 -- the sheet of an accepted text; nothing is asked of another
 unfoldable pub sheetFrom : Reading → Sheet

@@ -15,9 +15,9 @@ use Rattle.sheet.specs.Texts.{nodesOf}
 use Rattle.sheet.specs.Sheet.{Slot, Current, Sheet, modelOf, operandsOf}
 use Rattle.sheet.specs.Limits.{classBelow, heldBy}
 
--- ---- 5: blocks, numbers and members in order; a name once in a class; two variables of `iter`
+-- ---- 5, "block, number or member order; name twice in a class; i equal to j"
 
--- may w follow v: in a Set only a greater one, in a Bag also the same, in a Sequence any
+-- may w follow v: "Sets are strictly ascending, Bags ascending with repeats, Sequences as given"
 unfoldable pub mayFollow : Kind → Ordering → Bool
 mayFollow set q = isLess q
 mayFollow sequence q = true
@@ -41,7 +41,7 @@ unfoldable mutual
   allOrdered k nil = true
   allOrdered k (cons v vs) = ordered v && followed k v vs && allOrdered k vs
 
--- C, A, O, V, D, R; an N stands in D and in R, an X in R
+-- "Blocks in this order": C, A, O, V, D, R; an N stands in D and in R, an X in R
 unfoldable pub blockOf : Line → ℕ
 blockOf (classLine n p) = 0
 blockOf (rowLine n c name t) = 1
@@ -57,7 +57,7 @@ unfoldable pub declares : List Row → ℕ → ℕ → Bool
 declares [] c name = false
 declares (r ∷ rs) c name = eqb (r .owner) c && eqb (r .name) name || declares rs c name
 
--- is (o, a) after the object and row of each slot so far; they ascend, so that the last decides
+-- "V ascends strictly by (o, a)": is it after the object and row of each slot so far; they ascend, so that the last decides
 unfoldable pub afterSlots : List Slot → ℕ → ℕ → Bool
 afterSlots [] o a = true
 afterSlots (x ∷ []) o a = ltb (x .object) o || eqb (x .object) o && ltb (x .row) a
@@ -96,7 +96,7 @@ numbered s (textLine x) = mayBeText (s .current) && allOf twoVariables (nodesOf 
 unfoldable pub inOrder : Sheet → Line → Bool
 inOrder s l = leb (s .block) (blockOf l) && numbered s l
 
--- ---- 6: classes, rows and objects that are named are on the sheet, and a parent is smaller
+-- ---- 6, "class, row or object not on the sheet; parent not smaller"
 
 -- an object's number is below n
 unfoldable pub objectBelow : ℕ → Value → Bool
@@ -124,7 +124,7 @@ partsKnown s (ruleLine n c) = ltb c (length (s .parents))
 partsKnown s (nodeLine n x) = formKnown (length (s .parents)) x
 partsKnown s (textLine x) = allOf (formKnown (length (s .parents))) (nodesOf x)
 
--- ---- 23: a definition calls only smaller ones; 24: a definition that is called is on the sheet (document 02, F-13)
+-- ---- document 02, F-13: 23, "when a definition calls itself or a larger one"; 24, "when n isn't on the sheet"
 
 -- the definition that a form calls is below n
 unfoldable pub callBelow : ℕ → Shape → Bool
@@ -157,7 +157,7 @@ callsKnown s (ruleLine n c) = true
 callsKnown s (nodeLine n x) = callBelow (length (s .definitions)) x
 callsKnown s (textLine x) = allOf (callBelow (length (s .definitions))) (nodesOf x)
 
--- ---- 7: the object is of the row's class or below, and the value belongs to the row's type
+-- ---- 7, "V whose row or value doesn't suit": o's "class is the row's class or below it; v belongs to the row's type"
 
 unfoldable pub suits : Sheet → Line → Bool
 suits s (classLine n p) = true
@@ -170,7 +170,7 @@ suits s (ruleLine n c) = true
 suits s (nodeLine n x) = true
 suits s (textLine x) = true
 
--- ---- 8: an operand is a smaller node that is no operand yet
+-- ---- 8, "operand not smaller or used already"
 
 -- of node n of a definition or rule, where some nodes are operands already
 unfoldable pub fresh : ℕ → List ℕ → List ℕ → Bool

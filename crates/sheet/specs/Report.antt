@@ -12,6 +12,7 @@ use Rattle.sheet.specs.Text.{Bytes, byte, bytes, spellNumber}
 use Rattle.sheet.specs.Spelling.{spellValue}
 use Rattle.sheet.specs.Sheet.{Rule, Sheet, modelOf}
 use Rattle.sheet.specs.Calls.{Verdict, answer, refusal, shortWords, shortOutput, onAccepted, outcomeOf}
+use Rattle.sheet.specs.Sizes.{programOutput}
 
 -- the value, or a stop's number behind `!`; stuck would be `!100`, which is in no report (`NeverStuck`, Soundness.antt)
 unfoldable pub spellOutcome : Outcome → Bytes
@@ -20,12 +21,12 @@ spellOutcome (undefined n) = bytes "u"
 spellOutcome stuck = bytes "!100"
 spellOutcome (stop c n) = byte "!" ∷ spellNumber c
 
--- rule, object, outcome, steps
+-- "rule, object, value or `!16`/`!17`, steps, parted by one space"; document 02, F-5: "prints `!19` as they do"
 unfoldable pub reportLine : ℕ → ℕ → Outcome → Bytes
 reportLine r o x =
     spellNumber r ++ bytes " " ++ spellNumber o ++ bytes " " ++ spellOutcome x ++ bytes " " ++ spellNumber (stepsOf x) ++ bytes "\n"
 
--- the lines of rule r for the first n objects, as far as they are of its class or below
+-- "for each rule, each object of its class or below, ascending, one line": those of rule r for the first n objects
 unfoldable pub objectLines : Sheet → ℕ → Rule → ℕ → Bytes
 objectLines s r x zero = []
 objectLines s r x (suc n) =
@@ -36,11 +37,11 @@ unfoldable pub ruleLines : Sheet → ℕ → List Rule → Bytes
 ruleLines s r [] = []
 ruleLines s r (x ∷ xs) = objectLines s r x (length (s .objects)) ++ ruleLines s (suc r) xs
 
--- 18 where the output is too short for it
+-- 18, "report longer than the output"
 unfoldable pub fitting : ℕ → Bytes → Verdict
 fitting room b = if ltb room (length b) then refusal 18 else answer b
 
--- the report of a text into an output of so many bytes; it rests on an accepted sheet
+-- the report of a text into an output of so many bytes: "The report types all rules in order, then 18"
 unfoldable pub reportOf : Bytes → ℕ → Verdict
 reportOf text room = onAccepted text (λ s ts. fitting room (ruleLines s 0 (s .rules)))
 
@@ -48,12 +49,12 @@ unfoldable pub reportCall : Bytes → List ℕ → List ℕ → List ℕ → Byt
 reportCall text w0 w1 w2 out =
     if shortWords w0 w1 w2 || shortOutput out then refusal 1 else reportOf text (length out)
 
--- the program prints the report, or `!`, number and place
+-- "prints the report, or one line of `!`, number and place, also parted"
 unfoldable pub printed : Verdict → Bytes
 printed v =
     if eqb (v .number) 0 then v .output
     else bytes "! " ++ spellNumber (v .number) ++ bytes " " ++ spellNumber (v .place) ++ bytes "\n"
 
--- it lends 65,536 output bytes
+-- it "lends 65,536 output bytes"
 unfoldable pub program : Bytes → Bytes
-program text = printed (reportOf text 65536)
+program text = printed (reportOf text programOutput)

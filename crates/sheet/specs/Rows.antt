@@ -10,6 +10,7 @@ use Rattle.sheet.specs.Text.{Bytes, bytes, spellNumber}
 use Rattle.sheet.specs.Sheet.{Rule, Sheet, schemaIn}
 use Rattle.sheet.specs.Calls.{Verdict, refusal, shortWords, shortOutput, onAccepted}
 use Rattle.sheet.specs.Report.{fitting, printed}
+use Rattle.sheet.specs.Sizes.{programOutput}
 
 -- the rows that a rule sees: those that a node of it, or of a definition that it reaches, was resolved to
 unfoldable pub rowsSeen : Sheet → Rule → List ℕ
@@ -39,4 +40,4 @@ rowsCall text w0 w1 w2 out =
 
 -- the program lends 65,536 output bytes and prints as the report's does
 unfoldable pub rowsProgram : Bytes → Bytes
-rowsProgram text = printed (rowsInto text 65536)
+rowsProgram text = printed (rowsInto text programOutput)

@@ -56,7 +56,7 @@ empty = record { block = 0; parents = []; rows = []; objects = []; slots = []; l
 
 -- ---- what typing and evaluation read of a sheet
 
--- no V line: undefined
+-- "No line means `u`"
 unfoldable pub lookup : List Slot → ℕ → ℕ → Option Value
 lookup [] o i = none
 lookup (x ∷ xs) o i = if eqb o (x .object) && eqb i (x .row) then some (x .value) else lookup xs o i
@@ -276,11 +276,11 @@ withBody s c none body = record {
   current = none;
 }
 
--- the depth of a tree is at most this (document 02, F-1)
+-- document 02, F-1: "The depth limit becomes 19"
 abbrev pub mostLevels : ℕ
 mostLevels = 19
 
--- there is a node, each node but the last is an operand, and the tree is not too deep; else none
+-- the sheet with it, or none where it is 8, "at the rule's end no node, a node unused, too deep"
 unfoldable pub endOf : Sheet → Current → Option Sheet
 endOf s c = onSome (lastTree (c .trees)) (λ body.
     if allUsed (c .used) (length (c .trees) - 1) && leb (levels body) mostLevels then some (withBody s (c .context) (c .result) body) else none)

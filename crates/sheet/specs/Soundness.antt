@@ -8,11 +8,13 @@ use Prim.Native.Nat.{ℕ, _≤_}
 use lib.ListN.{length, getElem?}
 use lib.Dec.{T}
 use Rattle.ocl.specs.Types.{class, Ty}
-use Rattle.ocl.specs.Values.{Value, size}
+use Rattle.ocl.specs.Values.{Value, size, largest}
 use Rattle.ocl.specs.Model.{Model, isA, belongs}
 use Rattle.ocl.specs.Forms.{reach}
 use Rattle.ocl.specs.Operations.{stuck, Stop}
 use Rattle.ocl.specs.Laws.{Formed, numbersKept}
+use Rattle.ocl.specs.Evaluation.{mostSteps}
+use Rattle.sheet.specs.Sizes.{leastWords, leastOutput}
 use Rattle.sheet.specs.Text.{Bytes, bytes, linesOf}
 use Rattle.sheet.specs.Spelling.{spellType, spellValue}
 use Rattle.sheet.specs.Sheet.{Rule, Sheet, modelOf}
@@ -23,10 +25,10 @@ use Rattle.sheet.specs.Profile.{profileCall}
 
 -- every lent slice (document 01's word for the words and the output that a caller hands over) is at its minimum or above
 pub record Lent (w0 w1 w2 : List ℕ) (out : Bytes) : Type 0 where
-  pub words0 : 8192 ≤ length w0
-  pub words1 : 8192 ≤ length w1
-  pub words2 : 8192 ≤ length w2
-  pub output : 2560 ≤ length out
+  pub words0 : leastWords ≤ length w0
+  pub words1 : leastWords ≤ length w1
+  pub words2 : leastWords ≤ length w2
+  pub output : leastOutput ≤ length out
 
 -- a rule's reach is its root's
 unfoldable pub ruleReach : Option Rule → ℕ
@@ -48,7 +50,7 @@ ofContext text r o = contextHas (sheetIn text) (getElem? (sheetIn text .rules) r
 -- is formed; or a stop
 pub data Ending (m : Model) (t : Ty) : Verdict → Type 0 where
   undefined-end : {n : ℕ} → Ending m t (record { number = 0; steps = n; place = 0; output = bytes "u" })
-  value-end : {n : ℕ} (v : Value) → T (belongs m t v) → size v ≤ 128 → T (numbersKept v) → Formed v
+  value-end : {n : ℕ} (v : Value) → T (belongs m t v) → size v ≤ largest → T (numbersKept v) → Formed v
       → Ending m t (record { number = 0; steps = n; place = 0; output = spellValue v })
   stop-end : {c n : ℕ} → Stop c → Ending m t (record { number = c; steps = n; place = 0; output = [] })
 
@@ -60,7 +62,7 @@ pub record SoundCall (text : Bytes) (r o : ℕ) (t : Ty) (v : Verdict) : Type 0 
   -- the steps are within the rule's reach
   pub in-reach : v .steps ≤ reachOf text r
   -- no step stop where the reach is within the limit
-  pub no-step-stop : reachOf text r ≤ 1000000 → v .number ≢ 16
+  pub no-step-stop : reachOf text r ≤ mostSteps → v .number ≢ 16
 
 -- the text is accepted, rule r's type, which is its line, is t, and object o is of its context class or below
 abbrev pub Demand3 : Type 0

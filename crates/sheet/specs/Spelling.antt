@@ -12,7 +12,7 @@ use Rattle.ocl.specs.Types.{Simple, any, boolean, integer, class, Kind, set, se
 use Rattle.ocl.specs.Values.{Value, bool, num, obj, coll, Values, nil, cons}
 use Rattle.sheet.specs.Text.{Bytes, byte, bytes, Parser, nothing, literal, behind, _or_, _then_, mapped, whole, numberParser, integerParser, realParser, spellNumber, spellInteger}
 
--- ---- types
+-- ---- "`Void`, `Bool`, `Int`, `Any`, `#c` (class c), and `S`, `Q`, `B` or `C` (Collection) around a type, as `S(#2)`"
 
 -- a letter, a bracket, a type, a bracket
 unfoldable pub collectionType : String → Letter → Parser Ty → Parser Ty
@@ -55,7 +55,7 @@ spellType void = bytes "Void"
 spellType (simple a) = spellSimple a
 spellType (around l t) = letterByte l ∷ byte "(" ∷ spellType t ++ bytes ")"
 
--- ---- values, undefined left out: it is no value of a sheet and no member
+-- ---- values, undefined left out: a V line's value "holds no `u` (else 3)", and "Undefined is never a member"
 
 -- a value, a collection's members after its bracket, and those after a member, in at most n parts
 unfoldable mutual

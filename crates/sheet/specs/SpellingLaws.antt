@@ -14,7 +14,9 @@ use Rattle.laws.specs.Lists.{Each}
 use Rattle.reals.specs.Reals.{Real, isBinary64, int, real, inRange, kept}
 use Rattle.reals.specs.Spelling.{spellReal, Reading, reads, refused, readReal}
 use Rattle.ocl.specs.Types.{Ty, depth}
-use Rattle.ocl.specs.Values.{Value, size, everyPart, bool, num, obj, coll}
+use Rattle.ocl.specs.Values.{Value, size, everyPart, bool, num, obj, coll, largest}
+use Rattle.ocl.specs.Evaluation.{mostSteps}
+use Rattle.sheet.specs.Sizes.{mostClasses}
 use Rattle.sheet.specs.Text.{Bytes, split, Parser, whole, isDigit, plain, numberParser, integerParser, spellNumber, spellInteger, realParser}
 use Rattle.sheet.specs.Spelling.{readType, spellType, readValue, spellValue}
 use Rattle.sheet.specs.Limits.{classBelow, partWithin}
@@ -78,15 +80,15 @@ pub record LengthLaws : Type 0 where
   -- below the k-th power of ten there are at most k digits
   pub number-length : (k n : ℕ) → 1 ≤ k → n < 10 ^ k → length (spellNumber n) ≤ k
   -- so many digits has a number of steps at most
-  pub steps-length : (n : ℕ) → n ≤ 1000000 → length (spellNumber n) ≤ 7
+  pub steps-length : (n : ℕ) → n ≤ mostSteps → length (spellNumber n) ≤ 7
   -- ten digits and a sign
   pub integer-length : (z : ℤ) → T (inRange z) → length (spellInteger z) ≤ 11
   -- a letter and sixteen digits
   pub real-length : (r : Real) → length (spellReal r) ≡ 17
   -- three letters with their brackets, and four bytes
-  pub type-length : (t : Ty) → depth t ≤ 3 → T (classBelow 64 t) → length (spellType t) ≤ 13
+  pub type-length : (t : Ty) → depth t ≤ 3 → T (classBelow mostClasses t) → length (spellType t) ≤ 13
   -- eighteen bytes for each part: seventeen of a Real, and one that separates it from the next
-  pub value-length : (v : Value) → T (everyPart partWithin v) → size v ≤ 128 → length (spellValue v) ≤ 2304
+  pub value-length : (v : Value) → T (everyPart partWithin v) → size v ≤ largest → length (spellValue v) ≤ 2304
 
 -- ---- separators
 

@@ -33,11 +33,11 @@ unfoldable pub split : ℕ → Bytes → List Bytes
 split sep [] = [] ∷ []
 split sep (b ∷ s) = if eqb b sep then [] ∷ split sep s else onto b (split sep s)
 
--- a line feed ends each line, so the last part of a text is empty or a line without its line feed
+-- "each line ends in a line feed": so the last part of a text is empty, or a line without its line feed
 unfoldable pub linesOf : Bytes → List Bytes
 linesOf text = split 10 text
 
--- a tab separates two fields
+-- "fields parted by one tab"
 unfoldable pub fieldsOf : Bytes → List Bytes
 fieldsOf line = split 9 line
 
@@ -86,7 +86,7 @@ atEnd x (b ∷ s) = none
 unfoldable pub whole : {A : Type 0} → Parser A → Bytes → Option A
 whole p s = onSome (p s) (λ x. atEnd (x .0) (x .1))
 
--- ---- numbers: decimal, no leading zero, no `-0`
+-- ---- "Numbers are in decimal, a minus on Integers only, no leading zero, no `-0`"
 
 unfoldable pub isDigit : ℕ → Bool
 isDigit b = leb 48 b && leb b 57

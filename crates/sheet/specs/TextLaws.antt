@@ -9,6 +9,7 @@ use lib.ListN.{length, getD}
 use lib.Dec.{T, leb}
 use Rattle.laws.specs.Choice.{if_then_else_}
 use Rattle.ocl.specs.Forms.{Expr, node, Form, Operands, noOperand, operand, Definition, levels}
+use Rattle.sheet.specs.Sizes.{mostBytes}
 use Rattle.sheet.specs.Text.{Bytes, byte, bytes, linesOf, fieldsOf}
 use Rattle.sheet.specs.SpellingLaws.{joined}
 use Rattle.sheet.specs.NodeSpelling.{nodeTexts}
@@ -146,7 +147,7 @@ pub record Rewritten (text nodes : Bytes) : Type 0 where
   pub sheet : Sheet
   pub reads : readText text ≡ accepted sheet
   pub in-lines : InNodeLines (linesOf text) (linesOf nodes)
-  pub short : length nodes ≤ 49152
+  pub short : length nodes ≤ mostBytes
 
 -- all but the place
 pub record SameAnswer (v w : Verdict) : Type 0 where

@@ -5,6 +5,7 @@ use mathlib.Core.List.{List, [], _∷_}
 use Prim.Native.Nat.{ℕ, suc, pred}
 use lib.Dec.{ltb}
 use Rattle.laws.specs.Choice.{if_then_else_}
+use Rattle.sheet.specs.Sizes.{mostOpen}
 use Rattle.sheet.specs.Text.{Bytes, bytes}
 use Rattle.sheet.specs.Lines.{Shape, Line, classLine, rowLine, objectLine, valueLine, definitionLine, ruleLine, nodeLine, textLine, is}
 use Rattle.sheet.specs.Grammar.Tokens.{Tokens, tokens}
@@ -25,7 +26,7 @@ closes w = is w (bytes ")") || is w (bytes "}") || is w (bytes "endif")
 unfoldable pub fewOpen : ℕ → Tokens → Bool
 fewOpen d [] = true
 fewOpen d (w ∷ s) =
-    if opens w then ltb d 64 && fewOpen (suc d) s
+    if opens w then ltb d mostOpen && fewOpen (suc d) s
     else if closes w then fewOpen (pred d) s
     else fewOpen d s
 

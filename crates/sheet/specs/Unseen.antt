@@ -15,6 +15,7 @@ use Rattle.sheet.specs.Reading.{sheetIn}
 use Rattle.sheet.specs.Calls.{wordsAfter, outputAfter, readCall, evaluateCall}
 use Rattle.sheet.specs.Rows.{rowsSeen, rowsInto, rowsCall, rowsProgram}
 use Rattle.sheet.specs.Soundness.{Lent}
+use Rattle.sheet.specs.Sizes.{programOutput}
 
 -- the rows that rule r sees; none where there is no such rule
 unfoldable pub seenBy : Sheet → Option Rule → List ℕ
@@ -100,4 +101,4 @@ RowsExact =
     → RowsSaid text (rowsCall text w0 w1 w2 out .output)
 
 abbrev pub RowsPrinted : Type 0
-RowsPrinted = (text : Bytes) → rowsInto text 65536 .number ≡ 0 → RowsSaid text (rowsProgram text)
+RowsPrinted = (text : Bytes) → rowsInto text programOutput .number ≡ 0 → RowsSaid text (rowsProgram text)

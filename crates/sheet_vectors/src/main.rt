@@ -1,12 +1,11 @@
-// A program for the gate: it prints the name of each file that its arguments name, and then what the program prints for it. It
+// A program for the gate: it prints the name of each file that its arguments name, and then what `ocl_report` prints for it. It
 // depends on `printing`.
 use libc::STDOUT_FILENO;
 use printing::printed_text;
 
 fn print_input(fd: i32, name: &[u8]) {
-    // one byte more than a sheet may have, so that a sheet which is too long still is after reading
-    let mut text: [u8; 49153] = [0; 49153];
-    let mut out: [u8; 65536] = [0; 65536];
+    let mut text: [u8; memory::PROGRAM_TEXT] = [0; memory::PROGRAM_TEXT];
+    let mut out: [u8; memory::PROGRAM_OUTPUT] = [0; memory::PROGRAM_OUTPUT];
     let n = io::read_full(fd, &mut text);
     let end = printed_text(&text[..n], &mut out);
     io::write_all(STDOUT_FILENO, name);

@@ -11,6 +11,7 @@ use lib.Seq.{slice, length-slice, take-take, drop-drop, length-take-le}
 use lib.Dec.{T, ltb, leb, leb→le}
 use Rattle.laws.proofs.Tests.{and-l, and-r, test-true, test-fails}
 use Rattle.laws.proofs.Slices.{cut-part}
+use Rattle.memory.specs.Map as memory
 use Rattle.ocl.specs.Values.{Value, size}
 use Rattle.sheet.specs.Text.{Bytes, bytes, fieldsOf}
 use Rattle.sheet.specs.Lines.{Line, valueLine, is, next, done, aNumber, lineOf}
@@ -96,30 +97,30 @@ module _ {line : Bytes} {f : Fields} (cut : Cut line f) (letter : is (getD (fiel
 
 -- ---- the words after the value is read
 
-module _ (A B : List ℕ) (e : ℕ) (front : take e A ≡ take e B) (same : length A ≡ length B) (room : 4448 ≤ length B) (low : e ≤ 4448) where
+module _ (A B : List ℕ) (e : ℕ) (front : take e A ≡ take e B) (same : length A ≡ length B) (room : memory.cellsEnd ≤ length B) (low : e ≤ memory.cellsEnd) where
   tab-front : (off m : ℕ) → off + m ≤ e → tab off m A ≡ tab off m B
   tab-front off m h =
       sym (cut-part off m A (omega arith))
       ∙ ap (drop off) (sym (take-take (off + m) e A h) ∙ ap (take (off + m)) front ∙ take-take (off + m) e B h)
       ∙ cut-part off m B (omega arith)
 
-tab-back : (A B : List ℕ) → drop 4448 A ≡ drop 4448 B → (off m : ℕ) → 4448 ≤ off → tab off m A ≡ tab off m B
+tab-back : (A B : List ℕ) → drop memory.cellsEnd A ≡ drop memory.cellsEnd B → (off m : ℕ) → memory.cellsEnd ≤ off → tab off m A ≡ tab off m B
 tab-back A B back off m h =
-    let z : 4448 + (off - 4448) ≡ off = omega arith in
-    ap (take m) (ap (λ (i : ℕ). drop i A) (sym z) ∙ sym (drop-drop (off - 4448) 4448 A) ∙ ap (drop (off - 4448)) back ∙ drop-drop (off - 4448) 4448 B ∙ ap (λ (i : ℕ). drop i B) z)
+    let z : memory.cellsEnd + (off - memory.cellsEnd) ≡ off = omega arith in
+    ap (take m) (ap (λ (i : ℕ). drop i A) (sym z) ∙ sym (drop-drop (off - memory.cellsEnd) memory.cellsEnd A) ∙ ap (drop (off - memory.cellsEnd)) back ∙ drop-drop (off - memory.cellsEnd) memory.cellsEnd B ∙ ap (λ (i : ℕ). drop i B) z)
 
 -- what lies behind the first n cells is all that may differ
-module _ {st : Counts} {n : ℕ} (A B : List ℕ) (front : take (2400 + n) A ≡ take (2400 + n) B) (back : drop 4448 A ≡ drop 4448 B) (count : n ≡ st .cells) (same : length A ≡ length B) (room : 8192 ≤ length B) (fine : Fine st) where
-  low-tab : (off m : ℕ) → off + m ≤ 2400 + n → tab off m A ≡ tab off m B
-  low-tab = tab-front A B (2400 + n) front same (omega arith) (let c = fine .cells in omega arith)
+module _ {st : Counts} {n : ℕ} (A B : List ℕ) (front : take (memory.cells + n) A ≡ take (memory.cells + n) B) (back : drop memory.cellsEnd A ≡ drop memory.cellsEnd B) (count : n ≡ st .cells) (same : length A ≡ length B) (room : 8192 ≤ length B) (fine : Fine st) where
+  low-tab : (off m : ℕ) → off + m ≤ memory.cells + n → tab off m A ≡ tab off m B
+  low-tab = tab-front A B (memory.cells + n) front same (omega arith) (let c = fine .cells in omega arith)
 
-  high-tab : (off m : ℕ) → 4448 ≤ off → tab off m A ≡ tab off m B
+  high-tab : (off m : ℕ) → memory.cellsEnd ≤ off → tab off m A ≡ tab off m B
   high-tab = tab-back A B back
 
   pub kept-behind : Kept B A
   kept-behind = record {
     size = same;
-    rest = sym (drop-drop 3744 4448 A) ∙ ap (drop 3744) back ∙ drop-drop 3744 4448 B;
+    rest = sym (drop-drop 3744 memory.cellsEnd A) ∙ ap (drop 3744) back ∙ drop-drop 3744 memory.cellsEnd B;
   }
 
   pub holds-behind : {w1 : List ℕ} {s : Sheet} → Holds st B w1 s → Holds st A w1 s
@@ -128,29 +129,29 @@ module _ {st : Counts} {n : ℕ} (A B : List ℕ) (front : take (2400 + n) A ≡
       record {
         counted = h .counted;
         tables = record {
-          parents = low-tab 0 (length (s .parents)) (omega (arith, c .classes, fine .classes)) ∙ h .tables .parents;
+          parents = low-tab memory.parents (length (s .parents)) (omega (arith, c .classes, fine .classes)) ∙ h .tables .parents;
           smaller = h .tables .smaller;
-          owners = low-tab 64 (length (s .rows)) (omega (arith, c .rows, fine .rows)) ∙ h .tables .owners;
-          names = low-tab 128 (length (s .rows)) (omega (arith, c .rows, fine .rows)) ∙ h .tables .names;
-          types = ap (map typeIn) (low-tab 192 (length (s .rows)) (omega (arith, c .rows, fine .rows))) ∙ h .tables .types;
-          objects = low-tab 256 (length (s .objects)) (omega (arith, c .objects, fine .objects)) ∙ h .tables .objects;
-          keys = low-tab 352 (length (s .slots)) (omega (arith, c .slots, fine .slots)) ∙ h .tables .keys;
-          starts = low-tab 1376 (length (s .slots)) (omega (arith, c .slots, fine .slots)) ∙ h .tables .starts;
-          cells = low-tab 2400 (totalSize (s .slots)) (omega (arith, c .cells)) ∙ h .tables .cells;
+          owners = low-tab memory.owners (length (s .rows)) (omega (arith, c .rows, fine .rows)) ∙ h .tables .owners;
+          names = low-tab memory.names (length (s .rows)) (omega (arith, c .rows, fine .rows)) ∙ h .tables .names;
+          types = ap (map typeIn) (low-tab memory.types (length (s .rows)) (omega (arith, c .rows, fine .rows))) ∙ h .tables .types;
+          objects = low-tab memory.objects (length (s .objects)) (omega (arith, c .objects, fine .objects)) ∙ h .tables .objects;
+          keys = low-tab memory.keys (length (s .slots)) (omega (arith, c .slots, fine .slots)) ∙ h .tables .keys;
+          starts = low-tab memory.starts (length (s .slots)) (omega (arith, c .slots, fine .slots)) ∙ h .tables .starts;
+          cells = low-tab memory.cells (totalSize (s .slots)) (omega (arith, c .cells)) ∙ h .tables .cells;
           fits = h .tables .fits;
-          contexts = high-tab 4448 (length (s .rules)) (omega arith) ∙ h .tables .contexts;
+          contexts = high-tab memory.contexts (length (s .rules)) (omega arith) ∙ h .tables .contexts;
         };
         definitions = record {
-          contexts = high-tab 4576 (length (s .definitions)) (omega arith) ∙ h .definitions .contexts;
-          classes = rw (high-tab 4576 (length (s .definitions)) (omega arith)) (h .definitions .classes);
-          types = ap (map typeIn) (high-tab 4608 (length (s .definitions)) (omega arith)) ∙ h .definitions .types;
-          bodies = ap (map (treeAt w1)) (high-tab 4640 (length (s .definitions)) (omega arith)) ∙ h .definitions .bodies;
-          roots = rw (high-tab 4640 (length (s .definitions)) (omega arith)) (h .definitions .roots);
-          depths = rw (high-tab 4640 (length (s .definitions)) (omega arith)) (h .definitions .depths);
+          contexts = high-tab memory.definitionContexts (length (s .definitions)) (omega arith) ∙ h .definitions .contexts;
+          classes = rw (high-tab memory.definitionContexts (length (s .definitions)) (omega arith)) (h .definitions .classes);
+          types = ap (map typeIn) (high-tab memory.definitionTypes (length (s .definitions)) (omega arith)) ∙ h .definitions .types;
+          bodies = ap (map (treeAt w1)) (high-tab memory.definitionRoots (length (s .definitions)) (omega arith)) ∙ h .definitions .bodies;
+          roots = rw (high-tab memory.definitionRoots (length (s .definitions)) (omega arith)) (h .definitions .roots);
+          depths = rw (high-tab memory.definitionRoots (length (s .definitions)) (omega arith)) (h .definitions .depths);
         };
         rules = record {
-          bodies = ap (map (treeAt w1)) (high-tab 4512 (length (s .rules)) (omega arith)) ∙ h .rules .bodies;
-          roots = rw (high-tab 4512 (length (s .rules)) (omega arith)) (h .rules .roots);
+          bodies = ap (map (treeAt w1)) (high-tab memory.roots (length (s .rules)) (omega arith)) ∙ h .rules .bodies;
+          roots = rw (high-tab memory.roots (length (s .rules)) (omega arith)) (h .rules .roots);
           lines = h .rules .lines;
         };
         current = h .current;
@@ -165,8 +166,8 @@ module _ {st : Counts} {f : Bytes} {n : ℕ} {A B : List ℕ} {r : Read} (got : 
 
 -- ---- the answers
 
-wide : (A : List ℕ) (n : ℕ) → 8192 ≤ length A → n ≤ 2048 → length (slice (2400 + n) 4448 A) ≡ 2048 - n
-wide A n room h = length-slice (2400 + n) 4448 A (omega arith) ∙ omega arith
+wide : (A : List ℕ) (n : ℕ) → 8192 ≤ length A → n ≤ 2048 → length (slice (memory.cells + n) memory.cellsEnd A) ≡ 2048 - n
+wide A n room h = length-slice (memory.cells + n) memory.cellsEnd A (omega arith) ∙ omega arith
 
 pub bad-value : {f : Bytes} {A : List ℕ} → ReadIs f A read.Bad → readValue f ≡ none
 bad-value (read-bad e) = e
@@ -174,9 +175,9 @@ bad-value (read-bad e) = e
 pub read-sizes : {st : Counts} {f : Bytes} {n i : ℕ} {A B : List ℕ} → n ≡ st .cells → length A ≡ length B → 8192 ≤ length B → Fine st → ReadInto f n B A (read.Is i) → (0 < i) × (st .cells + i ≤ 2048)
 read-sizes {st} {f} {n} {i} {A} {B} count same room fine got = go (got .is)
   where
-    go : ReadIs f (slice (2400 + n) 4448 A) (read.Is i) → (0 < i) × (st .cells + i ≤ 2048)
+    go : ReadIs f (slice (memory.cells + n) memory.cellsEnd A) (read.Is i) → (0 < i) × (st .cells + i ≤ 2048)
     go (read-is v e m z t) =
-        let y = may-be (length (slice (2400 + n) 4448 A)) v (rw m tt) in
+        let y = may-be (length (slice (memory.cells + n) memory.cellsEnd A)) v (rw m tt) in
         let l = y .fits in
         let c = fine .cells in
         (omega (arith, some-cells v, size-law v), omega (arith, wide A n (omega arith) (omega arith)))
@@ -193,19 +194,19 @@ module _ {st : Counts} {k : ℕ} {line : Bytes} (w1 : List ℕ) where
         clash : false ≡ true → ⊥
         clash e = true≢false (sym e)
 
-        sure : (s : Sheet) (v : Value) → Holds st B w1 s → T (withinLimits s (valueLine o a v)) → mayBe (length (slice (2400 + n) 4448 A)) v ≡ true
+        sure : (s : Sheet) (v : Value) → Holds st B w1 s → T (withinLimits s (valueLine o a v)) → mayBe (length (slice (memory.cells + n) memory.cellsEnd A)) v ≡ true
         sure s v h t =
             let x = and-l (ltb o 96 && ltb a 64 && valueWithin v && ltb (length (s .slots)) 1024) (leb (totalSize (s .slots) + size v) 2048) t in
             let y = and-l (ltb o 96 && ltb a 64 && valueWithin v) (ltb (length (s .slots)) 1024) x in
             let l = leb→le (totalSize (s .slots) + size v) 2048 (and-r (ltb o 96 && ltb a 64 && valueWithin v && ltb (length (s .slots)) 1024) (leb (totalSize (s .slots) + size v) 2048) t) in
             let z = h .counted .cells in
-            rw (test-true (valueWithin v) (and-r (ltb o 96 && ltb a 64) (valueWithin v) y)) (le-leb (size v) (length (slice (2400 + n) 4448 A)) (let c = fine .cells in omega (arith, wide A n (omega arith) (omega arith))))
+            rw (test-true (valueWithin v) (and-r (ltb o 96 && ltb a 64) (valueWithin v) y)) (le-leb (size v) (length (slice (memory.cells + n) memory.cellsEnd A)) (let c = fine .cells in omega (arith, wide A n (omega arith) (omega arith))))
 
-        never : (s : Sheet) (v : Value) → Holds st B w1 s → mayBe (length (slice (2400 + n) 4448 A)) v ≡ false → withinLimits s (valueLine o a v) ≡ false
+        never : (s : Sheet) (v : Value) → Holds st B w1 s → mayBe (length (slice (memory.cells + n) memory.cellsEnd A)) v ≡ false → withinLimits s (valueLine o a v) ≡ false
         never s v h m =
             test-fails (withinLimits s (valueLine o a v)) (λ t. clash (sym m ∙ sure s v h t))
 
-        go : ReadIs f (slice (2400 + n) 4448 A) read.Over → TookSlot st k line (code.Stop 4) B w1 A w1
+        go : ReadIs f (slice (memory.cells + n) memory.cellsEnd A) read.Over → TookSlot st k line (code.Stop 4) B w1 A w1
         go (read-over v e m) = record {
           is = λ s h q. rw (step-line s k (fieldsOf line) (value-plain o a v) (spelled v e), over-limits s k (valueLine o a v) (never s v h m)) moved-stop;
           kept0 = kept-read got count same room fine;
@@ -216,20 +217,20 @@ module _ {st : Counts} {k : ℕ} {line : Bytes} (w1 : List ℕ) where
     unfolding mayBe
     line-put {i} {p} {q} {r} {C} got took po qa = go (got .is)
       where
-        within : (v : Value) → mayBe (length (slice (2400 + n) 4448 A)) v ≡ true → valueWithin v ≡ true
-        within v m = test-true (valueWithin v) (and-l (valueWithin v) (leb (size v) (length (slice (2400 + n) 4448 A))) (rw m tt))
+        within : (v : Value) → mayBe (length (slice (memory.cells + n) memory.cellsEnd A)) v ≡ true → valueWithin v ≡ true
+        within v m = test-true (valueWithin v) (and-l (valueWithin v) (leb (size v) (length (slice (memory.cells + n) memory.cellsEnd A))) (rw m tt))
 
-        lies : (v : Value) → (0 < i) × (st .cells + i ≤ 2048) → take i (slice (2400 + n) 4448 A) ≡ enc v → slice (2400 + st .cells) (2400 + st .cells + i) A ≡ enc v
+        lies : (v : Value) → (0 < i) × (st .cells + i ≤ 2048) → take i (slice (memory.cells + n) memory.cellsEnd A) ≡ enc v → slice (memory.cells + st .cells) (memory.cells + st .cells + i) A ≡ enc v
         lies v d t =
             let l = d .1 in
-            ap (drop (2400 + st .cells)) (sym (take-take (2400 + st .cells + i) 4448 A (omega arith)))
-            ∙ cut-part (2400 + st .cells) i (take 4448 A) (omega (arith, length-take-le 4448 A (omega arith)))
-            ∙ ap (λ (j : ℕ). take i (slice (2400 + j) 4448 A)) (sym count)
+            ap (drop (memory.cells + st .cells)) (sym (take-take (memory.cells + st .cells + i) memory.cellsEnd A (omega arith)))
+            ∙ cut-part (memory.cells + st .cells) i (take memory.cellsEnd A) (omega (arith, length-take-le memory.cellsEnd A (omega arith)))
+            ∙ ap (λ (j : ℕ). take i (slice (memory.cells + j) memory.cellsEnd A)) (sym count)
             ∙ t
 
-        go : ReadIs f (slice (2400 + n) 4448 A) (read.Is i) → TookSlot st k line r B w1 C w1
+        go : ReadIs f (slice (memory.cells + n) memory.cellsEnd A) (read.Is i) → TookSlot st k line r B w1 C w1
         go (read-is v e m z t) =
-            let y = may-be (length (slice (2400 + n) 4448 A)) v (rw m tt) in
+            let y = may-be (length (slice (memory.cells + n) memory.cellsEnd A)) v (rw m tt) in
             let d = read-sizes count same room fine got in
             let at : ValueAt st A i v = record { fits = within-fits v (y .parts) (let x = y .small in omega arith); lies = lies v d t } in
             record {

@@ -118,7 +118,7 @@ real-part {f} {at} h k got is =
         ap realParser (sym (take-append-drop 17 (drop at f)) ∙ ap (λ (s : Bytes). take 17 (drop at f) ++ s) (drop-drop 17 at f))
         ∙ front-real (take 17 (drop at f)) (drop (at + 17) f) (length-take-le 17 (drop at f) (omega (arith, length-drop at f)))
 
--- ---- what `valueWithin` makes of the first byte
+-- ---- what `valueParser` makes of the first byte
 
 two-more : (at : ℕ) → at + 1 + 1 ≡ at + 2
 two-more at = omega arith

@@ -12,6 +12,7 @@ use lib.Dec.{ltb}
 use Rattle.laws.specs.Lists.{each-nil, each-cons, concat}
 use Rattle.laws.proofs.Lists.{length-more, each-append}
 use Rattle.laws.proofs.Slices.{cut-part}
+use Rattle.memory.specs.Map as memory
 use Rattle.ocl.specs.Values.{Value, size, everyPart}
 use Rattle.sheet.specs.Lines.{valueLine}
 use Rattle.sheet.specs.Sheet.{Slot, Sheet, added}
@@ -44,28 +45,28 @@ module _ (st : Counts) (k o a n : ℕ) (w0 w1 : List ℕ) (room : 8192 ≤ lengt
   key = o * 64 + a
 
   abbrev keyed : List ℕ
-  keyed = set w0 (352 + st .slots) key
+  keyed = set w0 (memory.keys + st .slots) key
 
   abbrev stored : List ℕ
-  stored = set keyed (1376 + st .slots) (st .cells)
+  stored = set keyed (memory.starts + st .slots) (st .cells)
 
   kept-words : Kept w0 stored
-  kept-words = kept-then (kept-set w0 (352 + st .slots) key (omega arith)) (kept-set keyed (1376 + st .slots) (st .cells) (omega arith))
+  kept-words = kept-then (kept-set w0 (memory.keys + st .slots) key (omega arith)) (kept-set keyed (memory.starts + st .slots) (st .cells) (omega arith))
 
-  new-cells : {v : Value} → ValueAt st w0 n v → take n (drop (st .cells) (drop 2400 stored)) ≡ enc v
+  new-cells : {v : Value} → ValueAt st w0 n v → take n (drop (st .cells) (drop memory.cells stored)) ≡ enc v
   new-cells at =
-      ap (take n) (drop-drop (st .cells) 2400 stored ∙ drop-set-lt (2400 + st .cells) keyed (1376 + st .slots) (st .cells) (omega arith) ∙ drop-set-lt (2400 + st .cells) w0 (352 + st .slots) key (omega arith))
-      ∙ sym (cut-part (2400 + st .cells) n w0 (omega arith))
+      ap (take n) (drop-drop (st .cells) memory.cells stored ∙ drop-set-lt (memory.cells + st .cells) keyed (memory.starts + st .slots) (st .cells) (omega arith) ∙ drop-set-lt (memory.cells + st .cells) w0 (memory.keys + st .slots) key (omega arith))
+      ∙ sym (cut-part (memory.cells + st .cells) n w0 (omega arith))
       ∙ at .lies
 
-  key-there : getD stored (352 + st .slots) 0 ≡ key
-  key-there = getD-set-other keyed (1376 + st .slots) (352 + st .slots) (st .cells) 0 (λ e. omega arith) ∙ getD-set-same w0 (352 + st .slots) key 0 (omega arith)
+  key-there : getD stored (memory.keys + st .slots) 0 ≡ key
+  key-there = getD-set-other keyed (memory.starts + st .slots) (memory.keys + st .slots) (st .cells) 0 (λ e. omega arith) ∙ getD-set-same w0 (memory.keys + st .slots) key 0 (omega arith)
 
-  start-there : getD stored (1376 + st .slots) 0 ≡ st .cells
-  start-there = getD-set-same keyed (1376 + st .slots) (st .cells) 0 (rw (length-set w0 (352 + st .slots) key) (omega arith))
+  start-there : getD stored (memory.starts + st .slots) 0 ≡ st .cells
+  start-there = getD-set-same keyed (memory.starts + st .slots) (st .cells) 0 (rw (length-set w0 (memory.keys + st .slots) key) (omega arith))
 
   long : length stored ≡ length w0
-  long = length-set keyed (1376 + st .slots) (st .cells) ∙ length-set w0 (352 + st .slots) key
+  long = length-set keyed (memory.starts + st .slots) (st .cells) ∙ length-set w0 (memory.keys + st .slots) key
 
   slot-held : (s : Sheet) (v : Value) → Holds st w0 w1 s → ValueAt st w0 n v → n ≡ size v → Holds (slotCounts st n) stored w1 (added s k (valueLine o a v))
   unfolding added slotKey
@@ -94,19 +95,19 @@ module _ (st : Counts) (k o a n : ℕ) (w0 w1 : List ℕ) (room : 8192 ≤ lengt
           names = g .tables .names;
           types = g .tables .types;
           objects = g .tables .objects;
-          keys = tab-more-of slotKey 352 stored (s .slots) x (omega arith) (g .tables .keys) (ap (λ (i : ℕ). getD stored (352 + i) 0) (sym m) ∙ key-there);
+          keys = tab-more-of slotKey memory.keys stored (s .slots) x (omega arith) (g .tables .keys) (ap (λ (i : ℕ). getD stored (memory.keys + i) 0) (sym m) ∙ key-there);
           starts =
-              ap (λ (i : ℕ). tab 1376 i stored) (length-more (s .slots) x)
-              ∙ tab-next 1376 (length (s .slots)) stored (omega arith)
-              ∙ ap (λ (t : List ℕ). t ++ (getD stored (1376 + length (s .slots)) 0 ∷ [])) (g .tables .starts)
-              ∙ ap (λ (i : ℕ). startsFrom 0 (s .slots) ++ (i ∷ [])) (ap (λ (i : ℕ). getD stored (1376 + i) 0) (sym m) ∙ start-there ∙ c ∙ omega arith)
+              ap (λ (i : ℕ). tab memory.starts i stored) (length-more (s .slots) x)
+              ∙ tab-next memory.starts (length (s .slots)) stored (omega arith)
+              ∙ ap (λ (t : List ℕ). t ++ (getD stored (memory.starts + length (s .slots)) 0 ∷ [])) (g .tables .starts)
+              ∙ ap (λ (i : ℕ). startsFrom 0 (s .slots) ++ (i ∷ [])) (ap (λ (i : ℕ). getD stored (memory.starts + i) 0) (sym m) ∙ start-there ∙ c ∙ omega arith)
               ∙ sym (starts-more 0 (s .slots) x);
           cells =
-              ap (λ (i : ℕ). tab 2400 i stored) (size-more (s .slots) x)
-              ∙ take-add (totalSize (s .slots)) (size v) (drop 2400 stored)
-              ∙ ap (λ (t : List ℕ). t ++ take (size v) (drop (totalSize (s .slots)) (drop 2400 stored))) (g .tables .cells)
-              ∙ ap (λ (i : ℕ). cellsOf (s .slots) ++ take i (drop (totalSize (s .slots)) (drop 2400 stored))) (sym e)
-              ∙ ap (λ (i : ℕ). cellsOf (s .slots) ++ take n (drop i (drop 2400 stored))) (sym c)
+              ap (λ (i : ℕ). tab memory.cells i stored) (size-more (s .slots) x)
+              ∙ take-add (totalSize (s .slots)) (size v) (drop memory.cells stored)
+              ∙ ap (λ (t : List ℕ). t ++ take (size v) (drop (totalSize (s .slots)) (drop memory.cells stored))) (g .tables .cells)
+              ∙ ap (λ (i : ℕ). cellsOf (s .slots) ++ take i (drop (totalSize (s .slots)) (drop memory.cells stored))) (sym e)
+              ∙ ap (λ (i : ℕ). cellsOf (s .slots) ++ take n (drop i (drop memory.cells stored))) (sym c)
               ∙ ap (λ (t : List ℕ). cellsOf (s .slots) ++ t) (new-cells at)
               ∙ sym (cells-more (s .slots) x);
           fits = each-append (g .tables .fits) (each-cons (at .fits) each-nil);
@@ -197,7 +198,7 @@ module _ (st : Counts) (k : ℕ) {o a n : ℕ} (w0 w1 : List ℕ) where
               }
 
               pub slot-taken : (room : 8192 ≤ length w0) (fine : Fine st) {v0 : List ℕ} {su : Counts} → d ≡ true → su ≡ slotCounts st n
-                  → v0 ≡ set (set w0 (352 + st .slots) (o * 64 + a)) (1376 + st .slots) (st .cells) → SlotTook st k o a n (Next su) w0 w1 v0
+                  → v0 ≡ set (set w0 (memory.keys + st .slots) (o * 64 + a)) (memory.starts + st .slots) (st .cells) → SlotTook st k o a n (Next su) w0 w1 v0
               unfolding callsSmaller callsKnown treeHolds
               slot-taken room fine z ce ve = rw (ce, ve) (record {
                 is = λ s p q v g m at e w eo ea.

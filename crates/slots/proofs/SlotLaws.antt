@@ -13,6 +13,7 @@ use borrow.Rule.Slice.PartMut.{putMid, postOf, take-put, drop-put}
 use Rattle.laws.specs.Lists.{Each, each-cons}
 use Rattle.laws.proofs.Slices.{cut-part}
 use Rattle.laws.proofs.Elements.{getD-map}
+use Rattle.memory.specs.Map as memory
 use Rattle.ocl.specs.Types.{class, Ty}
 use Rattle.ocl.specs.Values.{Value, everyPart}
 use Rattle.ocl.specs.Model.{Row, isA, belongs}
@@ -36,19 +37,19 @@ use Rattle.slots.specs.Slots.{SmallRows, ReadInto, lastBefore, ValueAt, 
 
 -- ---- the cells behind the first n
 
-module _ (f : Bytes) (n : ℕ) (B ys : List ℕ) (h : n ≤ 2048) (room : 8192 ≤ length B) (long : length ys ≡ 4448 - (2400 + n)) where
-  part-there : slice (2400 + n) 4448 (putMid (2400 + n) (4448 - (2400 + n)) B ys) ≡ ys
+module _ (f : Bytes) (n : ℕ) (B ys : List ℕ) (h : n ≤ 2048) (room : 8192 ≤ length B) (long : length ys ≡ memory.cellsEnd - (memory.cells + n)) where
+  part-there : slice (memory.cells + n) memory.cellsEnd (putMid (memory.cells + n) (memory.cellsEnd - (memory.cells + n)) B ys) ≡ ys
   part-there =
-      let a = length-take-le (2400 + n) B (omega arith) in
-      let b = length-append (take (2400 + n) B) ys in
-      ap (λ (l : List ℕ). drop (2400 + n) (take 4448 l)) (sym (append-assoc (take (2400 + n) B) ys (postOf (2400 + n) (4448 - (2400 + n)) B)))
-      ∙ ap (drop (2400 + n)) (take-at (take (2400 + n) B ++ ys) (postOf (2400 + n) (4448 - (2400 + n)) B) 4448 (omega arith))
-      ∙ drop-at (take (2400 + n) B) ys (2400 + n) a
+      let a = length-take-le (memory.cells + n) B (omega arith) in
+      let b = length-append (take (memory.cells + n) B) ys in
+      ap (λ (l : List ℕ). drop (memory.cells + n) (take memory.cellsEnd l)) (sym (append-assoc (take (memory.cells + n) B) ys (postOf (memory.cells + n) (memory.cellsEnd - (memory.cells + n)) B)))
+      ∙ ap (drop (memory.cells + n)) (take-at (take (memory.cells + n) B ++ ys) (postOf (memory.cells + n) (memory.cellsEnd - (memory.cells + n)) B) memory.cellsEnd (omega arith))
+      ∙ drop-at (take (memory.cells + n) B) ys (memory.cells + n) a
 
-  pub read-into : {r : Read} → ReadIs f ys r → ReadInto f n B (putMid (2400 + n) (4448 - (2400 + n)) B ys) r
+  pub read-into : {r : Read} → ReadIs f ys r → ReadInto f n B (putMid (memory.cells + n) (memory.cellsEnd - (memory.cells + n)) B ys) r
   read-into is = record {
-    front = take-put (2400 + n) (4448 - (2400 + n)) B ys (omega arith);
-    back = drop-put (2400 + n) 4448 B ys (omega arith) (omega arith) long;
+    front = take-put (memory.cells + n) (memory.cellsEnd - (memory.cells + n)) B ys (omega arith);
+    back = drop-put (memory.cells + n) memory.cellsEnd B ys (omega arith) (omega arith) long;
     is = rw part-there is;
   }
 
@@ -58,7 +59,7 @@ pub after-none : (w : List ℕ) {n : ℕ} (key : ℕ) → n ≡ 0 → true ≡ l
 unfolding lastBefore
 after-none w key e = rw e
 
-pub after-some : (w : List ℕ) (n key : ℕ) → (n ≡ 0 → ⊥) → ltb (getD w (352 + n - 1) 0) key ≡ lastBefore w n key
+pub after-some : (w : List ℕ) (n key : ℕ) → (n ≡ 0 → ⊥) → ltb (getD w (memory.keys + n - 1) 0) key ≡ lastBefore w n key
 unfolding lastBefore
 after-some w zero key h = absurd (h refl)
 after-some w (suc n) key h = ap (λ (i : ℕ). ltb (getD w i 0) key) (omega arith)
@@ -75,10 +76,10 @@ keys-last [] k key = refl
 keys-last (l ∷ []) k key = refl
 keys-last (l ∷ m ∷ ks) k key = keys-last (m ∷ ks) k key
 
-last-keys : (w : List ℕ) (n key : ℕ) → 352 + n ≤ length w → lastBefore w n key ≡ keysBefore (tab 352 n w) key
+last-keys : (w : List ℕ) (n key : ℕ) → memory.keys + n ≤ length w → lastBefore w n key ≡ keysBefore (tab memory.keys n w) key
 unfolding lastBefore keysBefore
 last-keys w zero key h = refl
-last-keys w (suc n) key h = sym (ap (λ (l : List ℕ). keysBefore l key) (tab-next 352 n w (omega arith)) ∙ keys-last (tab 352 n w) (getD w (352 + n) 0) key)
+last-keys w (suc n) key h = sym (ap (λ (l : List ℕ). keysBefore l key) (tab-next memory.keys n w (omega arith)) ∙ keys-last (tab memory.keys n w) (getD w (memory.keys + n) 0) key)
 
 one-key : (x : Slot) (o a : ℕ) → x .row < 64 → a < 64 → ltb (slotKey x) (o * 64 + a) ≡ ltb (x .object) o || eqb (x .object) o && ltb (x .row) a
 unfolding slotKey
@@ -99,7 +100,7 @@ slots-keys (x ∷ y ∷ xs) o a l (each-cons h e) = slots-keys (y ∷ xs) o a l 
 last-slot : {st : Counts} {w0 w1 : List ℕ} {s : Sheet} (o a : ℕ) → 8192 ≤ length w0 → Fine st → a < 64 → Holds st w0 w1 s → SmallRows s → lastBefore w0 (st .slots) (o * 64 + a) ≡ afterSlots (s .slots) o a
 last-slot {st} {w0} {w1} {s} o a room fine l h m =
     last-keys w0 (st .slots) (o * 64 + a) (let z = fine .slots in omega arith)
-    ∙ ap (λ (n : ℕ). keysBefore (tab 352 n w0) (o * 64 + a)) (h .counted .slots)
+    ∙ ap (λ (n : ℕ). keysBefore (tab memory.keys n w0) (o * 64 + a)) (h .counted .slots)
     ∙ ap (λ (k : List ℕ). keysBefore k (o * 64 + a)) (h .tables .keys)
     ∙ slots-keys (s .slots) o a l (m .rows)
 
@@ -112,13 +113,13 @@ after-is : {st : Counts} {w0 w1 : List ℕ} {s : Sheet} (o a : ℕ) {b : Bool} �
 after-is o a room fine small last h m = sym (last ∙ last-slot o a room fine small h m)
 
 -- the part of the words that the code takes
-pub part-is : (w : List ℕ) (x : ℕ) {c : ℕ} (n : ℕ) → x ≡ c → take (2400 + x + n - (2400 + x)) (drop (2400 + x) w) ≡ take n (drop (2400 + c) w)
-part-is w x {c} n e = let z : 2400 + x + n - (2400 + x) ≡ n = omega arith in ap (λ (i : ℕ). take i (drop (2400 + x) w)) z ∙ ap (λ (i : ℕ). take n (drop (2400 + i) w)) e
+pub part-is : (w : List ℕ) (x : ℕ) {c : ℕ} (n : ℕ) → x ≡ c → take (memory.cells + x + n - (memory.cells + x)) (drop (memory.cells + x) w) ≡ take n (drop (memory.cells + c) w)
+part-is w x {c} n e = let z : memory.cells + x + n - (memory.cells + x) ≡ n = omega arith in ap (λ (i : ℕ). take i (drop (memory.cells + x) w)) z ∙ ap (λ (i : ℕ). take n (drop (memory.cells + i) w)) e
 
-pub parents-part : (w : List ℕ) (x : ℕ) {c : ℕ} → x ≡ c → take x w ≡ tab 0 c w
+pub parents-part : (w : List ℕ) (x : ℕ) {c : ℕ} → x ≡ c → take x w ≡ tab memory.parents c w
 parents-part w x e = ap (λ (i : ℕ). take i w) e
 
-pub objects-part : (w : List ℕ) (x : ℕ) {c : ℕ} → x ≡ c → take (256 + x - 256) (drop 256 w) ≡ tab 256 c w
+pub objects-part : (w : List ℕ) (x : ℕ) {c : ℕ} → x ≡ c → take (memory.objects + x - 256) (drop 256 w) ≡ tab memory.objects c w
 objects-part w x e = ap (λ (i : ℕ). take i (drop 256 w)) (let z : 256 + x - 256 ≡ x = omega arith in z ∙ e)
 
 module _ {st : Counts} {w0 : List ℕ} {o a n : ℕ} where
@@ -131,11 +132,11 @@ module _ {st : Counts} {w0 : List ℕ} {o a n : ℕ} where
     unfolding inOrder blockOf numbered
     order-slot z = record { is = λ w1 s v h m at. sym (rw (le-leb (s .block) 3 (let e = h .counted .block in omega arith), after-is o a room fine small last h m, z)) }
 
-    pub order-value : {r : Bool} {C : List ℕ} → b ≡ true → 2400 + st .cells ≤ length w0 → C ≡ take n (drop (2400 + st .cells) w0) → OrderIs C r → SlotAnswer inOrder st w0 o a n r
+    pub order-value : {r : Bool} {C : List ℕ} → b ≡ true → memory.cells + st .cells ≤ length w0 → C ≡ take n (drop (memory.cells + st .cells) w0) → OrderIs C r → SlotAnswer inOrder st w0 o a n r
     unfolding inOrder blockOf numbered
     order-value z l c i = record {
       is = λ w1 s v h m at.
-          i .is v (at .fits) (c ∙ sym (the-cells w0 (2400 + st .cells) n l) ∙ at .lies)
+          i .is v (at .fits) (c ∙ sym (the-cells w0 (memory.cells + st .cells) n l) ∙ at .lies)
           ∙ sym (rw (le-leb (s .block) 3 (let e = h .counted .block in omega arith), after-is o a room fine small last h m, z));
     }
 
@@ -153,11 +154,11 @@ module _ {st : Counts} {w0 : List ℕ} {o a n : ℕ} where
       is = λ w1 s v h m at. sym (rw (lt-ltb o (length (s .objects)) (let e = h .counted .objects in omega arith), le-ltb a (length (s .rows)) (let e = h .counted .rows in omega arith)));
     }
 
-    pub known-value : {r : Bool} {C : List ℕ} → a < st .rows → 2400 + st .cells ≤ length w0 → C ≡ take n (drop (2400 + st .cells) w0) → KnownIs C (st .objects) r → SlotAnswer partsKnown st w0 o a n r
+    pub known-value : {r : Bool} {C : List ℕ} → a < st .rows → memory.cells + st .cells ≤ length w0 → C ≡ take n (drop (memory.cells + st .cells) w0) → KnownIs C (st .objects) r → SlotAnswer partsKnown st w0 o a n r
     unfolding partsKnown
     known-value b l c i = record {
       is = λ w1 s v h m at.
-          i .is v (at .fits) (c ∙ sym (the-cells w0 (2400 + st .cells) n l) ∙ at .lies)
+          i .is v (at .fits) (c ∙ sym (the-cells w0 (memory.cells + st .cells) n l) ∙ at .lies)
           ∙ ap (λ (c : ℕ). everyPart (objectBelow c) v) (h .counted .objects)
           ∙ sym (rw (lt-ltb o (length (s .objects)) (let e = h .counted .objects in omega arith), lt-ltb a (length (s .rows)) (let e = h .counted .rows in omega arith)));
     }
@@ -168,45 +169,45 @@ module _ {st : Counts} {w0 w1 : List ℕ} {s : Sheet} (room : 8192 ≤ length w0
   there : a < length (s .rows)
   there = let e = h .counted .rows in omega arith
 
-  owner-at : getD w0 (64 + a) 0 ≡ getD (s .rows) a noRow .owner
+  owner-at : getD w0 (memory.owners + a) 0 ≡ getD (s .rows) a noRow .owner
   owner-at =
       sym (tab-at 64 (length (s .rows)) w0 a there)
       ∙ ap (λ (l : List ℕ). getD l a 0) (h .tables .owners)
       ∙ getD-map (λ (r : Row). r .owner) (s .rows) a noRow 0 there
 
-  type-at : typeIn (getD w0 (192 + a) 0) ≡ getD (s .rows) a noRow .type
+  type-at : typeIn (getD w0 (memory.types + a) 0) ≡ getD (s .rows) a noRow .type
   type-at =
       ap typeIn (sym (tab-at 192 (length (s .rows)) w0 a there))
-      ∙ sym (getD-map typeIn (tab 192 (length (s .rows)) w0) a 0 (typeIn 0) (rw (tab-length 192 (length (s .rows)) w0 (let e = h .counted .rows in let f = fine .rows in omega arith)) there))
+      ∙ sym (getD-map typeIn (tab memory.types (length (s .rows)) w0) a 0 (typeIn 0) (rw (tab-length 192 (length (s .rows)) w0 (let e = h .counted .rows in let f = fine .rows in omega arith)) there))
       ∙ ap (λ (l : List Ty). getD l a (typeIn 0)) (h .tables .types)
       ∙ getD-map (λ (r : Row). r .type) (s .rows) a noRow (typeIn 0) there
 
-seen : {st : Counts} {w0 w1 : List ℕ} {s : Sheet} {P Q : List ℕ} → Holds st w0 w1 s → P ≡ tab 0 (st .classes) w0 → Q ≡ tab 256 (st .objects) w0 → Seen P Q (modelOf s)
+seen : {st : Counts} {w0 w1 : List ℕ} {s : Sheet} {P Q : List ℕ} → Holds st w0 w1 s → P ≡ tab memory.parents (st .classes) w0 → Q ≡ tab memory.objects (st .objects) w0 → Seen P Q (modelOf s)
 unfolding modelOf
 seen {st} {w0} {w1} {s} h p q = record {
   parent = parents-held (h .tables) (st .classes) (h .counted .classes) ∙ ap parentsIn (sym p);
-  classOf = ap getElem? (sym (q ∙ ap (λ (n : ℕ). tab 256 n w0) (h .counted .objects) ∙ h .tables .objects));
+  classOf = ap getElem? (sym (q ∙ ap (λ (n : ℕ). tab memory.objects n w0) (h .counted .objects) ∙ h .tables .objects));
 }
 
-module _ {st : Counts} {w0 P Q : List ℕ} {o a i : ℕ} (room : 8192 ≤ length w0) (fine : Fine st) (p : P ≡ tab 0 (st .classes) w0) (q : Q ≡ tab 256 (st .objects) w0) (e : i ≡ a)
-    {b : Bool} (ob : ObjectSuits P Q o (getD w0 (64 + i) 0) b) where
+module _ {st : Counts} {w0 P Q : List ℕ} {o a i : ℕ} (room : 8192 ≤ length w0) (fine : Fine st) (p : P ≡ tab memory.parents (st .classes) w0) (q : Q ≡ tab memory.objects (st .objects) w0) (e : i ≡ a)
+    {b : Bool} (ob : ObjectSuits P Q o (getD w0 (memory.owners + i) 0) b) where
   pub its-object : {w1 : List ℕ} {s : Sheet} → a < st .rows → Holds st w0 w1 s → b ≡ isA (modelOf s) o (class (modelOf s .row a .owner))
   unfolding modelOf
-  its-object {w1} {s} known h = ob .is (modelOf s) (seen h p q) ∙ ap (λ (c : ℕ). isA (modelOf s) o (class c)) (ap (λ (j : ℕ). getD w0 (64 + j) 0) e ∙ owner-at room fine h known)
+  its-object {w1} {s} known h = ob .is (modelOf s) (seen h p q) ∙ ap (λ (c : ℕ). isA (modelOf s) o (class c)) (ap (λ (j : ℕ). getD w0 (memory.owners + j) 0) e ∙ owner-at room fine h known)
 
   pub suits-object : {n : ℕ} → b ≡ false → a < st .rows → SlotAnswer suits st w0 o a n false
   unfolding suits
   suits-object z known = record { is = λ w1 s v h m at. sym (ap (λ (c : Bool). c && belongs (modelOf s) (modelOf s .row a .type) v) (sym (its-object known h) ∙ z)) }
 
-  pub suits-value : {n : ℕ} {r : Bool} {t : FlatType} {C : List ℕ} → b ≡ true → C ≡ take n (drop (2400 + st .cells) w0) → 2400 + st .cells + n ≤ length w0 → tyOf t ≡ typeIn (getD w0 (192 + i) 0)
+  pub suits-value : {n : ℕ} {r : Bool} {t : FlatType} {C : List ℕ} → b ≡ true → C ≡ take n (drop (memory.cells + st .cells) w0) → memory.cells + st .cells + n ≤ length w0 → tyOf t ≡ typeIn (getD w0 (memory.types + i) 0)
       → BelongsAt P Q C 0 n t r → a < st .rows → SlotAnswer suits st w0 o a n r
   unfolding suits modelOf
   suits-value {n} {r} {t} {C} z ce l te be known = record { is = λ w1 s v h m at. made w1 s v h at }
     where
       made : (w1 : List ℕ) (s : Sheet) (v : Value) → Holds st w0 w1 s → ValueAt st w0 n v → r ≡ (isA (modelOf s) o (class (modelOf s .row a .owner)) && belongs (modelOf s) (modelOf s .row a .type) v)
       made w1 s v h at =
-          let x : slice 0 n C ≡ enc v = ap (take n) ce ∙ take-take n n (drop (2400 + st .cells) w0) (omega arith) ∙ sym (the-cells w0 (2400 + st .cells) n (omega arith)) ∙ at .lies in
-          let y : tyOf t ≡ modelOf s .row a .type = te ∙ ap (λ (j : ℕ). typeIn (getD w0 (192 + j) 0)) e ∙ type-at room fine h known in
+          let x : slice 0 n C ≡ enc v = ap (take n) ce ∙ take-take n n (drop (memory.cells + st .cells) w0) (omega arith) ∙ sym (the-cells w0 (memory.cells + st .cells) n (omega arith)) ∙ at .lies in
+          let y : tyOf t ≡ modelOf s .row a .type = te ∙ ap (λ (j : ℕ). typeIn (getD w0 (memory.types + j) 0)) e ∙ type-at room fine h known in
           be .is (modelOf s) v (seen h p q) (at .fits) x
           ∙ ap (λ (u : Ty). belongs (modelOf s) u v) y
           ∙ ap (λ (c : Bool). c && belongs (modelOf s) (modelOf s .row a .type) v) (sym z ∙ its-object known h)

@@ -1,5 +1,5 @@
 -- Reading a value from left to right: what is left of the field is read into the collections that are open. What crates/sheet's
--- `readValue` gives of the whole field is, at each place, what `start`, `enter`, `among` or `resume` gives of the rest
+-- `readValue` gives of the whole field is, at each place, what `startRead`, `enter`, `among` or `resumeRead` gives of the rest
 -- (proofs/MachineLaws.antt).
 use mathlib.Core.Path.{_≡_}
 use mathlib.Core.Bool.{Bool, true, false, _&&_}
@@ -11,7 +11,7 @@ use lib.Dec.{eqb, leb}
 use Rattle.laws.specs.Choice.{if_then_else_, onSome}
 use Rattle.laws.specs.Lists.{Each}
 use Rattle.ocl.specs.Types.{Kind}
-use Rattle.ocl.specs.Values.{Value, coll, Values, nil, cons, size, append, everyPart, everyParts}
+use Rattle.ocl.specs.Values.{Value, coll, Values, nil, cons, size, append, everyPart, everyParts, largest}
 use Rattle.sheet.specs.Text.{Bytes, atEnd}
 use Rattle.sheet.specs.Spelling.{valueParser, membersParser, moreParser, readValue}
 use Rattle.sheet.specs.Limits.{partWithin, nesting, nestings, valueWithin as withinLimits}
@@ -71,7 +71,7 @@ outward o = record { depth = o .depth - 1; size = o .size; second = o .second; t
 
 -- a limit is passed
 abbrev pub beyond : Open → Open
-beyond o = record { depth = o .depth; size = 129; second = o .second; third = o .third }
+beyond o = record { depth = o .depth; size = largest + 1; second = o .second; third = o .third }
 
 pub data Heads (o : Open) : List Frame → Type 0 where
   heads-nil : Heads o []
@@ -104,7 +104,7 @@ pub data FramesWithin : List Frame → Type 0 where
 
 -- the cells of the open collections lie in front, and X after them
 pub record InFront (cells : List ℕ) (o : Open) (fs : List Frame) (X : List ℕ) : Type 0 where
-  pub small : o .size ≤ 128
+  pub small : o .size ≤ largest
   pub room : o .size ≤ length cells
   pub laid : take (o .size) cells ≡ laid fs ++ X
   pub sound : FramesWithin fs
@@ -112,8 +112,8 @@ pub record InFront (cells : List ℕ) (o : Open) (fs : List Frame) (X : List ℕ
 
 pub record Sure (f : Bytes) (cells : List ℕ) (o : Open) (fs : List Frame) (X : List ℕ) : Type 0 where
   pub depth : o .depth ≡ length fs
-  pub over : 128 < o .size → Never f (length cells)
-  pub fine : o .size ≤ 128 → InFront cells o fs X
+  pub over : largest < o .size → Never f (length cells)
+  pub fine : o .size ≤ largest → InFront cells o fs X
 
 -- ---- where the reading stands
 
@@ -150,7 +150,7 @@ pub record ValueEnd (f : Bytes) (cells : List ℕ) (at : ℕ) (o : Open) : Type 
   pub frames : List Frame
   pub value : Value
   pub sure : Sure f cells o frames (enc value)
-  pub tidy : o .size ≤ 128 → Tidy value (length frames)
+  pub tidy : o .size ≤ largest → Tidy value (length frames)
   pub enough : Enough f at frames
   pub same : readValue f ≡ resumeRead frames value (drop at f)
 
@@ -175,7 +175,7 @@ pub record AddsCell (cell : ℕ) (before : List ℕ) (o : Open) (after : List �
   pub depth : r .depth ≡ o .depth
   pub second : r .second ≡ o .second
   pub third : r .third ≡ o .third
-  pub over : 128 < o .size → 128 < r .size
+  pub over : largest < o .size → largest < r .size
   pub is : (f : Bytes) (fs : List Frame) (d : ℕ) → Deep f fs d → Sure f before o fs [] → Sure f after r fs (cell ∷ [])
 
 pub record OpensCell (cell : ℕ) (before : List ℕ) (o : Open) (after : List ℕ) (r : Open) : Type 0 where
@@ -183,7 +183,7 @@ pub record OpensCell (cell : ℕ) (before : List ℕ) (o : Open) (after : List �
       → Sure f after r (record { kind = k; inside = nil; parts = n } ∷ fs) []
 
 pub record Raises (before : List ℕ) (o : Open) (after : List ℕ) : Type 0 where
-  pub is : (f : Bytes) (x : Frame) (fs : List Frame) (u : Value) → (o .size ≤ 128 → Tidy u (suc (length fs))) → Sure f before o (x ∷ fs) (enc u)
+  pub is : (f : Bytes) (x : Frame) (fs : List Frame) (u : Value) → (o .size ≤ largest → Tidy u (suc (length fs))) → Sure f before o (x ∷ fs) (enc u)
       → Sure f after o (grown x u ∷ fs) []
 
 pub record Last (f : Bytes) (at : ℕ) (o : Open) (r : Read) : Type 0 where

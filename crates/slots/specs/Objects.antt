@@ -7,10 +7,10 @@ use lib.Dec.{ltb, leb}
 use Rattle.laws.specs.Choice.{if_then_else_}
 use Rattle.ocl.specs.Values.{Value, everyPart}
 use Rattle.sheet.specs.Refusals.{objectBelow}
-use Rattle.values.specs.Cells.{enc, Fits}
+use Rattle.values.specs.Cells.{enc, Fits, objectCells, collectionCells}
 
 unfoldable pub cellKnown : ℕ → ℕ → Bool
-cellKnown n c = if ltb c 18442240474082181120 then true else if leb 18442240478377148416 c then true else ltb (c - 18442240474082181120) n
+cellKnown n c = if ltb c objectCells then true else if leb collectionCells c then true else ltb (c - objectCells) n
 
 pub record KnownIs (cells : List ℕ) (n : ℕ) (r : Bool) : Type 0 where
   pub is : (v : Value) → Fits v → cells ≡ enc v → r ≡ everyPart (objectBelow n) v

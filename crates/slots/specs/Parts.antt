@@ -1,4 +1,4 @@
--- What begins at a place of a field, as the code tells it: whatever is read there by crates/sheet's `valueWithin`.
+-- What begins at a place of a field, as the code tells it: whatever is read there by crates/sheet's `valueParser`.
 use mathlib.Core.Path.{_≡_}
 use mathlib.Core.Bool.{Bool, true, false}
 use mathlib.Core.Option.{none, some}
@@ -60,7 +60,7 @@ pub data OpensIs (f : Bytes) (at kind : ℕ) (r : Part) : Type 0 where
   opens-not : r ≡ part.Bad → (at + 1 < length f → getD f (at + 1) 0 ≡ 40 → ⊥) → OpensIs f at kind r
   opens : (c : ℕ) → EmptyOf kind c → r ≡ part.Opens c (at + 2) → at + 1 < length f → getD f (at + 1) 0 ≡ 40 → OpensIs f at kind r
 
--- what `valueWithin` reads at `at`, however many parts it may have
+-- what `valueParser` reads at `at`, however many parts it may have
 pub data PartIs (f : Bytes) (at : ℕ) (r : Part) : Type 0 where
   part-bad : r ≡ part.Bad → ((n : ℕ) → valueParser (suc n) (drop at f) ≡ none) → PartIs f at r
   part-alone : (v : Value) → Alone v → Told f at v r → ((n : ℕ) → valueParser (suc n) (drop at f) ≡ some (v, drop (partEnd r) f)) → PartIs f at r

@@ -8,7 +8,9 @@ use lib.ListN.{getD, take, drop}
 use lib.Seq.{slice}
 use lib.Dec.{ltb}
 use Rattle.laws.specs.Lists.{Each}
+use Rattle.memory.specs.Map as memory
 use Rattle.ocl.specs.Values.{Value, size}
+use Rattle.sheet.specs.Sizes.{mostRows}
 use Rattle.sheet.specs.Text.{Bytes, fieldsOf}
 use Rattle.sheet.specs.Lines.{Line, valueLine}
 use Rattle.sheet.specs.Sheet.{Slot, Sheet}
@@ -23,23 +25,23 @@ use Rattle.slots.specs.Machine.{ReadIs}
 
 -- each slot's row is below 64
 pub record SmallRows (s : Sheet) : Type 0 where
-  pub rows : Each (λ (x : Slot). x .row < 64) (s .slots)
+  pub rows : Each (λ (x : Slot). x .row < mostRows) (s .slots)
 
 -- the value of a field behind the first n cells; the words before them and after the cells are as they were
 pub record ReadInto (f : Bytes) (n : ℕ) (before after : List ℕ) (r : Read) : Type 0 where
-  pub front : take (2400 + n) after ≡ take (2400 + n) before
-  pub back : drop 4448 after ≡ drop 4448 before
-  pub is : ReadIs f (slice (2400 + n) 4448 after) r
+  pub front : take (memory.cells + n) after ≡ take (memory.cells + n) before
+  pub back : drop memory.cellsEnd after ≡ drop memory.cellsEnd before
+  pub is : ReadIs f (slice (memory.cells + n) memory.cellsEnd after) r
 
 -- the last of n keys is below this one
 unfoldable pub lastBefore : List ℕ → ℕ → ℕ → Bool
 lastBefore w zero key = true
-lastBefore w (suc n) key = ltb (getD w (352 + n) 0) key
+lastBefore w (suc n) key = ltb (getD w (memory.keys + n) 0) key
 
 -- v lies behind the cells so far
 pub record ValueAt (st : Counts) (w0 : List ℕ) (n : ℕ) (v : Value) : Type 0 where
   pub fits : Fits v
-  pub lies : slice (2400 + st .cells) (2400 + st .cells + n) w0 ≡ enc v
+  pub lies : slice (memory.cells + st .cells) (memory.cells + st .cells + n) w0 ≡ enc v
 
 -- what a test says of the line
 pub record SlotAnswer (test : Sheet → Line → Bool) (st : Counts) (w0 : List ℕ) (o a n : ℕ) (r : Bool) : Type 0 where

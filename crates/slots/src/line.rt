@@ -5,6 +5,8 @@ ghost use mathlib.Core.Bool.{true};
 ghost use mathlib.Core.List.{List, []};
 ghost use Prim.Native.Nat.{ℕ, _+_, _*_, _<_, _≤_};
 ghost use lib.ListN.{length, getD, set};
+ghost use Rattle.memory.specs.Map as memory;
+ghost use Rattle.sheet.specs.Sizes.{leastWords, mostCells, mostObjects, mostRows, mostValues};
 ghost use Rattle.sheet.specs.Text.{bytes, fieldsOf};
 ghost use Rattle.sheet.specs.Lines.{is};
 ghost use Rattle.sheet.specs.Refusals.{inOrder, partsKnown, suits};
@@ -26,54 +28,45 @@ use text::parts::field;
 use types::classes::wide;
 use types::word::unpack;
 
-// Where the tables start in w0.
-const KEYS: usize = 352;
-
-const STARTS: usize = 1376;
-
-const CELLS: usize = 2400;
-
-const CELLS_END: usize = 4448;
-
-// The value of a field, written behind the first n cells.
+// Reads the value of a field into the cells behind the first n.
 fn read_into(f: &[u8], w0: &mut [u64], n: usize) -> Read
-    requires { ⌜ (n ≤ 2048) × (8192 ≤ length (now w0)) ⌝ }
+    requires { ⌜ (n ≤ mostCells) × (leastWords ≤ length (now w0)) ⌝ }
     ensures { λ r. ⌜ ReadInto (now (f .entry)) n (now (w0 .entry)) (now (w0 .exit)) r ⌝ }
 {
-    let from = CELLS + n;
-    read_value(f, &mut w0[from..CELLS_END])
+    let from = memory::CELLS + n;
+    read_value(f, &mut w0[from..memory::CELLS_END])
 }
 
 // Whether the key comes after that of the last of n slots.
 fn after_last(w0: &[u64], n: usize, key: u64) -> bool
-    requires { ⌜ (n ≤ 1024) × (8192 ≤ length (now w0)) ⌝ }
+    requires { ⌜ (n ≤ mostValues) × (leastWords ≤ length (now w0)) ⌝ }
     ensures { λ r. ⌜ r ≡ lastBefore (now (w0 .entry)) n key ⌝ }
 {
     if n == 0 {
         return true;
     }
-    w0[KEYS + n - 1] < key
+    w0[memory::KEYS + n - 1] < key
 }
 
 // 5: blocks, slots and members are in order.
 fn slot_in_order(w0: &[u64], st: Counts, o: u64, a: u64, size: usize) -> bool
-    requires { ⌜ (8192 ≤ length (now w0)) × Fine st × (o < 96) × (a < 64) × (st .cells + size ≤ 2048) ⌝ }
+    requires { ⌜ (leastWords ≤ length (now w0)) × Fine st × (o < mostObjects) × (a < mostRows) × (st .cells + size ≤ mostCells) ⌝ }
     ensures { λ r. ⌜ SlotAnswer inOrder st (now (w0 .entry)) o a size r ⌝ }
 {
     if 3 < st.block {
         return false;
     }
-    if !after_last(w0, wide(st.slots), o * 64 + a) {
+    if !after_last(w0, wide(st.slots), o * memory::MOST_ROWS + a) {
         return false;
     }
-    let from = CELLS + wide(st.cells);
+    let from = memory::CELLS + wide(st.cells);
     let to = from + size;
     in_order(&w0[from..to])
 }
 
 // 6: the object, the row and the objects in the value are on the sheet.
 fn slot_known(w0: &[u64], st: Counts, o: u64, a: u64, size: usize) -> bool
-    requires { ⌜ (8192 ≤ length (now w0)) × Fine st × (st .cells + size ≤ 2048) ⌝ }
+    requires { ⌜ (leastWords ≤ length (now w0)) × Fine st × (st .cells + size ≤ mostCells) ⌝ }
     ensures { λ r. ⌜ SlotAnswer partsKnown st (now (w0 .entry)) o a size r ⌝ }
 {
     if st.objects <= o {
@@ -82,38 +75,38 @@ fn slot_known(w0: &[u64], st: Counts, o: u64, a: u64, size: usize) -> bool
     if st.rows <= a {
         return false;
     }
-    let from = CELLS + wide(st.cells);
+    let from = memory::CELLS + wide(st.cells);
     let to = from + size;
     all_known(&w0[from..to], st.objects)
 }
 
 // 7: the object is of the row's class or below, and the value belongs to the row's type.
 fn slot_suits(w0: &[u64], st: Counts, o: u64, a: u64, size: usize) -> bool
-    requires { ⌜ (8192 ≤ length (now w0)) × Fine st × (a < 64) × (0 < size) × (st .cells + size ≤ 2048) ⌝ }
+    requires { ⌜ (leastWords ≤ length (now w0)) × Fine st × (a < mostRows) × (0 < size) × (st .cells + size ≤ mostCells) ⌝ }
     ensures { λ r. ⌜ (a < st .rows → SlotAnswer suits st (now (w0 .entry)) o a size r) ⌝ }
 {
     let classes = wide(st.classes);
-    let objects_end = 256 + wide(st.objects);
+    let objects_end = memory::OBJECTS + wide(st.objects);
     let parents = &w0[..classes];
-    let objects = &w0[256..objects_end];
+    let objects = &w0[memory::OBJECTS..objects_end];
     let i = wide(a);
-    if !object_suits(parents, objects, o, w0[64 + i]) {
+    if !object_suits(parents, objects, o, w0[memory::OWNERS + i]) {
         return false;
     }
-    let t = unpack(w0[192 + i]);
-    let from = CELLS + wide(st.cells);
+    let t = unpack(w0[memory::TYPES + i]);
+    let from = memory::CELLS + wide(st.cells);
     let to = from + size;
     belongs(parents, objects, &w0[from..to], 0, size, t)
 }
 
-// The slot's key and where its cells start; the counts with one slot more.
+// Stores the slot's key and where its cells start; gives the counts with one slot more.
 fn store_slot(w0: &mut [u64], st: Counts, key: u64, size: u64) -> Counts
-    requires { ⌜ (8192 ≤ length (now w0)) × (st .slots < 1024) × (st .cells + size ≤ 2048) ⌝ }
-    ensures { λ r. ⌜ (r ≡ slotCounts st size) × (now (w0 .exit) ≡ set (set (now (w0 .entry)) (352 + st .slots) key) (1376 + st .slots) (st .cells)) ⌝ }
+    requires { ⌜ (leastWords ≤ length (now w0)) × (st .slots < mostValues) × (st .cells + size ≤ mostCells) ⌝ }
+    ensures { λ r. ⌜ (r ≡ slotCounts st size) × (now (w0 .exit) ≡ set (set (now (w0 .entry)) (memory.keys + st .slots) key) (memory.starts + st .slots) (st .cells)) ⌝ }
 {
     let n = wide(st.slots);
-    w0[KEYS + n] = key;
-    w0[STARTS + n] = st.cells;
+    w0[memory::KEYS + n] = key;
+    w0[memory::STARTS + n] = st.cells;
     let mut next = st;
     next.block = 3;
     next.slots = st.slots + 1;
@@ -127,18 +120,18 @@ fn long(n: usize) -> u64
     n as u64
 }
 
-// The slot, whose value of `size` cells is written and within its limits.
+// Puts the slot, or refuses it with 4 to 7. Its value of `size` cells is written already, and within its limits.
 pub fn put_slot(w0: &mut [u64], st: Counts, o: u64, a: u64, size: usize) -> Step
-    requires { ⌜ (8192 ≤ length (now w0)) × Fine st × (0 < size) × (st .cells + size ≤ 2048) ⌝ }
+    requires { ⌜ (leastWords ≤ length (now w0)) × Fine st × (0 < size) × (st .cells + size ≤ mostCells) ⌝ }
     ensures { λ r. ⌜ ((w1 : List ℕ) (k : ℕ) → SlotTook st k o a size r (now (w0 .entry)) w1 (now (w0 .exit))) ⌝ }
 {
-    if 96 <= o {
+    if memory::MOST_OBJECTS <= o {
         return Step::Stop(4);
     }
-    if 64 <= a {
+    if memory::MOST_ROWS <= a {
         return Step::Stop(4);
     }
-    if 1024 <= st.slots {
+    if memory::MOST_VALUES <= st.slots {
         return Step::Stop(4);
     }
     if !slot_in_order(w0, st, o, a, size) {
@@ -150,12 +143,12 @@ pub fn put_slot(w0: &mut [u64], st: Counts, o: u64, a: u64, size: usize) -> Step
     if !slot_suits(w0, st, o, a, size) {
         return Step::Stop(7);
     }
-    Step::Next(store_slot(w0, st, o * 64 + a, long(size)))
+    Step::Next(store_slot(w0, st, o * memory::MOST_ROWS + a, long(size)))
 }
 
-// A line whose first field is `V`.
+// Takes a line whose first field is `V`.
 pub fn value_line(line: &[u8], f: Fields, w0: &mut [u64], st: Counts) -> Step
-    requires { ⌜ Cut (now line) f × (is (getD (fieldsOf (now line)) 0 []) (bytes "V") ≡ true) × (8192 ≤ length (now w0)) × Fine st ⌝ }
+    requires { ⌜ Cut (now line) f × (is (getD (fieldsOf (now line)) 0 []) (bytes "V") ≡ true) × (leastWords ≤ length (now w0)) × Fine st ⌝ }
     ensures { λ r. ⌜ ((w1 : List ℕ) (k : ℕ) → TookSlot st k (now (line .entry)) r (now (w0 .entry)) w1 (now (w0 .exit)) w1) ⌝ }
 {
     if f.count != 4 {

@@ -16,8 +16,6 @@ use text::numbers::number_at;
 use values::cells::OBJECTS;
 use values::cells::empty_of;
 
-// There are at most this many objects.
-const MOST_OBJECTS: u64 = 96;
 // A Real is its letter and sixteen digits.
 const REAL: usize = 17;
 
@@ -40,7 +38,7 @@ fn object_at(f: &[u8], at: usize) -> Part
     match n {
         Num::Bad => Part::Bad,
         Num::Is(o) => {
-            if o < MOST_OBJECTS {
+            if o < memory::MOST_OBJECTS {
                 Part::Simple {
                     cell: OBJECTS + o,
                     end,
@@ -52,7 +50,7 @@ fn object_at(f: &[u8], at: usize) -> Part
     }
 }
 
-// The part that a number is.
+// A number as a part.
 fn number_part(n: Literal, end: usize) -> Part
     ensures { λ r. ⌜ r ≡ partOf n end ⌝ }
 {

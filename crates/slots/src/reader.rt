@@ -5,13 +5,14 @@ ghost use mathlib.Core.Path.{_≡_};
 ghost use Rattle.laws.specs.Choice.{if_then_else_};
 ghost use Prim.Native.Nat.{_+_, _<_, _≤_};
 ghost use lib.ListN.{length, getD};
+ghost use Rattle.ocl.specs.Values.{largest};
 ghost use Rattle.slots.specs.Machine.{headAt, outward, beyond, Last, AddsCell, OpensCell, Raises, Wanted, ValueEnd, Live, TurnIs, ReadIs};
 use crate::parts::Part;
 use crate::parts::part_at;
 use values::cells::LARGEST;
 
 // The size that stands for every value over a limit.
-const OVER: usize = 129;
+const OVER: usize = LARGEST + 1;
 // The most open collections of a value.
 const DEEPEST: usize = 3;
 
@@ -91,7 +92,7 @@ fn open_cell(cells: &mut [u64], o: Open, cell: u64) -> Open
 
 // The inmost open collection has one member more.
 fn raise(cells: &mut [u64], o: Open)
-    requires { ⌜ (o .size ≤ 128 → (headAt o (o .depth) < length (now cells)) × (getD (now cells) (headAt o (o .depth)) 0 < 18446744073709551615)) ⌝ }
+    requires { ⌜ (o .size ≤ largest → (headAt o (o .depth) < length (now cells)) × (getD (now cells) (headAt o (o .depth)) 0 < 18446744073709551615)) ⌝ }
     ensures { λ _. ⌜ Raises (now (cells .entry)) o (now (cells .exit)) ⌝ }
 {
     if LARGEST < o.size {
@@ -142,7 +143,7 @@ fn closed(o: Open) -> Open
     r
 }
 
-// A part is outside its limits.
+// The value is over a limit from here on.
 fn passed(o: Open) -> Open
     ensures { λ r. ⌜ r ≡ beyond o ⌝ }
 {

@@ -1,5 +1,5 @@
 // A value that lies as cells is written as document 01 spells it: one pass over its cells, by a recursion over its members.
-// Depends on `text`, which writes bytes and numbers, and on `values`, whose cells it reads.
+// It depends on `text`, which writes bytes and numbers, and on `values`, whose cells it reads.
 use text::spelling::put_byte;
 use text::spelling::put_integer;
 use text::spelling::put_number;
@@ -33,7 +33,7 @@ fn truth_byte(b: bool) -> u8
     if b { b't' } else { b'f' }
 }
 
-// A value that is no collection.
+// Puts a value that is no collection.
 fn put_simple(out: &mut [u8], at: usize, s: Simple) -> usize
     requires { ⌜ SimpleWaits at s (length (now out)) ⌝ }
     ensures { λ r. ⌜ ((v : Value) → Fits v → Means s v → Puts at (spellValue v) (now (out .entry)) (now (out .exit)) r) ⌝ }
@@ -60,7 +60,7 @@ fn letter(sort: u64) -> u8
     }
 }
 
-// The letter and its bracket.
+// Puts the letter and its bracket.
 fn put_opening(out: &mut [u8], at: usize, sort: u64) -> usize
     requires { ⌜ at + 2 ≤ length (now out) ⌝ }
     ensures { λ r. ⌜ ((k : Kind) → sort ≡ 3 + kindCode k → Puts at (kindByte k ∷ 40 ∷ []) (now (out .entry)) (now (out .exit)) r) ⌝ }
@@ -69,7 +69,7 @@ fn put_opening(out: &mut [u8], at: usize, sort: u64) -> usize
     put_byte(out, bracket, b'(')
 }
 
-// The value whose cells begin at `from`.
+// Puts the value whose cells begin at `from`.
 fn put_next(out: &mut [u8], at: usize, cells: &[u64], from: usize) -> Next
     requires { ⌜ ValueWaits at from (now cells) (length (now out)) ⌝ }
     ensures { λ r. ⌜ ((v : Value) → Fits v → CellsStand (enc v) (now (cells .entry)) from → Wrote (spellValue v) (length (enc v)) at from (now (out .entry)) (now (out .exit)) r) ⌝ }
@@ -86,7 +86,7 @@ fn put_next(out: &mut [u8], at: usize, cells: &[u64], from: usize) -> Next
     put_members(out, inner, cells, from + 1, member_count(cell))
 }
 
-// n members, separated by commas, and the bracket behind them.
+// Puts n members, separated by commas, and the bracket behind them.
 fn put_members(out: &mut [u8], at: usize, cells: &[u64], from: usize, n: usize) -> Next
     requires { ⌜ MembersWait n at from (now cells) (length (now out)) ⌝ }
     ensures { λ r. ⌜ ((vs : Values) → AllFit vs → n ≡ count vs → CellsStand (encs vs) (now (cells .entry)) from → Wrote (spellMembers vs) (length (encs vs)) at from (now (out .entry)) (now (out .exit)) r) ⌝ }
@@ -110,7 +110,7 @@ fn put_members(out: &mut [u8], at: usize, cells: &[u64], from: usize, n: usize) 
     put_members(out, comma, cells, next, n - 1)
 }
 
-// The value whose cells lie from `from` to `end`.
+// Puts the value whose cells lie from `from` to `end`.
 pub fn put_value(out: &mut [u8], at: usize, cells: &[u64], from: usize, end: usize) -> usize
     requires { ⌜ ValueFits at (now cells) from end (length (now out)) ⌝ }
     ensures { λ r. ⌜ ((v : Value) → Fits v → slice from end (now (cells .entry)) ≡ enc v → Puts at (spellValue v) (now (out .entry)) (now (out .exit)) r) ⌝ }

@@ -10,6 +10,7 @@ use borrow.Author.Needs.{needs}
 use lib.ListN.{length, getD, drop, set, length-drop}
 use lib.Seq.{take-suc, getD-drop}
 use Rattle.laws.proofs.Lists.{length-more}
+use Rattle.memory.specs.Map as memory
 use Rattle.types.specs.Word.{typeIn}
 use Rattle.nodes.specs.Nodes.{treeAt}
 use Rattle.sheet.specs.Sheet.{Current, Sheet}
@@ -26,19 +27,19 @@ Away i off n = off ≤ i → off + n ≤ i
 
 -- it is in no table of the sheet
 pub record Spare (i : ℕ) (s : Sheet) : Type 0 where
-  pub parents : Away i 0 (length (s .parents))
-  pub owners : Away i 64 (length (s .rows))
-  pub names : Away i 128 (length (s .rows))
-  pub types : Away i 192 (length (s .rows))
-  pub objects : Away i 256 (length (s .objects))
-  pub keys : Away i 352 (length (s .slots))
-  pub starts : Away i 1376 (length (s .slots))
-  pub cells : Away i 2400 (totalSize (s .slots))
-  pub contexts : Away i 4448 (length (s .rules))
-  pub roots : Away i 4512 (length (s .rules))
-  pub classes : Away i 4576 (length (s .definitions))
-  pub results : Away i 4608 (length (s .definitions))
-  pub bodies : Away i 4640 (length (s .definitions))
+  pub parents : Away i memory.parents (length (s .parents))
+  pub owners : Away i memory.owners (length (s .rows))
+  pub names : Away i memory.names (length (s .rows))
+  pub types : Away i memory.types (length (s .rows))
+  pub objects : Away i memory.objects (length (s .objects))
+  pub keys : Away i memory.keys (length (s .slots))
+  pub starts : Away i memory.starts (length (s .slots))
+  pub cells : Away i memory.cells (totalSize (s .slots))
+  pub contexts : Away i memory.contexts (length (s .rules))
+  pub roots : Away i memory.roots (length (s .rules))
+  pub classes : Away i memory.definitionContexts (length (s .definitions))
+  pub results : Away i memory.definitionTypes (length (s .definitions))
+  pub bodies : Away i memory.definitionRoots (length (s .definitions))
 
 pub tab-away : (off n : ℕ) (w : List ℕ) (i x : ℕ) → Away i off n → tab off n (set w i x) ≡ tab off n w
 tab-away off n w i x away = go (decLt i off)
@@ -66,18 +67,18 @@ module _ {w0 : List ℕ} {s : Sheet} {i : ℕ} (x : ℕ) (away : Spare i s) wher
   pub rules-kept : {w1 : List ℕ} → HoldsRules w0 w1 s → HoldsRules (set w0 i x) w1 s
   rules-kept {w1} h = record {
     bodies = ap (map (treeAt w1)) (tab-away _ _ w0 i x (away .roots)) ∙ h .bodies;
-    roots = rw (tab-away 4512 (length (s .rules)) w0 i x (away .roots)) (h .roots);
+    roots = rw (tab-away memory.roots (length (s .rules)) w0 i x (away .roots)) (h .roots);
     lines = h .lines;
   }
 
   pub definitions-kept : {w1 : List ℕ} → HoldsDefinitions w0 w1 s → HoldsDefinitions (set w0 i x) w1 s
   definitions-kept {w1} h = record {
     contexts = tab-away _ _ w0 i x (away .classes) ∙ h .contexts;
-    classes = rw (tab-away 4576 (length (s .definitions)) w0 i x (away .classes)) (h .classes);
+    classes = rw (tab-away memory.definitionContexts (length (s .definitions)) w0 i x (away .classes)) (h .classes);
     types = ap (map typeIn) (tab-away _ _ w0 i x (away .results)) ∙ h .types;
     bodies = ap (map (treeAt w1)) (tab-away _ _ w0 i x (away .bodies)) ∙ h .bodies;
-    roots = rw (tab-away 4640 (length (s .definitions)) w0 i x (away .bodies)) (h .roots);
-    depths = rw (tab-away 4640 (length (s .definitions)) w0 i x (away .bodies)) (h .depths);
+    roots = rw (tab-away memory.definitionRoots (length (s .definitions)) w0 i x (away .bodies)) (h .roots);
+    depths = rw (tab-away memory.definitionRoots (length (s .definitions)) w0 i x (away .bodies)) (h .depths);
   }
 
   pub holds-kept : {st : Counts} {w1 : List ℕ} → Holds st w0 w1 s → Holds st (set w0 i x) w1 s
@@ -96,37 +97,37 @@ module _ {st : Counts} {s : Sheet} (fine : Fine st) (same : Counted st s) where
   pub spare-parent : st .classes < 64 → Spare (st .classes) s
   spare-parent h = search needs
 
-  pub spare-owner : st .rows < 64 → Spare (64 + st .rows) s
+  pub spare-owner : st .rows < 64 → Spare (memory.owners + st .rows) s
   spare-owner h = search needs
 
-  pub spare-name : st .rows < 64 → Spare (128 + st .rows) s
+  pub spare-name : st .rows < 64 → Spare (memory.names + st .rows) s
   spare-name h = search needs
 
-  pub spare-type : st .rows < 64 → Spare (192 + st .rows) s
+  pub spare-type : st .rows < 64 → Spare (memory.types + st .rows) s
   spare-type h = search needs
 
-  pub spare-object : st .objects < 96 → Spare (256 + st .objects) s
+  pub spare-object : st .objects < 96 → Spare (memory.objects + st .objects) s
   spare-object h = search needs
 
-  pub spare-key : st .slots < 1024 → Spare (352 + st .slots) s
+  pub spare-key : st .slots < 1024 → Spare (memory.keys + st .slots) s
   spare-key h = search needs
 
-  pub spare-start : st .slots < 1024 → Spare (1376 + st .slots) s
+  pub spare-start : st .slots < 1024 → Spare (memory.starts + st .slots) s
   spare-start h = search needs
 
-  pub spare-context : st .rules < 64 → Spare (4448 + st .rules) s
+  pub spare-context : st .rules < 64 → Spare (memory.contexts + st .rules) s
   spare-context h = search needs
 
-  pub spare-root : st .rules < 64 → Spare (4512 + st .rules) s
+  pub spare-root : st .rules < 64 → Spare (memory.roots + st .rules) s
   spare-root h = search needs
 
-  pub spare-class : st .definitions < 32 → Spare (4576 + st .definitions) s
+  pub spare-class : st .definitions < 32 → Spare (memory.definitionContexts + st .definitions) s
   spare-class h = search needs
 
-  pub spare-result : st .definitions < 32 → Spare (4608 + st .definitions) s
+  pub spare-result : st .definitions < 32 → Spare (memory.definitionTypes + st .definitions) s
   spare-result h = search needs
 
-  pub spare-body : st .definitions < 32 → Spare (4640 + st .definitions) s
+  pub spare-body : st .definitions < 32 → Spare (memory.definitionRoots + st .definitions) s
   spare-body h = search needs
 
 -- ---- one entry more

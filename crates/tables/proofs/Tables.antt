@@ -11,6 +11,7 @@ use borrow.Author.Tests.{le-leb}
 use Rattle.laws.specs.Choice.{if_then_else_}
 use Rattle.laws.specs.Lists.{Each, each-nil, each-cons}
 use Rattle.laws.proofs.Elements.{getD-map}
+use Rattle.memory.specs.Map as memory
 use Rattle.ocl.specs.Laws.{Small}
 use Rattle.sheet.specs.Sheet.{Sheet}
 use Rattle.types.specs.Flat.{parentWord, parentOf, parentsIn}
@@ -70,7 +71,7 @@ parents-back ps h c =
     let e : getD (map parentCode ps) c 0 ≡ parentCode (getD ps c none) = List·getD-map parentCode ps c none in
     rw e (parent-back c (getD ps c none) (h c))
 
-pub parents-held : {w0 : List ℕ} {s : Sheet} → HoldsTables w0 s → (n : ℕ) → n ≡ length (s .parents) → (λ c. getD (s .parents) c none) ≡ parentsIn (tab 0 n w0)
+pub parents-held : {w0 : List ℕ} {s : Sheet} → HoldsTables w0 s → (n : ℕ) → n ≡ length (s .parents) → (λ c. getD (s .parents) c none) ≡ parentsIn (tab memory.parents n w0)
 parents-held {s = s} h n e = rw (e, h .parents) (fun-ext (parents-back (s .parents) (h .smaller)))
 
 -- ---- the words from 8,192 on

@@ -7,11 +7,13 @@ use mathlib.Core.List.{List, [], _∷_, _++_, map}
 use Prim.Native.Nat.{ℕ, zero, suc, _+_, _*_, _/_, _≤_, _<_}
 use lib.ListN.{length, getD, take, drop}
 use Rattle.laws.specs.Lists.{member, concat, Each}
+use Rattle.memory.specs.Map as memory
 use Rattle.ocl.specs.Laws.{Small}
 use Rattle.ocl.specs.Values.{size}
 use Rattle.ocl.specs.Model.{Row}
 use Rattle.ocl.specs.Types.{Ty}
 use Rattle.ocl.specs.Forms.{Definition, levels}
+use Rattle.sheet.specs.Sizes.{mostClasses, mostRows, mostObjects, mostValues, mostCells, mostDefinitions, mostRules, mostNodes, leastWords}
 use Rattle.sheet.specs.Text.{Bytes, fieldsOf}
 use Rattle.sheet.specs.Sheet.{Slot, Rule, Current, Sheet, treeOf}
 use Rattle.sheet.specs.Limits.{totalSize}
@@ -36,7 +38,7 @@ parentCode (some p) = suc p
 
 -- an object and a row: slots ascend by this number
 unfoldable pub slotKey : Slot → ℕ
-slotKey x = x .object * 64 + x .row
+slotKey x = x .object * mostRows + x .row
 
 -- where each slot's cells start, the first at n
 unfoldable pub startsFrom : ℕ → List Slot → List ℕ
@@ -46,24 +48,21 @@ startsFrom n (x ∷ xs) = n ∷ startsFrom (n + size (x .value)) xs
 unfoldable pub cellsOf : List Slot → List ℕ
 cellsOf xs = concat (map (λ (x : Slot). enc (x .value)) xs)
 
--- 0 parents (64), 64 owners (64), 128 names (64), 192 types (64), 256 classes of objects (96), 352 keys of slots (1024),
--- 1376 starts of slots (1024), 2400 cells (2048), 4448 contexts of rules (64), 4512 roots of rules (64), 4576 classes of definitions (32),
--- 4608 types of definitions (32), 4640 roots of definitions (32)
 pub record HoldsTables (w0 : List ℕ) (s : Sheet) : Type 0 where
-  pub parents : tab 0 (length (s .parents)) w0 ≡ map parentCode (s .parents)
+  pub parents : tab memory.parents (length (s .parents)) w0 ≡ map parentCode (s .parents)
   -- document 01: "parent p is `-` or a smaller class"
   pub smaller : Small (λ c. getD (s .parents) c none)
-  pub owners : tab 64 (length (s .rows)) w0 ≡ map (λ (r : Row). r .owner) (s .rows)
-  pub names : tab 128 (length (s .rows)) w0 ≡ map (λ (r : Row). r .name) (s .rows)
-  pub types : map typeIn (tab 192 (length (s .rows)) w0) ≡ map (λ (r : Row). r .type) (s .rows)
-  pub objects : tab 256 (length (s .objects)) w0 ≡ s .objects
-  pub keys : tab 352 (length (s .slots)) w0 ≡ map slotKey (s .slots)
-  pub starts : tab 1376 (length (s .slots)) w0 ≡ startsFrom 0 (s .slots)
-  pub cells : tab 2400 (totalSize (s .slots)) w0 ≡ cellsOf (s .slots)
+  pub owners : tab memory.owners (length (s .rows)) w0 ≡ map (λ (r : Row). r .owner) (s .rows)
+  pub names : tab memory.names (length (s .rows)) w0 ≡ map (λ (r : Row). r .name) (s .rows)
+  pub types : map typeIn (tab memory.types (length (s .rows)) w0) ≡ map (λ (r : Row). r .type) (s .rows)
+  pub objects : tab memory.objects (length (s .objects)) w0 ≡ s .objects
+  pub keys : tab memory.keys (length (s .slots)) w0 ≡ map slotKey (s .slots)
+  pub starts : tab memory.starts (length (s .slots)) w0 ≡ startsFrom 0 (s .slots)
+  pub cells : tab memory.cells (totalSize (s .slots)) w0 ≡ cellsOf (s .slots)
   pub fits : Each (λ (x : Slot). Fits (x .value)) (s .slots)
-  pub contexts : tab 4448 (length (s .rules)) w0 ≡ map (λ (r : Rule). r .context) (s .rules)
+  pub contexts : tab memory.contexts (length (s .rules)) w0 ≡ map (λ (r : Rule). r .context) (s .rules)
 
--- ---- w1: 0 nodes (8 words each, 6144), 6144 marks (768), 6912 twice a node's depth, and one more where it is an operand (768)
+-- ---- w1: nodes, and twice a node's depth, one more where it is an operand; the marks, between them, come later
 
 -- the line of each of the first n nodes
 unfoldable pub linesIn : List ℕ → ℕ → List ℕ
@@ -76,18 +75,18 @@ usedBit false = 0
 
 -- the trees of the rules that have ended, by their roots
 pub record HoldsRules (w0 w1 : List ℕ) (s : Sheet) : Type 0 where
-  pub bodies : map (treeAt w1) (tab 4512 (length (s .rules)) w0) ≡ map (λ (r : Rule). r .body) (s .rules)
-  pub roots : Each (λ n. n < length (s .lines)) (tab 4512 (length (s .rules)) w0)
+  pub bodies : map (treeAt w1) (tab memory.roots (length (s .rules)) w0) ≡ map (λ (r : Rule). r .body) (s .rules)
+  pub roots : Each (λ n. n < length (s .lines)) (tab memory.roots (length (s .rules)) w0)
   pub lines : linesIn w1 (length (s .lines)) ≡ s .lines
 
 -- the definitions that have ended, and the depths of their bodies, which a call's depth counts
 pub record HoldsDefinitions (w0 w1 : List ℕ) (s : Sheet) : Type 0 where
-  pub contexts : tab 4576 (length (s .definitions)) w0 ≡ map (λ (d : Definition). d .context) (s .definitions)
-  pub classes : Each (λ n. n < 64) (tab 4576 (length (s .definitions)) w0)
-  pub types : map typeIn (tab 4608 (length (s .definitions)) w0) ≡ map (λ (d : Definition). d .type) (s .definitions)
-  pub bodies : map (treeAt w1) (tab 4640 (length (s .definitions)) w0) ≡ map (λ (d : Definition). d .body) (s .definitions)
-  pub roots : Each (λ n. n < length (s .lines)) (tab 4640 (length (s .definitions)) w0)
-  pub depths : Each (λ n. getD w1 (6912 + n) 0 / 2 ≡ levels (treeAt w1 n)) (tab 4640 (length (s .definitions)) w0)
+  pub contexts : tab memory.definitionContexts (length (s .definitions)) w0 ≡ map (λ (d : Definition). d .context) (s .definitions)
+  pub classes : Each (λ n. n < mostClasses) (tab memory.definitionContexts (length (s .definitions)) w0)
+  pub types : map typeIn (tab memory.definitionTypes (length (s .definitions)) w0) ≡ map (λ (d : Definition). d .type) (s .definitions)
+  pub bodies : map (treeAt w1) (tab memory.definitionRoots (length (s .definitions)) w0) ≡ map (λ (d : Definition). d .body) (s .definitions)
+  pub roots : Each (λ n. n < length (s .lines)) (tab memory.definitionRoots (length (s .definitions)) w0)
+  pub depths : Each (λ n. getD w1 (memory.depths + n) 0 / 2 ≡ levels (treeAt w1 n)) (tab memory.definitionRoots (length (s .definitions)) w0)
 
 -- 1 for a rule, 3 for one whose nodes an X line has given, 2 for a definition, which has a type
 unfoldable pub openCode : Option Ty → Bool → ℕ
@@ -106,7 +105,7 @@ pub record HoldsCurrent (st : Counts) (w1 : List ℕ) (n : ℕ) (c : Current) : 
   pub count : c .first + length (c .trees) ≡ n
   pub trees : (a : ℕ) → a < length (c .trees) → treeOf (c .trees) a ≡ treeAt w1 (c .first + a)
   pub depths : (a : ℕ) → a < length (c .trees)
-      → getD w1 (6912 + (c .first + a)) 0 ≡ 2 * levels (treeOf (c .trees) a) + usedBit (member a (c .used))
+      → getD w1 (memory.depths + (c .first + a)) 0 ≡ 2 * levels (treeOf (c .trees) a) + usedBit (member a (c .used))
   -- an operand is a node of the same definition or rule
   pub used : Each (λ a. a < length (c .trees)) (c .used)
 
@@ -140,21 +139,21 @@ pub record Holds (st : Counts) (w0 w1 : List ℕ) (s : Sheet) : Type 0 where
 
 -- the counts are within document 01's limits
 pub record Fine (st : Counts) : Type 0 where
-  pub classes : st .classes ≤ 64
-  pub rows : st .rows ≤ 64
-  pub objects : st .objects ≤ 96
-  pub slots : st .slots ≤ 1024
-  pub cells : st .cells ≤ 2048
-  pub nodes : st .nodes ≤ 768
-  pub definitions : st .definitions ≤ 32
-  pub rules : st .rules ≤ 64
+  pub classes : st .classes ≤ mostClasses
+  pub rows : st .rows ≤ mostRows
+  pub objects : st .objects ≤ mostObjects
+  pub slots : st .slots ≤ mostValues
+  pub cells : st .cells ≤ mostCells
+  pub nodes : st .nodes ≤ mostNodes
+  pub definitions : st .definitions ≤ mostDefinitions
+  pub rules : st .rules ≤ mostRules
   pub first : st .first ≤ st .nodes
-  pub context : st .context < 64
+  pub context : st .context < mostClasses
 
--- the words from 8,192 on are as they were
+-- the words past those that must be lent are as they were
 pub record Kept (before after : List ℕ) : Type 0 where
   pub size : length after ≡ length before
-  pub rest : drop 8192 after ≡ drop 8192 before
+  pub rest : drop leastWords after ≡ drop leastWords before
 
 -- a step of the code and a step of the definition
 pub data Moved (w0 w1 : List ℕ) : CodeStep → Step → Type 0 where

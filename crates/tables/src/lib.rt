@@ -1,14 +1,15 @@
-// The tables that reading leaves in the lent words, for typing and evaluation to read: their layout and what they hold
-// stand in specs/. It depends on `types`, `values` and `nodes` for how these lie in words, and on `text` for a line's fields.
+// The tables of a sheet in the lent words, which reading fills and which typing and evaluation read (document 01, The sheet): specs/ says
+// where each lies and what it holds. It depends on `types`, `values` and `nodes` for how these lie in words, and on `text` for a line's fields.
 
 ghost use mathlib.Core.Path.{_≡_};
 ghost use Prim.Native.Nat.{_≤_};
 ghost use lib.ListN.{length};
+ghost use Rattle.sheet.specs.Sizes.{leastWords};
 ghost use Rattle.sheet.specs.Calls.{wiped};
 ghost use Rattle.tables.specs.Layout.{noCounts};
 
-// How far the sheet has been read: the last block begun (0 to 5 for C, A, O, V, D, R), how much of each there is, and, where a rule (1,
-// or 3 where an X line gave its nodes) or a definition (2, else 0) is open, its class, a definition's type as a word, and its first node.
+// How far the sheet has been read: the last block begun (0 to 5 for C, A, O, V, D, R), how much of each there is, and what is open: nothing
+// (0), a rule (1, or 3 once an X line has given its nodes) or a definition (2); its class, a definition's type as a word, its first node.
 pub struct Counts {
     pub block: u64,
     pub classes: u64,
@@ -31,7 +32,7 @@ pub enum Step {
     Stop(u64),
 }
 
-// Nothing read yet.
+// The counts before the first line.
 pub fn nothing() -> Counts
     ensures { λ r. ⌜ r ≡ noCounts ⌝ }
 {
@@ -52,13 +53,13 @@ pub fn nothing() -> Counts
     }
 }
 
-// The first 8,192 words are set to 0, and no other.
+// Sets the words that must be lent to 0, and no others.
 pub fn wipe(w: &mut [u64])
-    requires { ⌜ 8192 ≤ length (now w) ⌝ }
+    requires { ⌜ leastWords ≤ length (now w) ⌝ }
     ensures { λ _. ⌜ now (w .exit) ≡ wiped (now (w .entry)) ⌝ }
 {
     let mut i: usize = 0;
-    while i < 8192 {
+    while i < memory::LEAST_WORDS {
         w[i] = 0;
         i += 1;
     }

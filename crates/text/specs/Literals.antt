@@ -3,6 +3,7 @@
 use Prim.Native.Nat.{_<_}
 use mathlib.Core.Option.{Option, none, some}
 use Rattle.laws.specs.Choice.{if_then_else_}
+use Rattle.laws.specs.Integers.{storedEnd}
 use Rattle.reals.specs.Reals.{Number, kept}
 use Rattle.reals.specs.Words.{cell}
 use Rattle.text.specs.declared.numbers.Whole.{Whole}
@@ -18,4 +19,4 @@ literalOf (some x) = if kept x then Is (cell x) else Over
 abbrev pub Narrow : Whole → Type 0
 Narrow whole.Bad = Unit {0}
 Narrow whole.Out = Unit {0}
-Narrow (whole.Is n) = n < 4294967296
+Narrow (whole.Is n) = n < storedEnd

@@ -1,5 +1,5 @@
 -- Decimal numbers and Integers as the code has them: a number saturates at a bound above every limit, an Integer is a natural number.
--- proofs/NumberLaws.antt ties them to crates/sheet's `number` and `integer`, and shows that no test can tell the difference.
+-- proofs/NumberLaws.antt ties them to crates/sheet's `numberParser` and `integerParser`, and shows that no test can tell the difference.
 use Prim.Native.Nat.{ℕ, zero, suc, _+_, _≤_, min}
 use mathlib.Core.Path.{_≡_}
 use mathlib.Core.Option.{Option, none, some}
@@ -27,7 +27,7 @@ unfoldable pub cutNum : Option ℕ → Num
 cutNum none = Bad
 cutNum (some n) = Is (cut n)
 
--- the number in front of a text: what crates/sheet's `number` reads
+-- the number in front of a text: what crates/sheet's `numberParser` reads
 unfoldable pub leading : Bytes → Option ℕ
 leading s = if plain (digits s) then some (valueOfDigits 0 (digits s)) else none
 
@@ -58,7 +58,7 @@ signed zero n = some (pos n)
 signed (suc m) zero = none
 signed (suc m) (suc n) = some (negsuc n)
 
--- the Integer in front of a text: what crates/sheet's `integer` reads
+-- the Integer in front of a text: what crates/sheet's `integerParser` reads
 unfoldable pub leadingInteger : Bytes → Option ℤ
 leadingInteger s = onSome (leading (drop (minusAt s) s)) (signed (minusAt s))
 

@@ -6,6 +6,7 @@ use mathlib.Core.List.{List, [], _∷_}
 use lib.ListN.{length, take, drop}
 use lib.Dec.{eqb}
 use Rattle.laws.specs.Choice.{if_then_else_}
+use Rattle.memory.specs.Codes as code
 use Rattle.sheet.specs.Text.{Bytes, byte, isDigit}
 use Rattle.sheet.specs.Lines.{is, Table, named, forms}
 
@@ -32,20 +33,20 @@ onlyByte (b ∷ c ∷ s) = 0
 
 -- the code of w among words of its length, with a byte after each
 unfoldable pub codeAmong : Bytes → Bytes → Bytes → ℕ
-codeAmong w words [] = 99
+codeAmong w words [] = code.noForm
 codeAmong w words (c ∷ codes) = if is w (take (length w) words) then c else codeAmong w (drop (length w + 1) words) codes
 
 -- each form's code, in the order of crates/sheet's `forms`
 unfoldable pub formCodes : List ℕ
 formCodes =
-    1 ∷ 0 ∷ 2 ∷ 3 ∷ 38 ∷ 4 ∷ 5
-    ∷ 27 ∷ 32 ∷ 31
-    ∷ 23 ∷ 24 ∷ 7 ∷ 30
-    ∷ 13 ∷ 14 ∷ 15 ∷ 16 ∷ 17 ∷ 18 ∷ 19 ∷ 37
-    ∷ 33 ∷ 34 ∷ 36
-    ∷ 6 ∷ 12
-    ∷ 8 ∷ 20 ∷ 9 ∷ 11 ∷ 10 ∷ 21 ∷ 22
-    ∷ 35 ∷ 25 ∷ 26
+    code.true ∷ code.false ∷ code.undef ∷ code.number ∷ code.real ∷ code.self ∷ code.var
+    ∷ code.set ∷ code.letIn ∷ code.conditional
+    ∷ code.and ∷ code.or ∷ code.negation ∷ code.isUndef
+    ∷ code.equal ∷ code.less ∷ code.plus ∷ code.minus ∷ code.times ∷ code.div ∷ code.modulo ∷ code.over
+    ∷ code.ofObject ∷ code.ofMembers ∷ code.call
+    ∷ code.all ∷ code.castTo
+    ∷ code.sizeOf ∷ code.includes ∷ code.toSet ∷ code.toBag ∷ code.toSequence ∷ code.including ∷ code.union
+    ∷ code.iterate ∷ code.forAll ∷ code.exists
     ∷ []
 
 -- the words of a table with codes in place of what they stand for
@@ -58,6 +59,5 @@ unfoldable pub orCode : ℕ → Option ℕ → ℕ
 orCode d none = d
 orCode d (some k) = k
 
--- 99 for a word of no form
 unfoldable pub formCode : Bytes → ℕ
-formCode w = orCode 99 (named (codedWords forms formCodes) w)
+formCode w = orCode code.noForm (named (codedWords forms formCodes) w)

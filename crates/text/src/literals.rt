@@ -1,4 +1,4 @@
-// A number that is spelled, as the one word that values hold it by: an Integer or a Real.
+// A spelled number, an Integer or a Real, as the one word that values hold.
 use crate::numbers::Whole;
 use floats::Number;
 use floats::Spelled;
@@ -13,13 +13,14 @@ ghost use Rattle.sheet.specs.Lines.{aReal};
 ghost use Rattle.text.specs.Numbers.{wholeOf};
 ghost use Rattle.text.specs.Literals.{Narrow, literalOf};
 
-// No number, one that no value may hold, or the word of one.
+// A field that spells no number, one that no value may hold, or the word of a number.
 pub enum Literal {
     Bad,
     Over,
     Is(u64),
 }
 
+// The Integer that was read, as a literal.
 pub fn integer_literal(z: Whole) -> Literal
     requires { ⌜ Narrow z ⌝ }
     ensures { λ r. ⌜ ((o : Option ℤ) → z ≡ wholeOf o → r ≡ literalOf (mapSome int o)) ⌝ }

@@ -7,6 +7,7 @@ ghost use Rattle.sheet.specs.Text.{plain as plainOf};
 ghost use Rattle.sheet.specs.Lines.{aNumber, anInteger};
 ghost use Rattle.text.specs.Numbers.{cutNum, leading, DigitsRead, wholeOf, minusAt, signed, leadingInteger, IntegerRead};
 use crate::words::byte_kind;
+use floats::numbers::ZERO;
 
 // A number; any number above a million reads as a million.
 pub enum Num {
@@ -44,7 +45,7 @@ fn plain(s: &[u8], a: usize, e: usize) -> bool
     true
 }
 
-// What a digit adds to a number.
+// What a digit stands for; 0 for a byte below the digits.
 pub fn digit(b: u8) -> u64
     ensures { λ r. ⌜ r ≡ b - 48 ⌝ }
 {
@@ -114,21 +115,21 @@ fn by_sign(minuses: usize, n: u64) -> Whole
     ensures { λ r. ⌜ r ≡ wholeOf (signed minuses n) ⌝ }
 {
     if minuses == 0 {
-        if n < 2147483648 {
-            return Whole::Is(2147483648 + n);
+        if n < ZERO {
+            return Whole::Is(ZERO + n);
         }
         return Whole::Out;
     }
     if n == 0 {
         return Whole::Bad;
     }
-    if n <= 2147483648 {
-        return Whole::Is(2147483648 - n);
+    if n <= ZERO {
+        return Whole::Is(ZERO - n);
     }
     Whole::Out
 }
 
-// The digits of the Integer that begins at `at`, or of what could have been one.
+// The digits behind the minus, if there is one, of what begins at `at`.
 pub fn integer_digits(s: &[u8], at: usize) -> Digits
     requires { ⌜ at ≤ length (now s) ⌝ }
     ensures { λ r. ⌜ IntegerRead (now (s .entry)) at r ⌝ }

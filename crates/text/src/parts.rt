@@ -27,7 +27,7 @@ pub fn find(s: &[u8], sep: u8) -> usize
     i
 }
 
-// Each byte of the line is looked at once.
+// The line's fields; each byte is looked at once.
 pub fn cut(line: &[u8]) -> Fields
     ensures { λ r. ⌜ Cut (now (line .entry)) r ⌝ }
 {

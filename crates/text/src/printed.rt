@@ -10,7 +10,7 @@ use crate::spelling::put_byte;
 use crate::spelling::put_bytes;
 use crate::spelling::put_number;
 
-// Two numbers with a space between them, and a line feed.
+// Puts two numbers with a space between them, and a line feed.
 pub fn put_pair(out: &mut [u8], at: usize, a: u64, b: u64) -> usize
     requires { ⌜ at + 42 ≤ length (now out) ⌝ }
     ensures { λ r. ⌜ Puts at (spellNumber a ++ (32 ∷ []) ++ spellNumber b ++ (10 ∷ [])) (now (out .entry)) (now (out .exit)) r × (r ≤ length (now (out .exit))) ⌝ }
@@ -21,7 +21,7 @@ pub fn put_pair(out: &mut [u8], at: usize, a: u64, b: u64) -> usize
     put_byte(out, end, b'\n')
 }
 
-// `!`, number and place on a line, at the front of the output.
+// Puts the line of a refusal, `!`, number and place, at the front of the output.
 pub fn put_refusal(number: u64, place: u64, out: &mut [u8]) -> usize
     requires { ⌜ (0 < number) × (64 ≤ length (now out)) ⌝ }
     ensures { λ r. ⌜ Puts 0 (printed (refusalAt number place)) (now (out .entry)) (now (out .exit)) r × (r ≤ length (now (out .exit))) ⌝ }

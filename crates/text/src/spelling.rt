@@ -1,4 +1,5 @@
 // Writing bytes and numbers at a position. Each function answers the position after what it wrote.
+use floats::numbers::ZERO;
 use floats::spelling::spell_real;
 ghost use mathlib.Core.List.{[], _∷_};
 ghost use mathlib.Core.Path.{_≡_};
@@ -11,7 +12,7 @@ ghost use Rattle.laws.specs.Integers.{unbias};
 ghost use Rattle.text.specs.Written.{Puts, LeadOf};
 ghost use Rattle.text.specs.WrittenReals.{PutsReal};
 
-// The powers of ten that a word holds. Whoever uses them takes them into a local first: each use of the constant is a table anew.
+// The powers of ten that fit a word. Copy them to a local before a loop: each use of the constant makes the table anew.
 const POWERS: [u64; 20] = [
     1,
     10,
@@ -76,7 +77,7 @@ fn digit_count(n: u64) -> usize
     k
 }
 
-// The one place where a digit is found: p is taken off n as often as it goes.
+// The one place where a digit is found: p, a power of ten, is subtracted from n as often as it goes (document 02, F-3).
 fn leading(n: u64, p: u64) -> Lead
     requires { ⌜ n < p * 10 ⌝ }
     ensures { λ r. ⌜ LeadOf n p r ⌝ }
@@ -108,16 +109,16 @@ pub fn put_number(out: &mut [u8], at: usize, n: u64) -> usize
     e
 }
 
-// The Integer with 2147483648 added to it, as value cells hold it.
+// The Integer that `biased` stands for: it has 2147483648 added to it.
 pub fn put_integer(out: &mut [u8], at: usize, biased: u64) -> usize
     requires { ⌜ at + length (spellInteger (unbias biased)) ≤ length (now out) ⌝ }
     ensures { λ r. ⌜ Puts at (spellInteger (unbias biased)) (now (out .entry)) (now (out .exit)) r ⌝ }
 {
-    if biased < 2147483648 {
+    if biased < ZERO {
         let from = put_byte(out, at, b'-');
-        return put_number(out, from, 2147483648 - biased);
+        return put_number(out, from, ZERO - biased);
     }
-    put_number(out, at, biased - 2147483648)
+    put_number(out, at, biased - ZERO)
 }
 
 pub fn put_real(out: &mut [u8], at: usize, x: f64) -> usize

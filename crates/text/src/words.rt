@@ -1,12 +1,13 @@
-// Bytes and words: what a byte can begin, whether a field is a word, and the code of a form's word.
+// Letters and words: what a byte can begin, whether a field is a certain word, and the code of a form's word.
+use memory::codes;
 ghost use mathlib.Core.Path.{_≡_};
 ghost use Prim.Native.Nat.{_+_, _*_, _≤_};
 ghost use lib.ListN.{length};
 ghost use Rattle.sheet.specs.Lines.{is};
 ghost use Rattle.text.specs.Words.{byteKind, onlyByte, codeAmong, formCode};
 
-// What a byte can begin in a line: the line itself by its letter, or a number. This is the match with ranges over line
-// letters and digits of document 01, Use these forms in these places.
+// What a byte can begin: a line by its letter, C, A, O, V, R and N being 1 to 6, D 8 and X 9; a number, 7; nothing, 0. This is the match
+// with ranges over line letters and digits of document 01, Use these forms in these places.
 pub fn byte_kind(b: u8) -> u64
     ensures { λ r. ⌜ r ≡ byteKind b ⌝ }
 {
@@ -51,7 +52,7 @@ pub fn same(f: &[u8], w: &[u8]) -> bool
     true
 }
 
-// The code of the field among words of its own length, with one byte between two words; 99 if it is none of them.
+// The code of the field among words of its own length, with one byte between two words; NO_FORM if it is none of them.
 pub fn among(f: &[u8], words: &[u8], codes: &[u8]) -> u64
     requires { ⌜ length (now codes) * (length (now f) + 1) ≤ length (now words) + 1 ⌝ }
     ensures { λ r. ⌜ r ≡ codeAmong (now (f .entry)) (now (words .entry)) (now (codes .entry)) ⌝ }
@@ -67,7 +68,7 @@ pub fn among(f: &[u8], words: &[u8], codes: &[u8]) -> u64
         at = e + 1;
         k += 1;
     }
-    99
+    codes::NO_FORM
 }
 
 fn wide(b: u8) -> u64
@@ -76,32 +77,77 @@ fn wide(b: u8) -> u64
     b as u64
 }
 
-// The code of a form by its word, 99 for a word that is no form. Only words of the same length are compared, eleven at most.
+// The codes of the words of each length, in the order of the words in `form_code`.
+const TWO: [u8; 4] = [
+    codes::CONDITIONAL as u8,
+    codes::OR as u8,
+    codes::EQUAL as u8,
+    codes::CAST_TO as u8,
+];
+
+const THREE: [u8; 8] = [
+    codes::NUMBER as u8,
+    codes::VAR as u8,
+    codes::LET_IN as u8,
+    codes::AND as u8,
+    codes::NEGATION as u8,
+    codes::DIV as u8,
+    codes::MODULO as u8,
+    codes::ALL as u8,
+];
+
+const FOUR: [u8; 11] = [
+    codes::TRUE as u8,
+    codes::REAL as u8,
+    codes::SELF as u8,
+    codes::SET as u8,
+    codes::LESS as u8,
+    codes::PLUS as u8,
+    codes::OVER as u8,
+    codes::OF_OBJECT as u8,
+    codes::CALL as u8,
+    codes::SIZE_OF as u8,
+    codes::ITERATE as u8,
+];
+
+const FIVE: [u8; 7] = [
+    codes::FALSE as u8,
+    codes::UNDEF as u8,
+    codes::MINUS as u8,
+    codes::TIMES as u8,
+    codes::TO_SET as u8,
+    codes::TO_BAG as u8,
+    codes::UNION as u8,
+];
+
+const SIX: [u8; 2] = [codes::FOR_ALL as u8, codes::EXISTS as u8];
+
+const SEVEN: [u8; 2] = [codes::IS_UNDEF as u8, codes::OF_MEMBERS as u8];
+
+const EIGHT: [u8; 1] = [codes::INCLUDES as u8];
+
+const NINE: [u8; 1] = [codes::INCLUDING as u8];
+
+const TEN: [u8; 1] = [codes::TO_SEQUENCE as u8];
+
+// The code of a form by its word. Only words of the same length are compared, eleven at most.
 pub fn form_code(f: &[u8]) -> u64
     ensures { λ r. ⌜ r ≡ formCode (now (f .entry)) ⌝ }
 {
     match f.len() {
-        2 => among(f, b"if or eq as", &[31, 24, 13, 12]),
-        3 => among(
-            f,
-            b"int var let and not div mod all",
-            &[3, 5, 32, 23, 7, 18, 19, 6],
-        ),
+        2 => among(f, b"if or eq as", &TWO),
+        3 => among(f, b"int var let and not div mod all", &THREE),
         4 => among(
             f,
             b"true real self coll less plus over attr call size iter",
-            &[1, 38, 4, 27, 14, 15, 37, 33, 36, 8, 35],
+            &FOUR,
         ),
-        5 => among(
-            f,
-            b"false undef minus times asSet asBag union",
-            &[0, 2, 16, 17, 9, 11, 22],
-        ),
-        6 => among(f, b"forAll exists", &[25, 26]),
-        7 => among(f, b"isUndef collect", &[30, 34]),
-        8 => among(f, b"includes", &[20]),
-        9 => among(f, b"including", &[21]),
-        10 => among(f, b"asSequence", &[10]),
-        _ => 99,
+        5 => among(f, b"false undef minus times asSet asBag union", &FIVE),
+        6 => among(f, b"forAll exists", &SIX),
+        7 => among(f, b"isUndef collect", &SEVEN),
+        8 => among(f, b"includes", &EIGHT),
+        9 => among(f, b"including", &NINE),
+        10 => among(f, b"asSequence", &TEN),
+        _ => codes::NO_FORM,
     }
 }

@@ -5,6 +5,7 @@ use mathlib.Core.List.{List}
 use Prim.Native.Nat.{ℕ, _+_, _≤_}
 use lib.ListN.{length}
 use lib.Dec.{eqb, leb}
+use Rattle.sheet.specs.Sizes.{mostNodes}
 use Rattle.sheet.specs.Text.{Bytes}
 use Rattle.sheet.specs.Lines.{textLine}
 use Rattle.sheet.specs.Texts.{nodesOf}
@@ -18,7 +19,7 @@ use Rattle.texts.specs.declared.gathering.Gathered.{Gathered}
 
 -- 4: so many nodes, where there are nodes already
 unfoldable pub textLimits : Counts → Gathered → ℕ → Bool
-textLimits st g n = g .within && leb (st .nodes + n) 768
+textLimits st g n = g .within && leb (st .nodes + n) mostNodes
 
 -- 5
 unfoldable pub textOrder : Counts → Gathered → Bool
@@ -26,7 +27,7 @@ textOrder st g = leb (st .block) 5 && (eqb (st .«open») 1 && eqb (st .first) (
 
 -- a text that is a sentence of so many nodes, which wait in w2 if they are not too many: the words were w0 and w1 and are w0 and v1
 pub record Judged (st : Counts) (line nodes : ℕ) (r : Step) (w0 w1 w2 v1 : List ℕ) : Type 0 where
-  pub is : (s : Sheet) (x : Bytes) → length (nodesOf x) ≡ nodes → (nodes ≤ 768 → HoldsNodes line (nodesOf x) w2) → Holds st w0 w1 s → Moved w0 v1 r (stepLine s line (textLine x))
+  pub is : (s : Sheet) (x : Bytes) → length (nodesOf x) ≡ nodes → (nodes ≤ mostNodes → HoldsNodes line (nodesOf x) w2) → Holds st w0 w1 s → Moved w0 v1 r (stepLine s line (textLine x))
   pub kept : Kept w1 v1
 
 -- line k with these bytes; w2 was u2 and is v2

@@ -1,8 +1,9 @@
-// What is asked of all nodes of a text together, so that each refusal is by the text and not by its first node.
+// What is asked of all nodes of a text together: 4 of its last node comes before 5 of its first one.
 ghost use mathlib.Core.Path.{_≡_};
 ghost use mathlib.Core.Bool.{_&&_};
-ghost use Prim.Native.Nat.{_≤_, min};
+ghost use Prim.Native.Nat.{_+_, _≤_, min};
 ghost use lib.ListN.{length};
+ghost use Rattle.sheet.specs.Sizes.{leastWords, mostNodes, mostDefinitions};
 ghost use Rattle.trees.specs.Calls.{callsIn};
 ghost use Rattle.texts.specs.Gathering.{joined, Gathers};
 use emission::emitted;
@@ -25,18 +26,25 @@ fn both(a: bool, b: bool) -> bool
     if a { b } else { false }
 }
 
-// How many definitions there must be for the one that a node calls; 33 where no sheet has so many.
+// More definitions than there may be.
+const TOO_MANY: u64 = memory::MOST_DEFINITIONS + 1;
+
+// How many definitions there must be for the one that a node calls; TOO_MANY where no sheet can have it.
 fn called(words: [u64; 8], count: usize) -> u64
     requires { ⌜ length words ≡ 8 ⌝ }
-    ensures { λ r. ⌜ r ≡ min (callsIn words count) 33 ⌝ }
+    ensures { λ r. ⌜ r ≡ min (callsIn words count) (mostDefinitions + 1) ⌝ }
 {
     if !is_call(words, count) {
         return 0;
     }
-    if words[2] < 32 { words[2] + 1 } else { 33 }
+    if words[2] < memory::MOST_DEFINITIONS {
+        words[2] + 1
+    } else {
+        TOO_MANY
+    }
 }
 
-// With one node more.
+// What is asked with one node more.
 fn with_node(g: Gathered, p: Parsed) -> Gathered
     requires { ⌜ length (p .words) ≡ 8 ⌝ }
     ensures { λ r. ⌜ r ≡ joined g p ⌝ }
@@ -50,9 +58,9 @@ fn with_node(g: Gathered, p: Parsed) -> Gathered
     }
 }
 
-// Of the first `nodes` nodes that wait in w2.
+// What is asked of the first `nodes` nodes that wait in w2.
 pub fn gather(w2: &[u64], nodes: usize, k: u64) -> Gathered
-    requires { ⌜ (8192 ≤ length (now w2)) × (nodes ≤ 768) ⌝ }
+    requires { ⌜ (leastWords ≤ length (now w2)) × (nodes ≤ mostNodes) ⌝ }
     ensures { λ r. ⌜ Gathers k nodes (now (w2 .entry)) r ⌝ }
 {
     let mut g = Gathered {

@@ -2,6 +2,7 @@
 ghost use mathlib.Core.Path.{_≡_};
 ghost use Prim.Native.Nat.{_≤_};
 ghost use lib.ListN.{length};
+ghost use Rattle.sheet.specs.Sizes.{leastWords, mostNodes};
 ghost use Rattle.tables.specs.Layout.{Fine};
 ghost use Rattle.texts.specs.Placing.{HeldNodes};
 ghost use Rattle.texts.specs.Judging.{textLimits, textOrder, Judged};
@@ -11,14 +12,15 @@ use super::placing::place;
 use tables::Counts;
 use tables::Step;
 
+// 4: each node is within its limits, and the sheet has no more than 768 nodes.
 fn within_limits(st: Counts, g: Gathered, nodes: usize) -> bool
-    requires { ⌜ Fine st × (nodes ≤ 768) ⌝ }
+    requires { ⌜ Fine st × (nodes ≤ mostNodes) ⌝ }
     ensures { λ r. ⌜ r ≡ textLimits st g nodes ⌝ }
 {
     if !g.within {
         return false;
     }
-    st.nodes + nodes as u64 <= 768
+    st.nodes + nodes as u64 <= memory::MOST_NODES
 }
 
 // Only a rule that has no node yet may have a text.
@@ -37,12 +39,12 @@ fn in_order(st: Counts, g: Gathered) -> bool
     g.apart
 }
 
-// A text of so many nodes, which wait in w2 if they are not too many.
+// Judges a text of so many nodes, which wait in w2 if they are not too many, and puts them into the node table.
 pub fn judge(w0: &[u64], w1: &mut [u64], w2: &[u64], st: Counts, nodes: usize, k: u64) -> Step
-    requires { ⌜ (8192 ≤ length (now w0)) × (8192 ≤ length (now w1)) × (8192 ≤ length (now w2)) × Fine st × (nodes ≤ 768 → HeldNodes k nodes (now w2)) ⌝ }
+    requires { ⌜ (leastWords ≤ length (now w0)) × (leastWords ≤ length (now w1)) × (leastWords ≤ length (now w2)) × Fine st × (nodes ≤ mostNodes → HeldNodes k nodes (now w2)) ⌝ }
     ensures { λ r. ⌜ Judged st k nodes r (now (w0 .entry)) (now (w1 .entry)) (now (w2 .entry)) (now (w1 .exit)) ⌝ }
 {
-    if nodes > 768 {
+    if nodes > memory::NODES {
         return Step::Stop(4);
     }
     let g = gather(w2, nodes, k);

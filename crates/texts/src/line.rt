@@ -4,6 +4,7 @@ ghost use mathlib.Core.Bool.{true};
 ghost use mathlib.Core.List.{[]};
 ghost use Prim.Native.Nat.{_≤_};
 ghost use lib.ListN.{length, getD};
+ghost use Rattle.sheet.specs.Sizes.{leastWords};
 ghost use Rattle.sheet.specs.Text.{bytes, fieldsOf};
 ghost use Rattle.sheet.specs.Lines.{is};
 ghost use Rattle.text.specs.Parts.{Cut};
@@ -18,7 +19,7 @@ use text::parts::Fields;
 use text::parts::field;
 use tokens::few_open;
 
-// The line k, whose first field is `X`.
+// Takes line k, whose first field is `X`.
 pub fn text_line(
     line: &[u8],
     f: Fields,
@@ -28,7 +29,7 @@ pub fn text_line(
     st: Counts,
     k: u64,
 ) -> Step
-    requires { ⌜ Cut (now line) f × (is (getD (fieldsOf (now line)) 0 []) (bytes "X") ≡ true) × (8192 ≤ length (now w0)) × (8192 ≤ length (now w1)) × (8192 ≤ length (now w2)) × Fine st ⌝ }
+    requires { ⌜ Cut (now line) f × (is (getD (fieldsOf (now line)) 0 []) (bytes "X") ≡ true) × (leastWords ≤ length (now w0)) × (leastWords ≤ length (now w1)) × (leastWords ≤ length (now w2)) × Fine st ⌝ }
     ensures { λ r. ⌜ TookText st k (now (line .entry)) r (now (w0 .entry)) (now (w1 .entry)) (now (w2 .entry)) (now (w1 .exit)) (now (w2 .exit)) ⌝ }
 {
     if f.count != 2 {

@@ -2,6 +2,7 @@
 ghost use mathlib.Core.Path.{_≡_};
 ghost use Prim.Native.Nat.{_≤_};
 ghost use lib.ListN.{length};
+ghost use Rattle.sheet.specs.Sizes.{leastWords, mostNodes};
 ghost use Rattle.tables.specs.Layout.{Fine};
 ghost use Rattle.texts.specs.Placing.{HeldNodes, textCounts, TextPlaced};
 use emission::emitted;
@@ -9,7 +10,7 @@ use tables::Counts;
 use tables::Step;
 use trees::node::place_node;
 
-// An X line has given the open rule's nodes.
+// The counts once an X line has given the open rule's nodes.
 fn with_text(st: Counts) -> Counts
     ensures { λ r. ⌜ r ≡ textCounts st ⌝ }
 {
@@ -18,9 +19,9 @@ fn with_text(st: Counts) -> Counts
     next
 }
 
-// The first `nodes` nodes that wait in w2. Those of a text make a tree, so that none of them is refused once all have been judged.
+// Puts the first `nodes` nodes that wait in w2. Those of a text make a tree, so that none is refused once all have been judged.
 pub fn place(w0: &[u64], w1: &mut [u64], w2: &[u64], st: Counts, nodes: usize, k: u64) -> Step
-    requires { ⌜ (8192 ≤ length (now w0)) × (8192 ≤ length (now w1)) × (8192 ≤ length (now w2)) × Fine st × (nodes ≤ 768) × HeldNodes k nodes (now w2) ⌝ }
+    requires { ⌜ (leastWords ≤ length (now w0)) × (leastWords ≤ length (now w1)) × (leastWords ≤ length (now w2)) × Fine st × (nodes ≤ mostNodes) × HeldNodes k nodes (now w2) ⌝ }
     ensures { λ r. ⌜ TextPlaced st k nodes r (now (w0 .entry)) (now (w1 .entry)) (now (w2 .entry)) (now (w1 .exit)) ⌝ }
 {
     let mut on = st;

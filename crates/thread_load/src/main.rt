@@ -1,4 +1,4 @@
-// The program of document 02, F-14: standard input, piece by piece, to the line that is printed for it. It depends on `load`.
+// The program of document 02, F-14: it reads stitch lengths from standard input, piece by piece, and prints one line. It depends on `load`.
 use libc::STDIN_FILENO;
 use libc::STDOUT_FILENO;
 use load::reader::Reader;
@@ -14,7 +14,7 @@ fn print_answer(s: Reader) {
     }
 }
 
-// A proved loop has to end: no run uses up the turns. A refused text is read no further.
+// A proved loop has to end, so that its turns are counted; no run uses them up. A refused text is read no further.
 fn main() {
     let mut piece: [u8; 8192] = [0; 8192];
     let mut s = start();

@@ -1,33 +1,38 @@
 -- Document 02, F-7: a number for each word and sign of the grammar. One that stands for a form has the form's code in the node table
--- (crates/nodes).
+-- (memory/specs/Codes.antt).
 use mathlib.Core.Option.{Option, none, some}
 use mathlib.Core.List.{[], _∷_}
 use Prim.Native.Nat.{ℕ}
 use lib.Dec.{eqb}
 use Rattle.laws.specs.Choice.{if_then_else_}
+use Rattle.memory.specs.Codes as code
 use Rattle.sheet.specs.Text.{Bytes}
 use Rattle.sheet.specs.Grammar.Tokens.{Tokens}
 use Rattle.sheet.specs.Grammar.Words.{Table, named}
 unfoldable pub use Rattle.text.specs.Words.{orCode}
+use Rattle.tokens.specs.Signs as sign
 
 unfoldable pub codes : Table ℕ
 codes =
-    ("false", 0) ∷ ("true", 1) ∷ ("undef", 2) ∷ ("self", 4) ∷ ("allInstances", 6) ∷ ("not", 7) ∷ ("size", 8) ∷ ("asSet", 9)
-    ∷ ("asSequence", 10) ∷ ("asBag", 11) ∷ ("oclAsType", 12) ∷ ("=", 13) ∷ ("<", 14) ∷ ("+", 15) ∷ ("-", 16) ∷ ("*", 17)
-    ∷ ("div", 18) ∷ ("mod", 19) ∷ ("includes", 20) ∷ ("including", 21) ∷ ("union", 22) ∷ ("and", 23) ∷ ("or", 24)
-    ∷ ("forAll", 25) ∷ ("exists", 26) ∷ ("Set", 27) ∷ ("Sequence", 28) ∷ ("Bag", 29) ∷ ("isUndef", 30) ∷ ("if", 31)
-    ∷ ("let", 32) ∷ ("collect", 34) ∷ ("iter", 35) ∷ ("/", 37) ∷ ("(", 40) ∷ (")", 41) ∷ ("{", 42) ∷ ("}", 43) ∷ (",", 44)
-    ∷ (";", 45) ∷ (":", 46) ∷ ("|", 47) ∷ (".", 48) ∷ ("->", 49) ∷ ("in", 50) ∷ ("then", 51) ∷ ("else", 52)
-    ∷ ("endif", 53) ∷ ("Void", 54) ∷ ("Bool", 55) ∷ ("Int", 56) ∷ ("Real", 57) ∷ ("Any", 58) ∷ ("S", 59) ∷ ("Q", 60)
-    ∷ ("B", 61) ∷ ("C", 62) ∷ []
+    ("false", code.false) ∷ ("true", code.true) ∷ ("undef", code.undef) ∷ ("self", code.self) ∷ ("allInstances", code.all)
+    ∷ ("not", code.negation) ∷ ("size", code.sizeOf) ∷ ("asSet", code.toSet) ∷ ("asSequence", code.toSequence)
+    ∷ ("asBag", code.toBag) ∷ ("oclAsType", code.castTo) ∷ ("=", code.equal) ∷ ("<", code.less) ∷ ("+", code.plus)
+    ∷ ("-", code.minus) ∷ ("*", code.times) ∷ ("div", code.div) ∷ ("mod", code.modulo) ∷ ("includes", code.includes)
+    ∷ ("including", code.including) ∷ ("union", code.union) ∷ ("and", code.and) ∷ ("or", code.or) ∷ ("forAll", code.forAll)
+    ∷ ("exists", code.exists) ∷ ("Set", code.set) ∷ ("Sequence", code.sequence) ∷ ("Bag", code.bag) ∷ ("isUndef", code.isUndef)
+    ∷ ("if", code.conditional) ∷ ("let", code.letIn) ∷ ("collect", code.ofMembers) ∷ ("iter", code.iterate) ∷ ("/", code.over)
+    ∷ ("(", sign.openBracket) ∷ (")", sign.closeBracket) ∷ ("{", sign.openBrace) ∷ ("}", sign.closeBrace) ∷ (",", sign.comma)
+    ∷ (";", sign.semicolon) ∷ (":", sign.colon) ∷ ("|", sign.bar) ∷ (".", sign.dot) ∷ ("->", sign.arrow) ∷ ("in", sign.inWord)
+    ∷ ("then", sign.thenWord) ∷ ("else", sign.elseWord) ∷ ("endif", sign.endifWord) ∷ ("Void", sign.void) ∷ ("Bool", sign.bool)
+    ∷ ("Int", sign.int) ∷ ("Real", sign.real) ∷ ("Any", sign.any) ∷ ("S", sign.setLetter) ∷ ("Q", sign.sequenceLetter)
+    ∷ ("B", sign.bagLetter) ∷ ("C", sign.collectionLetter) ∷ []
 
--- 64 for every other token: a number, `v1`, or what stands nowhere in the grammar
 unfoldable pub codeOf : Bytes → ℕ
-codeOf w = orCode 64 (named codes w)
+codeOf w = orCode sign.other (named codes w)
 
--- the code of the first token, 65 where there is none
+-- the code of the first token
 unfoldable pub headCode : Tokens → ℕ
-headCode [] = 65
+headCode [] = sign.end
 headCode (w ∷ s) = codeOf w
 
 -- what follows a token of code k

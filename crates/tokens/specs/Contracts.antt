@@ -8,10 +8,13 @@ use lib.ListN.{length, take, drop, getD}
 use lib.Dec.{eqb, leb}
 use Rattle.laws.specs.Choice.{if_then_else_}
 use Rattle.laws.specs.Lists.{member}
+use Rattle.memory.specs.Codes as code
+use Rattle.sheet.specs.Sizes.{mostOpen}
 use Rattle.sheet.specs.Text.{Bytes, byte}
 use Rattle.sheet.specs.Grammar.Tokens.{Tokens, tokens, inWord}
 use Rattle.tokens.specs.Codes.{headCode}
 use Rattle.tokens.specs.declared.Token.{Token}
+use Rattle.tokens.specs.Signs as sign
 
 -- ---- where tokens begin and end
 
@@ -56,13 +59,13 @@ pub record TokenEnds (s : Bytes) (at r : ℕ) : Type 0 where
 abbrev pub onward : Bytes → Token → Tokens
 onward s t = tokens (drop (t .start) s)
 
--- t is the next token of s at its place: its bytes and its code, or no bytes and 65 where none is left
+-- t is the next token of s at its place: its bytes and its code, or no bytes and `end` where none is left
 pub record Ahead (s : Bytes) (t : Token) : Type 0 where
   pub order : t .start ≤ t .end
   pub within : t .end ≤ length s
   pub code : t .code ≡ headCode (onward s t)
-  pub one : t .code ≢ 65 → (t .start < t .end) × (onward s t ≡ part s (t .start) (t .end) ∷ tokens (drop (t .end) s))
-  pub none : t .code ≡ 65 → onward s t ≡ []
+  pub one : t .code ≢ sign.end → (t .start < t .end) × (onward s t ≡ part s (t .start) (t .end) ∷ tokens (drop (t .end) s))
+  pub none : t .code ≡ sign.end → onward s t ≡ []
 
 -- the next token from `at` on
 pub record NextIs (s : Bytes) (at : ℕ) (t : Token) : Type 0 where
@@ -73,7 +76,10 @@ pub record NextIs (s : Bytes) (at : ℕ) (t : Token) : Type 0 where
 -- ---- brackets: how many are open after a token of code k, where d were: `(`, `{` and `if` count up, `)`, `}` and `endif` down
 
 unfoldable pub openAfter : ℕ → ℕ → ℕ
-openAfter k d = if member k (31 ∷ 40 ∷ 42 ∷ []) then suc d else if member k (41 ∷ 43 ∷ 53 ∷ []) then pred d else d
+openAfter k d =
+    if member k (code.conditional ∷ sign.openBracket ∷ sign.openBrace ∷ []) then suc d
+    else if member k (sign.closeBracket ∷ sign.closeBrace ∷ sign.endifWord ∷ []) then pred d
+    else d
 
 -- and by bytes alone, each `if` left open for ever: after the byte b, which follows `i` or not
 unfoldable pub openBy : Bool → ℕ → ℕ → ℕ
@@ -85,7 +91,7 @@ openBy p b d =
 
 unfoldable pub fewBytes : Bool → ℕ → Bytes → Bool
 fewBytes p d [] = true
-fewBytes p d (b ∷ s) = leb (openBy p b d) 64 && fewBytes (eqb b (byte "i")) (openBy p b d) s
+fewBytes p d (b ∷ s) = leb (openBy p b d) mostOpen && fewBytes (eqb b (byte "i")) (openBy p b d) s
 
 unfoldable pub bytesWithin : Bytes → Bool
 bytesWithin s = fewBytes false 0 s

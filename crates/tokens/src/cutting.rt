@@ -8,7 +8,7 @@ ghost use lib.ListN.{length, getD};
 ghost use Rattle.sheet.specs.Grammar.Tokens.{inWord};
 ghost use Rattle.tokens.specs.Contracts.{Skipped, RunEnds, arrowAt, TokenEnds};
 
-// Is the byte one of those from `low` to `high`.
+// Whether the byte is one of those from `low` to `high`.
 fn between(b: u8, low: u8, high: u8) -> bool
     ensures { λ r. ⌜ r ≡ (leb low b && leb b high) ⌝ }
 {
@@ -18,7 +18,7 @@ fn between(b: u8, low: u8, high: u8) -> bool
     b <= high
 }
 
-// Is the byte a letter, a digit or `#`.
+// Whether the byte is a letter, a digit or `#`.
 fn in_word(b: u8) -> bool
     ensures { λ r. ⌜ r ≡ inWord b ⌝ }
 {
@@ -34,7 +34,7 @@ fn in_word(b: u8) -> bool
     b == b'#'
 }
 
-// Where spaces end.
+// Where the spaces from `at` on end.
 pub fn skip(s: &[u8], at: usize) -> usize
     requires { ⌜ at ≤ length (now s) ⌝ }
     ensures { λ r. ⌜ Skipped (now (s .entry)) at r ⌝ }
@@ -64,7 +64,7 @@ fn run_end(s: &[u8], at: usize) -> usize
     i
 }
 
-// Does `->` begin at `at`.
+// Whether `->` begins at `at`.
 fn is_arrow(s: &[u8], at: usize) -> bool
     requires { ⌜ at < length (now s) ⌝ }
     ensures { λ r. ⌜ r ≡ arrowAt (now (s .entry)) at ⌝ }

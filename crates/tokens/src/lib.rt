@@ -3,6 +3,7 @@
 ghost use mathlib.Core.Path.{_≡_};
 ghost use Prim.Native.Nat.{_≤_};
 ghost use lib.ListN.{length};
+ghost use Rattle.sheet.specs.Sizes.{mostOpen};
 ghost use Rattle.sheet.specs.Grammar.Words.{labelled};
 ghost use Rattle.sheet.specs.Texts.{bracketsWithin};
 ghost use Rattle.text.specs.Numbers.{cutNum};
@@ -10,13 +11,15 @@ ghost use Rattle.tokens.specs.Contracts.{part, Ahead, NextIs, openAfter,
 use codes::token_code;
 use cutting::skip;
 use cutting::token_end;
+use memory::codes::CONDITIONAL;
 use text::numbers::Num;
 use text::numbers::number;
 
 pub mod cutting; // where a token ends
 pub mod codes; // what it is
+pub mod signs; // the codes of words and signs that stand for no form
 
-// A token's bytes and its code. Where none is left, it has no bytes and the code 65.
+// A token's bytes and its code. Where none is left, it has no bytes and the code END.
 pub struct Token {
     pub start: usize,
     pub end: usize,
@@ -40,7 +43,7 @@ pub fn next_token(s: &[u8], at: usize) -> Token
     Token {
         start,
         end: start,
-        code: 65,
+        code: signs::END,
     }
 }
 
@@ -63,19 +66,23 @@ pub fn label(s: &[u8], t: Token, letter: u8) -> Num
 
 // How many brackets and `if`s are open after a token of this code, where `depth` were before it.
 fn open_after(code: u64, depth: usize) -> usize
-    requires { ⌜ depth ≤ 64 ⌝ }
+    requires { ⌜ depth ≤ mostOpen ⌝ }
     ensures { λ r. ⌜ r ≡ openAfter code depth ⌝ }
 {
     match code {
-        31 | 40 | 42 => depth + 1,
-        41 | 43 | 53 => if depth == 0 { 0 } else { depth - 1 },
+        CONDITIONAL | signs::OPEN_BRACKET | signs::OPEN_BRACE => depth + 1,
+        signs::CLOSE_BRACKET | signs::CLOSE_BRACE | signs::ENDIF_WORD => if depth == 0 {
+            0
+        } else {
+            depth - 1
+        },
         _ => depth,
     }
 }
 
-// How many are open after a byte, if no `if` ever ends.
+// The same by bytes alone, where no `if` ever closes: after the byte b, which follows an `i` or not.
 fn open_by(follows: bool, b: u8, depth: usize) -> usize
-    requires { ⌜ depth ≤ 64 ⌝ }
+    requires { ⌜ depth ≤ mostOpen ⌝ }
     ensures { λ r. ⌜ r ≡ openBy follows b depth ⌝ }
 {
     match b {
@@ -86,7 +93,7 @@ fn open_by(follows: bool, b: u8, depth: usize) -> usize
     }
 }
 
-// Whether no more than 64 are open together even if no `if` ever ends. Bytes are told faster than tokens, and few texts have more.
+// Whether no more than 64 are open together even if no `if` ever closes. This is faster than cutting tokens, and most texts pass it.
 fn few_by_bytes(s: &[u8]) -> bool
     ensures { λ r. ⌜ r ≡ bytesWithin (now (s .entry)) ⌝ }
 {
@@ -96,7 +103,7 @@ fn few_by_bytes(s: &[u8]) -> bool
     while i < s.len() {
         let b = s[i];
         depth = open_by(follows, b, depth);
-        if 64 < depth {
+        if memory::MOST_OPEN < depth {
             return false;
         }
         follows = b == b'i';
@@ -114,9 +121,9 @@ pub fn few_open(s: &[u8]) -> bool
     }
     let mut depth: usize = 0;
     let mut t = next_token(s, 0);
-    while t.code != 65 {
+    while t.code != signs::END {
         depth = open_after(t.code, depth);
-        if 64 < depth {
+        if memory::MOST_OPEN < depth {
             return false;
         }
         let e = t.end;

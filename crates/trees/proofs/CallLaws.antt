@@ -11,6 +11,7 @@ use lib.Dec.{eqb, leb, ltb}
 use lib.ListN.{length, getD, take, drop}
 use Rattle.laws.specs.Choice.{if_then_else_}
 use Rattle.laws.proofs.Cases.{zero-least}
+use Rattle.memory.specs.Map as memory
 use Rattle.ocl.specs.Types.{Kind, set, sequence, bag}
 use Rattle.ocl.specs.Forms.{Access, ofObject, ofMembers, Leaf, truth, undef, number, self, var, all, Unary, negation, sizeOf, convert, castTo, Definition, levels}
 use Rattle.sheet.specs.Lines.{Shape, leaf, unary, binary, connective, isUndef, conditional, letIn, attribute, call, quantified, iterate, assemble}
@@ -62,7 +63,7 @@ module _ (words : List ℕ) (count : ℕ) where
     called-low h l = let q : suc (getD words 2 0) ≤ 32 = rw (← told, not-false b h) at l in omega arith
 
     pub resolved-call : (w0 : List ℕ) → not b ≡ false
-        → 36 ∷ getD words 1 0 ∷ getD w0 (4640 + getD words 2 0) 0 ∷ getD w0 (4576 + getD words 2 0) 0 ∷ getD w0 (4608 + getD words 2 0) 0 ∷ 0 ∷ 0 ∷ getD words 7 0 ∷ [] ≡ resolvedIn w0 words count
+        → 36 ∷ getD words 1 0 ∷ getD w0 (memory.definitionRoots + getD words 2 0) 0 ∷ getD w0 (memory.definitionContexts + getD words 2 0) 0 ∷ getD w0 (memory.definitionTypes + getD words 2 0) 0 ∷ 0 ∷ 0 ∷ getD words 7 0 ∷ [] ≡ resolvedIn w0 words count
     unfolding resolvedIn
     resolved-call w0 h = rw (← told, not-false b h)
 
@@ -74,7 +75,7 @@ module _ (words : List ℕ) (count : ℕ) where
     unfolding bodyDepth
     depth-far w1 h l = rw (← told, not-false b h, le-ltb (getD words 2 0) 768 l)
 
-    pub depth-is : (w1 : List ℕ) {d : ℕ} → not b ≡ false → getD words 2 0 < 768 → d ≡ min (getD w1 (6912 + getD words 2 0) 0 / 2) 1000 → d ≡ bodyDepth w1 words count
+    pub depth-is : (w1 : List ℕ) {d : ℕ} → not b ≡ false → getD words 2 0 < 768 → d ≡ min (getD w1 (memory.depths + getD words 2 0) 0 / 2) 1000 → d ≡ bodyDepth w1 words count
     unfolding bodyDepth
     depth-is w1 h l e = rw (← told, not-false b h, lt-ltb (getD words 2 0) 768 l) e
 
@@ -82,7 +83,7 @@ pub depth-small : (w1 words : List ℕ) (count : ℕ) → bodyDepth w1 words cou
 unfolding bodyDepth
 depth-small w1 words count = go (isCall words count && ltb (getD words 2 0) 768)
   where
-    go : (b : Bool) → (if b then min (getD w1 (6912 + getD words 2 0) 0 / 2) 1000 else 0) ≤ 1000
+    go : (b : Bool) → (if b then min (getD w1 (memory.depths + getD words 2 0) 0 / 2) 1000 else 0) ≤ 1000
     go true = omega arith
     go false = omega arith
 
@@ -99,7 +100,7 @@ module _ (w0 words : List ℕ) (count : ℕ) (size : length words ≡ 8) where
   resolved-operands = go (eqb count 1) refl (eqb (getD words 0 0) 36)
     where
       go : (b : Bool) → b ≡ eqb count 1 → (c : Bool)
-          → operandsAt (if b && c then 36 ∷ getD words 1 0 ∷ getD w0 (4640 + getD words 2 0) 0 ∷ getD w0 (4576 + getD words 2 0) 0 ∷ getD w0 (4608 + getD words 2 0) 0 ∷ 0 ∷ 0 ∷ getD words 7 0 ∷ [] else words) count ≡ operandsAt words count
+          → operandsAt (if b && c then 36 ∷ getD words 1 0 ∷ getD w0 (memory.definitionRoots + getD words 2 0) 0 ∷ getD w0 (memory.definitionContexts + getD words 2 0) 0 ∷ getD w0 (memory.definitionTypes + getD words 2 0) 0 ∷ 0 ∷ 0 ∷ getD words 7 0 ∷ [] else words) count ≡ operandsAt words count
       go true e true = let q : count ≡ 1 = eqb-true count 1 (sym e) in rw q (sym (first-operand words size))
       go true e false = refl
       go false e c = refl
@@ -189,26 +190,26 @@ module _ (type line : ℕ) where
 
 module _ {w0 w1 : List ℕ} {s : Sheet} (h : HoldsDefinitions w0 w1 s) (long : 8192 ≤ length w0) (few : length (s .definitions) ≤ 32) where
   module _ (n : ℕ) (l : n < length (s .definitions)) where
-    class-at : classIn (getD w0 (4576 + n) 0) ≡ definitionOf (s .definitions) n .context
+    class-at : classIn (getD w0 (memory.definitionContexts + n) 0) ≡ definitionOf (s .definitions) n .context
     unfolding definitionOf
     class-at =
-        let q : getD w0 (4576 + n) 0 < 64 = entry-each 4576 (length (s .definitions)) w0 (omega arith) (h .classes) n l in
-        let e : classIn (getD w0 (4576 + n) 0) ≡ getD w0 (4576 + n) 0 = omega arith in
-        e ∙ entry-of (λ (d : Definition). d .context) 4576 w0 (s .definitions) _ (h .contexts) n l
+        let q : getD w0 (memory.definitionContexts + n) 0 < 64 = entry-each memory.definitionContexts (length (s .definitions)) w0 (omega arith) (h .classes) n l in
+        let e : classIn (getD w0 (memory.definitionContexts + n) 0) ≡ getD w0 (memory.definitionContexts + n) 0 = omega arith in
+        e ∙ entry-of (λ (d : Definition). d .context) memory.definitionContexts w0 (s .definitions) _ (h .contexts) n l
 
-    type-at : typeIn (getD w0 (4608 + n) 0) ≡ definitionOf (s .definitions) n .type
+    type-at : typeIn (getD w0 (memory.definitionTypes + n) 0) ≡ definitionOf (s .definitions) n .type
     unfolding definitionOf
-    type-at = entry-by typeIn (λ (d : Definition). d .type) 4608 w0 (s .definitions) _ (h .types) n l
+    type-at = entry-by typeIn (λ (d : Definition). d .type) memory.definitionTypes w0 (s .definitions) _ (h .types) n l
 
-    body-at : treeAt w1 (getD w0 (4640 + n) 0) ≡ definitionOf (s .definitions) n .body
+    body-at : treeAt w1 (getD w0 (memory.definitionRoots + n) 0) ≡ definitionOf (s .definitions) n .body
     unfolding definitionOf
-    body-at = entry-by (treeAt w1) (λ (d : Definition). d .body) 4640 w0 (s .definitions) _ (h .bodies) n l
+    body-at = entry-by (treeAt w1) (λ (d : Definition). d .body) memory.definitionRoots w0 (s .definitions) _ (h .bodies) n l
 
-    root-at : getD w0 (4640 + n) 0 < length (s .lines)
-    root-at = entry-each 4640 (length (s .definitions)) w0 (omega arith) (h .roots) n l
+    root-at : getD w0 (memory.definitionRoots + n) 0 < length (s .lines)
+    root-at = entry-each memory.definitionRoots (length (s .definitions)) w0 (omega arith) (h .roots) n l
 
-    depth-at : getD w1 (6912 + getD w0 (4640 + n) 0) 0 / 2 ≡ levels (treeAt w1 (getD w0 (4640 + n) 0))
-    depth-at = entry-each {P = λ r. getD w1 (6912 + r) 0 / 2 ≡ levels (treeAt w1 r)} 4640 (length (s .definitions)) w0 (omega arith) (h .depths) n l
+    depth-at : getD w1 (memory.depths + getD w0 (memory.definitionRoots + n) 0) 0 / 2 ≡ levels (treeAt w1 (getD w0 (memory.definitionRoots + n) 0))
+    depth-at = entry-each {P = λ r. getD w1 (memory.depths + r) 0 / 2 ≡ levels (treeAt w1 r)} memory.definitionRoots (length (s .definitions)) w0 (omega arith) (h .depths) n l
 
   -- of the one that is called
   pub call-said : (f : ℕ → _) (x : Shape) → callBelow (length (s .definitions)) x ≡ true → ((r : ℕ) → r < length (s .lines) → f r ≡ treeAt w1 r)
@@ -217,7 +218,7 @@ module _ {w0 w1 : List ℕ} {s : Sheet} (h : HoldsDefinitions w0 w1 s) (long : 8
   call-said f x there same = record {
     context = λ a n e. rw e (class-at n (low a n e));
     type = λ a n e. rw e (type-at n (low a n e));
-    body = λ a n e. rw e (same (getD w0 (4640 + n) 0) (root-at n (low a n e)) ∙ body-at n (low a n e));
+    body = λ a n e. rw e (same (getD w0 (memory.definitionRoots + n) 0) (root-at n (low a n e)) ∙ body-at n (low a n e));
   }
     where
       low : (a n : ℕ) → x ≡ call a n → n < length (s .definitions)
@@ -232,6 +233,6 @@ module _ {w0 w1 : List ℕ} {s : Sheet} (h : HoldsDefinitions w0 w1 s) (long : 8
           → bodyDepth w1 (shapeWords 0 type (calledBy (calledAt w0) x) line x) (length (operandsOf x)) ≡ bodyLevels (definitionOf (s .definitions)) x
       go (a-call a n) there =
           let l = ltb-true n (length (s .definitions)) there in
-          let d = tree-depth w1 (getD w0 (4640 + n) 0) in
-          rw (lt-ltb (getD w0 (4640 + n) 0) 768 (omega (arith, root-at n l)), ← body-at n l) (omega (arith, depth-at n l, root-at n l))
+          let d = tree-depth w1 (getD w0 (memory.definitionRoots + n) 0) in
+          rw (lt-ltb (getD w0 (memory.definitionRoots + n) 0) 768 (omega (arith, root-at n l)), ← body-at n l) (omega (arith, depth-at n l, root-at n l))
       go {x} (no-call q) there = rw (q .off type (calledBy (calledAt w0) x) line) (sym (q .depth (definitionOf (s .definitions))))

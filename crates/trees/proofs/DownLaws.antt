@@ -10,6 +10,7 @@ use lib.ListN.{length, getD, set, length-set}
 use lib.Seq.{getD-set-same, getD-set-other}
 use Rattle.laws.specs.Lists.{each-nil, each-cons}
 use Rattle.laws.proofs.Lists.{length-more, each-append}
+use Rattle.memory.specs.Map as memory
 use Rattle.ocl.specs.Types.{Ty}
 use Rattle.ocl.specs.Forms.{Definition, levels}
 use Rattle.sheet.specs.Sheet.{Current, Sheet, Rule, withBody}
@@ -25,18 +26,18 @@ use Rattle.trees.specs.Rules.{RuleRoom, endedCounts, definedCounts, PutD
 
 module _ (st : Counts) (w0 : List ℕ) (long : 8192 ≤ length w0) (fine : Fine st) (low : st .rules < 64) (root : ℕ) where
   abbrev down : List ℕ
-  down = set (set w0 (4448 + st .rules) (st .context)) (4512 + st .rules) root
+  down = set (set w0 (memory.contexts + st .rules) (st .context)) (memory.roots + st .rules) root
 
   down-long : length down ≡ length w0
   down-long = simp length-set
 
-  context-there : getD down (4448 + st .rules) 0 ≡ st .context
+  context-there : getD down (memory.contexts + st .rules) 0 ≡ st .context
   context-there =
-      getD-set-other (set w0 (4448 + st .rules) (st .context)) (4512 + st .rules) (4448 + st .rules) root 0 (λ e. omega arith)
-      ∙ getD-set-same w0 (4448 + st .rules) (st .context) 0 (omega arith)
+      getD-set-other (set w0 (memory.contexts + st .rules) (st .context)) (memory.roots + st .rules) (memory.contexts + st .rules) root 0 (λ e. omega arith)
+      ∙ getD-set-same w0 (memory.contexts + st .rules) (st .context) 0 (omega arith)
 
-  root-there : getD down (4512 + st .rules) 0 ≡ root
-  root-there = getD-set-same (set w0 (4448 + st .rules) (st .context)) (4512 + st .rules) root 0 (rw length-set (omega arith))
+  root-there : getD down (memory.roots + st .rules) 0 ≡ root
+  root-there = getD-set-same (set w0 (memory.contexts + st .rules) (st .context)) (memory.roots + st .rules) root 0 (rw length-set (omega arith))
 
   module _ {w1 : List ℕ} {s : Sheet} (h : Holds st w0 w1 s) (c : ℕ) (context : st .context ≡ c) (inside : root < length (s .lines)) where
     abbrev rule : Rule
@@ -49,11 +50,11 @@ module _ (st : Counts) (w0 : List ℕ) (long : 8192 ≤ length w0) (fine : Fine 
     old : Holds st down w1 s
     old = holds-kept root (spare-root fine (h .counted) low) (holds-kept (st .context) (spare-context fine (h .counted) low) h)
 
-    down-roots : tab 4512 (length (s .rules ++ (rule ∷ []))) down ≡ tab 4512 (length (s .rules)) down ++ (root ∷ [])
+    down-roots : tab memory.roots (length (s .rules ++ (rule ∷ []))) down ≡ tab memory.roots (length (s .rules)) down ++ (root ∷ [])
     down-roots =
-        ap (λ (n : ℕ). tab 4512 n down) (length-more (s .rules) rule)
-        ∙ tab-next 4512 (length (s .rules)) down (omega (arith, many-rules, down-long))
-        ∙ ap (λ (x : ℕ). tab 4512 (length (s .rules)) down ++ (x ∷ [])) (ap (λ (i : ℕ). getD down (4512 + i) 0) (sym many-rules) ∙ root-there)
+        ap (λ (n : ℕ). tab memory.roots n down) (length-more (s .rules) rule)
+        ∙ tab-next memory.roots (length (s .rules)) down (omega (arith, many-rules, down-long))
+        ∙ ap (λ (x : ℕ). tab memory.roots (length (s .rules)) down ++ (x ∷ [])) (ap (λ (i : ℕ). getD down (memory.roots + i) 0) (sym many-rules) ∙ root-there)
 
     down-holds : Holds (endedCounts st) down w1 (withBody s c none (treeAt w1 root))
     unfolding endedCounts withBody
@@ -81,14 +82,14 @@ module _ (st : Counts) (w0 : List ℕ) (long : 8192 ≤ length w0) (fine : Fine 
         cells = old .tables .cells;
         fits = old .tables .fits;
         contexts =
-            tab-more-of (λ (r : Rule). r .context) 4448 down (s .rules) rule (omega (arith, many-rules, down-long)) (old .tables .contexts)
-            (ap (λ (i : ℕ). getD down (4448 + i) 0) (sym many-rules) ∙ context-there ∙ context);
+            tab-more-of (λ (r : Rule). r .context) memory.contexts down (s .rules) rule (omega (arith, many-rules, down-long)) (old .tables .contexts)
+            (ap (λ (i : ℕ). getD down (memory.contexts + i) 0) (sym many-rules) ∙ context-there ∙ context);
       };
       definitions = definitions-same refl refl (old .definitions);
       rules = record {
         bodies =
-            tab-more-by (treeAt w1) (λ (r : Rule). r .body) 4512 down (s .rules) rule (omega (arith, many-rules, down-long)) (old .rules .bodies)
-            (ap (treeAt w1) (ap (λ (i : ℕ). getD down (4512 + i) 0) (sym many-rules) ∙ root-there));
+            tab-more-by (treeAt w1) (λ (r : Rule). r .body) memory.roots down (s .rules) rule (omega (arith, many-rules, down-long)) (old .rules .bodies)
+            (ap (treeAt w1) (ap (λ (i : ℕ). getD down (memory.roots + i) 0) (sym many-rules) ∙ root-there));
         roots = rw down-roots (each-append (old .rules .roots) (each-cons inside each-nil));
         lines = old .rules .lines;
       };
@@ -114,33 +115,33 @@ module _ (st : Counts) (w0 : List ℕ) (long : 8192 ≤ length w0) (fine : Fine 
 
 module _ (st : Counts) (w0 : List ℕ) (long : 8192 ≤ length w0) (fine : Fine st) (low : st .definitions < 32) (root : ℕ) where
   abbrev classed : List ℕ
-  classed = set w0 (4576 + st .definitions) (st .context)
+  classed = set w0 (memory.definitionContexts + st .definitions) (st .context)
 
   abbrev typed : List ℕ
-  typed = set classed (4608 + st .definitions) (st .result)
+  typed = set classed (memory.definitionTypes + st .definitions) (st .result)
 
   abbrev defined : List ℕ
-  defined = set typed (4640 + st .definitions) root
+  defined = set typed (memory.definitionRoots + st .definitions) root
 
   defined-long : length defined ≡ length w0
   defined-long = simp length-set
 
-  class-there : getD defined (4576 + st .definitions) 0 ≡ st .context
+  class-there : getD defined (memory.definitionContexts + st .definitions) 0 ≡ st .context
   class-there =
-      getD-set-other typed (4640 + st .definitions) (4576 + st .definitions) root 0 (λ e. omega arith)
-      ∙ getD-set-other classed (4608 + st .definitions) (4576 + st .definitions) (st .result) 0 (λ e. omega arith)
-      ∙ getD-set-same w0 (4576 + st .definitions) (st .context) 0 (omega arith)
+      getD-set-other typed (memory.definitionRoots + st .definitions) (memory.definitionContexts + st .definitions) root 0 (λ e. omega arith)
+      ∙ getD-set-other classed (memory.definitionTypes + st .definitions) (memory.definitionContexts + st .definitions) (st .result) 0 (λ e. omega arith)
+      ∙ getD-set-same w0 (memory.definitionContexts + st .definitions) (st .context) 0 (omega arith)
 
-  type-there : getD defined (4608 + st .definitions) 0 ≡ st .result
+  type-there : getD defined (memory.definitionTypes + st .definitions) 0 ≡ st .result
   type-there =
-      getD-set-other typed (4640 + st .definitions) (4608 + st .definitions) root 0 (λ e. omega arith)
-      ∙ getD-set-same classed (4608 + st .definitions) (st .result) 0 (rw length-set (omega arith))
+      getD-set-other typed (memory.definitionRoots + st .definitions) (memory.definitionTypes + st .definitions) root 0 (λ e. omega arith)
+      ∙ getD-set-same classed (memory.definitionTypes + st .definitions) (st .result) 0 (rw length-set (omega arith))
 
-  body-there : getD defined (4640 + st .definitions) 0 ≡ root
-  body-there = getD-set-same typed (4640 + st .definitions) root 0 (rw (length-set, length-set) (omega arith))
+  body-there : getD defined (memory.definitionRoots + st .definitions) 0 ≡ root
+  body-there = getD-set-same typed (memory.definitionRoots + st .definitions) root 0 (rw (length-set, length-set) (omega arith))
 
   module _ {w1 : List ℕ} {s : Sheet} (h : Holds st w0 w1 s) (c : ℕ) (t : Ty) (context : st .context ≡ c) (result : typeIn (st .result) ≡ t)
-      (inside : root < length (s .lines)) (depth : getD w1 (6912 + root) 0 / 2 ≡ levels (treeAt w1 root)) where
+      (inside : root < length (s .lines)) (depth : getD w1 (memory.depths + root) 0 / 2 ≡ levels (treeAt w1 root)) where
     abbrev definition : Definition
     definition = record { context = c; type = t; body = treeAt w1 root }
 
@@ -153,7 +154,7 @@ module _ (st : Counts) (w0 : List ℕ) (long : 8192 ≤ length w0) (fine : Fine 
         holds-kept root (spare-body fine (h .counted) low)
         (holds-kept (st .result) (spare-result fine (h .counted) low) (holds-kept (st .context) (spare-class fine (h .counted) low) h))
 
-    table-more : (off x : ℕ) → off ≤ 4640 → getD defined (off + st .definitions) 0 ≡ x
+    table-more : (off x : ℕ) → off ≤ memory.definitionRoots → getD defined (off + st .definitions) 0 ≡ x
         → tab off (length (s .definitions ++ (definition ∷ []))) defined ≡ tab off (length (s .definitions)) defined ++ (x ∷ [])
     table-more off x l e =
         ap (λ (n : ℕ). tab off n defined) (length-more (s .definitions) definition)
@@ -177,17 +178,17 @@ module _ (st : Counts) (w0 : List ℕ) (long : 8192 ≤ length w0) (fine : Fine 
       tables = tables-same refl refl refl refl refl (as-it-was .tables);
       definitions = record {
         contexts =
-            tab-more-of (λ (d : Definition). d .context) 4576 defined (s .definitions) definition (omega (arith, many, defined-long)) (as-it-was .definitions .contexts)
-            (ap (λ (i : ℕ). getD defined (4576 + i) 0) (sym many) ∙ class-there ∙ context);
-        classes = rw (table-more 4576 (st .context) (omega arith) class-there) (each-append (as-it-was .definitions .classes) (each-cons (fine .context) each-nil));
+            tab-more-of (λ (d : Definition). d .context) memory.definitionContexts defined (s .definitions) definition (omega (arith, many, defined-long)) (as-it-was .definitions .contexts)
+            (ap (λ (i : ℕ). getD defined (memory.definitionContexts + i) 0) (sym many) ∙ class-there ∙ context);
+        classes = rw (table-more memory.definitionContexts (st .context) (omega arith) class-there) (each-append (as-it-was .definitions .classes) (each-cons (fine .context) each-nil));
         types =
-            tab-more-by typeIn (λ (d : Definition). d .type) 4608 defined (s .definitions) definition (omega (arith, many, defined-long)) (as-it-was .definitions .types)
-            (ap typeIn (ap (λ (i : ℕ). getD defined (4608 + i) 0) (sym many) ∙ type-there) ∙ result);
+            tab-more-by typeIn (λ (d : Definition). d .type) memory.definitionTypes defined (s .definitions) definition (omega (arith, many, defined-long)) (as-it-was .definitions .types)
+            (ap typeIn (ap (λ (i : ℕ). getD defined (memory.definitionTypes + i) 0) (sym many) ∙ type-there) ∙ result);
         bodies =
-            tab-more-by (treeAt w1) (λ (d : Definition). d .body) 4640 defined (s .definitions) definition (omega (arith, many, defined-long)) (as-it-was .definitions .bodies)
-            (ap (treeAt w1) (ap (λ (i : ℕ). getD defined (4640 + i) 0) (sym many) ∙ body-there));
-        roots = rw (table-more 4640 root (omega arith) body-there) (each-append (as-it-was .definitions .roots) (each-cons inside each-nil));
-        depths = rw (table-more 4640 root (omega arith) body-there) (each-append (as-it-was .definitions .depths) (each-cons depth each-nil));
+            tab-more-by (treeAt w1) (λ (d : Definition). d .body) memory.definitionRoots defined (s .definitions) definition (omega (arith, many, defined-long)) (as-it-was .definitions .bodies)
+            (ap (treeAt w1) (ap (λ (i : ℕ). getD defined (memory.definitionRoots + i) 0) (sym many) ∙ body-there));
+        roots = rw (table-more memory.definitionRoots root (omega arith) body-there) (each-append (as-it-was .definitions .roots) (each-cons inside each-nil));
+        depths = rw (table-more memory.definitionRoots root (omega arith) body-there) (each-append (as-it-was .definitions .depths) (each-cons depth each-nil));
       };
       rules = record { bodies = as-it-was .rules .bodies; roots = as-it-was .rules .roots; lines = as-it-was .rules .lines };
       current = closed refl;
@@ -238,7 +239,7 @@ holds-open {st} {w0} {w1} {s} {c} h e = go (rw e at (h .current))
 
 module _ (st : Counts) (w0 : List ℕ) (root : ℕ) (long : 8192 ≤ length w0) (fine : Fine st) (room : RuleRoom st) where
   pub put-definition : {r : Counts} → st .«open» ≡ 2 → r ≡ definedCounts st
-      → PutDown st r root w0 (set (set (set w0 (4576 + st .definitions) (st .context)) (4608 + st .definitions) (st .result)) (4640 + st .definitions) root)
+      → PutDown st r root w0 (set (set (set w0 (memory.definitionContexts + st .definitions) (st .context)) (memory.definitionTypes + st .definitions) (st .result)) (memory.definitionRoots + st .definitions) root)
   unfolding definedCounts
   put-definition e z = rw z (record {
     is = λ w1 s c q h inside depth.
@@ -249,11 +250,11 @@ module _ (st : Counts) (w0 : List ℕ) (root : ℕ) (long : 8192 ≤ length w0) 
           defined-holds st w0 long fine (room .space e) root h (c .context) (t .0) (k .context) (k .result (t .0) (t .1)) inside depth,
         );
     kept =
-        kept-then (kept-set w0 (4576 + st .definitions) (st .context) (omega (arith, fine .definitions)))
-        (kept-then (kept-set _ (4608 + st .definitions) (st .result) (omega (arith, fine .definitions))) (kept-set _ (4640 + st .definitions) root (omega (arith, fine .definitions))));
+        kept-then (kept-set w0 (memory.definitionContexts + st .definitions) (st .context) (omega (arith, fine .definitions)))
+        (kept-then (kept-set _ (memory.definitionTypes + st .definitions) (st .result) (omega (arith, fine .definitions))) (kept-set _ (memory.definitionRoots + st .definitions) root (omega (arith, fine .definitions))));
   })
 
-  pub put-rule : {r : Counts} → (st .«open» ≡ 2 → ⊥) → r ≡ endedCounts st → PutDown st r root w0 (set (set w0 (4448 + st .rules) (st .context)) (4512 + st .rules) root)
+  pub put-rule : {r : Counts} → (st .«open» ≡ 2 → ⊥) → r ≡ endedCounts st → PutDown st r root w0 (set (set w0 (memory.contexts + st .rules) (st .context)) (memory.roots + st .rules) root)
   unfolding endedCounts
   put-rule e z = rw z (record {
     is = λ w1 s c q h inside depth.
@@ -263,5 +264,5 @@ module _ (st : Counts) (w0 : List ℕ) (root : ℕ) (long : 8192 ≤ length w0) 
           down-fine st w0 long fine (room .room (n .1) e) root h (c .context) (k .context) inside,
           down-holds st w0 long fine (room .room (n .1) e) root h (c .context) (k .context) inside,
         );
-    kept = kept-then (kept-set w0 (4448 + st .rules) (st .context) (omega (arith, fine .rules))) (kept-set _ (4512 + st .rules) root (omega (arith, fine .rules)));
+    kept = kept-then (kept-set w0 (memory.contexts + st .rules) (st .context) (omega (arith, fine .rules))) (kept-set _ (memory.roots + st .rules) root (omega (arith, fine .rules)));
   })

@@ -10,6 +10,7 @@ use lib.Dec.{eqb, leb}
 use lib.ListN.{length, getD}
 use Rattle.laws.specs.Choice.{if_then_else_, onSome}
 use Rattle.laws.specs.Lists.{member}
+use Rattle.memory.specs.Map as memory
 use Rattle.ocl.specs.Types.{Ty}
 use Rattle.ocl.specs.Forms.{Expr, levels}
 use Rattle.sheet.specs.Sheet.{Current, Sheet, treeOf, lastTree, allUsed, mostLevels, withBody, endOf, endFor, endRule}
@@ -116,15 +117,15 @@ module _ {st : Counts} {w1 : List ℕ} (w0 : List ℕ) where
             let e : st .nodes - 1 - st .first ≡ length (o .rule .trees) - 1 = omega (arith, many) in
             ap (λ (f : ℕ). usedIn w1 f (st .nodes - 1 - st .first)) (o .holds .first) ∙ ap (usedIn w1 (o .rule .first)) e ∙ used-same (o .holds) (length (o .rule .trees) - 1) (omega arith)
 
-        its-depth : getD w1 (6912 + (st .nodes - 1)) 0 / 2 ≡ levels (treeOf (o .rule .trees) (st .nodes - 1 - st .first))
+        its-depth : getD w1 (memory.depths + (st .nodes - 1)) 0 / 2 ≡ levels (treeOf (o .rule .trees) (st .nodes - 1 - st .first))
         its-depth =
             let e : o .rule .first + (st .nodes - 1 - st .first) ≡ st .nodes - 1 = omega (arith, o .holds .first, fine .first) in
-            let q : getD w1 (6912 + (st .nodes - 1)) 0 ≡ 2 * levels (treeOf (o .rule .trees) (st .nodes - 1 - st .first)) + usedBit (member (st .nodes - 1 - st .first) (o .rule .used))
-            = ap (λ (j : ℕ). getD w1 (6912 + j) 0) (sym e) ∙ o .holds .depths (st .nodes - 1 - st .first) (omega (arith, many)) in
+            let q : getD w1 (memory.depths + (st .nodes - 1)) 0 ≡ 2 * levels (treeOf (o .rule .trees) (st .nodes - 1 - st .first)) + usedBit (member (st .nodes - 1 - st .first) (o .rule .used))
+            = ap (λ (j : ℕ). getD w1 (memory.depths + j) 0) (sym e) ∙ o .holds .depths (st .nodes - 1 - st .first) (omega (arith, many)) in
             ap (λ (v : ℕ). v / 2) q ∙ bit-half (levels (treeOf (o .rule .trees) (st .nodes - 1 - st .first))) (member (st .nodes - 1 - st .first) (o .rule .used))
 
         end-by : endOf s (o .rule)
-            ≡ (if usedIn w1 (st .first) (st .nodes - 1 - st .first) && leb (getD w1 (6912 + (st .nodes - 1)) 0 / 2) mostLevels
+            ≡ (if usedIn w1 (st .first) (st .nodes - 1 - st .first) && leb (getD w1 (memory.depths + (st .nodes - 1)) 0 / 2) mostLevels
             then some (withBody s (o .rule .context) (o .rule .result) (treeOf (o .rule .trees) (st .nodes - 1 - st .first))) else none)
         unfolding endOf onSome
         end-by = rw (last-tree (o .rule .trees) (st .nodes - 1 - st .first) many, ← its-used, its-depth)
@@ -138,24 +139,24 @@ module _ {st : Counts} {w1 : List ℕ} (w0 : List ℕ) where
           kept = kept-refl w0;
         }
 
-        pub end-deep : not b ≡ false → mostLevels < getD w1 (6912 + (st .nodes - 1)) 0 / 2 → RuleEnded st (code.Stop 8) w0 w1 w0
+        pub end-deep : not b ≡ false → mostLevels < getD w1 (memory.depths + (st .nodes - 1)) 0 / 2 → RuleEnded st (code.Stop 8) w0 w1 w0
         end-deep q l = record {
           is = λ s h.
               let o = open-rule h is-open in
-              rw (rule-end s o, end-by h o, ← told, not-false b q, lt-leb (getD w1 (6912 + (st .nodes - 1)) 0 / 2) mostLevels l) refused;
+              rw (rule-end s o, end-by h o, ← told, not-false b q, lt-leb (getD w1 (memory.depths + (st .nodes - 1)) 0 / 2) mostLevels l) refused;
           kept = kept-refl w0;
         }
 
 -- ---- what ends well
 
 pub end-down : {st : Counts} {w1 : List ℕ} {b : Bool} {r : Counts} (w0 v0 : List ℕ) → (st .«open» ≡ 0 → ⊥) → Fine st → (st .first ≡ st .nodes → ⊥)
-    → b ≡ usedIn w1 (st .first) (st .nodes - 1 - st .first) → not b ≡ false → getD w1 (6912 + (st .nodes - 1)) 0 / 2 ≤ mostLevels
+    → b ≡ usedIn w1 (st .first) (st .nodes - 1 - st .first) → not b ≡ false → getD w1 (memory.depths + (st .nodes - 1)) 0 / 2 ≤ mostLevels
     → PutDown st r (st .nodes - 1) w0 v0 → RuleEnded st (code.Next r) w0 w1 v0
 end-down {st} {w1} {b} {r} w0 v0 is-open fine node told q l down = record {
   is = λ s h.
       let o = open-rule h is-open in
       let d = down .is w1 s (o .rule) (o .is) h (omega (arith, h .counted .nodes, fine .first)) (its-depth w0 is-open fine node h o ∙ ap levels (sym (tree s h o))) in
-      rw (rule-end w0 is-open s o, end-by w0 is-open fine node h o, ← told, not-false b q, le-leb (getD w1 (6912 + (st .nodes - 1)) 0 / 2) mostLevels l, ← tree s h o) (ended (d .0) (d .1));
+      rw (rule-end w0 is-open s o, end-by w0 is-open fine node h o, ← told, not-false b q, le-leb (getD w1 (memory.depths + (st .nodes - 1)) 0 / 2) mostLevels l, ← tree s h o) (ended (d .0) (d .1));
   kept = down .kept;
 }
   where

@@ -11,6 +11,7 @@ use lib.Seq.{getD-set-same, getD-set-other}
 use Rattle.laws.specs.Choice.{if_then_else_}
 use Rattle.laws.specs.Lists.{member, Each, each-nil, each-cons}
 use Rattle.laws.proofs.Lists.{member-append}
+use Rattle.memory.specs.Map as memory
 use Rattle.sheet.specs.Refusals.{fresh}
 use Rattle.tables.specs.Layout.{usedBit, Kept}
 use Rattle.tables.proofs.Tables.{kept-refl, kept-set, kept-then}
@@ -28,12 +29,12 @@ depthOf (deepest d w) = d
 
 pub record Framed (before after : List ℕ) : Type 0 where
   pub kept : Kept before after
-  pub low : (i : ℕ) → i < 6912 → getD after i 0 ≡ getD before i 0
+  pub low : (i : ℕ) → i < memory.depths → getD after i 0 ≡ getD before i 0
 
 framed-refl : (w : List ℕ) → Framed w w
 framed-refl w = record { kept = kept-refl w; low = λ i h. refl }
 
-framed-set : {w v : List ℕ} (i x : ℕ) → 6912 ≤ i → i < 8192 → Framed (set w i x) v → Framed w v
+framed-set : {w v : List ℕ} (i x : ℕ) → memory.depths ≤ i → i < 8192 → Framed (set w i x) v → Framed w v
 framed-set {w} i x l h so = record {
   kept = kept-then (kept-set w i x h) (so .kept);
   low = λ j q. so .low j q ∙ getD-set-other w i j x 0 (omega arith);

@@ -11,6 +11,7 @@ use lib.Seq.{getD-at}
 use Rattle.laws.specs.Choice.{onSome}
 use Rattle.laws.specs.Lists.{member, Each, each-nil, each-cons}
 use Rattle.laws.proofs.Lists.{member-none, each-imp, each-append, map-each}
+use Rattle.memory.specs.Map as memory
 use Rattle.ocl.specs.Forms.{Expr, node, levels}
 use Rattle.sheet.specs.Lines.{Shape, nodeLine}
 use Rattle.sheet.specs.Sheet.{Current, Sheet, added, operandsOf, grow, treeOf, definitionOf, withNode as growRule}
@@ -71,9 +72,9 @@ module _ {st : Counts} {line : ℕ} {p : Parsed} {w0 w1 v1 : List ℕ} {s : Shee
     (smaller : Each (λ a. a < length (o .rule .trees)) (operandsOf x))
     (deep : d ≡ max (deepestOf (λ a. levels (treeOf (o .rule .trees) a)) (operandsOf x)) (bodyLevels (definitionOf (s .definitions)) x))
     (low : (j : ℕ) → j < 8 * length (s .lines) → getD v1 j 0 ≡ getD w1 j 0)
-    (half : (j : ℕ) → j < length (s .lines) → getD v1 (6912 + j) 0 / 2 ≡ getD w1 (6912 + j) 0 / 2)
+    (half : (j : ℕ) → j < length (s .lines) → getD v1 (memory.depths + j) 0 / 2 ≡ getD w1 (memory.depths + j) 0 / 2)
     (words : (j : ℕ) → j < 8 → word v1 (length (s .lines)) j ≡ getD (shapeWords (o .rule .first) (z .type) (calledBy (calledAt w0) x) line x) j 0)
-    (depth : getD v1 (6912 + length (s .lines)) 0 ≡ 2 * (d + 1))
+    (depth : getD v1 (memory.depths + length (s .lines)) 0 ≡ 2 * (d + 1))
     (depths : Depths (o .rule .first) (length (o .rule .trees)) (λ a. levels (treeOf (o .rule .trees) a)) (o .rule .used ++ operandsOf x) v1) where
   new : Expr
   new = node (o .rule .first + length (o .rule .trees)) (grow (treeOf (o .rule .trees)) (definitionOf (s .definitions)) x)
@@ -111,7 +112,7 @@ module _ {st : Counts} {line : ℕ} {p : Parsed} {w0 w1 v1 : List ℕ} {s : Shee
   unused : member (length (o .rule .trees)) (o .rule .used ++ operandsOf x) ≡ false
   unused = member-none (length (o .rule .trees)) (o .rule .used ++ operandsOf x) (each-append (o .holds .used) smaller)
 
-  new-depth : getD v1 (6912 + length (s .lines)) 0 ≡ 2 * levels new + usedBit (member (length (o .rule .trees)) (o .rule .used ++ operandsOf x))
+  new-depth : getD v1 (memory.depths + length (s .lines)) 0 ≡ 2 * levels new + usedBit (member (length (o .rule .trees)) (o .rule .used ++ operandsOf x))
   unfolding levels usedBit new
   new-depth = rw unused (depth ∙ (let e = grow-depth (treeOf (o .rule .trees)) (definitionOf (s .definitions)) x in omega arith))
 
@@ -134,9 +135,9 @@ module _ {st : Counts} {line : ℕ} {p : Parsed} {w0 w1 v1 : List ℕ} {s : Shee
       trees a l (no k) = let e : a ≡ length (o .rule .trees) = omega (arith, more) in tree-last a e ∙ rw e new-tree
 
       depthsAt : (a : ℕ) → a < length (o .rule .trees ++ (new ∷ [])) → Dec (a < length (o .rule .trees))
-          → getD v1 (6912 + (o .rule .first + a)) 0 ≡ 2 * levels (treeOf (o .rule .trees ++ (new ∷ [])) a) + usedBit (member a (o .rule .used ++ operandsOf x))
+          → getD v1 (memory.depths + (o .rule .first + a)) 0 ≡ 2 * levels (treeOf (o .rule .trees ++ (new ∷ [])) a) + usedBit (member a (o .rule .used ++ operandsOf x))
       depthsAt a l (yes k) = depths .at a k ∙ rw (tree-left a k)
-      depthsAt a l (no k) = let e : a ≡ length (o .rule .trees) = omega (arith, more) in rw (tree-last a e, e) (ap (λ (j : ℕ). getD v1 (6912 + j) 0) place ∙ new-depth)
+      depthsAt a l (no k) = let e : a ≡ length (o .rule .trees) = omega (arith, more) in rw (tree-last a e, e) (ap (λ (j : ℕ). getD v1 (memory.depths + j) 0) place ∙ new-depth)
 
   pub node-holds : Holds (nodeCounts st) w0 v1 (added s line (nodeLine i x))
   unfolding nodeCounts added onSome linesIn
@@ -157,12 +158,12 @@ module _ {st : Counts} {line : ℕ} {p : Parsed} {w0 w1 v1 : List ℕ} {s : Shee
       contexts = h .definitions .contexts;
       classes = h .definitions .classes;
       types = h .definitions .types;
-      bodies = sym (map-each (treeAt w1) (treeAt v1) (tab 4640 (length (s .definitions)) w0) (each-imp (λ a l. kept-tree a l) (h .definitions .roots))) ∙ h .definitions .bodies;
+      bodies = sym (map-each (treeAt w1) (treeAt v1) (tab memory.definitionRoots (length (s .definitions)) w0) (each-imp (λ a l. kept-tree a l) (h .definitions .roots))) ∙ h .definitions .bodies;
       roots = each-imp (λ a l. let e = length-append (s .lines) (line ∷ []) in omega arith) (h .definitions .roots);
       depths = each-two (λ a l e. half a l ∙ e ∙ ap levels (kept-tree a l)) (h .definitions .roots) (h .definitions .depths);
     };
     rules = record {
-      bodies = sym (map-each (treeAt w1) (treeAt v1) (tab 4512 (length (s .rules)) w0) (each-imp (λ a l. kept-tree a l) (h .rules .roots))) ∙ h .rules .bodies;
+      bodies = sym (map-each (treeAt w1) (treeAt v1) (tab memory.roots (length (s .rules)) w0) (each-imp (λ a l. kept-tree a l) (h .rules .roots))) ∙ h .rules .bodies;
       roots = each-imp (λ a l. let e = length-append (s .lines) (line ∷ []) in omega arith) (h .rules .roots);
       lines =
           let e : length (s .lines ++ (line ∷ [])) ≡ suc (length (s .lines)) = (let k = length-append (s .lines) (line ∷ []) in omega arith) in

@@ -8,6 +8,7 @@ use native.Mathlib.Omega.{arith}
 use borrow.Author.Tests.{le-leb}
 use lib.ListN.{length, getD, set}
 use lib.Seq.{getD-set-same, getD-set-other}
+use Rattle.memory.specs.Map as memory
 use Rattle.ocl.specs.Forms.{levels}
 use Rattle.sheet.specs.Lines.{Shape, nodeLine}
 use Rattle.sheet.specs.Sheet.{Current, Sheet, added, operandsOf, treeOf, definitionOf}
@@ -106,28 +107,28 @@ module _ (st : Counts) (n : ℕ) (p : Parsed) (w0 w1 : List ℕ) (fine : Fine st
     low-room : st .nodes < 768
     low-room = nodes-low st n p ok
 
-    low-after : (j : ℕ) → j < 8 * st .nodes → getD (set v (6912 + st .nodes) (2 * (max d b + 1))) j 0 ≡ getD w1 j 0
-    low-after j l = getD-set-other v (6912 + st .nodes) j (2 * (max d b + 1)) 0 (omega (arith, low-room)) ∙ wrote .low j l ∙ framed .low j (omega (arith, low-room))
+    low-after : (j : ℕ) → j < 8 * st .nodes → getD (set v (memory.depths + st .nodes) (2 * (max d b + 1))) j 0 ≡ getD w1 j 0
+    low-after j l = getD-set-other v (memory.depths + st .nodes) j (2 * (max d b + 1)) 0 (omega (arith, low-room)) ∙ wrote .low j l ∙ framed .low j (omega (arith, low-room))
 
-    words-after : (j : ℕ) → j < 8 → getD (set v (6912 + st .nodes) (2 * (max d b + 1))) (8 * st .nodes + j) 0 ≡ shifted full (p .count) (st .first) j
-    words-after j l = getD-set-other v (6912 + st .nodes) (8 * st .nodes + j) (2 * (max d b + 1)) 0 (omega (arith, low-room)) ∙ wrote .each j l
+    words-after : (j : ℕ) → j < 8 → getD (set v (memory.depths + st .nodes) (2 * (max d b + 1))) (8 * st .nodes + j) 0 ≡ shifted full (p .count) (st .first) j
+    words-after j l = getD-set-other v (memory.depths + st .nodes) (8 * st .nodes + j) (2 * (max d b + 1)) 0 (omega (arith, low-room)) ∙ wrote .each j l
 
-    depth-after : getD (set v (6912 + st .nodes) (2 * (max d b + 1))) (6912 + st .nodes) 0 ≡ 2 * (max d b + 1)
-    depth-after = getD-set-same v (6912 + st .nodes) (2 * (max d b + 1)) 0 (omega (arith, wrote .kept .size, framed .kept .size, low-room))
+    depth-after : getD (set v (memory.depths + st .nodes) (2 * (max d b + 1))) (memory.depths + st .nodes) 0 ≡ 2 * (max d b + 1)
+    depth-after = getD-set-same v (memory.depths + st .nodes) (2 * (max d b + 1)) 0 (omega (arith, wrote .kept .size, framed .kept .size, low-room))
 
-    depths-after : (a : ℕ) → a < n → getD (set v (6912 + st .nodes) (2 * (max d b + 1))) (depthAt (st .first) a) 0 ≡ getD u (depthAt (st .first) a) 0
+    depths-after : (a : ℕ) → a < n → getD (set v (memory.depths + st .nodes) (2 * (max d b + 1))) (depthAt (st .first) a) 0 ≡ getD u (depthAt (st .first) a) 0
     depths-after a l =
-        getD-set-other v (6912 + st .nodes) (depthAt (st .first) a) (2 * (max d b + 1)) 0 (omega (arith, is-next st n p ordered, fine .first))
+        getD-set-other v (memory.depths + st .nodes) (depthAt (st .first) a) (2 * (max d b + 1)) 0 (omega (arith, is-next st n p ordered, fine .first))
         ∙ wrote .high (depthAt (st .first) a) (omega (arith, low-room))
 
-    kept-after : Kept w1 (set v (6912 + st .nodes) (2 * (max d b + 1)))
-    kept-after = kept-then (framed .kept) (kept-then (wrote .kept) (kept-set v (6912 + st .nodes) (2 * (max d b + 1)) (omega (arith, low-room))))
+    kept-after : Kept w1 (set v (memory.depths + st .nodes) (2 * (max d b + 1)))
+    kept-after = kept-then (framed .kept) (kept-then (wrote .kept) (kept-set v (memory.depths + st .nodes) (2 * (max d b + 1)) (omega (arith, low-room))))
 
-    half-after : (j : ℕ) → j < st .nodes → getD (set v (6912 + st .nodes) (2 * (max d b + 1))) (6912 + j) 0 / 2 ≡ getD w1 (6912 + j) 0 / 2
+    half-after : (j : ℕ) → j < st .nodes → getD (set v (memory.depths + st .nodes) (2 * (max d b + 1))) (memory.depths + j) 0 / 2 ≡ getD w1 (memory.depths + j) 0 / 2
     unfolding wordsOf
     half-after j l =
-        ap (λ (x : ℕ). x / 2) (getD-set-other v (6912 + st .nodes) (6912 + j) (2 * (max d b + 1)) 0 (omega arith) ∙ wrote .high (6912 + j) (omega (arith, low-room)))
-        ∙ rw (ap wordsOf e) (mark-half (st .first) n room (operandsAt (p .words) (p .count)) 0 w1 long (6912 + j))
+        ap (λ (x : ℕ). x / 2) (getD-set-other v (memory.depths + st .nodes) (memory.depths + j) (2 * (max d b + 1)) 0 (omega arith) ∙ wrote .high (memory.depths + j) (omega (arith, low-room)))
+        ∙ rw (ap wordsOf e) (mark-half (st .first) n room (operandsAt (p .words) (p .count)) 0 w1 long (memory.depths + j))
 
     more-fine : Fine (nodeCounts st)
     unfolding nodeCounts
@@ -161,30 +162,30 @@ module _ (st : Counts) (n : ℕ) (p : Parsed) (w0 w1 : List ℕ) (fine : Fine st
           = deep ∙ rw (table-words, z .counted) (depth-shape (h .definitions) long0 (omega (arith, h .counted .definitions, fine .definitions)) (z .type) line x (omega (arith, h .counted .nodes, fine .nodes)) (called i number z h o)) in
           omega (arith, told .1)
 
-      new-words : (j : ℕ) → j < 8 → word (set v (6912 + st .nodes) (2 * (max d b + 1))) (length (s .lines)) j ≡ getD (shapeWords (o .rule .first) (z .type) (calledBy (calledAt w0) x) line x) j 0
+      new-words : (j : ℕ) → j < 8 → word (set v (memory.depths + st .nodes) (2 * (max d b + 1))) (length (s .lines)) j ≡ getD (shapeWords (o .rule .first) (z .type) (calledBy (calledAt w0) x) line x) j 0
       new-words j l =
-          ap (λ (m : ℕ). getD (set v (6912 + st .nodes) (2 * (max d b + 1))) (8 * m + j) 0) (sym (h .counted .nodes))
+          ap (λ (m : ℕ). getD (set v (memory.depths + st .nodes) (2 * (max d b + 1))) (8 * m + j) 0) (sym (h .counted .nodes))
           ∙ words-after j l
           ∙ ap (λ (f : ℕ). shifted full (p .count) f j) (o .holds .first)
           ∙ ap (λ (ws : List ℕ). shifted ws (p .count) (o .rule .first) j) table-words
           ∙ ap (λ (m : ℕ). shifted (shapeWords 0 (z .type) (calledBy (calledAt w0) x) line x) m (o .rule .first) j) (z .counted)
           ∙ shape-shifted (o .rule .first) (z .type) (calledBy (calledAt w0) x) line x (omega (arith, z .counted)) j l
 
-      new-depths : Depths (o .rule .first) (length (o .rule .trees)) (λ a. levels (treeOf (o .rule .trees) a)) (o .rule .used ++ operandsOf x) (set v (6912 + st .nodes) (2 * (max d b + 1)))
+      new-depths : Depths (o .rule .first) (length (o .rule .trees)) (λ a. levels (treeOf (o .rule .trees) a)) (o .rule .used ++ operandsOf x) (set v (memory.depths + st .nodes) (2 * (max d b + 1)))
       new-depths = record {
         at = λ a l.
-            ap (λ (f : ℕ). getD (set v (6912 + st .nodes) (2 * (max d b + 1))) (depthAt f a) 0) (sym (o .holds .first))
+            ap (λ (f : ℕ). getD (set v (memory.depths + st .nodes) (2 * (max d b + 1))) (depthAt f a) 0) (sym (o .holds .first))
             ∙ depths-after a (omega (arith, its-number i number z h o))
             ∙ ap (λ (f : ℕ). getD u (depthAt f a) 0) (o .holds .first)
             ∙ told .2 .at a l;
       }
 
-      next-holds : Holds (nodeCounts st) w0 (set v (6912 + st .nodes) (2 * (max d b + 1))) (added s line (nodeLine i x))
+      next-holds : Holds (nodeCounts st) w0 (set v (memory.depths + st .nodes) (2 * (max d b + 1))) (added s line (nodeLine i x))
       next-holds =
           node-holds i (max d b) h fine long0 o z within (omega (arith, z .counted)) (called i number z h o) (fresh-low (length (o .rule .trees)) (o .rule .used) (operandsOf x) (told .0)) depth-told
-          (λ j l. low-after j (omega (arith, h .counted .nodes))) (λ j l. half-after j (omega (arith, h .counted .nodes))) new-words (ap (λ (m : ℕ). getD (set v (6912 + st .nodes) (2 * (max d b + 1))) (6912 + m) 0) (sym (h .counted .nodes)) ∙ depth-after) new-depths
+          (λ j l. low-after j (omega (arith, h .counted .nodes))) (λ j l. half-after j (omega (arith, h .counted .nodes))) new-words (ap (λ (m : ℕ). getD (set v (memory.depths + st .nodes) (2 * (max d b + 1))) (memory.depths + m) 0) (sym (h .counted .nodes)) ∙ depth-after) new-depths
 
-    pub place-on : {r : Counts} → p .count ≤ 4 → r ≡ nodeCounts st → Placed st n p (code.Next r) w0 w1 (set v (6912 + st .nodes) (2 * (max d b + 1)))
+    pub place-on : {r : Counts} → p .count ≤ 4 → r ≡ nodeCounts st → Placed st n p (code.Next r) w0 w1 (set v (memory.depths + st .nodes) (2 * (max d b + 1)))
     unfolding suits nodeCounts
     place-on few q = rw q (record {
       is = λ line s i x number z h.

@@ -9,6 +9,7 @@ use lib.Dec.{ltb}
 use Rattle.laws.specs.Choice.{if_then_else_}
 use Rattle.ocl.specs.Types.{Kind, Ty}
 use Rattle.ocl.specs.Forms.{undef}
+use Rattle.sheet.specs.Sizes.{mostClasses}
 use Rattle.sheet.specs.Lines.{Shape, leaf, iterate, assemble, FormFields, noField, oneNumber, twoNumbers, threeNumbers, otherFields}
 use Rattle.text.specs.Forms.{fieldsBy}
 use Rattle.nodes.specs.Nodes.{assembleCode}
@@ -46,16 +47,16 @@ shapeFrom k = formWith (fieldsBy k)
 abbrev pub shapeIn : ℕ → List ℕ → Shape
 shapeIn k l = shapeFrom k (getD l 0 0) (getD l 1 0) (getD l 2 0)
 
--- how many classes there must be for class c, which a sheet has below 64
+-- how many classes there must be for class c, which a sheet has below `mostClasses`
 unfoldable pub classCount : ℕ → ℕ
-classCount c = if ltb c 64 then c + 1 else 65
+classCount c = if ltb c mostClasses then c + 1 else mostClasses + 1
 
 -- a form that is spelled: few operands, eight words, few classes
 pub record Whole (p : Parsed) : Type 0 where
   pub spelled : p .spelled ≡ true
   pub few : p .count ≤ 4
   pub size : length (p .words) ≡ 8
-  pub classes : p .classes ≤ 65
+  pub classes : p .classes ≤ mostClasses + 1
 
 -- the form with this code, from its numbers
 pub record Builds (code : ℕ) (at : List ℕ) (line : ℕ) (p : Parsed) : Type 0 where

@@ -3,11 +3,13 @@ use mathlib.Core.Path.{_≡_}
 use mathlib.Core.Bool.{true, false}
 use mathlib.Core.Option.{Option, none, some}
 use mathlib.Core.List.{List, map}
-use Prim.Native.Nat.{ℕ, _≤_, _<_}
+use Prim.Native.Nat.{ℕ, _+_, _≤_, _<_}
 use lib.ListN.{length, take, drop}
 use lib.Dec.{eqb, leb}
 use Rattle.laws.specs.Choice.{if_then_else_}
 use Rattle.laws.specs.Lists.{allOf}
+use Rattle.memory.specs.Codes as code
+use Rattle.sheet.specs.Sizes.{mostClasses}
 use Rattle.sheet.specs.Text.{byte}
 use Rattle.sheet.specs.Lines.{Shape}
 use Rattle.sheet.specs.Sheet.{operandsOf}
@@ -26,7 +28,7 @@ operandsAt words count = take count (drop 1 words)
 pub record StandsFor (line : ℕ) (x : Shape) (p : Parsed) : Type 0 where
   pub within : p .within ≡ formWithin x
   pub apart : formWithin x ≡ true → p .apart ≡ twoVariables x
-  pub known : formWithin x ≡ true → (n : ℕ) → n ≤ 64 → leb (p .classes) n ≡ formKnown n x
+  pub known : formWithin x ≡ true → (n : ℕ) → n ≤ mostClasses → leb (p .classes) n ≡ formKnown n x
   pub counted : p .count ≡ length (operandsOf x)
   pub operands : operandsAt (p .words) (p .count) ≡ map cut (operandsOf x)
   -- the word of the type that `iter` has
@@ -42,29 +44,33 @@ pub record FormRead (line : ℕ) (o : Option Shape) (p : Parsed) : Type 0 where
   pub is : Spelled line o p
   pub few : p .count ≤ 4
   pub size : length (p .words) ≡ 8
-  pub low : p .classes ≤ 65
+  pub low : p .classes ≤ mostClasses + 1
 
 -- ---- the codes of forms that hold nothing but m operands
 
 pub data PlainCode : ℕ → ℕ → Type 0 where
-  constant : {k : ℕ} → k < 3 → PlainCode k 0
-  itself : PlainCode 4 0
-  one : {k : ℕ} → 7 ≤ k → k < 12 → PlainCode k 1
-  two : {k : ℕ} → 13 ≤ k → k < 25 → PlainCode k 2
-  undefTest : PlainCode 30 1
-  conditional : PlainCode 31 3
-  quotient : PlainCode 37 2
+  constant : {k : ℕ} → k < code.number → PlainCode k 0
+  itself : PlainCode code.self 0
+  one : {k : ℕ} → code.negation ≤ k → k < code.castTo → PlainCode k 1
+  two : {k : ℕ} → code.equal ≤ k → k < code.forAll → PlainCode k 2
+  undefTest : PlainCode code.isUndef 1
+  conditional : PlainCode code.conditional 3
+  quotient : PlainCode code.over 2
 
 -- of `forAll` and `exists`
 pub record QuantifierCode (k : ℕ) : Type 0 where
-  pub low : 25 ≤ k
-  pub high : k < 27
+  pub low : code.forAll ≤ k
+  pub high : k < code.set
 
 -- of `attr` and `collect`
 pub record AccessCode (k : ℕ) : Type 0 where
-  pub low : 33 ≤ k
-  pub high : k < 35
+  pub low : code.ofObject ≤ k
+  pub high : k < code.iterate
 
 -- of `coll` by the letter of its kind, 0 for another
 unfoldable pub kindByteCode : ℕ → ℕ
-kindByteCode b = if eqb b (byte "S") then 27 else if eqb b (byte "Q") then 28 else if eqb b (byte "B") then 29 else 0
+kindByteCode b =
+    if eqb b (byte "S") then code.set
+    else if eqb b (byte "Q") then code.sequence
+    else if eqb b (byte "B") then code.bag
+    else 0

@@ -5,6 +5,7 @@ use mathlib.Core.Option.{Option, none, some}
 use Prim.Native.Nat.{ℕ, _+_, _≤_}
 use lib.Dec.{leb}
 use Rattle.ocl.specs.Types.{Ty}
+use Rattle.sheet.specs.Sizes.{mostClasses}
 use Rattle.sheet.specs.Limits.{typeWithin, classBelow}
 use Rattle.types.specs.Word.{typeIn}
 use Rattle.types.specs.Reading.{typeField, held}
@@ -39,4 +40,4 @@ pub data TypeSpelled : Option Ty → TypeRead → Type 0 where
 -- of what was read
 pub record TypeTold (g : GotType) (r : TypeRead) : Type 0 where
   pub is : (o : Option Ty) → typeField g ≡ held o → TypeSpelled o r
-  pub low : r .classes ≤ 65
+  pub low : r .classes ≤ mostClasses + 1

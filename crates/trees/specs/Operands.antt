@@ -5,7 +5,9 @@ use Prim.Native.Nat.{ℕ, _+_, _/_, _%_, _≤_, _<_, min, max}
 use lib.ListN.{getD, set}
 use lib.Dec.{eqb, leb, ltb}
 use Rattle.laws.specs.Choice.{if_then_else_}
+use Rattle.memory.specs.Map as memory
 use Rattle.tables.specs.Layout.{Kept}
+use Rattle.trees.specs.Calls.{depthCut}
 use Rattle.trees.specs.declared.operands.Marked.{Marked}
 use Rattle.trees.specs.declared.operands.Marked.the-variants as code
 
@@ -18,14 +20,14 @@ pub data Marking : Type 0 where
 
 -- where the depth and the use of the rule's node a stand
 abbrev pub depthAt : ℕ → ℕ → ℕ
-depthAt first a = 6912 + (first + a)
+depthAt first a = memory.depths + (first + a)
 
 unfoldable pub marking : ℕ → ℕ → ℕ → List ℕ → List ℕ → Marking
 marking first n d [] w = deepest d w
 marking first n d (a ∷ es) w =
     if ltb a n
     then (if eqb (getD w (depthAt first a) 0 % 2) 1 then malformed w
-    else marking first n (max d (min (getD w (depthAt first a) 0 / 2) 1000)) es (set w (depthAt first a) (getD w (depthAt first a) 0 + 1)))
+    else marking first n (max d (min (getD w (depthAt first a) 0 / 2) depthCut)) es (set w (depthAt first a) (getD w (depthAt first a) 0 + 1)))
     else malformed w
 
 unfoldable pub marked : Marked → List ℕ → Marking

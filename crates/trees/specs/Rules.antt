@@ -8,7 +8,9 @@ use Prim.Native.Nat.{ℕ, zero, suc, _+_, _-_, _/_, _%_, _≤_, _<_}
 use lib.ListN.{length, getD}
 use lib.Dec.{eqb, leb, ltb}
 use Rattle.laws.specs.Lists.{allOf}
+use Rattle.memory.specs.Map as memory
 use Rattle.ocl.specs.Forms.{levels}
+use Rattle.sheet.specs.Sizes.{mostDefinitions, mostRules, mostNodes}
 use Rattle.sheet.specs.Lines.{Shape, nodeLine}
 use Rattle.sheet.specs.Sheet.{Current, Sheet, withBody, endRule}
 use Rattle.sheet.specs.Limits.{isNode}
@@ -26,14 +28,14 @@ use Rattle.trees.specs.Calls.{callsIn}
 
 -- an open rule has a number below 64, and an open definition one below 32: an R line and a D line were held to that
 pub record RuleRoom (st : Counts) : Type 0 where
-  pub room : st .«open» ≢ 0 → st .«open» ≢ 2 → st .rules < 64
-  pub space : st .«open» ≡ 2 → st .definitions < 32
+  pub room : st .«open» ≢ 0 → st .«open» ≢ 2 → st .rules < mostRules
+  pub space : st .«open» ≡ 2 → st .definitions < mostDefinitions
 
 -- ---- a node line
 
 -- 4: node n of the form p, where there are nodes already
 unfoldable pub nodeLimits : Counts → ℕ → Parsed → Bool
-nodeLimits st n p = isNode n && p .within && allOf isNode (operandsAt (p .words) (p .count)) && ltb (st .nodes) 768
+nodeLimits st n p = isNode n && p .within && allOf isNode (operandsAt (p .words) (p .count)) && ltb (st .nodes) mostNodes
 
 -- 5
 unfoldable pub nodeOrder : Counts → ℕ → Parsed → Bool
@@ -115,7 +117,7 @@ definedCounts st = record {
 
 -- the definition or rule c that is open, put down with its root
 pub record PutDown (st r : Counts) (root : ℕ) (w0 v0 : List ℕ) : Type 0 where
-  pub is : (w1 : List ℕ) (s : Sheet) (c : Current) → s .current ≡ some c → Holds st w0 w1 s → root < length (s .lines) → getD w1 (6912 + root) 0 / 2 ≡ levels (treeAt w1 root)
+  pub is : (w1 : List ℕ) (s : Sheet) (c : Current) → s .current ≡ some c → Holds st w0 w1 s → root < length (s .lines) → getD w1 (memory.depths + root) 0 / 2 ≡ levels (treeAt w1 root)
       → Fine r × Holds r v0 w1 (withBody s (c .context) (c .result) (treeAt w1 root))
   pub kept : Kept w0 v0
 

@@ -2,11 +2,14 @@
 ghost use mathlib.Core.Path.{_≡_};
 ghost use Prim.Native.Nat.{_≤_};
 ghost use lib.ListN.{length};
+ghost use Rattle.memory.specs.Codes as code;
 ghost use Rattle.sheet.specs.Limits.{isVariable};
 ghost use Rattle.trees.specs.Forms.{PlainCode, QuantifierCode, AccessCode};
 ghost use Rattle.trees.specs.Built.{classCount, Whole, Builds, Assembles};
 use super::Parsed;
+use memory::codes;
 
+// Whether i is a variable's number, 1 to 15.
 pub fn is_variable(i: u64) -> bool
     ensures { λ r. ⌜ r ≡ isVariable i ⌝ }
 {
@@ -16,11 +19,18 @@ pub fn is_variable(i: u64) -> bool
     i <= 15
 }
 
+// More classes than there may be.
+const TOO_MANY: u64 = memory::MOST_CLASSES + 1;
+
 // How many classes there must be for class c; more than there may be where c is over its limit.
 fn class_count(c: u64) -> u64
     ensures { λ r. ⌜ r ≡ classCount c ⌝ }
 {
-    if c < 64 { c + 1 } else { 65 }
+    if c < memory::MOST_CLASSES {
+        c + 1
+    } else {
+        TOO_MANY
+    }
 }
 
 // A form that holds nothing but its m operands.
@@ -41,11 +51,11 @@ fn plain(code: u64, at: [u64; 4], m: usize, k: u64) -> Parsed
 // `var i`
 fn variable(at: [u64; 4], k: u64) -> Parsed
     requires { ⌜ length at ≡ 4 ⌝ }
-    ensures { λ r. ⌜ Builds 5 at k r ⌝ }
+    ensures { λ r. ⌜ Builds code.var at k r ⌝ }
 {
     Parsed {
         spelled: true,
-        words: [5, at[0], 0, 0, 0, 0, 0, k],
+        words: [codes::VAR, at[0], 0, 0, 0, 0, 0, k],
         count: 0,
         within: is_variable(at[0]),
         apart: true,
@@ -56,13 +66,13 @@ fn variable(at: [u64; 4], k: u64) -> Parsed
 // `all c`
 fn instances(at: [u64; 4], k: u64) -> Parsed
     requires { ⌜ length at ≡ 4 ⌝ }
-    ensures { λ r. ⌜ Builds 6 at k r ⌝ }
+    ensures { λ r. ⌜ Builds code.all at k r ⌝ }
 {
     Parsed {
         spelled: true,
-        words: [6, at[0], 0, 0, 0, 0, 0, k],
+        words: [codes::ALL, at[0], 0, 0, 0, 0, 0, k],
         count: 0,
-        within: at[0] < 64,
+        within: at[0] < memory::MOST_CLASSES,
         apart: true,
         classes: class_count(at[0]),
     }
@@ -71,13 +81,13 @@ fn instances(at: [u64; 4], k: u64) -> Parsed
 // `as e c`
 fn cast(at: [u64; 4], k: u64) -> Parsed
     requires { ⌜ length at ≡ 4 ⌝ }
-    ensures { λ r. ⌜ Builds 12 at k r ⌝ }
+    ensures { λ r. ⌜ Builds code.castTo at k r ⌝ }
 {
     Parsed {
         spelled: true,
-        words: [12, at[0], at[1], 0, 0, 0, 0, k],
+        words: [codes::CAST_TO, at[0], at[1], 0, 0, 0, 0, k],
         count: 1,
-        within: at[1] < 64,
+        within: at[1] < memory::MOST_CLASSES,
         apart: true,
         classes: class_count(at[1]),
     }
@@ -92,7 +102,7 @@ fn attribute(code: u64, at: [u64; 4], k: u64) -> Parsed
         spelled: true,
         words: [code, at[0], at[1], 0, 0, 0, 0, k],
         count: 1,
-        within: at[1] < 256,
+        within: at[1] < memory::MOST_NAMES,
         apart: true,
         classes: 0,
     }
@@ -101,13 +111,13 @@ fn attribute(code: u64, at: [u64; 4], k: u64) -> Parsed
 // `call e n`
 fn call(at: [u64; 4], k: u64) -> Parsed
     requires { ⌜ length at ≡ 4 ⌝ }
-    ensures { λ r. ⌜ Builds 36 at k r ⌝ }
+    ensures { λ r. ⌜ Builds code.call at k r ⌝ }
 {
     Parsed {
         spelled: true,
-        words: [36, at[0], at[1], 0, 0, 0, 0, k],
+        words: [codes::CALL, at[0], at[1], 0, 0, 0, 0, k],
         count: 1,
-        within: at[1] < 32,
+        within: at[1] < memory::MOST_DEFINITIONS,
         apart: true,
         classes: 0,
     }
@@ -116,11 +126,11 @@ fn call(at: [u64; 4], k: u64) -> Parsed
 // `let i e b`
 fn let_in(at: [u64; 4], k: u64) -> Parsed
     requires { ⌜ length at ≡ 4 ⌝ }
-    ensures { λ r. ⌜ Builds 32 at k r ⌝ }
+    ensures { λ r. ⌜ Builds code.letIn at k r ⌝ }
 {
     Parsed {
         spelled: true,
-        words: [32, at[1], at[2], at[0], 0, 0, 0, k],
+        words: [codes::LET_IN, at[1], at[2], at[0], 0, 0, 0, k],
         count: 2,
         within: is_variable(at[0]),
         apart: true,
@@ -143,7 +153,7 @@ fn quantified(code: u64, at: [u64; 4], k: u64) -> Parsed
     }
 }
 
-// What stands where no form is built.
+// The answer where a code builds no form.
 fn nothing() -> Parsed
     ensures { λ r. ⌜ Whole r ⌝ }
 {
@@ -163,23 +173,23 @@ pub fn built(code: u64, at: [u64; 4], k: u64) -> Parsed
     ensures { λ r. ⌜ Builds code at k r ⌝ }
 {
     match code {
-        0..=2 => plain(code, at, 0, k),
-        3 => nothing(),
-        4 => plain(4, at, 0, k),
-        5 => variable(at, k),
-        6 => instances(at, k),
-        7..=11 => plain(code, at, 1, k),
-        12 => cast(at, k),
-        13..=24 => plain(code, at, 2, k),
-        25..=26 => quantified(code, at, k),
-        27..=29 => nothing(),
-        30 => plain(30, at, 1, k),
-        31 => plain(31, at, 3, k),
-        32 => let_in(at, k),
-        33..=34 => attribute(code, at, k),
-        35 => nothing(),
-        36 => call(at, k),
-        37 => plain(37, at, 2, k),
+        codes::FALSE..=codes::UNDEF => plain(code, at, 0, k),
+        codes::NUMBER => nothing(),
+        codes::SELF => plain(codes::SELF, at, 0, k),
+        codes::VAR => variable(at, k),
+        codes::ALL => instances(at, k),
+        codes::NEGATION..=codes::TO_BAG => plain(code, at, 1, k),
+        codes::CAST_TO => cast(at, k),
+        codes::EQUAL..=codes::OR => plain(code, at, 2, k),
+        codes::FOR_ALL..=codes::EXISTS => quantified(code, at, k),
+        codes::SET..=codes::BAG => nothing(),
+        codes::IS_UNDEF => plain(codes::IS_UNDEF, at, 1, k),
+        codes::CONDITIONAL => plain(codes::CONDITIONAL, at, 3, k),
+        codes::LET_IN => let_in(at, k),
+        codes::OF_OBJECT..=codes::OF_MEMBERS => attribute(code, at, k),
+        codes::ITERATE => nothing(),
+        codes::CALL => call(at, k),
+        codes::OVER => plain(codes::OVER, at, 2, k),
         _ => nothing(),
     }
 }

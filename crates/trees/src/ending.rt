@@ -3,29 +3,28 @@
 ghost use mathlib.Core.Path.{_≡_};
 ghost use Prim.Native.Nat.{_+_, _≤_};
 ghost use lib.ListN.{length};
+ghost use Rattle.sheet.specs.Sizes.{leastWords, mostNodes};
 ghost use Rattle.tables.specs.Layout.{Fine};
 ghost use Rattle.trees.specs.Rules.{RuleRoom, usedIn, endedCounts, definedCounts, PutDown, RuleEnded};
 use tables::Counts;
 use tables::Step;
 
-// The depth of a tree is at most this.
-const MOST_LEVELS: u64 = 19;
-
-// Is each of the first `count` nodes from `first` on an operand.
+// Whether each of the first `count` nodes from `first` on is an operand.
 fn all_used(w1: &[u64], first: usize, count: usize) -> bool
-    requires { ⌜ (8192 ≤ length (now w1)) × (first + count ≤ 768) ⌝ }
+    requires { ⌜ (leastWords ≤ length (now w1)) × (first + count ≤ mostNodes) ⌝ }
     ensures { λ r. ⌜ r ≡ usedIn (now (w1 .entry)) first count ⌝ }
 {
     let mut n = count;
     while 0 < n {
         n -= 1;
-        if w1[6912 + (first + n)] % 2 != 1 {
+        if w1[memory::DEPTHS + (first + n)] % 2 != 1 {
             return false;
         }
     }
     true
 }
 
+// The counts with the open rule stored.
 fn with_rule(st: Counts) -> Counts
     requires { ⌜ Fine st ⌝ }
     ensures { λ r. ⌜ r ≡ endedCounts st ⌝ }
@@ -36,6 +35,7 @@ fn with_rule(st: Counts) -> Counts
     next
 }
 
+// The counts with the open definition stored.
 fn with_definition(st: Counts) -> Counts
     requires { ⌜ Fine st ⌝ }
     ensures { λ r. ⌜ r ≡ definedCounts st ⌝ }
@@ -46,27 +46,27 @@ fn with_definition(st: Counts) -> Counts
     next
 }
 
-// The definition or rule that is open, with its root.
+// Stores the definition or rule that is open, with its root.
 fn put_down(w0: &mut [u64], st: Counts, root: u64) -> Counts
-    requires { ⌜ (8192 ≤ length (now w0)) × Fine st × RuleRoom st ⌝ }
+    requires { ⌜ (leastWords ≤ length (now w0)) × Fine st × RuleRoom st ⌝ }
     ensures { λ r. ⌜ PutDown st r root (now (w0 .entry)) (now (w0 .exit)) ⌝ }
 {
     if st.open == 2 {
         let n = st.definitions as usize;
-        w0[4576 + n] = st.context;
-        w0[4608 + n] = st.result;
-        w0[4640 + n] = root;
+        w0[memory::DEFINITION_CONTEXTS + n] = st.context;
+        w0[memory::DEFINITION_TYPES + n] = st.result;
+        w0[memory::DEFINITION_ROOTS + n] = root;
         return with_definition(st);
     }
     let n = st.rules as usize;
-    w0[4448 + n] = st.context;
-    w0[4512 + n] = root;
+    w0[memory::CONTEXTS + n] = st.context;
+    w0[memory::ROOTS + n] = root;
     with_rule(st)
 }
 
-// Where none is open, nothing changes.
+// Ends the definition or rule that is open, or refuses it with 8; where none is open, nothing changes.
 pub fn end_rule(w0: &mut [u64], w1: &[u64], st: Counts) -> Step
-    requires { ⌜ (8192 ≤ length (now w0)) × (8192 ≤ length (now w1)) × Fine st × RuleRoom st ⌝ }
+    requires { ⌜ (leastWords ≤ length (now w0)) × (leastWords ≤ length (now w1)) × Fine st × RuleRoom st ⌝ }
     ensures { λ r. ⌜ RuleEnded st r (now (w0 .entry)) (now (w1 .entry)) (now (w0 .exit)) ⌝ }
 {
     if st.open == 0 {
@@ -81,7 +81,7 @@ pub fn end_rule(w0: &mut [u64], w1: &[u64], st: Counts) -> Step
     if !all_used(w1, first, last - first) {
         return Step::Stop(8);
     }
-    if w1[6912 + last] / 2 > MOST_LEVELS {
+    if w1[memory::DEPTHS + last] / 2 > memory::MOST_LEVELS {
         return Step::Stop(8);
     }
     Step::Next(put_down(w0, st, last as u64))

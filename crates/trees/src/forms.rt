@@ -3,6 +3,7 @@ ghost use mathlib.Core.Path.{_≡_};
 ghost use mathlib.Core.Option.{none};
 ghost use Prim.Native.Nat.{ℕ, _≤_};
 ghost use lib.ListN.{drop};
+ghost use Rattle.memory.specs.Codes as code;
 ghost use Rattle.sheet.specs.Text.{fieldsOf};
 ghost use Rattle.text.specs.Parts.{Cut};
 ghost use Rattle.text.specs.Forms.{shapeBy};
@@ -17,10 +18,12 @@ use super::literals::integer_form;
 use super::literals::real_form;
 use super::numbers::exactly;
 use super::numbers::number_fields;
+use memory::codes;
 use text::parts::Fields;
 use text::parts::field;
 use text::words::letter;
 
+// The answer for fields that spell no form.
 pub fn misspelled() -> Parsed
     ensures { λ r. ⌜ ((n : ℕ) → FormRead n none r) ⌝ }
 {
@@ -52,9 +55,9 @@ fn kind_code(f: &[u8]) -> u64
     ensures { λ r. ⌜ r ≡ kindByteCode (onlyByte (now (f .entry))) ⌝ }
 {
     match letter(f) {
-        b'S' => 27,
-        b'Q' => 28,
-        b'B' => 29,
+        b'S' => codes::SET,
+        b'Q' => codes::SEQUENCE,
+        b'B' => codes::BAG,
         _ => 0,
     }
 }
@@ -62,7 +65,7 @@ fn kind_code(f: &[u8]) -> u64
 // `coll k e..`
 fn collection_form(line: &[u8], f: Fields, k: u64) -> Parsed
     requires { ⌜ Cut (now line) f × (3 ≤ f .count) ⌝ }
-    ensures { λ r. ⌜ FormRead k (shapeBy 27 (drop 3 (fieldsOf (now (line .entry))))) r ⌝ }
+    ensures { λ r. ⌜ FormRead k (shapeBy code.set (drop 3 (fieldsOf (now (line .entry))))) r ⌝ }
 {
     let count = f.count;
     if count < 4 {
@@ -89,20 +92,20 @@ pub(crate) fn read_form(line: &[u8], f: Fields, code: u64, k: u64) -> Parsed
     ensures { λ r. ⌜ FormRead k (shapeBy code (drop 3 (fieldsOf (now (line .entry))))) r ⌝ }
 {
     match code {
-        0..=2 => numbers_form(line, f, code, 0, k),
-        3 => integer_form(line, f, k),
-        4 => numbers_form(line, f, 4, 0, k),
-        5..=11 => numbers_form(line, f, code, 1, k),
-        12..=24 => numbers_form(line, f, code, 2, k),
-        25..=26 => numbers_form(line, f, code, 3, k),
-        27 => collection_form(line, f, k),
-        28..=29 => misspelled(),
-        30 => numbers_form(line, f, 30, 1, k),
-        31..=32 => numbers_form(line, f, code, 3, k),
-        33..=34 => numbers_form(line, f, code, 2, k),
-        35 => iterate_form(line, f, k),
-        36..=37 => numbers_form(line, f, code, 2, k),
-        38 => real_form(line, f, k),
+        codes::FALSE..=codes::UNDEF => numbers_form(line, f, code, 0, k),
+        codes::NUMBER => integer_form(line, f, k),
+        codes::SELF => numbers_form(line, f, codes::SELF, 0, k),
+        codes::VAR..=codes::TO_BAG => numbers_form(line, f, code, 1, k),
+        codes::CAST_TO..=codes::OR => numbers_form(line, f, code, 2, k),
+        codes::FOR_ALL..=codes::EXISTS => numbers_form(line, f, code, 3, k),
+        codes::SET => collection_form(line, f, k),
+        codes::SEQUENCE..=codes::BAG => misspelled(),
+        codes::IS_UNDEF => numbers_form(line, f, codes::IS_UNDEF, 1, k),
+        codes::CONDITIONAL..=codes::LET_IN => numbers_form(line, f, code, 3, k),
+        codes::OF_OBJECT..=codes::OF_MEMBERS => numbers_form(line, f, code, 2, k),
+        codes::ITERATE => iterate_form(line, f, k),
+        codes::CALL..=codes::OVER => numbers_form(line, f, code, 2, k),
+        codes::REAL => real_form(line, f, k),
         _ => misspelled(),
     }
 }

@@ -1,8 +1,10 @@
 // `iter s i j T e b`, the one form with a type in it.
 ghost use mathlib.Core.Path.{_≡_};
 ghost use mathlib.Core.Bool.{_&&_};
-ghost use Prim.Native.Nat.{_≤_, _<_};
+ghost use Prim.Native.Nat.{_+_, _≤_, _<_};
 ghost use lib.ListN.{length, drop};
+ghost use Rattle.memory.specs.Codes as code;
+ghost use Rattle.sheet.specs.Sizes.{mostClasses};
 ghost use Rattle.sheet.specs.Text.{fieldsOf};
 ghost use Rattle.text.specs.Parts.{Cut};
 ghost use Rattle.text.specs.Forms.{shapeBy};
@@ -14,6 +16,7 @@ use super::Parsed;
 use super::built::is_variable;
 use super::forms::misspelled;
 use super::numbers::number_fields;
+use memory::codes::ITERATE;
 use text::parts::Fields;
 use text::parts::field;
 use types::Base;
@@ -30,8 +33,9 @@ pub struct TypeRead {
     pub classes: u64,
 }
 
+// How many classes there must be for the class in a base.
 fn classes_in(b: Base) -> u64
-    requires { ⌜ baseClass b < 64 ⌝ }
+    requires { ⌜ baseClass b < mostClasses ⌝ }
     ensures { λ r. ⌜ r ≡ classesIn b ⌝ }
 {
     match b {
@@ -88,12 +92,12 @@ fn all_three(a: bool, b: bool, c: bool) -> bool
 
 // `iter` from s, i and j, its type, and e and b.
 pub fn iterated(h: [u64; 4], of: TypeRead, t: [u64; 4], k: u64) -> Parsed
-    requires { ⌜ (length h ≡ 4) × (length t ≡ 4) × (of .classes ≤ 65) ⌝ }
+    requires { ⌜ (length h ≡ 4) × (length t ≡ 4) × (of .classes ≤ mostClasses + 1) ⌝ }
     ensures { λ r. ⌜ Iterates h of t k r ⌝ }
 {
     Parsed {
         spelled: true,
-        words: [35, h[0], t[0], t[1], h[1], h[2], of.word, k],
+        words: [ITERATE, h[0], t[0], t[1], h[1], h[2], of.word, k],
         count: 3,
         within: all_three(is_variable(h[1]), is_variable(h[2]), of.within),
         apart: h[1] != h[2],
@@ -101,9 +105,10 @@ pub fn iterated(h: [u64; 4], of: TypeRead, t: [u64; 4], k: u64) -> Parsed
     }
 }
 
+// The form from a node line's fields.
 pub fn iterate_form(line: &[u8], f: Fields, k: u64) -> Parsed
     requires { ⌜ Cut (now line) f × (3 ≤ f .count) ⌝ }
-    ensures { λ r. ⌜ FormRead k (shapeBy 35 (drop 3 (fieldsOf (now (line .entry))))) r ⌝ }
+    ensures { λ r. ⌜ FormRead k (shapeBy code.iterate (drop 3 (fieldsOf (now (line .entry))))) r ⌝ }
 {
     if f.count != 9 {
         return misspelled();

@@ -15,7 +15,7 @@ pub mod ending; // the end of a definition or rule
 // A node line's form. Word 0 is the code; words 1 to `count` are the operands, by their numbers in the definition or rule; then comes what
 // else the form holds, as the node table has it; word 7 is the line. `within` says whether that is inside its limits, `apart`
 // whether two variables differ, and `classes` how many classes there must be for the class that the form names. Numbers are
-// those that crates/text reads, a million at most. If the fields spell no form, `spelled` is false and the rest means nothing.
+// those that `text` reads, a million at most. If the fields spell no form, `spelled` is false and the rest means nothing.
 pub struct Parsed {
     pub spelled: bool,
     pub words: [u64; 8],

@@ -4,6 +4,7 @@ ghost use mathlib.Core.Option.{Option};
 ghost use Prim.Native.Nat.{_≤_};
 ghost use lib.ListN.{drop};
 ghost use Rattle.laws.specs.Choice.{mapSome};
+ghost use Rattle.memory.specs.Codes as code;
 ghost use Rattle.reals.specs.Reals.{Number};
 ghost use Rattle.ocl.specs.Forms.{number};
 ghost use Rattle.sheet.specs.Text.{fieldsOf};
@@ -14,6 +15,7 @@ ghost use Rattle.text.specs.Literals.{literalOf};
 ghost use Rattle.trees.specs.Forms.{FormRead};
 use super::Parsed;
 use super::forms::misspelled;
+use memory::codes;
 use text::literals::Literal;
 use text::literals::integer_literal;
 use text::literals::real_literal;
@@ -29,7 +31,7 @@ pub fn number_form(n: Literal, k: u64) -> Parsed
         Literal::Bad => misspelled(),
         Literal::Over => Parsed {
             spelled: true,
-            words: [3, 0, 0, 0, 0, 0, 0, k],
+            words: [codes::NUMBER, 0, 0, 0, 0, 0, 0, k],
             count: 0,
             within: false,
             apart: true,
@@ -37,7 +39,7 @@ pub fn number_form(n: Literal, k: u64) -> Parsed
         },
         Literal::Is(word) => Parsed {
             spelled: true,
-            words: [3, word, 0, 0, 0, 0, 0, k],
+            words: [codes::NUMBER, word, 0, 0, 0, 0, 0, k],
             count: 0,
             within: true,
             apart: true,
@@ -48,7 +50,7 @@ pub fn number_form(n: Literal, k: u64) -> Parsed
 
 pub(crate) fn integer_form(line: &[u8], f: Fields, k: u64) -> Parsed
     requires { ⌜ Cut (now line) f × (3 ≤ f .count) ⌝ }
-    ensures { λ r. ⌜ FormRead k (shapeBy 3 (drop 3 (fieldsOf (now (line .entry))))) r ⌝ }
+    ensures { λ r. ⌜ FormRead k (shapeBy code.number (drop 3 (fieldsOf (now (line .entry))))) r ⌝ }
 {
     if f.count != 4 {
         return misspelled();
@@ -58,7 +60,7 @@ pub(crate) fn integer_form(line: &[u8], f: Fields, k: u64) -> Parsed
 
 pub(crate) fn real_form(line: &[u8], f: Fields, k: u64) -> Parsed
     requires { ⌜ Cut (now line) f × (3 ≤ f .count) ⌝ }
-    ensures { λ r. ⌜ FormRead k (shapeBy 38 (drop 3 (fieldsOf (now (line .entry))))) r ⌝ }
+    ensures { λ r. ⌜ FormRead k (shapeBy code.real (drop 3 (fieldsOf (now (line .entry))))) r ⌝ }
 {
     if f.count != 4 {
         return misspelled();

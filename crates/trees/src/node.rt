@@ -5,6 +5,7 @@ ghost use mathlib.Core.Bool.{true};
 ghost use mathlib.Core.List.{[]};
 ghost use Prim.Native.Nat.{_≤_};
 ghost use lib.ListN.{length, getD};
+ghost use Rattle.sheet.specs.Sizes.{leastWords};
 ghost use Rattle.sheet.specs.Text.{bytes, fieldsOf};
 ghost use Rattle.sheet.specs.Lines.{is};
 ghost use Rattle.text.specs.Parts.{Cut};
@@ -28,12 +29,13 @@ use text::parts::Fields;
 use text::parts::field;
 use text::words::form_code;
 
+// 4: the node's number, its form and its operands are within their limits, and the sheet has room for it.
 fn within_limits(st: Counts, n: u64, p: Parsed) -> bool
     requires { ⌜ (length (p .words) ≡ 8) × (p .count ≤ 4) ⌝ }
     ensures { λ r. ⌜ r ≡ nodeLimits st n p ⌝ }
 {
     let words = p.words;
-    if n >= 768 {
+    if n >= memory::MOST_NODES {
         return false;
     }
     if !p.within {
@@ -42,9 +44,10 @@ fn within_limits(st: Counts, n: u64, p: Parsed) -> bool
     if !operands_within(words, p.count) {
         return false;
     }
-    st.nodes < 768
+    st.nodes < memory::MOST_NODES
 }
 
+// 5: a definition or rule without a text is open, this is its next node, and its two variables differ.
 fn in_order(st: Counts, n: u64, p: Parsed) -> bool
     requires { ⌜ Fine st ⌝ }
     ensures { λ r. ⌜ r ≡ nodeOrder st n p ⌝ }
@@ -64,6 +67,7 @@ fn in_order(st: Counts, n: u64, p: Parsed) -> bool
     p.apart
 }
 
+// The counts with one node more.
 fn with_node(st: Counts) -> Counts
     requires { ⌜ Fine st ⌝ }
     ensures { λ r. ⌜ r ≡ nodeCounts st ⌝ }
@@ -73,9 +77,9 @@ fn with_node(st: Counts) -> Counts
     next
 }
 
-// A node that is refused for nothing but its operands.
+// Puts a node that can be refused for its operands alone (8).
 fn put_node(w0: &[u64], w1: &mut [u64], st: Counts, n: u64, p: Parsed) -> Step
-    requires { ⌜ (8192 ≤ length (now w0)) × (8192 ≤ length (now w1)) × Fine st × (length (p .words) ≡ 8) × (p .count ≤ 4) × Fit st n p ⌝ }
+    requires { ⌜ (leastWords ≤ length (now w0)) × (leastWords ≤ length (now w1)) × Fine st × (length (p .words) ≡ 8) × (p .count ≤ 4) × Fit st n p ⌝ }
     ensures { λ r. ⌜ Placed st n p r (now (w0 .entry)) (now (w1 .entry)) (now (w1 .exit)) ⌝ }
 {
     let words = p.words;
@@ -88,13 +92,13 @@ fn put_node(w0: &[u64], w1: &mut [u64], st: Counts, n: u64, p: Parsed) -> Step
     };
     let m = st.nodes as usize;
     put_words(w1, m, full, count, first);
-    w1[6912 + m] = 2 * (larger(d, body) + 1);
+    w1[memory::DEPTHS + m] = 2 * (larger(d, body) + 1);
     Step::Next(with_node(st))
 }
 
-// In a definition all that is not smaller is upward, in a rule it is not on the sheet.
+// Puts node n, or refuses it. A call of what is not a smaller definition is 23 in a definition; in a rule it is 24.
 pub fn place_node(w0: &[u64], w1: &mut [u64], st: Counts, n: u64, p: Parsed) -> Step
-    requires { ⌜ (8192 ≤ length (now w0)) × (8192 ≤ length (now w1)) × Fine st × (length (p .words) ≡ 8) × (p .count ≤ 4) ⌝ }
+    requires { ⌜ (leastWords ≤ length (now w0)) × (leastWords ≤ length (now w1)) × Fine st × (length (p .words) ≡ 8) × (p .count ≤ 4) ⌝ }
     ensures { λ r. ⌜ Placed st n p r (now (w0 .entry)) (now (w1 .entry)) (now (w1 .exit)) ⌝ }
 {
     let words = p.words;
@@ -116,9 +120,9 @@ pub fn place_node(w0: &[u64], w1: &mut [u64], st: Counts, n: u64, p: Parsed) -> 
     Step::Stop(24)
 }
 
-// The line k, whose first field is `N`.
+// Takes line k, whose first field is `N`.
 pub fn node_line(line: &[u8], f: Fields, w0: &[u64], w1: &mut [u64], st: Counts, k: u64) -> Step
-    requires { ⌜ Cut (now line) f × (is (getD (fieldsOf (now line)) 0 []) (bytes "N") ≡ true) × (8192 ≤ length (now w0)) × (8192 ≤ length (now w1)) × Fine st ⌝ }
+    requires { ⌜ Cut (now line) f × (is (getD (fieldsOf (now line)) 0 []) (bytes "N") ≡ true) × (leastWords ≤ length (now w0)) × (leastWords ≤ length (now w1)) × Fine st ⌝ }
     ensures { λ r. ⌜ Took st k (now (line .entry)) r (now (w0 .entry)) (now (w1 .entry)) (now (w0 .entry)) (now (w1 .exit)) ⌝ }
 {
     if f.count < 3 {

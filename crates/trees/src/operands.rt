@@ -1,14 +1,18 @@
 // A node's operands: within their limits, smaller than the node, each used once; and the depth that they give it.
+use crate::calls::DEPTH_CUT;
 ghost use mathlib.Core.Path.{_≡_};
 ghost use Prim.Native.Nat.{_+_, _*_, _/_, _≤_, _<_, min, max};
 ghost use mathlib.Core.Bool.{true};
 ghost use lib.ListN.{length};
 ghost use Rattle.laws.specs.Lists.{allOf};
+ghost use Rattle.memory.specs.Map as memory;
+ghost use Rattle.sheet.specs.Sizes.{leastWords, mostNodes};
 ghost use Rattle.sheet.specs.Limits.{isNode};
+ghost use Rattle.trees.specs.Calls.{depthCut};
 ghost use Rattle.trees.specs.Forms.{operandsAt};
 ghost use Rattle.trees.specs.Operands.{shifted, marking, marked, WroteWords};
 
-// A malformed tree, or the depth of the deepest operand.
+// An operand that breaks the tree, or the depth of the deepest operand.
 pub enum Marked {
     Malformed,
     Deepest(u64),
@@ -21,7 +25,7 @@ pub fn operands_within(words: [u64; 8], count: usize) -> bool
 {
     let mut i: usize = 0;
     while i < count {
-        if words[1 + i] >= 768 {
+        if words[1 + i] >= memory::MOST_NODES {
             return false;
         }
         i += 1;
@@ -35,21 +39,24 @@ pub fn larger(a: u64, b: u64) -> u64
     if a < b { b } else { a }
 }
 
-// The greater of a depth and an operand's depth. No tree of 768 nodes is deeper than 1,000.
+// The greater of a depth and an operand's depth.
 fn deeper(d: u64, word: u64) -> u64
-    ensures { λ r. ⌜ r ≡ max d (min (word / 2) 1000) ⌝ }
+    ensures { λ r. ⌜ r ≡ max d (min (word / 2) depthCut) ⌝ }
 {
     let h = word / 2;
-    if h < 1000 {
+    if h < DEPTH_CUT {
         return larger(d, h);
     }
-    larger(d, 1000)
+    larger(d, DEPTH_CUT)
 }
+
+// Where depths begin, as a u64 like the numbers of nodes.
+const DEPTHS: u64 = memory::DEPTHS as u64;
 
 // Marks the operands of node n of the definition or rule as used. If one of them breaks the tree, those before it stay marked: the sheet is
 // refused then, and nothing reads them.
 pub fn mark(w1: &mut [u64], words: [u64; 8], count: usize, first: u64, n: u64) -> Marked
-    requires { ⌜ (8192 ≤ length (now w1)) × (length words ≡ 8) × (count ≤ 4) × (first + n ≤ 768) ⌝ }
+    requires { ⌜ (leastWords ≤ length (now w1)) × (length words ≡ 8) × (count ≤ 4) × (first + n ≤ mostNodes) ⌝ }
     ensures { λ r. ⌜ marked r (now (w1 .exit)) ≡ marking first n 0 (operandsAt words count) (now (w1 .entry)) ⌝ }
 {
     let mut deepest: u64 = 0;
@@ -59,7 +66,7 @@ pub fn mark(w1: &mut [u64], words: [u64; 8], count: usize, first: u64, n: u64) -
         if a >= n {
             return Marked::Malformed;
         }
-        let at = (6912 + (first + a)) as usize;
+        let at = (DEPTHS + (first + a)) as usize;
         let d = w1[at];
         if d % 2 == 1 {
             return Marked::Malformed;
@@ -71,9 +78,9 @@ pub fn mark(w1: &mut [u64], words: [u64; 8], count: usize, first: u64, n: u64) -
     Marked::Deepest(deepest)
 }
 
-// A word of a node as the table has it: an operand is counted through all definitions and rules.
+// Word k as the node table has it: an operand is numbered through all definitions and rules.
 fn shift(words: [u64; 8], count: usize, first: u64, k: usize) -> u64
-    requires { ⌜ (k < 8) × (first ≤ 768) × (allOf isNode (operandsAt words count) ≡ true) ⌝ }
+    requires { ⌜ (k < memory.nodeWords) × (first ≤ mostNodes) × (allOf isNode (operandsAt words count) ≡ true) ⌝ }
     ensures { λ r. ⌜ r ≡ shifted words count first k ⌝ }
 {
     if k == 0 {
@@ -87,12 +94,12 @@ fn shift(words: [u64; 8], count: usize, first: u64, k: usize) -> u64
 
 // The eight words of node m.
 pub fn put_words(w1: &mut [u64], m: usize, words: [u64; 8], count: usize, first: u64)
-    requires { ⌜ (8192 ≤ length (now w1)) × (m < 768) × (first ≤ 768) × (allOf isNode (operandsAt words count) ≡ true) ⌝ }
-    ensures { λ _. ⌜ WroteWords (8 * m) 8 (shifted words count first) (now (w1 .entry)) (now (w1 .exit)) ⌝ }
+    requires { ⌜ (leastWords ≤ length (now w1)) × (m < mostNodes) × (first ≤ mostNodes) × (allOf isNode (operandsAt words count) ≡ true) ⌝ }
+    ensures { λ _. ⌜ WroteWords (memory.nodeWords * m) memory.nodeWords (shifted words count first) (now (w1 .entry)) (now (w1 .exit)) ⌝ }
 {
     let mut k: usize = 0;
-    while k < 8 {
-        w1[8 * m + k] = shift(words, count, first, k);
+    while k < memory::NODE_WORDS {
+        w1[memory::NODE_WORDS * m + k] = shift(words, count, first, k);
         k += 1;
     }
 }

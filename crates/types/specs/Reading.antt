@@ -9,6 +9,7 @@ use lib.ListN.{length}
 use lib.Dec.{eqb, ltb}
 use Rattle.laws.specs.Choice.{if_then_else_, onSome, mapSome}
 use Rattle.ocl.specs.Types.{Letter, Ty, void, around, Any, Boolean, Integer, Real, Class, depth}
+use Rattle.sheet.specs.Sizes.{mostClasses}
 use Rattle.sheet.specs.Text.{Bytes, byte, Parser, literal, behind, _or_, mapped, numberParser}
 use Rattle.sheet.specs.Limits.{typeWithin}
 use Rattle.text.specs.declared.numbers.Num.{Num}
@@ -108,4 +109,4 @@ letteredField (suc k) x = deeper (letterOf (suc k)) x
 -- a class by its number, as crates/text reads it
 unfoldable pub classField : Num → TypeField
 classField n.Bad = bad
-classField (n.Is m) = if ltb m 64 then is (Class m) else big
+classField (n.Is m) = if ltb m mostClasses then is (Class m) else big

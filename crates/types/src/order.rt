@@ -50,6 +50,7 @@ fn widens(x: u64, y: u64) -> bool
     false
 }
 
+// Whether base a is b or below it.
 fn base_below(parents: &[u64], a: Base, b: Base) -> bool
     ensures { λ r. ⌜ r ≡ below (parentsIn (now (parents .entry))) (baseType a) (baseType b) ⌝ }
 {

@@ -70,7 +70,7 @@ pub fn class_of(n: Num) -> GotType
 {
     match n {
         Num::Bad => GotType::Bad,
-        Num::Is(c) => if c < 64 {
+        Num::Is(c) => if c < memory::MOST_CLASSES {
             GotType::Is(plain(Base::Class(c as u8)))
         } else {
             GotType::Big

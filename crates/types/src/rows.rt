@@ -12,7 +12,7 @@ fn number(i: usize) -> u64
     i as u64
 }
 
-// A row from which on none, up to `rows`, has the name.
+// The row behind the last one, of so many rows, that has the name; 0 where none has.
 fn named_end(names: &[u64], rows: usize, name: u64) -> usize
     requires { ⌜ rows ≤ length (now names) ⌝ }
     ensures { λ r. ⌜ (r ≤ rows) × Unnamed (now (names .entry)) name r rows ⌝ }
@@ -27,7 +27,7 @@ fn named_end(names: &[u64], rows: usize, name: u64) -> usize
     0
 }
 
-// A row before which none has the name.
+// The first row before `end` that has the name; `end` where none has.
 fn named_start(names: &[u64], end: usize, name: u64) -> usize
     requires { ⌜ end ≤ length (now names) ⌝ }
     ensures { λ r. ⌜ Unnamed (now (names .entry)) name 0 r ⌝ }

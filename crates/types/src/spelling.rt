@@ -45,6 +45,7 @@ fn letter_byte(k: u8) -> u8
     }
 }
 
+// Puts a letter and its bracket.
 fn put_opening(out: &mut [u8], at: usize, k: u8) -> usize
     requires { ⌜ at + 2 ≤ length (now out) ⌝ }
     ensures { λ r. ⌜ Puts at (opening k) (now (out .entry)) (now (out .exit)) r ⌝ }
@@ -53,6 +54,7 @@ fn put_opening(out: &mut [u8], at: usize, k: u8) -> usize
     put_byte(out, e, b'(')
 }
 
+// Puts all letters of a type with their brackets, the outermost first.
 fn put_letters(out: &mut [u8], at: usize, t: FlatType) -> usize
     requires { ⌜ at + length (letters t) ≤ length (now out) ⌝ }
     ensures { λ r. ⌜ Puts at (letters t) (now (out .entry)) (now (out .exit)) r ⌝ }
@@ -74,6 +76,7 @@ fn put_letters(out: &mut [u8], at: usize, t: FlatType) -> usize
     put_opening(out, b, i)
 }
 
+// Puts d closing brackets.
 fn put_brackets(out: &mut [u8], at: usize, d: u64) -> usize
     requires { ⌜ d ≤ 3 ⌝ }
     requires { ⌜ at + length (brackets d) ≤ length (now out) ⌝ }
@@ -84,7 +87,7 @@ fn put_brackets(out: &mut [u8], at: usize, d: u64) -> usize
     put_bytes(out, at, &all[..n])
 }
 
-// A type, at most thirty bytes: six of letters and their brackets, the base, three closing brackets.
+// Puts a type, of thirteen bytes at most: six of letters and their brackets, four of the base, three closing brackets.
 pub fn put_type(out: &mut [u8], at: usize, t: FlatType) -> usize
     requires { ⌜ at + 40 ≤ length (now out) ⌝ }
     ensures { λ r. ⌜ Puts at (spellType (tyOf t)) (now (out .entry)) (now (out .exit)) r ⌝ }

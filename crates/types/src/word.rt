@@ -29,6 +29,7 @@ pub fn pack(t: FlatType) -> u64
     o + 8 * m + 64 * i + 512 * n
 }
 
+// The base with this number in a type's word.
 fn base_in(n: u64) -> Base
     ensures { λ r. ⌜ r ≡ baseIn n ⌝ }
 {

@@ -5,11 +5,13 @@ use mathlib.Core.List.{List}
 use Prim.Native.Nat.{ℕ, _<_, _≤_}
 use lib.Dec.{ltb}
 use Rattle.laws.specs.Choice.{if_then_else_}
+use Rattle.memory.specs.Map as memory
 use Rattle.ocl.specs.Types.{Ty}
 use Rattle.ocl.specs.Environment.{extend}
 use Rattle.ocl.specs.Forms.{undef}
 use Rattle.ocl.specs.Model.{Schema}
 use Rattle.ocl.specs.Typing.{typed, Typed, Typing, pure, andThen, below, typing, leafTyping, binaryTyping, connectiveTyping, conditionalTyping, letTyping, quantifiedTyping, iterateTyping, assembleTyping, operandsTyping}
+use Rattle.sheet.specs.Sizes.{mostRows, mostNodes}
 use Rattle.types.specs.Flat.{tyOf}
 use Rattle.types.specs.Word.{typeIn}
 use Rattle.nodes.specs.Nodes.{word, variable, binaryOf, kindOf, operandsIn, treesBelow, treeAt}
@@ -22,11 +24,11 @@ use Rattle.judgements.specs.Single.{singleType}
 
 -- node n and so many rows are within what is lent
 pub record NodeRoom (n rows tables nodes marks : ℕ) : Type 0 where
-  pub in-nodes : n < 768
-  pub in-rows : rows ≤ 64
-  pub in-tables : 256 ≤ tables
-  pub all-nodes : 6144 ≤ nodes
-  pub all-marks : 768 ≤ marks
+  pub in-nodes : n < mostNodes
+  pub in-rows : rows ≤ mostRows
+  pub in-tables : memory.rowsEnd ≤ tables
+  pub all-nodes : memory.nodesEnd ≤ nodes
+  pub all-marks : mostNodes ≤ marks
 
 -- f and then g: two types, with which whatever follows them goes on; or the first refusal, which ends it
 pub record TellsTwo (f g : Typed) (before after : List ℕ) (r : PairReply) : Type 0 where

@@ -2,6 +2,7 @@
 // Parameters as in walk.rt.
 ghost use Prim.Native.Nat.{_<_, _≤_};
 ghost use lib.ListN.{length};
+ghost use Rattle.memory.specs.Codes as code;
 ghost use Rattle.typing.specs.Tables.{NodeRoom, Types, singleAt, binaryAt, connectiveAt, conditionalAt, assembleAt};
 use super::PairReply;
 use super::walk::operand;
@@ -14,6 +15,7 @@ use judgements::forms::both_below;
 use judgements::forms::conditional_type;
 use judgements::forms::join_more;
 use judgements::single::single_type;
+use memory::codes;
 use nodes::node_word;
 use types::Base;
 use types::Joined;
@@ -41,6 +43,7 @@ pub fn single(
     single_type(nodes, parents, tables, rows, n, form, t, marks)
 }
 
+// A form with two strict operands.
 pub fn binary(
     nodes: &[u64],
     parents: &[u64],
@@ -51,7 +54,7 @@ pub fn binary(
     env: TypeEnv,
     marks: &mut [u64],
 ) -> Reply
-    requires { ⌜ 13 ≤ form ⌝ }
+    requires { ⌜ code.equal ≤ form ⌝ }
     requires { ⌜ NodeRoom n rows (length (now tables)) (length (now nodes)) (length (now marks)) ⌝ }
     ensures { λ r. ⌜ Types (now (parents .entry)) (now (tables .entry)) rows (binaryAt (now (nodes .entry)) n form) env (now (marks .entry)) (now (marks .exit)) r ⌝ }
 {
@@ -109,8 +112,11 @@ pub fn conditional(
     }
 }
 
-// `coll`: all members are typed before it is refused that they have no common type. More than four members, which no accepted
-// sheet has, count as `undef`.
+// By how much the codes of `coll` for a Set, a Sequence and a Bag are above those of the letters S, Q and B, which are 2 to 4.
+const TO_LETTERS: u64 = codes::SET - 2;
+
+// `coll`: all members are typed before their common type is asked for. More than four members, which no accepted sheet has, count as
+// `undef`.
 pub fn coll(
     nodes: &[u64],
     parents: &[u64],
@@ -121,7 +127,7 @@ pub fn coll(
     env: TypeEnv,
     marks: &mut [u64],
 ) -> Reply
-    requires { ⌜ (27 ≤ form) × (form < 30) ⌝ }
+    requires { ⌜ (code.set ≤ form) × (form < code.isUndef) ⌝ }
     requires { ⌜ NodeRoom n rows (length (now tables)) (length (now nodes)) (length (now marks)) ⌝ }
     ensures { λ r. ⌜ Types (now (parents .entry)) (now (tables .entry)) rows (assembleAt (now (nodes .entry)) n form) env (now (marks .entry)) (now (marks .exit)) r ⌝ }
 {
@@ -139,5 +145,5 @@ pub fn coll(
         common = join_more(parents, common, t);
         i += 1;
     }
-    around_common(n as u64, (form - 25) as u8, common)
+    around_common(n as u64, (form - TO_LETTERS) as u8, common)
 }

@@ -1,8 +1,9 @@
-// The typing of a rule and of a definition, whose marks are added to those of others.
+// The typing of a rule and of a definition. Their marks go into one table with those of others.
 ghost use Prim.Native.Nat.{_<_};
 ghost use lib.ListN.{length};
 ghost use Rattle.ocl.specs.Model.{Schema};
 ghost use Rattle.ocl.specs.Typing.{typeRule};
+ghost use Rattle.sheet.specs.Sizes.{mostNodes};
 ghost use Rattle.nodes.specs.Nodes.{treeAt};
 ghost use Rattle.judgements.specs.Replies.{Tells, ReadsRows};
 ghost use Rattle.typing.specs.Tables.{NodeRoom};
@@ -30,8 +31,8 @@ fn root_type(
     node(nodes, parents, tables, rows, root, env, marks)
 }
 
-// The rule whose tree is at root, for objects of the context class. `tables` holds parents from word 0, owners from 64, names
-// from 128 and types from 192, of which the first `classes` and `rows` count.
+// The rule whose tree is at root, for objects of the context class. `tables` is w0, with its parents, and each row's owner, name and type,
+// of which the first `classes` and `rows` count.
 pub fn type_rule(
     tables: &[u64],
     classes: usize,
@@ -41,16 +42,16 @@ pub fn type_rule(
     context: u8,
     root: usize,
 ) -> Reply
-    requires { ⌜ root < 768 ⌝ }
+    requires { ⌜ root < mostNodes ⌝ }
     requires { ⌜ LentTables classes rows (length (now tables)) (length (now nodes)) (length (now marks)) ⌝ }
     ensures { λ r. ⌜ TypesRule (now (tables .entry)) classes rows (now (nodes .entry)) context root (now (marks .entry)) (now (marks .exit)) r ⌝ }
 {
     let parents = &tables[..classes];
-    let table = &mut marks[..768];
+    let table = &mut marks[..memory::NODES];
     root_type(nodes, parents, tables, rows, root, context, table)
 }
 
-// The definition whose body is at root, for objects of its class; `declared` is the word of its type. The body is below that type,
+// The definition whose body is at root, for objects of its class; `declared` is the word of its type. The body must be below that type,
 // else 11 at the root.
 pub fn type_definition(
     tables: &[u64],
@@ -62,7 +63,7 @@ pub fn type_definition(
     declared: u64,
     root: usize,
 ) -> Reply
-    requires { ⌜ root < 768 ⌝ }
+    requires { ⌜ root < mostNodes ⌝ }
     requires { ⌜ LentTables classes rows (length (now tables)) (length (now nodes)) (length (now marks)) ⌝ }
     ensures { λ r. ⌜ TypesDefinition (now (tables .entry)) classes rows (now (nodes .entry)) context declared root (now (marks .entry)) (now (marks .exit)) r ⌝ }
 {

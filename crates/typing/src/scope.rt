@@ -3,6 +3,8 @@
 ghost use mathlib.Core.Path.{_≡_};
 ghost use Prim.Native.Nat.{_<_, _≤_};
 ghost use lib.ListN.{length};
+ghost use Rattle.memory.specs.Map as memory;
+ghost use Rattle.sheet.specs.Sizes.{mostNodes};
 ghost use Rattle.types.specs.Flat.{tyOf};
 ghost use Rattle.nodes.specs.Nodes.{word, variable as variableIn};
 ghost use Rattle.typing.specs.Tables.{NodeRoom, Types, letAt, quantifiedAt, iterateAt, bodyAt};
@@ -23,7 +25,7 @@ use types::word::unpack;
 
 // The variable that word k of node n names.
 pub fn variable(nodes: &[u64], n: usize, k: usize) -> usize
-    requires { ⌜ (n < 768) × (k < 8) × (6144 ≤ length (now nodes)) ⌝ }
+    requires { ⌜ (n < mostNodes) × (k < 8) × (memory.nodesEnd ≤ length (now nodes)) ⌝ }
     ensures { λ r. ⌜ (r < 16) × (r ≡ variableIn (word (now (nodes .entry)) n k)) ⌝ }
 {
     wide(node_word(nodes, n, k)) % 16
@@ -108,7 +110,7 @@ pub fn iterate(
     }
 }
 
-// The body of `iter`, with the member bound already: it is below the accumulator's type t, else 11.
+// The body of `iter`, with the member bound already: it must be below the accumulator's type t, else 11.
 fn body(
     nodes: &[u64],
     parents: &[u64],

@@ -16,6 +16,7 @@ use super::scope::quantified;
 use judgements::Reply;
 use judgements::TypeEnv;
 use judgements::forms::leaf_type;
+use memory::codes;
 use nodes::node_word;
 use types::Base;
 use types::classes::wide;
@@ -36,15 +37,27 @@ pub fn node(
 {
     let form = node_word(nodes, n, 0);
     match form {
-        0..=6 => leaf_type(nodes, form, n, env),
-        7..=12 | 30 | 33..=34 | 36 => single(nodes, parents, tables, rows, n, form, env, marks),
-        13..=22 | 37 => binary(nodes, parents, tables, rows, n, form, env, marks),
-        23..=24 => connective(nodes, parents, tables, rows, n, env, marks),
-        25..=26 => quantified(nodes, parents, tables, rows, n, env, marks),
-        27..=29 => coll(nodes, parents, tables, rows, n, form, env, marks),
-        31 => conditional(nodes, parents, tables, rows, n, env, marks),
-        32 => let_in(nodes, parents, tables, rows, n, env, marks),
-        35 => iterate(nodes, parents, tables, rows, n, env, marks),
+        codes::FALSE..=codes::ALL => leaf_type(nodes, form, n, env),
+        codes::NEGATION..=codes::CAST_TO
+        | codes::IS_UNDEF
+        | codes::OF_OBJECT..=codes::OF_MEMBERS
+        | codes::CALL => single(nodes, parents, tables, rows, n, form, env, marks),
+        codes::EQUAL..=codes::UNION | codes::OVER => binary(
+            nodes,
+            parents,
+            tables,
+            rows,
+            n,
+            form,
+            env,
+            marks,
+        ),
+        codes::AND..=codes::OR => connective(nodes, parents, tables, rows, n, env, marks),
+        codes::FOR_ALL..=codes::EXISTS => quantified(nodes, parents, tables, rows, n, env, marks),
+        codes::SET..=codes::BAG => coll(nodes, parents, tables, rows, n, form, env, marks),
+        codes::CONDITIONAL => conditional(nodes, parents, tables, rows, n, env, marks),
+        codes::LET_IN => let_in(nodes, parents, tables, rows, n, env, marks),
+        codes::ITERATE => iterate(nodes, parents, tables, rows, n, env, marks),
         _ => Reply::Is(plain(Base::Void)),
     }
 }

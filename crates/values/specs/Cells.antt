@@ -25,12 +25,25 @@ payload (num x) = 0
 payload (obj o) = o
 payload (coll k vs) = count vs
 
--- a value's first cell: objects from 2^64 - 2^52 on, Sets, Sequences and Bags after them, 2^32 apart
+-- objects have their cells from 2^64 - 2^52 on, Sets, Sequences and Bags after them, 2^32 apart; from `cellsTop` on there are none
+abbrev pub objectCells : ℕ
+objectCells = 18442240474082181120
+
+abbrev pub collectionCells : ℕ
+collectionCells = 18442240478377148416
+
+abbrev pub cellsTop : ℕ
+cellsTop = 18442240491262050304
+
+abbrev pub sortSpan : ℕ
+sortSpan = 4294967296
+
+-- a value's first cell
 unfoldable pub head : Value → ℕ
 head (bool b) = bit b
 head (num x) = cell x
-head (obj o) = 18442240474082181120 + o
-head (coll k vs) = 18442240478377148416 + 4294967296 * kindCode k + count vs
+head (obj o) = objectCells + o
+head (coll k vs) = collectionCells + sortSpan * kindCode k + count vs
 
 unfoldable mutual
   pub enc : Value → List ℕ
@@ -48,8 +61,8 @@ mutual
   pub data Fits : Value → Type 0 where
     fits-bool : {b : Bool} → Fits (bool b)
     fits-num : {x : Number} → T (kept x) → Fits (num x)
-    fits-obj : {o : ℕ} → o < 4294967296 → Fits (obj o)
-    fits-coll : {k : Kind} {vs : Values} → count vs < 4294967296 → AllFit vs → Fits (coll k vs)
+    fits-obj : {o : ℕ} → o < sortSpan → Fits (obj o)
+    fits-coll : {k : Kind} {vs : Values} → count vs < sortSpan → AllFit vs → Fits (coll k vs)
 
   pub data AllFit : Values → Type 0 where
     fit-nil : AllFit nil
@@ -72,7 +85,7 @@ code Ordering·gt = 2
 
 -- how many members the value with this first cell has; the cells of collections come last
 unfoldable pub kids : ℕ → ℕ
-kids c = if ltb c 18442240478377148416 then 0 else c % 4294967296
+kids c = if ltb c collectionCells then 0 else c % sortSpan
 
 -- how many cells the next n values take
 unfoldable pub past : List ℕ → ℕ → ℕ

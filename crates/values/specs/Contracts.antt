@@ -11,12 +11,13 @@ use lib.IntN.{ℤ}
 use lib.Ieee.{Float}
 use lib.Ieee.Scale.{finite}
 use Rattle.laws.specs.Choice.{if_then_else_}
+use Rattle.laws.specs.Integers.{storedEnd}
 use Rattle.ocl.specs.Types.{Kind, set, bag, kindCode}
-use Rattle.ocl.specs.Values.{Value, bool, num, obj, coll, Values, nil, count, size, sort, same, has, insert, append, add, addAll}
+use Rattle.ocl.specs.Values.{Value, bool, num, obj, coll, Values, nil, count, size, sort, same, has, insert, append, add, addAll, largest}
 use Rattle.ocl.specs.Operations.{isInt}
 use Rattle.reals.specs.Reals.{Real, int, real}
 use Rattle.reals.specs.Floats.{f64Of}
-use Rattle.values.specs.Cells.{bias, payload, head, enc, encs, Fits, AllFit, past}
+use Rattle.values.specs.Cells.{bias, payload, head, enc, encs, Fits, AllFit, past, sortSpan, cellsTop}
 use Rattle.values.specs.declared.Simple.{Simple}
 use Rattle.values.specs.declared.Simple.the-variants as simple
 use Rattle.values.specs.declared.Spot.{Spot}
@@ -32,7 +33,7 @@ pub record SortOf (cell r : ℕ) : Type 0 where
 
 -- its payload, where it is no number
 pub record PayloadOf (cell r : ℕ) : Type 0 where
-  pub small : r < 4294967296
+  pub small : r < sortSpan
   pub is : (v : Value) → Fits v → (sort v ≡ 1 → ⊥) → cell ≡ head v → r ≡ payload v
 
 -- is it an Integer
@@ -49,9 +50,9 @@ pub data Means : Simple → Value → Type 0 where
 -- it fits into a cell, whatever it stands for
 abbrev pub Narrow : Simple → Type 0
 Narrow (simple.Bool b) = Unit {0}
-Narrow (simple.Integer n) = n < 4294967296
+Narrow (simple.Integer n) = n < storedEnd
 Narrow (simple.Real x) = T (finite x)
-Narrow (simple.Object n) = n < 4294967296
+Narrow (simple.Object n) = n < sortSpan
 
 -- the simple value with this cell
 pub record SimpleOf (cell : ℕ) (r : Simple) : Type 0 where
@@ -114,23 +115,23 @@ pub record Finds (S : List ℕ) (from end le : ℕ) (r : Spot) : Type 0 where
 
 -- what was formed has between 1 and 128 cells
 abbrev pub SmallForm : Formed → Type 0
-SmallForm (formed.Done n) = (1 ≤ n) × (n ≤ 128)
+SmallForm (formed.Done n) = (1 ≤ n) × (n ≤ largest)
 SmallForm formed.Over = Unit {0}
 
 -- the value w is formed at sp: Over exactly when its size is over 128, else its cells lie there
 pub record Forms (w : Value) (sp : ℕ) (low after : List ℕ) (r : Formed) : Type 0 where
   pub below : take sp after ≡ low
-  pub is : r ≡ (if leb (size w) 128 then formed.Done (size w) else formed.Over)
-  pub lies : size w ≤ 128 → take (sp + size w) after ≡ low ++ enc w
-  pub fits : size w ≤ 128 → Fits w
+  pub is : r ≡ (if leb (size w) largest then formed.Done (size w) else formed.Over)
+  pub lies : size w ≤ largest → take (sp + size w) after ≡ low ++ enc w
+  pub fits : size w ≤ largest → Fits w
 
 -- the le cells at mid go in at `at`, and the first cell at sp counts one more
 pub record PutsIn (sp at mid le : ℕ) (before after : List ℕ) (r : Formed) : Type 0 where
   pub small : SmallForm r
   pub low : take sp after ≡ take sp before
-  pub over : 128 < mid - sp + le → r ≡ formed.Over
-  pub done : mid - sp + le ≤ 128 → getD before sp 0 < 18442240491262050304 → r ≡ formed.Done (mid - sp + le)
-  pub lies : mid - sp + le ≤ 128 → getD before sp 0 < 18442240491262050304
+  pub over : largest < mid - sp + le → r ≡ formed.Over
+  pub done : mid - sp + le ≤ largest → getD before sp 0 < cellsTop → r ≡ formed.Done (mid - sp + le)
+  pub lies : mid - sp + le ≤ largest → getD before sp 0 < cellsTop
       → take (sp + (mid - sp + le)) after
       ≡ take sp before ++ ((getD before sp 0 + 1) ∷ (slice (sp + 1) at before ++ (slice mid (mid + le) before ++ slice at mid before)))
 
@@ -170,7 +171,7 @@ pub data Apart : Kind → ℕ → Type 0 where
 
 -- the cell `first` at top, then those from top + 1 to w and those from i to mid; nothing where r is 0
 pub record Finishes (first i mid w top : ℕ) (before after : List ℕ) (r : ℕ) : Type 0 where
-  pub small : r ≤ 128
+  pub small : r ≤ largest
   pub low : take top after ≡ take top before
   pub size-is : 0 < r → r ≡ w - top + (mid - i)
   pub lies : 0 < r → take (top + r) after ≡ take top before ++ (first ∷ (slice (top + 1) w before ++ slice i mid before))
@@ -178,7 +179,7 @@ pub record Finishes (first i mid w top : ℕ) (before after : List ℕ) (r : ℕ
 -- the members from `start` to top are added to those from `from` to mid, whose collection has the first cell h; nothing is
 -- said where r is 0
 pub record Merges (h from mid start top : ℕ) (before after : List ℕ) (r : ℕ) : Type 0 where
-  pub small : r ≤ 128
+  pub small : r ≤ largest
   pub low : take top after ≡ take top before
   pub is : 0 < r → (k : Kind) (us vs : Values) → h ≡ head (coll k us) → Fits (coll k us) → AllFit vs
       → slice from mid before ≡ encs us → slice start top before ≡ encs vs
@@ -186,7 +187,7 @@ pub record Merges (h from mid start top : ℕ) (before after : List ℕ) (r : �
 
 -- the same for the kinds with this distance
 pub record MergesBy (apart h from mid start top : ℕ) (before after : List ℕ) (r : ℕ) : Type 0 where
-  pub small : r ≤ 128
+  pub small : r ≤ largest
   pub low : take top after ≡ take top before
   pub is : 0 < r → (k : Kind) (us vs : Values) → Apart k apart → h ≡ head (coll k us) → Fits (coll k us) → AllFit vs
       → slice from mid before ≡ encs us → slice start top before ≡ encs vs

@@ -5,6 +5,7 @@ use Prim.Native.Nat.{ℕ, zero, suc, _+_, _-_}
 use lib.IntN.{ℤ, pos, negℤ}
 use lib.Dec.{T, ltb, leb}
 use Rattle.laws.specs.Choice.{if_then_else_}
+use Rattle.laws.specs.Integers.{integerEnd}
 use Rattle.reals.specs.Reals.{int, real, inRange, Result, result, noResult, overRange}
 use Rattle.ocl.specs.Forms.{Arith, plus, minus, times, Division, div, modulo}
 use Rattle.ocl.specs.Operations.{arithmetic, division}
@@ -37,11 +38,11 @@ divisionOf (suc n) = modulo
 
 -- how far an Integer is from 0
 unfoldable pub distance : ℕ → ℕ
-distance a = (a - 2147483648) + (2147483648 - a)
+distance a = (a - integerEnd) + (integerEnd - a)
 
 -- are both on the same side of 0
 unfoldable pub alike : ℕ → ℕ → Bool
-alike a b = if ltb a 2147483648 then ltb b 2147483648 else leb 2147483648 b
+alike a b = if ltb a integerEnd then ltb b integerEnd else leb integerEnd b
 
 -- d above 0 or below it
 unfoldable pub side : Bool → ℕ → ℤ

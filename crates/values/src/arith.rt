@@ -1,19 +1,17 @@
 // Integers, each counted from -2147483648, so that all numbers here are unsigned. A result outside -2147483648 to
 // 2147483647 is over the range; one with a zero divisor is undefined.
 use crate::Computed;
+use floats::numbers::END;
+use floats::numbers::ZERO;
 ghost use mathlib.Core.Path.{_≡_};
 ghost use Prim.Native.Nat.{_≤_, _<_};
+ghost use Rattle.laws.specs.Integers.{integerEnd, storedEnd};
 ghost use Rattle.ocl.specs.Forms.{Arith, Division};
 ghost use Rattle.ocl.specs.Operations.{ranged};
 ghost use Rattle.values.specs.Integers.{Calculates, Divides, arithOf, divisionOf, numOf, side, distance as distanceOf, alike as alikeOf};
 
-// How 0 is stored.
-pub const ZERO: u64 = 2_147_483_648;
-// Every stored Integer is below this.
-pub const END: u64 = 4_294_967_296;
-
 pub fn plus(a: u64, b: u64) -> Computed
-    requires { ⌜ (a < 4294967296) × (b < 4294967296) ⌝ }
+    requires { ⌜ (a < storedEnd) × (b < storedEnd) ⌝ }
     ensures { λ r. ⌜ Calculates Arith.plus a b r ⌝ }
 {
     let s = a + b;
@@ -28,7 +26,7 @@ pub fn plus(a: u64, b: u64) -> Computed
 }
 
 pub fn minus(a: u64, b: u64) -> Computed
-    requires { ⌜ (a < 4294967296) × (b < 4294967296) ⌝ }
+    requires { ⌜ (a < storedEnd) × (b < storedEnd) ⌝ }
     ensures { λ r. ⌜ Calculates Arith.minus a b r ⌝ }
 {
     let s = a + ZERO;
@@ -58,7 +56,7 @@ fn alike(a: u64, b: u64) -> bool
 
 // The Integer at distance d from 0, above or below it.
 fn toward(up: bool, d: u64) -> Computed
-    requires { ⌜ d ≤ 2147483648 ⌝ }
+    requires { ⌜ d ≤ integerEnd ⌝ }
     ensures { λ r. ⌜ r ≡ numOf (ranged (side up d)) ⌝ }
 {
     if up {
@@ -73,7 +71,7 @@ fn toward(up: bool, d: u64) -> Computed
 }
 
 pub fn times(a: u64, b: u64) -> Computed
-    requires { ⌜ (a < 4294967296) × (b < 4294967296) ⌝ }
+    requires { ⌜ (a < storedEnd) × (b < storedEnd) ⌝ }
     ensures { λ r. ⌜ Calculates Arith.times a b r ⌝ }
 {
     let p = distance(a) * distance(b);
@@ -85,7 +83,7 @@ pub fn times(a: u64, b: u64) -> Computed
 
 // Cut toward zero: the distances are divided. Only -2147483648 by -1 leaves the range.
 pub fn div(a: u64, b: u64) -> Computed
-    requires { ⌜ (a < 4294967296) × (b < 4294967296) ⌝ }
+    requires { ⌜ (a < storedEnd) × (b < storedEnd) ⌝ }
     ensures { λ r. ⌜ Divides Division.div a b r ⌝ }
 {
     if b == ZERO {
@@ -96,7 +94,7 @@ pub fn div(a: u64, b: u64) -> Computed
 
 // What `div` leaves, on the dividend's side of 0.
 pub fn modulo(a: u64, b: u64) -> Computed
-    requires { ⌜ (a < 4294967296) × (b < 4294967296) ⌝ }
+    requires { ⌜ (a < storedEnd) × (b < storedEnd) ⌝ }
     ensures { λ r. ⌜ Divides Division.modulo a b r ⌝ }
 {
     if b == ZERO {
@@ -107,7 +105,7 @@ pub fn modulo(a: u64, b: u64) -> Computed
 
 // The operation with the number op: 0 plus, 1 minus, 2 times.
 pub fn calculate(op: u64, a: u64, b: u64) -> Computed
-    requires { ⌜ (a < 4294967296) × (b < 4294967296) ⌝ }
+    requires { ⌜ (a < storedEnd) × (b < storedEnd) ⌝ }
     ensures { λ r. ⌜ Calculates (arithOf op) a b r ⌝ }
 {
     match op {
@@ -119,7 +117,7 @@ pub fn calculate(op: u64, a: u64, b: u64) -> Computed
 
 // The division with the number op: 0 div, 1 mod.
 pub fn divide(op: u64, a: u64, b: u64) -> Computed
-    requires { ⌜ (a < 4294967296) × (b < 4294967296) ⌝ }
+    requires { ⌜ (a < storedEnd) × (b < storedEnd) ⌝ }
     ensures { λ r. ⌜ Divides (divisionOf op) a b r ⌝ }
 {
     match op {

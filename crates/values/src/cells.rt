@@ -11,7 +11,8 @@ ghost use mathlib.Core.List.{_++_};
 ghost use mathlib.Core.Logic.{_⊎_};
 ghost use Prim.Native.Nat.{_+_, _*_, _≤_, _<_};
 ghost use lib.ListN.{length, take, drop};
-ghost use Rattle.values.specs.Cells.{kids};
+ghost use Rattle.ocl.specs.Values.{largest};
+ghost use Rattle.values.specs.Cells.{kids, sortSpan};
 ghost use Rattle.values.specs.Contracts.{SortOf, PayloadOf, IntegerTest, SimpleOf, CellOf, Narrow, Pushes, EmptyOf, Skips, Slides, Copies, Brings};
 
 // The cells of truth values are below this, and those of numbers follow.
@@ -122,7 +123,7 @@ pub fn empty_of(kind: u64) -> u64
 
 // How many members the value with this first cell has.
 pub fn member_count(cell: u64) -> usize
-    ensures { λ r. ⌜ (r ≡ kids cell) × (r < 4294967296) ⌝ }
+    ensures { λ r. ⌜ (r ≡ kids cell) × (r < sortSpan) ⌝ }
 {
     if cell < COLLECTIONS {
         0
@@ -163,7 +164,7 @@ pub fn slide(stack: &mut [u64], from: usize, to: usize, len: usize)
 
 // Copies the value at p to sp.
 pub fn push_copy(stack: &mut [u64], p: usize, sp: usize) -> Formed
-    requires { ⌜ (p < sp) × (sp + 128 ≤ length (now stack)) ⌝ }
+    requires { ⌜ (p < sp) × (sp + largest ≤ length (now stack)) ⌝ }
     ensures { λ r. ⌜ Copies p sp (now (stack .entry)) (now (stack .exit)) r ⌝ }
 {
     let len = skip(stack, p, sp) - p;
@@ -188,7 +189,7 @@ fn copy_in(stack: &mut [u64], to: usize, cells: &[u64], from: usize, len: usize)
 
 // Copies the value that lies from a to e in other words to sp.
 pub fn push_cells(stack: &mut [u64], sp: usize, cells: &[u64], a: usize, e: usize) -> Formed
-    requires { ⌜ (a < e) × (e ≤ length (now cells)) × (sp + 128 ≤ length (now stack)) ⌝ }
+    requires { ⌜ (a < e) × (e ≤ length (now cells)) × (sp + largest ≤ length (now stack)) ⌝ }
     ensures { λ r. ⌜ Brings (now (cells .entry)) a e sp (now (stack .entry)) (now (stack .exit)) r ⌝ }
 {
     let len = e - a;

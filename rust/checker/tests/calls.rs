@@ -126,6 +126,24 @@ fn numbers_may_be_reals() {
     }
 }
 
+/// Lines behind two classes and a definition, the refusal and its place.
+const UNCALLED: [(&str, Refusal, u64); 6] = [
+    ("D 1 0 Int|N 0 self|N 1 call 0 1", Refusal::CallUpward, 12),
+    ("D 1 0 Int|N 0 self|N 1 call 0 2", Refusal::CallUpward, 12),
+    (
+        "R 0 0|N 0 self|N 1 call 0 1",
+        Refusal::UnknownDefinition,
+        12,
+    ),
+    ("D 1 0 Bool|N 0 int 1", Refusal::WrongOperandType, 11),
+    ("D 1 0 Int|N 0 var 1", Refusal::UnboundVariable, 11),
+    (
+        "R 0 0|N 0 undef|N 1 call 0 0",
+        Refusal::WrongOperandType,
+        12,
+    ),
+];
+
 #[test]
 fn definitions_are_called() {
     let mut memory = Box::new(Memory::new());
@@ -142,23 +160,7 @@ fn definitions_are_called() {
     assert_eq!((value.value, value.steps), ("10", 8));
     let lines = report(&text, &mut memory, &mut output);
     assert_eq!(lines, Ok("0 1 9 4\n1 0 u 7\n1 1 10 8\n"));
-    let cases = [
-        ("D 1 0 Int|N 0 self|N 1 call 0 1", Refusal::CallUpward, 12),
-        ("D 1 0 Int|N 0 self|N 1 call 0 2", Refusal::CallUpward, 12),
-        (
-            "R 0 0|N 0 self|N 1 call 0 1",
-            Refusal::UnknownDefinition,
-            12,
-        ),
-        ("D 1 0 Bool|N 0 int 1", Refusal::WrongOperandType, 11),
-        ("D 1 0 Int|N 0 var 1", Refusal::UnboundVariable, 11),
-        (
-            "R 0 0|N 0 undef|N 1 call 0 0",
-            Refusal::WrongOperandType,
-            12,
-        ),
-    ];
-    for (lines, refusal, place) in cases {
+    for (lines, refusal, place) in UNCALLED {
         let text = sheet(&format!("{start}|{lines}"));
         let refused = refused(refusal, 0, place);
         let types = read_types(&text, &mut memory, &mut output);

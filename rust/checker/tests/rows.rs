@@ -83,9 +83,8 @@ fn refusals_are_those_of_reading() {
     assert_eq!(short.refusal(), Some(Refusal::ShortSlice));
 }
 
-#[test]
-fn lines_may_be_too_long() {
-    // 64 rules that call a definition which reads 64 rows.
+/// 64 rules that call a definition which reads 64 rows.
+fn widest() -> Vec<u8> {
     let declared: String = (0..64).map(|row| format!("|A {row} 0 {row} Int")).collect();
     let mut nodes = String::new();
     for row in 0..64 {
@@ -108,7 +107,12 @@ fn lines_may_be_too_long() {
     let rules: String = (0..64)
         .map(|n| format!("|R {n} 0|N 0 self|N 1 call 0 0"))
         .collect();
-    let text = sheet(&format!("C 0 -{declared}|D 0 0 Q(Int){nodes}{rules}"));
+    sheet(&format!("C 0 -{declared}|D 0 0 Q(Int){nodes}{rules}"))
+}
+
+#[test]
+fn lines_may_be_too_long() {
+    let text = widest();
     let mut memory = Box::new(Memory::new());
     let mut output = vec![b'~'; 11_830];
     let all: Vec<String> = (0..64).map(|row| row.to_string()).collect();

@@ -109,7 +109,7 @@ fn grown(times: [[f64; 2]; 2]) -> bool {
     ratios.iter().all(|ratio| *ratio <= RATIO) && growth[1] <= GROWTH
 }
 
-/// The same for making boards, by the verdict.
+/// The same for making boards, timed for each verdict.
 fn make(lent: &mut Lent, makings: &Makings) -> bool {
     let mut times = [[0.0; 2]; 2];
     for (size, job) in makings.jobs.iter().enumerate() {

@@ -13,7 +13,7 @@ use std::time::Duration;
 const SIZES: [usize; 4] = [1_000, 10_000, 100_000, 1_000_000];
 /// Rounds, in each of which both are timed once; the best of them counts.
 const ROUNDS: usize = 40;
-/// A timing repeats its job until so much time has passed.
+/// A timing repeats its job until this much time has passed.
 const ENOUGH: Duration = Duration::from_millis(2);
 /// The product's time for each of the second implementation's, at most.
 const RATIO: f64 = 1.0;

@@ -14,9 +14,10 @@ use second_evaluator::harness::boards::{Boards, Second};
 use second_evaluator::harness::corrections::{self, corrected};
 use second_evaluator::harness::faults::Fault;
 use second_evaluator::harness::program::{long_texts, programs, Program};
-use second_evaluator::harness::run::{self, Difference, Differs, Vector};
+use second_evaluator::harness::run::{self, Difference, Differs};
 use second_evaluator::harness::standin::StandIn;
 use second_evaluator::harness::tally::Tally;
+use second_evaluator::harness::vectors::{all_vectors, Vector};
 use second_evaluator::harness::Calls;
 use std::io::IsTerminal;
 use std::ops::Range;
@@ -84,9 +85,11 @@ impl Cases {
     }
 }
 
+/// The calls that are compared with the second evaluator's, and those about boards.
+type Product = (Box<dyn Calls>, Box<dyn Boards>);
+
 struct Comparison {
-    calls: Option<Box<dyn Calls>>,
-    boards: Option<Box<dyn Boards>>,
+    product: Option<Product>,
     programs: Vec<Program>,
 }
 
@@ -98,28 +101,39 @@ struct Tallies {
 }
 
 impl Comparison {
-    fn case(&self, case: &Case, tallies: &mut Tallies) -> Result<(), Found> {
-        if let Some(calls) = &self.calls {
-            run::sheet(
-                &**calls,
-                &case.text,
-                case.seed,
-                &case.asks,
-                &mut tallies.calls,
-            )?;
-            run::paired(&**calls, &case.text, case.seed, &mut tallies.calls)?;
-            run::renumbered(&**calls, &case.text, case.seed, &mut tallies.calls)?;
+    fn new(stand_in: bool) -> Comparison {
+        let stands_in = || -> Product {
+            let calls = StandIn { fault: Fault::None };
+            (Box::new(calls), Box::new(Second))
+        };
+        Comparison {
+            product: if stand_in {
+                Some(stands_in())
+            } else {
+                linked()
+            },
+            programs: programs(),
         }
-        if let Some(boards) = &self.boards {
+    }
+
+    fn case(&self, case: &Case, tallies: &mut Tallies) -> Result<(), Found> {
+        let Case {
+            text, asks, seed, ..
+        } = case;
+        if let Some((calls, boards)) = &self.product {
+            let tally = &mut tallies.calls;
+            run::sheet(&**calls, text, *seed, asks, tally)?;
+            run::paired(&**calls, text, *seed, tally)?;
+            run::renumbered(&**calls, text, *seed, tally)?;
             let tally = &mut tallies.boards;
-            if case.seed % 4 == 0 || accepted(&case.text).is_err() {
-                corrected(&**boards, &case.text, case.seed, tally)?;
+            if seed % 4 == 0 || accepted(text).is_err() {
+                corrected(&**boards, text, *seed, tally)?;
             }
-            let text = boards::sheet(&mut Random::new(case.seed));
-            corrected(&**boards, &text, case.seed, tally)?;
+            let text = boards::sheet(&mut Random::new(*seed));
+            corrected(&**boards, &text, *seed, tally)?;
         }
         for program in &self.programs {
-            run::program_sheet(program, &case.text).expect("the program can be run")?;
+            run::program_sheet(program, text).expect("the program can be run")?;
         }
         Ok(())
     }
@@ -155,6 +169,20 @@ impl Comparison {
             }
         });
         (!differs.into_inner()).then_some(tallies)
+    }
+
+    /// Prints what was compared; a failure where something never was.
+    fn print_reached(&self, tallies: &Tallies) -> ExitCode {
+        if self.product.is_none() {
+            return ExitCode::SUCCESS;
+        }
+        println!("{}\n{}", tallies.calls, tallies.boards);
+        let missing = [tallies.calls.missing(), tallies.boards.missing()].concat();
+        if missing.is_empty() {
+            return ExitCode::SUCCESS;
+        }
+        println!("Never compared: {}.", missing.join(", "));
+        ExitCode::FAILURE
     }
 }
 
@@ -215,18 +243,13 @@ fn write_sheet(path: &str, text: &[u8]) {
     }
 }
 
-/// The linked calls, if the program was built with them.
-fn linked() -> Option<Box<dyn Calls>> {
+/// The linked calls, and those about boards, if the program was built with them.
+fn linked() -> Option<Product> {
     #[cfg(feature = "linked")]
-    return Some(Box::new(second_evaluator::harness::linked::Linked::BOUNDED));
-    #[cfg(not(feature = "linked"))]
-    None
-}
-
-/// Those about boards.
-fn linked_boards() -> Option<Box<dyn Boards>> {
-    #[cfg(feature = "linked")]
-    return Some(Box::new(second_evaluator::harness::linked::Linked::BOUNDED));
+    {
+        use second_evaluator::harness::linked::Linked;
+        Some((Box::new(Linked::BOUNDED), Box::new(Linked::BOUNDED)))
+    }
     #[cfg(not(feature = "linked"))]
     None
 }
@@ -248,25 +271,13 @@ fn main() -> ExitCode {
         eprintln!("usage: compare [--stand-in] FIRST COUNT");
         return ExitCode::from(2);
     };
-    let comparison = Comparison {
-        calls: if stand_in {
-            Some(Box::new(StandIn { fault: Fault::None }))
-        } else {
-            linked()
-        },
-        boards: if stand_in {
-            Some(Box::new(Second))
-        } else {
-            linked_boards()
-        },
-        programs: programs(),
-    };
-    if comparison.calls.is_none() && comparison.programs.is_empty() {
+    let comparison = Comparison::new(stand_in);
+    if comparison.product.is_none() && comparison.programs.is_empty() {
         eprintln!("The calls are not linked and no program is named: nothing to compare.");
         return ExitCode::from(2);
     }
     let cases = Cases {
-        vectors: run::all_vectors().expect("the vectors can be read"),
+        vectors: all_vectors().expect("the vectors can be read"),
         long: long_texts(),
         seeds,
     };
@@ -275,18 +286,5 @@ fn main() -> ExitCode {
     };
     let (vectors, sheets) = (cases.vectors.len(), cases.seeds.end - cases.seeds.start);
     println!("No difference in {vectors} vectors and {sheets} sheets.");
-    if comparison.calls.is_none() {
-        return ExitCode::SUCCESS;
-    }
-    println!("{}", tallies.calls);
-    let mut missing = tallies.calls.missing();
-    if comparison.boards.is_some() {
-        println!("{}", tallies.boards);
-        missing.extend(tallies.boards.missing());
-    }
-    if missing.is_empty() {
-        return ExitCode::SUCCESS;
-    }
-    println!("Never compared: {}.", missing.join(", "));
-    ExitCode::FAILURE
+    comparison.print_reached(&tallies)
 }

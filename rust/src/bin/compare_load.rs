@@ -12,11 +12,11 @@ use std::process::ExitCode;
 
 /// Where the input of a difference is written.
 const DIFFERENCE: &str = "difference.run";
-/// So many short inputs are cut at every byte.
+/// How many short inputs are cut at every byte.
 const CUT: usize = 60;
-/// An input is short up to so many bytes.
+/// The most bytes of a short input.
 const SHORT: usize = 40;
-/// One input of so many goes to the program whole.
+/// One input in this many goes to the program whole.
 const WHOLE: u64 = 20;
 
 /// What was compared.

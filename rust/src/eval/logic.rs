@@ -1,10 +1,38 @@
-//! `and`, `or`, `forAll` and `exists`: what undefined does not end at once.
+//! Truths: `if`, `not`, `isUndef` and `eq`, and `and`, `or`, `forAll` and `exists`, which
+//! undefined does not end at once.
 
 use super::{truth, End, Evaluation, Outcome};
 use crate::tree::Node;
 use crate::values::Value;
 
 impl<'m> Evaluation<'m> {
+    #[inline]
+    pub(super) fn branch(&mut self, operands: &'m [Node]) -> Outcome {
+        let condition = self.truth(&operands[0])?;
+        self.node(&operands[if condition { 1 } else { 2 }])
+    }
+
+    #[inline]
+    pub(super) fn negation(&mut self, operands: &'m [Node]) -> Outcome {
+        Ok(Value::Bool(!self.truth(&operands[0])?))
+    }
+
+    #[inline]
+    pub(super) fn undefinedness(&mut self, operands: &'m [Node]) -> Outcome {
+        match self.node(&operands[0]) {
+            Ok(_) => Ok(Value::Bool(false)),
+            Err(End::Undefined(_)) => Ok(Value::Bool(true)),
+            stop => stop,
+        }
+    }
+
+    #[inline]
+    pub(super) fn equality(&mut self, operands: &'m [Node]) -> Outcome {
+        let left = self.node(&operands[0])?;
+        let right = self.node(&operands[1])?;
+        Ok(Value::Bool(left == right))
+    }
+
     /// `and` and `or`: the deciding truth decides on either side. On the left, it
     /// keeps the right side from running; on neither side, undefined is passed on,
     /// the left one first.

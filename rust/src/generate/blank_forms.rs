@@ -16,85 +16,101 @@ fn name(gives: Gives) -> u8 {
 impl Growth<'_> {
     /// A form that gives it and no other.
     pub(super) fn own(&mut self, gives: Gives, depth: usize) -> usize {
-        let below = depth - 1;
         match gives {
-            Truth => match self.random.below(14) {
-                0 => {
-                    let operand = self.blank(Truth, below);
-                    self.line("not %", &[operand])
-                }
-                1..=5 => {
-                    let words = *self.random.pick(&["and % %", "or % %"]);
-                    self.pair(words, [Truth; 2], below)
-                }
-                6 => {
-                    let of = *self.random.pick(&ALL);
-                    self.pair("eq % %", [of; 2], below)
-                }
-                7 => self.pair("less % %", [Number; 2], below),
-                8 => self.pair("includes % %", [Set, Number], below),
-                9 => {
-                    let quotient = self.pair("over % %", [Number; 2], below);
-                    let half = self.line("real r3fe0000000000000", &[]);
-                    self.line("less % %", &[quotient, half])
-                }
-                10 => {
-                    let hidden = *self.random.pick(&ALL);
-                    let operand = self.blank(hidden, below);
-                    self.line("isUndef %", &[operand])
-                }
-                _ => {
-                    let source = self.gathered(depth);
-                    self.bound += 1;
-                    let member = self.bound;
-                    let body = self.body(Truth, depth);
-                    self.bound -= 1;
-                    let form = *self.random.pick(&["forAll", "exists"]);
-                    self.line(&format!("{form} % {member} %"), &[source, body])
-                }
-            },
-            Number => match self.random.below(8) {
-                0 => {
-                    let set = self.blank(Set, below);
-                    self.line("size %", &[set])
-                }
-                1 => {
-                    let object = self.blank(Object, below);
-                    self.line("attr % 5", &[object])
-                }
-                _ => {
-                    let forms = ["plus % %", "minus % %", "times % %", "div % %", "mod % %"];
-                    let words = *self.random.pick(&forms);
-                    self.pair(words, [Number; 2], below)
-                }
-            },
-            Object => {
-                let object = self.blank(Object, below);
-                let words = *self.random.pick(&["attr % 6", "as % 1", "as % 0"]);
-                self.line(words, &[object])
+            Truth => self.truth(depth),
+            Number => self.number(depth - 1),
+            Object => self.object(depth - 1),
+            Set => self.set(depth - 1),
+        }
+    }
+
+    fn truth(&mut self, depth: usize) -> usize {
+        let below = depth - 1;
+        match self.random.below(14) {
+            0 => {
+                let operand = self.blank(Truth, below);
+                self.line("not %", &[operand])
             }
-            Set => match self.random.below(6) {
-                0 => self.pair("union % %", [Set; 2], below),
-                1 => self.pair("including % %", [Set, Number], below),
-                2 => {
-                    let members = [0; 4].map(|_| match self.random.below(3) {
-                        0 => self.blank(Number, below),
-                        _ => self.plain(Number),
-                    });
-                    self.line("coll S % % % %", &members)
-                }
-                3 => {
-                    let objects = self.pair("coll B % %", [Object; 2], below);
-                    let values = self.line("collect % 5", &[objects]);
-                    self.line("asSet %", &[values])
-                }
-                _ => {
-                    let set = self.blank(Set, below);
-                    let words = *self.random.pick(&["asBag %", "asSequence %", "asSet %"]);
-                    let changed = self.line(words, &[set]);
-                    self.line("asSet %", &[changed])
-                }
-            },
+            1..=5 => {
+                let words = *self.random.pick(&["and % %", "or % %"]);
+                self.pair(words, [Truth; 2], below)
+            }
+            6 => {
+                let of = *self.random.pick(&ALL);
+                self.pair("eq % %", [of; 2], below)
+            }
+            7 => self.pair("less % %", [Number; 2], below),
+            8 => self.pair("includes % %", [Set, Number], below),
+            9 => {
+                let quotient = self.pair("over % %", [Number; 2], below);
+                let half = self.line("real r3fe0000000000000", &[]);
+                self.line("less % %", &[quotient, half])
+            }
+            10 => {
+                let hidden = *self.random.pick(&ALL);
+                let operand = self.blank(hidden, below);
+                self.line("isUndef %", &[operand])
+            }
+            _ => self.quantified(depth),
+        }
+    }
+
+    fn quantified(&mut self, depth: usize) -> usize {
+        let source = self.gathered(depth);
+        self.bound += 1;
+        let member = self.bound;
+        let body = self.body(Truth, depth);
+        self.bound -= 1;
+        let form = *self.random.pick(&["forAll", "exists"]);
+        self.line(&format!("{form} % {member} %"), &[source, body])
+    }
+
+    fn number(&mut self, below: usize) -> usize {
+        match self.random.below(8) {
+            0 => {
+                let set = self.blank(Set, below);
+                self.line("size %", &[set])
+            }
+            1 => {
+                let object = self.blank(Object, below);
+                self.line("attr % 5", &[object])
+            }
+            _ => {
+                let forms = ["plus % %", "minus % %", "times % %", "div % %", "mod % %"];
+                let words = *self.random.pick(&forms);
+                self.pair(words, [Number; 2], below)
+            }
+        }
+    }
+
+    fn object(&mut self, below: usize) -> usize {
+        let object = self.blank(Object, below);
+        let words = *self.random.pick(&["attr % 6", "as % 1", "as % 0"]);
+        self.line(words, &[object])
+    }
+
+    fn set(&mut self, below: usize) -> usize {
+        match self.random.below(6) {
+            0 => self.pair("union % %", [Set; 2], below),
+            1 => self.pair("including % %", [Set, Number], below),
+            2 => {
+                let members = [0; 4].map(|_| match self.random.below(3) {
+                    0 => self.blank(Number, below),
+                    _ => self.plain(Number),
+                });
+                self.line("coll S % % % %", &members)
+            }
+            3 => {
+                let objects = self.pair("coll B % %", [Object; 2], below);
+                let values = self.line("collect % 5", &[objects]);
+                self.line("asSet %", &[values])
+            }
+            _ => {
+                let set = self.blank(Set, below);
+                let words = *self.random.pick(&["asBag %", "asSequence %", "asSet %"]);
+                let changed = self.line(words, &[set]);
+                self.line("asSet %", &[changed])
+            }
         }
     }
 
@@ -116,15 +132,7 @@ impl Growth<'_> {
                 let [most, one] = ["int 2147483647", "int 1"].map(|words| self.line(words, &[]));
                 self.line("plus % %", &[most, one])
             }
-            Number if self.random.one_in(2) => {
-                let words = *self.random.pick(&["div % %", "mod % %"]);
-                let left = self.plain(Number);
-                let right = match self.random.below(3) {
-                    0 => self.plain(Number),
-                    _ => self.line("int 0", &[]),
-                };
-                self.line(words, &[left, right])
-            }
+            Number if self.random.one_in(2) => self.division(),
             Truth | Number => self.line("undef", &[]),
             Object => {
                 let own = self.plain(Object);
@@ -139,6 +147,17 @@ impl Growth<'_> {
                 self.line("asSet %", &[values])
             }
         }
+    }
+
+    /// A division by zero, or by what may be zero.
+    fn division(&mut self) -> usize {
+        let words = *self.random.pick(&["div % %", "mod % %"]);
+        let left = self.plain(Number);
+        let right = match self.random.below(3) {
+            0 => self.plain(Number),
+            _ => self.line("int 0", &[]),
+        };
+        self.line(words, &[left, right])
     }
 
     /// A quantifier over them, undefined for zeros, that the others may decide.

@@ -53,14 +53,7 @@ fn lines(random: &mut Random, mut lines: Lines) -> Lines {
         }
         1 => lines.insert(other, lines[one].clone()),
         2 => lines.swap(one, other),
-        3 => {
-            // A run of lines with the same letter, a block or a rule, moves.
-            let letter = lines[one][0];
-            let end = (one..count).find(|n| lines[*n][0] != letter);
-            let block: Lines = lines.drain(one..end.unwrap_or(count)).collect();
-            let place = random.between(0, lines.len());
-            lines.splice(place..place, block);
-        }
+        3 => move_block(random, &mut lines, one),
         4 => {
             for line in &mut lines {
                 if line.ends_with(b"\n") {
@@ -84,6 +77,15 @@ fn lines(random: &mut Random, mut lines: Lines) -> Lines {
         _ => lines[one].insert(0, *random.pick(BYTES)),
     }
     lines
+}
+
+/// A run of lines with the same letter, a block or a rule, moves.
+fn move_block(random: &mut Random, lines: &mut Lines, start: usize) {
+    let letter = lines[start][0];
+    let end = (start..lines.len()).find(|n| lines[*n][0] != letter);
+    let block: Lines = lines.drain(start..end.unwrap_or(lines.len())).collect();
+    let place = random.between(0, lines.len());
+    lines.splice(place..place, block);
 }
 
 fn split_line(line: &[u8]) -> Lines {

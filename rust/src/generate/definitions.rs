@@ -16,7 +16,7 @@ pub const MOST_DEFINITIONS: usize = 32;
 pub struct Callable {
     pub class: u8,
     pub ty: Type,
-    /// Its body is at most so deep.
+    /// How deep its body is at most.
     pub depth: usize,
 }
 

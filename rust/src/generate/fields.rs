@@ -84,32 +84,8 @@ const FIELDS: [&str; 75] = [
 
 /// A change to a line's fields, given those of a like line.
 pub fn change(random: &mut Random, fields: &mut Vec<Vec<u8>>, other: &[Vec<u8>]) {
-    match fields.as_mut_slice() {
-        [letter, text] if letter == b"X" && !random.one_in(8) => {
-            return change_text(random, text);
-        }
-        [letter, .., value] if letter == b"V" && random.one_in(3) => {
-            return change_members(random, value);
-        }
-        [.., field] if field.contains(&b'r') && random.one_in(3) => {
-            return change_bits(random, field);
-        }
-        [_, _, form, _, i, j, ty, ..] if form == b"iter" && random.one_in(2) => {
-            match random.below(2) {
-                0 => i.clone_from(j),
-                _ => {
-                    *ty = random
-                        .pick(&["#63", "S(Q(#63))", "#64"])
-                        .as_bytes()
-                        .to_vec()
-                }
-            }
-            return;
-        }
-        [letter, _, form, ..] if letter == b"N" && random.one_in(3) => {
-            return like_form(random, form);
-        }
-        _ => {}
+    if change_of_letter(random, fields) {
+        return;
     }
     // The letter is changed least often.
     let place = match fields.len() {
@@ -137,6 +113,27 @@ pub fn change(random: &mut Random, fields: &mut Vec<Vec<u8>>, other: &[Vec<u8>])
         }
         _ => fields[place] = random.pick(&FIELDS).as_bytes().to_vec(),
     }
+}
+
+/// A change that only lines of one letter or form can have; whether one was made.
+fn change_of_letter(random: &mut Random, fields: &mut [Vec<u8>]) -> bool {
+    match fields {
+        [letter, text] if letter == b"X" && !random.one_in(8) => change_text(random, text),
+        [letter, .., value] if letter == b"V" && random.one_in(3) => change_members(random, value),
+        [.., field] if field.contains(&b'r') && random.one_in(3) => change_bits(random, field),
+        [_, _, form, _, i, j, ty, ..] if form == b"iter" && random.one_in(2) => {
+            match random.below(2) {
+                0 => i.clone_from(j),
+                _ => {
+                    let types = ["#63", "S(Q(#63))", "#64"];
+                    *ty = random.pick(&types).as_bytes().to_vec();
+                }
+            }
+        }
+        [letter, _, form, ..] if letter == b"N" && random.one_in(3) => like_form(random, form),
+        _ => return false,
+    }
+    true
 }
 
 /// Two simple members beside each other exchanged, or one replaced, at whatever

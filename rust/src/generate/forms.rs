@@ -130,6 +130,7 @@ impl Growth<'_> {
         }
     }
 
+    /// A collection, and its type, whose member type may be below the one given.
     fn collection(&mut self, kind: Kind, member: &Type, depth: usize) -> Grown {
         let ty = Type::of(kind, member.clone());
         if self.random.one_in(3) {
@@ -150,36 +151,41 @@ impl Growth<'_> {
                 let node = self.draft.line("including % %", &[source, value]);
                 (node, self.common(&low, &high))
             }
-            4 => {
-                let from = match self.random.below(4) {
-                    3 => Type::Collection(Box::new(member.clone())),
-                    other => Type::of(Kind::ALL[other], member.clone()),
-                };
-                let (source, member) = self.members(&from, depth);
-                let form = match kind {
-                    Kind::Set => "asSet %",
-                    Kind::Sequence => "asSequence %",
-                    Kind::Bag => "asBag %",
-                };
-                (self.draft.line(form, &[source]), member)
-            }
+            4 => self.converted(kind, member, depth),
             5 if self.faulty && self.random.one_in(3) => {
                 // Around a collection as deep as can be.
                 let deep = self.any_type();
                 let deep = Type::of(kind, Type::of(kind, Type::of(kind, deep)));
                 self.listed(kind, &deep, depth)
             }
-            6 if self.faulty && self.random.one_in(3) => {
-                // Members that may have no common type.
-                let left = self.grow(member, depth - 1);
-                let ty = self.any_type();
-                let right = self.grow(&ty, depth - 1);
-                let words = format!("coll {} % %", char::from(kind.letter()));
-                (self.draft.line(&words, &[left.0, right.0]), left.1)
-            }
+            6 if self.faulty && self.random.one_in(3) => self.unlike(kind, member, depth),
             _ => self.listed(kind, member, depth),
         };
         (node, Type::of(kind, member))
+    }
+
+    /// A conversion from any kind, and its member type.
+    fn converted(&mut self, kind: Kind, member: &Type, depth: usize) -> Grown {
+        let from = match self.random.below(4) {
+            3 => Type::Collection(Box::new(member.clone())),
+            other => Type::of(Kind::ALL[other], member.clone()),
+        };
+        let (source, member) = self.members(&from, depth);
+        let form = match kind {
+            Kind::Set => "asSet %",
+            Kind::Sequence => "asSequence %",
+            Kind::Bag => "asBag %",
+        };
+        (self.draft.line(form, &[source]), member)
+    }
+
+    /// Two members that may have no common type, and the type of the first.
+    fn unlike(&mut self, kind: Kind, member: &Type, depth: usize) -> Grown {
+        let (left, member) = self.grow(member, depth - 1);
+        let ty = self.any_type();
+        let (right, _) = self.grow(&ty, depth - 1);
+        let words = format!("coll {} % %", char::from(kind.letter()));
+        (self.draft.line(&words, &[left, right]), member)
     }
 
     /// A `collect` of the kind, from a class that has a row below the member type.

@@ -20,37 +20,47 @@ pub fn large(random: &mut Random) -> Vec<u8> {
         text += &format!("O\t{object}\t{}\n", u8::from(object < own));
     }
     for object in 0..own {
-        for (row, letter) in LETTERS.iter().enumerate() {
-            let count = match random.below(3) {
-                0 => random.between(0, 10),
-                1 => random.between(120, 127),
-                _ => random.between(55, 70),
-            };
-            let first = random.below(60);
-            let members: Vec<String> = (0..count).map(|n| (first + n).to_string()).collect();
-            text += &format!("V\t{object}\t{row}\t{letter}({})\n", members.join(","));
-        }
-        let count = random.between(1, 63);
-        let sets: Vec<String> = (0..count).map(|n| format!("S({n})")).collect();
-        text += &format!("V\t{object}\t3\tS({})\n", sets.join(","));
+        text += &values(random, object);
     }
     for rule in 0..random.between(1, 3) {
-        let mut draft = Draft::default();
-        match random.below(3) {
-            0 => {
-                let form = *random.pick(&["forAll", "exists"]);
-                let levels = random.between(2, 4);
-                quantifiers(random, &mut draft, form, levels)
-            }
-            1 => {
-                let levels = random.between(1, 3);
-                counting(random, &mut draft, levels)
-            }
-            _ => gathering(random, &mut draft),
-        };
-        text += &format!("R\t{rule}\t1\n{}", draft.spell(random));
+        text += &format!("R\t{rule}\t1\n{}", nodes(random));
     }
     text.into_bytes()
+}
+
+fn values(random: &mut Random, object: usize) -> String {
+    let mut text = String::new();
+    for (row, letter) in LETTERS.iter().enumerate() {
+        let count = match random.below(3) {
+            0 => random.between(0, 10),
+            1 => random.between(120, 127),
+            _ => random.between(55, 70),
+        };
+        let first = random.below(60);
+        let members: Vec<String> = (0..count).map(|n| (first + n).to_string()).collect();
+        text += &format!("V\t{object}\t{row}\t{letter}({})\n", members.join(","));
+    }
+    let count = random.between(1, 63);
+    let sets: Vec<String> = (0..count).map(|n| format!("S({n})")).collect();
+    text + &format!("V\t{object}\t3\tS({})\n", sets.join(","))
+}
+
+/// The nodes of a rule.
+fn nodes(random: &mut Random) -> String {
+    let mut draft = Draft::default();
+    match random.below(3) {
+        0 => {
+            let form = *random.pick(&["forAll", "exists"]);
+            let levels = random.between(2, 4);
+            quantifiers(random, &mut draft, form, levels)
+        }
+        1 => {
+            let levels = random.between(1, 3);
+            counting(random, &mut draft, levels)
+        }
+        _ => gathering(random, &mut draft),
+    };
+    draft.spell(random)
 }
 
 fn row(draft: &mut Draft, row: usize) -> usize {
@@ -111,9 +121,20 @@ fn gathering(random: &mut Random, draft: &mut Draft) -> usize {
     } else {
         draft.line(&format!("coll {letter}"), &[])
     };
+    let body = gathered(random, draft, letter);
+    let words = format!("iter % 1 2 {ty} % %");
+    let gathered = draft.line(&words, &[source, start, body]);
+    if random.one_in(2) {
+        return gathered;
+    }
+    draft.line("size %", &[gathered])
+}
+
+/// The collection so far, which is variable 2, and the member, variable 1, in one.
+fn gathered(random: &mut Random, draft: &mut Draft, letter: &str) -> usize {
     let so_far = draft.line("var 2", &[]);
     let member = draft.line("var 1", &[]);
-    let body = match random.below(4) {
+    match random.below(4) {
         0 => draft.line("including % %", &[so_far, member]),
         1 => {
             let one = draft.line(&format!("coll {letter} %"), &[member]);
@@ -138,11 +159,5 @@ fn gathering(random: &mut Random, draft: &mut Draft) -> usize {
             let grown = draft.line("including % %", &[again, new]);
             draft.line("if % % %", &[has, same, grown])
         }
-    };
-    let words = format!("iter % 1 2 {ty} % %");
-    let gathered = draft.line(&words, &[source, start, body]);
-    if random.one_in(2) {
-        return gathered;
     }
-    draft.line("size %", &[gathered])
 }

@@ -48,15 +48,17 @@ pub fn limit(random: &mut Random, kind: usize) -> Vec<u8> {
         }
         20 => redeclared(random),
         21..=25 => reals::about(random, kind - 21, over),
-        _ => {
-            let operands = (0..4 + over).map(|n| format!("\t{n}")).collect::<String>();
-            let ints = lines(4 + over, |n| format!("N\t{n}\tint\t{n}"));
-            let kind = random.pick(&["S", "Q", "B"]);
-            let last = 4 + over;
-            format!("C\t0\t-\nO\t0\t0\nR\t0\t0\n{ints}N\t{last}\tcoll\t{kind}{operands}\n")
-        }
+        _ => members(random, 4 + over),
     };
     text.into_bytes()
+}
+
+/// A collection of so many members.
+fn members(random: &mut Random, count: usize) -> String {
+    let operands: String = (0..count).map(|n| format!("\t{n}")).collect();
+    let ints = lines(count, |n| format!("N\t{n}\tint\t{n}"));
+    let kind = random.pick(&["S", "Q", "B"]);
+    format!("C\t0\t-\nO\t0\t0\nR\t0\t0\n{ints}N\t{count}\tcoll\t{kind}{operands}\n")
 }
 
 /// Two values that `collect` makes a collection of 128 cells of, or 129; a
@@ -134,10 +136,7 @@ fn deep_rule(random: &mut Random, depth: usize) -> String {
 
 fn rules(count: usize) -> String {
     let chain = chain(12);
-    "C\t0\t-\nO\t0\t0\n".to_string()
-        + &(0..count)
-            .map(|n| format!("R\t{n}\t0\n{chain}"))
-            .collect::<String>()
+    "C\t0\t-\nO\t0\t0\n".to_string() + &lines(count, |n| format!("R\t{n}\t0\n{}", chain.trim_end()))
 }
 
 /// So many short rules of various types, the longest spelling among them; one of

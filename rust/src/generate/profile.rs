@@ -93,6 +93,17 @@ pub fn about(random: &mut Random) -> String {
     if random.one_in(16) {
         return longest(random);
     }
+    let mut text = model(random);
+    let definitions = random.below(4);
+    for number in 0..definitions {
+        let nodes = *random.pick(&INTEGERS);
+        text += &format!("D\t{number}\t0\tInt\n{}", numbered(random, nodes, number));
+    }
+    text + &rules(random, definitions)
+}
+
+/// Classes, attributes, objects and values.
+fn model(random: &mut Random) -> String {
     let mut text = "C\t0\t-\nC\t1\t0\n".to_string();
     for (row, ty) in TYPES.iter().enumerate() {
         text += &format!("A\t{row}\t0\t{}\t{ty}\n", row + 1);
@@ -113,11 +124,11 @@ pub fn about(random: &mut Random) -> String {
             }
         }
     }
-    let definitions = random.below(4);
-    for number in 0..definitions {
-        let nodes = *random.pick(&INTEGERS);
-        text += &format!("D\t{number}\t0\tInt\n{}", numbered(random, nodes, number));
-    }
+    text
+}
+
+fn rules(random: &mut Random, definitions: usize) -> String {
+    let mut text = String::new();
     let only_inside = random.one_in(3);
     for number in 0..random.between(1, 4) {
         let nodes: &[&str] = match random.below(10) {

@@ -43,6 +43,27 @@ pub fn about(random: &mut Random) -> String {
     if random.one_in(4) {
         return many(random);
     }
+    let mut text = model(random);
+    let definitions = random.between(1, 4);
+    for number in 0..definitions {
+        let nodes = match random.below(3) {
+            0 if number > 0 => format!("self|call 0 {}", random.below(number)),
+            1 if number > 0 => format!("self|attr 0 #|self|call 2 {}|plus 1 3", number - 1),
+            _ => "self|attr 0 #".to_string(),
+        };
+        let class = random.below(2);
+        text += &format!("D\t{number}\t{class}\tInt\n");
+        text += &numbered(random, &nodes, definitions);
+    }
+    for number in 0..random.between(1, 5) {
+        let nodes = *random.pick(&RULES);
+        text += &format!("R\t{number}\t1\n{}", numbered(random, nodes, definitions));
+    }
+    text
+}
+
+/// Classes, attributes, objects and values.
+fn model(random: &mut Random) -> String {
     let mut text = "C\t0\t-\nC\t1\t0\n".to_string();
     let mut rows = Vec::new();
     for name in 0..NAMES {
@@ -65,21 +86,6 @@ pub fn about(random: &mut Random) -> String {
             }
         }
         text += &format!("V\t{object}\t{}\t{}\n", rows.len(), sequence(127));
-    }
-    let definitions = random.between(1, 4);
-    for number in 0..definitions {
-        let nodes = match random.below(3) {
-            0 if number > 0 => format!("self|call 0 {}", random.below(number)),
-            1 if number > 0 => format!("self|attr 0 #|self|call 2 {}|plus 1 3", number - 1),
-            _ => "self|attr 0 #".to_string(),
-        };
-        let class = random.below(2);
-        text += &format!("D\t{number}\t{class}\tInt\n");
-        text += &numbered(random, &nodes, definitions);
-    }
-    for number in 0..random.between(1, 5) {
-        let nodes = *random.pick(&RULES);
-        text += &format!("R\t{number}\t1\n{}", numbered(random, nodes, definitions));
     }
     text
 }

@@ -65,23 +65,25 @@ fn numbers(random: &mut Random, over: bool) -> String {
     text.replace('%', &number)
 }
 
+/// Where no text may stand, or no nodes.
+const OVER: [&str; 9] = [
+    "%",
+    "%",
+    "D\t1\t0\tInt\n%",
+    "D\t1\t0\tInt\n%N\t0\tint\t1\n",
+    "R\t0\t0\nN\t0\ttrue\n%",
+    "R\t0\t0\nX\ttrue\n%",
+    "R\t0\t0\n%N\t0\ttrue\n",
+    "R\t0\t0\n%N\t1\tnot\t0\n",
+    "R\t0\t0\n%X\t1\n",
+];
+
 /// A text in its place, or where none may stand, and nodes where none may; the text
 /// may have a fault of its own.
 fn places(random: &mut Random, over: bool) -> String {
     const WITHIN: [&str; 2] = [
         "R\t0\t0\n%",
         "R\t0\t0\n%R\t1\t1\nX\tself\nR\t2\t0\nN\t0\ttrue\n",
-    ];
-    const OVER: [&str; 9] = [
-        "%",
-        "%",
-        "D\t1\t0\tInt\n%",
-        "D\t1\t0\tInt\n%N\t0\tint\t1\n",
-        "R\t0\t0\nN\t0\ttrue\n%",
-        "R\t0\t0\nX\ttrue\n%",
-        "R\t0\t0\n%N\t0\ttrue\n",
-        "R\t0\t0\n%N\t1\tnot\t0\n",
-        "R\t0\t0\n%X\t1\n",
     ];
     const TEXTS: [&str; 7] = [
         "true",
@@ -108,23 +110,25 @@ fn places(random: &mut Random, over: bool) -> String {
     format!("{start}{}", place.replacen('%', &line, 1))
 }
 
+/// Texts with a fault, by its rank.
+const FAULTS: [[&str; 3]; 5] = [
+    ["1 +", "r3ff0000000000000", "Bag{1, 2, 3, 4, 5}"],
+    ["v16", "2147483648", "r7ff0000000000000"],
+    [
+        "Set{1}->iter(v1; v1 : Int = 0 | 1)",
+        "Set{1}->iter(v1; v1 : #9 = 0 | 1)",
+        "Set{1}->iter(v2; v2 : Int = 0 | self.d9())",
+    ],
+    [
+        "#9.allInstances()",
+        "self.oclAsType(#63)",
+        "#2.allInstances()",
+    ],
+    ["self.d7()", "self.d1()", "self.d31()"],
+];
+
 /// Faults of one or two ranks in a text, or one of its whole line.
 fn ranks(random: &mut Random) -> String {
-    const FAULTS: [[&str; 3]; 5] = [
-        ["1 +", "r3ff0000000000000", "Bag{1, 2, 3, 4, 5}"],
-        ["v16", "2147483648", "r7ff0000000000000"],
-        [
-            "Set{1}->iter(v1; v1 : Int = 0 | 1)",
-            "Set{1}->iter(v1; v1 : #9 = 0 | 1)",
-            "Set{1}->iter(v2; v2 : Int = 0 | self.d9())",
-        ],
-        [
-            "#9.allInstances()",
-            "self.oclAsType(#63)",
-            "#2.allInstances()",
-        ],
-        ["self.d7()", "self.d1()", "self.d31()"],
-    ];
     let first = random.below(FAULTS.len());
     // Mostly of two ranks that follow each other.
     let second = if random.one_in(3) {
@@ -201,56 +205,60 @@ fn signs(random: &mut Random) -> String {
     text
 }
 
+/// Every primary and every step.
+const WHOLE: [&str; 20] = [
+    "self.a5.isUndef()",
+    "self.oclAsType(#1).a5",
+    "self.d0()",
+    "undef.isUndef()",
+    "#0.allInstances()->size()",
+    "Set{1, 2}->asBag()",
+    "Sequence{2, 1, 2}->asSet()",
+    "Bag{}->asSequence()",
+    "Set{1}->includes(1 + 0)",
+    "Set{1}->including(2)",
+    "Bag{1}->union(Bag{1})",
+    "#0.allInstances()->collect(a5)",
+    "Set{1, 2}->forAll(v1 | v1 < 3)",
+    "Set{1, 2}->exists(v15 | v15 = 2)",
+    "Set{1, 2}->iter(v1; v2 : Int = 0 | v1 + v2)",
+    "Set{1}->iter(v1; v2 : Q(S(Int)) = Sequence{} | v2->including(Set{v1}))",
+    "if self.a5 < 9 then 1 else 2 endif",
+    "let v1 = 2 in v1 * v1",
+    "(1 + 2) * 3 / 4",
+    "not true or false and undef",
+];
+
+/// Words that run together or fall apart.
+const WRONG: [&str; 19] = [
+    "1and true",
+    "not1",
+    "nottrue",
+    "v1x",
+    "#1#1.allInstances()",
+    "# 1.allInstances()",
+    "Set{1} - >size()",
+    "self.a 5",
+    "1 2",
+    "let v1=1 inv1",
+    "iff true then 1 else 2 endif",
+    "- 1",
+    "-1 + 2",
+    "1 - -1",
+    "",
+    "  ",
+    "1 < 2 < 3",
+    "1 + let v1 = 1 in v1",
+    "not let v1 = true in v1",
+];
+
 /// Every primary and every step, with spaces anywhere; or a text whose words run
 /// together or fall apart.
 fn words(random: &mut Random, over: bool) -> String {
-    const TEXTS: [&str; 20] = [
-        "self.a5.isUndef()",
-        "self.oclAsType(#1).a5",
-        "self.d0()",
-        "undef.isUndef()",
-        "#0.allInstances()->size()",
-        "Set{1, 2}->asBag()",
-        "Sequence{2, 1, 2}->asSet()",
-        "Bag{}->asSequence()",
-        "Set{1}->includes(1 + 0)",
-        "Set{1}->including(2)",
-        "Bag{1}->union(Bag{1})",
-        "#0.allInstances()->collect(a5)",
-        "Set{1, 2}->forAll(v1 | v1 < 3)",
-        "Set{1, 2}->exists(v15 | v15 = 2)",
-        "Set{1, 2}->iter(v1; v2 : Int = 0 | v1 + v2)",
-        "Set{1}->iter(v1; v2 : Q(S(Int)) = Sequence{} | v2->including(Set{v1}))",
-        "if self.a5 < 9 then 1 else 2 endif",
-        "let v1 = 2 in v1 * v1",
-        "(1 + 2) * 3 / 4",
-        "not true or false and undef",
-    ];
-    const WRONG: [&str; 19] = [
-        "1and true",
-        "not1",
-        "nottrue",
-        "v1x",
-        "#1#1.allInstances()",
-        "# 1.allInstances()",
-        "Set{1} - >size()",
-        "self.a 5",
-        "1 2",
-        "let v1=1 inv1",
-        "iff true then 1 else 2 endif",
-        "- 1",
-        "-1 + 2",
-        "1 - -1",
-        "",
-        "  ",
-        "1 < 2 < 3",
-        "1 + let v1 = 1 in v1",
-        "not let v1 = true in v1",
-    ];
     if over && !random.one_in(4) {
         return random.pick(&WRONG).to_string();
     }
-    let text = *random.pick(&TEXTS);
+    let text = *random.pick(&WHOLE);
     let spelt: Vec<String> = (tokens(text.as_bytes()).into_iter())
         .map(|token| String::from_utf8_lossy(token).into_owned())
         .collect();

@@ -106,13 +106,7 @@ impl Astray {
         match self {
             Astray::Root => path.first().copied(),
             Astray::Above => above.or(last.copied()),
-            Astray::LetNamed => {
-                let lets = path.windows(2).find(|pair| {
-                    let operands = &runs[pair[0]].node.operands;
-                    word(&&pair[0]) == "let" && std::ptr::eq(&operands[0], runs[pair[1]].node)
-                });
-                lets.map(|pair| pair[0]).or(last.copied())
-            }
+            Astray::LetNamed => let_of_value(runs, &path).or(last.copied()),
             Astray::CallNamed => turned(&["call"]).or(last).copied(),
             Astray::CollectSource => {
                 let last = *last?;
@@ -207,6 +201,15 @@ fn arising(runs: &[Run]) -> Vec<usize> {
         .take(200)
         .filter(|position| !handed(*position))
         .collect()
+}
+
+/// The `let` whose value is undefined, if one is on the path.
+fn let_of_value(runs: &[Run], path: &[usize]) -> Option<usize> {
+    let of_value = |pair: &&[usize]| {
+        let node = runs[pair[0]].node;
+        node.form.word() == "let" && std::ptr::eq(&node.operands[0], runs[pair[1]].node)
+    };
+    path.windows(2).find(of_value).map(|pair| pair[0])
 }
 
 /// As `followed`, but that in forms with these words the last undefined operand is.

@@ -1,14 +1,12 @@
 //! The cases of making a board and of editing it that a comparison must have met.
 
-use super::board_verdicts::seen;
+use super::board_values::edited;
 use super::named::cases;
-use crate::calls::{Answer, LEAST_BOARD, LEAST_VERDICTS, LEAST_WORDS, LONGEST_SHEET};
+use crate::calls::{Answer, LEAST_BOARD, LEAST_VERDICTS, LEAST_WORDS};
 use crate::generate::turns::{Tampering, Turn, What};
-use crate::model::{Edit, Sheet};
+use crate::model::Sheet;
 use crate::read::edits::edit;
-use crate::read::{MOST_VALUES, MOST_VALUE_SIZES};
-use crate::report::report;
-use crate::values::Value;
+use crate::read::MOST_VALUES;
 
 cases! {
     BoardCase:
@@ -210,89 +208,4 @@ fn spelt(bytes: &[u8], number: u64, faults: &[u64]) -> Met {
         (number == 7 && clears, BoardCase::ClearedMismatch),
     ]);
     met
-}
-
-/// An edit without a fault of its own: what it does to the values.
-fn edited(happened: &Happened, sheet: &Sheet, edit: &Edit) -> Met {
-    let model = &sheet.model;
-    let old = model.value(edit.object, edit.row);
-    let number = happened.answer.number;
-    let key = (edit.object, edit.row);
-    let (count, sizes) = (model.values.len(), model.value_sizes());
-    let size = |value: Option<&Value>| value.map_or(0, Value::size);
-    let then = count - usize::from(old.is_some()) + usize::from(edit.value.is_some());
-    let size_then = sizes - size(old) + size(edit.value.as_ref());
-    let is_full = count == MOST_VALUES || sizes == MOST_VALUE_SIZES;
-    let is_new = old.is_none() && edit.value.is_some();
-    let cleared = old.is_some() && edit.value.is_none();
-    let empty = old.is_none() && edit.value.is_none();
-    let changed = old.is_some() && edit.value.is_some();
-    let same = changed && old == edit.value.as_ref();
-    let mut met = vec![
-        (number == 21 && then > MOST_VALUES, BoardCase::Lines),
-        (
-            number == 21 && size_then > MOST_VALUE_SIZES,
-            BoardCase::Sizes,
-        ),
-    ];
-    if !matches!(number, 0 | 21) {
-        return met;
-    }
-    let mut then_sheet = sheet.clone();
-    then_sheet.model.edit(edit.clone());
-    if number == 21 {
-        let lines = report(&then_sheet, happened.turn.verdicts);
-        met.push((lines.is_err(), BoardCase::FullTooLong));
-        return met;
-    }
-    met.extend([
-        (sheet.rules.is_empty(), BoardCase::NoRules),
-        (model.values.is_empty(), BoardCase::NoValues),
-        (is_new, BoardCase::Set),
-        (changed && !same, BoardCase::Changed),
-        (same, BoardCase::Same),
-        (cleared, BoardCase::Cleared),
-        (empty, BoardCase::ClearedEmpty),
-        (
-            is_new && model.values.first().is_some_and(|first| key < first.0),
-            BoardCase::FirstOfAll,
-        ),
-        (
-            is_new && model.values.last().is_some_and(|last| key > last.0),
-            BoardCase::LastOfAll,
-        ),
-        (is_new && then == MOST_VALUES, BoardCase::MostLines),
-        (
-            sizes < size_then && size_then == MOST_VALUE_SIZES,
-            BoardCase::MostSizes,
-        ),
-        (is_full && changed, BoardCase::ChangedFull),
-        (
-            changed && sizes + size(edit.value.as_ref()) > MOST_VALUE_SIZES && size(old) > 1,
-            BoardCase::LargerTaken,
-        ),
-        (is_full && cleared, BoardCase::ClearedFull),
-        (is_full && empty, BoardCase::EmptyFull),
-        (happened.last == 18, BoardCase::AfterTooLong),
-        (happened.last == 21, BoardCase::AfterFull),
-        (matches!(happened.last, 3..=7), BoardCase::AfterBad),
-        (
-            length(happened.text, &then_sheet) > LONGEST_SHEET,
-            BoardCase::LongSheet,
-        ),
-    ]);
-    met.extend(seen(happened, sheet, edit));
-    met
-}
-
-/// The bytes of a text with the values of a sheet in place of its own.
-fn length(text: &[u8], sheet: &Sheet) -> usize {
-    let lines = text.split_inclusive(|byte| *byte == b'\n');
-    let others: usize = lines.filter(|line| line[0] != b'V').map(<[u8]>::len).sum();
-    let values = sheet.model.values.iter().map(|((object, row), value)| {
-        let mut line = format!("V\t{object}\t{row}\t\n").into_bytes();
-        value.spell(&mut line);
-        line.len()
-    });
-    others + values.sum::<usize>()
 }

@@ -70,7 +70,7 @@ pub struct Compared {
     pub difference: Option<String>,
 }
 
-/// The garbage in what is lent follows from the seed.
+/// Makes the call on both; the garbage in what is lent follows from the seed.
 pub fn compare(calls: &dyn Calls, text: &[u8], ask: Ask, seed: u64) -> Compared {
     LENT.with_borrow_mut(|[ours, theirs]| {
         ours.fill(seed, ask);

@@ -3,7 +3,7 @@
 
 use super::board_cases::Happened;
 use super::board_tally::BoardTally;
-use super::boards::{call, Boards, Second, Slices};
+use super::boards::{call, Boards, Called, Second, Slices};
 use super::shrink::shrink;
 use crate::calls::{accepted, Answer, LEAST_VERDICTS};
 use crate::generate::random::Random;
@@ -140,20 +140,11 @@ impl Run<'_> {
         let ours = call(&Second, self.text, turn, seed, &mut self.ours);
         let theirs = call(boards, self.text, turn, seed, &mut self.theirs);
         let answer = ours.answer;
+        let difference = self.difference(ours, theirs);
+        if difference.is_some() {
+            return difference;
+        }
         let after = self.ours.verdicts(answer.length as usize);
-        if let Some(broken) = ours.broken {
-            return Some(format!("the second evaluator: {broken}"));
-        }
-        if theirs.answer != answer {
-            return Some(format!("expected {answer:?}\n     got {:?}", theirs.answer));
-        }
-        if theirs.broken.is_some() {
-            return theirs.broken;
-        }
-        let other = self.theirs.verdicts(after.len());
-        if after != other {
-            return Some(unlike(after, other));
-        }
         if let Some(tally) = tally {
             tally.add(&Happened {
                 text: self.text,
@@ -167,6 +158,23 @@ impl Run<'_> {
         }
         self.last = answer.number;
         self.taken(turn, answer)
+    }
+
+    /// How a call's answers differ, or what they leave in what was lent.
+    fn difference(&self, ours: Called, theirs: Called) -> Option<String> {
+        let answer = ours.answer;
+        if let Some(broken) = ours.broken {
+            return Some(format!("the second evaluator: {broken}"));
+        }
+        if theirs.answer != answer {
+            return Some(format!("expected {answer:?}\n     got {:?}", theirs.answer));
+        }
+        if theirs.broken.is_some() {
+            return theirs.broken;
+        }
+        let after = self.ours.verdicts(answer.length as usize);
+        let other = self.theirs.verdicts(after.len());
+        (after != other).then(|| unlike(after, other))
     }
 
     /// Takes what was accepted; how the verdicts then differ from a report from nothing, or

@@ -2,16 +2,14 @@
 //! finds it: the second evaluator's board in other words, with a fault.
 
 use super::boards::{Boards, Second};
-use super::misjudged_edits::Done;
+use super::misjudged_edits::{own, put, steps, Done};
 use super::named::cases;
-use crate::board::{laid, taken};
+use crate::board::taken;
 use crate::calls::{accepted, Answer, Words, LEAST_BOARD, LEAST_VERDICTS, LEAST_WORDS};
-use crate::eval::evaluate;
-use crate::model::{Edit, Model, Rule, Sheet};
-use crate::read::edits::edit;
-use crate::read::read;
-use crate::refusal::{Refusal, Refused};
+use crate::model::{Rule, Sheet};
+use crate::refusal::Refused;
 use crate::report::report;
+use std::ops::Range;
 
 cases! {
     Mishandling:
@@ -68,6 +66,9 @@ cases! {
     TextValues: "an edit is of the text's values",
     Lost: "the last value is lost where a board is full",
 }
+
+/// A sheet with the values of a board, and where the rules' verdicts stand.
+type Opened = (Sheet, Vec<Range<usize>>);
 
 impl Boards for Mishandling {
     fn make(&self, text: &[u8], words: Words, board: &mut [u64], bytes: &mut [u8]) -> Answer {
@@ -134,19 +135,6 @@ fn bare(number: u64, place: u64) -> Answer {
     }
 }
 
-/// The steps of the verdicts that are meant.
-fn steps(sheet: &Sheet, is_meant: impl Fn(&Rule, u8) -> bool) -> u64 {
-    let mut all = 0;
-    for rule in &sheet.rules {
-        for object in sheet.model.objects_of(rule.context) {
-            if is_meant(rule, object) {
-                all += evaluate(sheet, rule, object).1;
-            }
-        }
-    }
-    all
-}
-
 impl Mishandling {
     /// The slices as long as they must be, where the fault takes shorter ones.
     fn lengthened(self, board: &[u64], bytes: &[u8]) -> Option<(Vec<u64>, Vec<u8>)> {
@@ -195,6 +183,17 @@ impl Mishandling {
         }
     }
 
+    /// None where the words are no board of the sheet.
+    fn opened(self, text: &[u8], board: &[u64], bytes: &[u8]) -> Result<Option<Opened>, Refused> {
+        let (mut sheet, _) = accepted(text).map_err(|(refused, _)| refused)?;
+        let own_values = sheet.model.values.clone();
+        let parts = taken(&mut sheet, board, bytes);
+        if self == Mishandling::TextValues {
+            sheet.model.values = own_values;
+        }
+        Ok(parts.map(|parts| (sheet, parts)))
+    }
+
     /// An edit, from the sheet's faults to what becomes of the board.
     fn edited(
         self,
@@ -203,73 +202,32 @@ impl Mishandling {
         board: &mut [u64],
         bytes: &[u8],
     ) -> Result<Done, Refused> {
-        let own = |refusal: Refusal| refusal.at(1);
-        if self == Mishandling::EditBeforeText {
-            let judged = edit(&Model::default(), line).map(|_| ());
-            judged.or_else(|refusal| match refusal {
-                Refusal::BadLine | Refusal::OutOfLimits => Err(own(refusal)),
-                _ => Ok(()),
-            })?;
-        }
-        if let (Mishandling::EditBeforeTypes, Ok(sheet)) = (self, read(text)) {
-            edit(&sheet.model, line).map_err(own)?;
-        }
-        let (mut sheet, _) = accepted(text).map_err(|(refused, _)| refused)?;
-        let own_values = sheet.model.values.clone();
-        let Some(parts) = taken(&mut sheet, board, bytes) else {
+        self.judged_early(text, line)?;
+        let Some((mut sheet, parts)) = self.opened(text, board, bytes)? else {
             return Ok(Done::default());
         };
-        if self == Mishandling::TextValues {
-            sheet.model.values = own_values;
-        }
         let Some(edit) = self.judged(&sheet.model, line).map_err(own)? else {
             return self.evaluated(&sheet, |_: &Rule| false, bytes, &parts);
         };
         let old = sheet.model.value(edit.object, edit.row).cloned();
         if let Err(full) = self.room(&sheet, &edit, old.as_ref()) {
-            if self == Mishandling::FullTaken {
-                let value = None;
-                sheet.model.edit(Edit { value, ..edit });
-                let ends: Vec<usize> = parts.iter().map(|part| part.end).collect();
-                let words = laid(&sheet, &ends);
-                board[..words.len()].copy_from_slice(&words);
-            }
-            if self == Mishandling::LongBeforeFull {
-                sheet.model.edit(edit);
-                report(&sheet, bytes.len())?;
-            }
+            self.overfilled(sheet, edit, &parts, board, bytes)?;
             return Err(own(full));
         }
-        let is_cleared = edit.value.is_none();
-        let is_same = edit.value == old;
-        let changed = edit.clone();
-        if self != Mishandling::ClearedStays || !is_cleared {
-            sheet.model.edit(edit);
+        if self != Mishandling::ClearedStays || edit.value.is_some() {
+            sheet.model.edit(edit.clone());
         }
-        let sees = |rule: &Rule| self.sees(&sheet, rule, changed.row);
+        let sees = |rule: &Rule| self.sees(&sheet, rule, edit.row);
         let mut done = self
             .evaluated(&sheet, sees, bytes, &parts)
             .inspect_err(|_| {
                 if self == Mishandling::RefusedTaken {
-                    let ends: Vec<usize> = parts.iter().map(|part| part.end).collect();
-                    let words = laid(&sheet, &ends);
-                    board[..words.len()].copy_from_slice(&words);
+                    put(&sheet, &parts, board);
                 }
             })?;
-        match self {
-            Mishandling::StepsOfObject => {
-                done.steps = steps(&sheet, |rule, object| {
-                    sees(rule) && object == changed.object
-                });
-            }
-            Mishandling::StopsLeft => {
-                let ends = |rule: &Rule, object| evaluate(&sheet, rule, object).0.is_ok();
-                done.steps = steps(&sheet, |rule, object| sees(rule) && ends(rule, object));
-            }
-            Mishandling::NothingNew if is_same && !is_cleared => done.steps = 0,
-            Mishandling::NothingCleared if is_same && is_cleared => done.steps = 0,
-            Mishandling::OwnObject => self.keep_others(&mut done, bytes, changed.object),
-            _ => {}
+        self.recounted(&mut done, &sheet, &edit, old.as_ref());
+        if self == Mishandling::OwnObject {
+            self.keep_others(&mut done, bytes, edit.object);
         }
         Ok(done)
     }

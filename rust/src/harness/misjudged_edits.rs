@@ -3,12 +3,12 @@
 
 use super::mishandlings::Mishandling;
 use crate::board::laid;
-use crate::eval::rows_run;
+use crate::eval::{evaluate, rows_run};
 use crate::model::{Edit, Model, Rule, Sheet};
 use crate::read::edits::edit;
-use crate::read::{MOST_VALUES, MOST_VALUE_SIZES};
+use crate::read::{read, MOST_VALUES, MOST_VALUE_SIZES};
 use crate::refusal::{Refusal, Refused};
-use crate::report::verdicts;
+use crate::report::{report, verdicts};
 use crate::rows::{own_rows, rows_seen};
 use crate::tree::{Form, Node};
 use crate::values::Value;
@@ -24,7 +24,46 @@ pub(super) struct Done {
     pub renewed: usize,
 }
 
+/// A refusal of the edit, which is one line.
+pub(super) fn own(refusal: Refusal) -> Refused {
+    refusal.at(1)
+}
+
+/// Puts a sheet's values into the board, and its verdicts where they stood.
+pub(super) fn put(sheet: &Sheet, parts: &[Range<usize>], board: &mut [u64]) {
+    let ends: Vec<usize> = parts.iter().map(|part| part.end).collect();
+    let words = laid(sheet, &ends);
+    board[..words.len()].copy_from_slice(&words);
+}
+
+/// The steps of the verdicts that are meant.
+pub(super) fn steps(sheet: &Sheet, is_meant: impl Fn(&Rule, u8) -> bool) -> u64 {
+    let mut all = 0;
+    for rule in &sheet.rules {
+        for object in sheet.model.objects_of(rule.context) {
+            if is_meant(rule, object) {
+                all += evaluate(sheet, rule, object).1;
+            }
+        }
+    }
+    all
+}
+
 impl Mishandling {
+    /// The edit's faults, where they come before the sheet's.
+    pub(super) fn judged_early(self, text: &[u8], line: &[u8]) -> Result<(), Refused> {
+        if self == Mishandling::EditBeforeText {
+            let judged = edit(&Model::default(), line);
+            if let Err(fault @ (Refusal::BadLine | Refusal::OutOfLimits)) = judged {
+                return Err(own(fault));
+            }
+        }
+        if let (Mishandling::EditBeforeTypes, Ok(sheet)) = (self, read(text)) {
+            edit(&sheet.model, line).map_err(own)?;
+        }
+        Ok(())
+    }
+
     /// The edit as the fault reads it; none where it would change nothing.
     pub(super) fn judged(self, model: &Model, line: &[u8]) -> Result<Option<Edit>, Refusal> {
         let judged = edit(model, line);
@@ -55,13 +94,10 @@ impl Mishandling {
                 is_behind.then_some(()).ok_or(Refusal::OutOfOrder)?;
                 judged.map(Some)
             }
-            (Mishandling::FullBeforeMismatch, Err(Refusal::ValueMismatch)) => {
-                let is_full = model.values.len() == MOST_VALUES;
-                Err(if is_full {
-                    Refusal::BoardFull
-                } else {
-                    Refusal::ValueMismatch
-                })
+            (Mishandling::FullBeforeMismatch, Err(Refusal::ValueMismatch))
+                if model.values.len() == MOST_VALUES =>
+            {
+                Err(Refusal::BoardFull)
             }
             _ => judged.map(Some),
         }
@@ -96,6 +132,30 @@ impl Mishandling {
         sizes = sizes + size(edit.value.as_ref()) - size(old);
         let has_room = count <= most && sizes <= most_sizes;
         has_room.then_some(()).ok_or(Refusal::BoardFull)
+    }
+
+    /// What is done wrongly where the board is full.
+    pub(super) fn overfilled(
+        self,
+        mut sheet: Sheet,
+        edit: Edit,
+        parts: &[Range<usize>],
+        board: &mut [u64],
+        bytes: &[u8],
+    ) -> Result<(), Refused> {
+        match self {
+            Mishandling::FullTaken => {
+                let value = None;
+                sheet.model.edit(Edit { value, ..edit });
+                put(&sheet, parts, board);
+            }
+            Mishandling::LongBeforeFull => {
+                sheet.model.edit(edit);
+                report(&sheet, bytes.len())?;
+            }
+            _ => {}
+        }
+        Ok(())
     }
 
     /// Whether a rule is one to be evaluated again.
@@ -154,6 +214,31 @@ impl Mishandling {
         }
         done.words = laid(&sheet, &ends);
         Ok(done)
+    }
+
+    /// The steps of an edit that was made, where they are counted wrongly.
+    pub(super) fn recounted(
+        self,
+        done: &mut Done,
+        sheet: &Sheet,
+        edit: &Edit,
+        old: Option<&Value>,
+    ) {
+        let sees = |rule: &Rule| self.sees(sheet, rule, edit.row);
+        let is_cleared = edit.value.is_none();
+        let is_same = edit.value.as_ref() == old;
+        match self {
+            Mishandling::StepsOfObject => {
+                done.steps = steps(sheet, |rule, object| sees(rule) && object == edit.object);
+            }
+            Mishandling::StopsLeft => {
+                let ends = |rule: &Rule, object| evaluate(sheet, rule, object).0.is_ok();
+                done.steps = steps(sheet, |rule, object| sees(rule) && ends(rule, object));
+            }
+            Mishandling::NothingNew if is_same && !is_cleared => done.steps = 0,
+            Mishandling::NothingCleared if is_same && is_cleared => done.steps = 0,
+            _ => {}
+        }
     }
 
     /// Lines of other objects stay as they were.

@@ -3,6 +3,7 @@
 pub mod astray;
 pub mod board_cases;
 pub mod board_tally;
+mod board_values;
 pub mod board_verdicts;
 pub mod boards;
 pub mod cases;
@@ -20,6 +21,7 @@ mod named;
 pub mod numberings;
 pub mod numbers;
 pub mod operations;
+pub mod origin_cases;
 pub mod origins;
 pub mod oversights;
 pub mod pairs;
@@ -36,6 +38,7 @@ pub mod standin;
 pub mod tally;
 pub mod text_cases;
 pub mod texts;
+pub mod vectors;
 
 use crate::calls::{self, Answer, Words, LEAST_WORDS};
 use crate::generate::{Ask, Call};

@@ -39,6 +39,21 @@ pub enum Asked {
     },
 }
 
+impl Asked {
+    /// The call on the first sheet, and on the second one, whose objects have new numbers.
+    /// One that is not there has none.
+    fn calls(self, to: &[u8]) -> [Call; 2] {
+        match self {
+            Asked::Types(call) => [call, call],
+            Asked::Value { rule, object } => {
+                let new = to.get(object as usize);
+                let image = new.map_or(object, |new| u64::from(*new));
+                [object, image].map(|object| Call::Evaluate { rule, object })
+            }
+        }
+    }
+}
+
 /// An answer with what was written.
 type Told = (Answer, String);
 
@@ -58,23 +73,7 @@ pub fn compared(
     seed: u64,
 ) -> Option<Compared> {
     let (other, to) = numbering.other()?;
-    let new = |object: u64| {
-        to.get(object as usize)
-            .map_or(object, |new| u64::from(*new))
-    };
-    let (call, image) = match asked {
-        Asked::Types(call) => (call, call),
-        Asked::Value { rule, object } => {
-            let image = new(object);
-            (
-                Call::Evaluate { rule, object },
-                Call::Evaluate {
-                    rule,
-                    object: image,
-                },
-            )
-        }
-    };
+    let [call, image] = asked.calls(&to);
     let mut garbage = Random::new(seed);
     let first = answered(calls, call, &numbering.text, garbage.word());
     let second = answered(calls, image, &other, garbage.word());

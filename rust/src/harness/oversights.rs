@@ -36,6 +36,23 @@ pub enum Oversight {
     Room,
 }
 
+/// The bodies of definitions, by number.
+fn bodies(sheet: &Sheet, numbers: impl Iterator<Item = u8>) -> impl Iterator<Item = &Node> {
+    numbers.map(|number| &sheet.definitions[usize::from(number)].root)
+}
+
+/// The rows of a rule's nodes and of those that it reaches, one for each node of a form.
+fn of_forms(sheet: &Sheet, rule: &Rule, is_meant: fn(&Form) -> bool) -> Vec<u8> {
+    let reached = reached(sheet, &rule.root).into_iter();
+    let nodes = bodies(sheet, reached)
+        .chain([&rule.root])
+        .flat_map(Node::nodes);
+    let meant = nodes.filter(|node| is_meant(&node.form));
+    let mut rows: Vec<u8> = meant.filter_map(|node| node.form.row()).collect();
+    rows.sort();
+    rows
+}
+
 impl Oversight {
     pub const ALL: [Oversight; 11] = [
         Oversight::Collect,
@@ -53,26 +70,23 @@ impl Oversight {
 
     /// The rows as they are told.
     fn rows(self, sheet: &Sheet, rule: &Rule) -> Vec<u8> {
+        if self == Oversight::Repeated {
+            return of_forms(sheet, rule, |_| true);
+        }
+        let mut rows = self.rows_in_any_order(sheet, rule);
+        rows.sort();
+        rows.dedup();
+        if self == Oversight::ByDigits {
+            rows.sort_by_key(u8::to_string);
+        }
+        rows
+    }
+
+    /// Some of them may be there twice.
+    fn rows_in_any_order(self, sheet: &Sheet, rule: &Rule) -> Vec<u8> {
         let seen = rows_seen(sheet, rule).into_iter();
-        let bodies = |roots: Vec<u8>| -> Vec<&Node> {
-            let roots = roots.into_iter();
-            roots
-                .map(|number| &sheet.definitions[usize::from(number)].root)
-                .collect()
-        };
-        let of = |form: fn(&Form) -> bool| {
-            let roots = bodies(reached(sheet, &rule.root).into_iter().collect());
-            let nodes = roots.into_iter().chain([&rule.root]).flat_map(Node::nodes);
-            let rows = nodes
-                .filter(|node| form(&node.form))
-                .filter_map(|node| node.form.row());
-            let mut rows: Vec<u8> = rows.collect();
-            rows.sort();
-            rows
-        };
-        let mut rows: Vec<u8> = match self {
-            Oversight::Collect => of(|form| matches!(form, Form::Attr { .. })),
-            Oversight::Repeated => return of(|_| true),
+        match self {
+            Oversight::Collect => of_forms(sheet, rule, |form| matches!(form, Form::Attr { .. })),
             Oversight::Called => own_rows(&rule.root).into_iter().collect(),
             Oversight::CalledFurther => {
                 let nodes = rule.root.nodes().into_iter();
@@ -80,16 +94,12 @@ impl Oversight {
                     Form::Call(number) => Some(number),
                     _ => None,
                 });
-                let roots = bodies(called.collect()).into_iter().chain([&rule.root]);
+                let roots = bodies(sheet, called).chain([&rule.root]);
                 roots.flat_map(own_rows).collect()
             }
             Oversight::Unreached => {
-                let all = (0..sheet.definitions.len() as u8).collect();
-                bodies(all)
-                    .into_iter()
-                    .flat_map(own_rows)
-                    .chain(seen)
-                    .collect()
+                let all = bodies(sheet, 0..sheet.definitions.len() as u8);
+                all.flat_map(own_rows).chain(seen).collect()
             }
             Oversight::Unrun => {
                 let objects = sheet.model.objects_of(rule.context);
@@ -100,13 +110,7 @@ impl Oversight {
                 .map(|row| sheet.model.rows[usize::from(row)].name)
                 .collect(),
             _ => seen.collect(),
-        };
-        rows.sort();
-        rows.dedup();
-        if self == Oversight::ByDigits {
-            rows.sort_by_key(u8::to_string);
         }
-        rows
     }
 
     /// The lines as they are told.

@@ -16,9 +16,7 @@ use crate::generate::numberings::{numbering, Numbering};
 use crate::generate::pairs::{pair, Pair};
 use crate::generate::random::Random;
 use crate::generate::{Ask, Call};
-use std::fs;
 use std::io;
-use std::path::Path;
 
 /// The first case in which the two differ, its sheet shortened.
 pub struct Difference {
@@ -161,20 +159,7 @@ pub fn renumbered(
     let Some(numbering) = numbering(&mut random, text) else {
         return Ok(());
     };
-    let objects = accepted(text).map_or(0, |(sheet, _)| sheet.model.objects.len());
-    let mut rules = numberings::rules(text);
-    random.shuffle(&mut rules);
-    rules.truncate(MOST_RULES);
-    let types = [Call::Read, Call::FreeNumbering].map(Asked::Types);
-    let mut asked = types.to_vec();
-    for rule in rules {
-        let mut some: Vec<u64> = (0..objects as u64).collect();
-        random.shuffle(&mut some);
-        some.truncate(MOST_OBJECTS);
-        some.push(objects as u64);
-        asked.extend(some.into_iter().map(|object| Asked::Value { rule, object }));
-    }
-    for asked in asked {
+    for asked in asked_of_both(&mut random, text) {
         let seed = random.word();
         let Some(compared) = numberings::compared(calls, &numbering, asked, seed) else {
             continue;
@@ -190,6 +175,24 @@ pub fn renumbered(
         tally.add_numbering(NumberingCase::Outside);
     }
     Ok(())
+}
+
+/// What is asked of a sheet and of the same with other numbers.
+fn asked_of_both(random: &mut Random, text: &[u8]) -> Vec<Asked> {
+    let objects = accepted(text).map_or(0, |(sheet, _)| sheet.model.objects.len());
+    let mut rules = numberings::rules(text);
+    random.shuffle(&mut rules);
+    rules.truncate(MOST_RULES);
+    let types = [Call::Read, Call::FreeNumbering].map(Asked::Types);
+    let mut asked = types.to_vec();
+    for rule in rules {
+        let mut some: Vec<u64> = (0..objects as u64).collect();
+        random.shuffle(&mut some);
+        some.truncate(MOST_OBJECTS);
+        some.push(objects as u64);
+        asked.extend(some.into_iter().map(|object| Asked::Value { rule, object }));
+    }
+    asked
 }
 
 /// The difference with other numbers, the sheet shortened; a rule stays in the profile.
@@ -237,67 +240,4 @@ pub fn program_sheet(product: &Program, text: &[u8]) -> io::Result<Result<(), Di
         differs: Differs::Program,
         how: format!("expected\n{}got\n{}", spelt(&expected), spelt(&got)),
     }))
-}
-
-/// A sheet, or a run of stitch lengths, with what the program must print for it.
-pub struct Vector {
-    pub name: String,
-    pub text: Vec<u8>,
-    pub printed: Vec<u8>,
-}
-
-/// The sheets among the vectors, with their reports.
-pub fn vectors() -> io::Result<Vec<Vector>> {
-    vectors_of("sheet_vectors", "sheet")
-}
-
-/// Those with the rows that their rules see.
-pub fn row_vectors() -> io::Result<Vec<Vector>> {
-    vectors_of("row_vectors", "sheet")
-}
-
-/// Those that are held to the profile.
-pub fn profile_vectors() -> io::Result<Vec<Vector>> {
-    vectors_of("profile_vectors", "sheet")
-}
-
-/// Those with where their undefined verdicts came from.
-pub fn origin_vectors() -> io::Result<Vec<Vector>> {
-    vectors_of("origin_vectors", "sheet")
-}
-
-/// All sheets among the vectors.
-pub fn all_vectors() -> io::Result<Vec<Vector>> {
-    let mut all = vectors()?;
-    all.extend(row_vectors()?);
-    all.extend(profile_vectors()?);
-    all.extend(origin_vectors()?);
-    Ok(all)
-}
-
-/// Lists of edits with what they are answered, and the verdicts after each.
-pub fn board_vectors() -> io::Result<Vec<Vector>> {
-    vectors_of("board_vectors", "board")
-}
-
-/// The vectors of a crate in the order of their names.
-pub fn vectors_of(crate_name: &str, ending: &str) -> io::Result<Vec<Vector>> {
-    let crates = Path::new(env!("CARGO_MANIFEST_DIR")).join("../crates");
-    let mut vectors = Vec::new();
-    for entry in fs::read_dir(crates.join(crate_name).join("data"))? {
-        let path = entry?.path();
-        if path
-            .extension()
-            .is_some_and(|extension| extension == ending)
-        {
-            let name = path.file_stem().unwrap_or_default().to_string_lossy();
-            vectors.push(Vector {
-                name: name.into_owned(),
-                text: fs::read(&path)?,
-                printed: fs::read(path.with_extension("out"))?,
-            });
-        }
-    }
-    vectors.sort_by(|left, right| left.name.cmp(&right.name));
-    Ok(vectors)
 }

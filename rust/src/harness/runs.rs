@@ -1,8 +1,8 @@
 //! Thread load: the product's running record, its call over a whole text and its
 //! program, compared with what `load` says.
 
-use super::run::{vectors_of, Vector};
 use super::shrink::shrink;
+use super::vectors::{vectors_of, Vector};
 use crate::generate::random::Random;
 use crate::load::{largest, program, read, Load, LONGEST, MOST};
 use std::io::{self, ErrorKind};
@@ -13,9 +13,9 @@ use std::process::{Command, Stdio};
 
 /// The bytes lent for a printed line.
 pub const LINE: usize = 64;
-/// The program reads no more at once.
+/// The most bytes that the program reads at once.
 const PIECE: usize = 8_192;
-/// A record is looked at after each of so many lengths, and after the last.
+/// A record is looked at after each of the first so many lengths, and after the last.
 const CLOSELY: usize = 300;
 
 /// The running record, field by field.

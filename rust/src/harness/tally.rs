@@ -2,7 +2,7 @@
 
 use super::cases::Case;
 use super::numberings::NumberingCase;
-use super::origins;
+use super::origin_cases;
 use super::pairs::PairCase;
 use super::profiles::ProfileCase;
 use super::text_cases::TextCase;
@@ -15,7 +15,7 @@ const NAMES: [&str; 6] = ["read", "evaluate", "report", "rows", "profile", "unde
 pub const NUMBERS: usize = 25;
 
 /// Answers by call and number, and cases in the order of each kind's `ALL`, or of
-/// `origins::NAMES`.
+/// `origin_cases::NAMES`.
 pub struct Tally {
     answers: [[u64; NUMBERS]; NAMES.len()],
     cases: [u64; Case::ALL.len()],
@@ -23,7 +23,7 @@ pub struct Tally {
     pairs: [u64; PairCase::ALL.len()],
     profiles: [u64; ProfileCase::ALL.len()],
     numberings: [u64; NumberingCase::ALL.len()],
-    origins: [u64; origins::NAMES.len()],
+    origins: [u64; origin_cases::NAMES.len()],
 }
 
 impl Default for Tally {
@@ -35,7 +35,7 @@ impl Default for Tally {
             pairs: [0; PairCase::ALL.len()],
             profiles: [0; ProfileCase::ALL.len()],
             numberings: [0; NumberingCase::ALL.len()],
-            origins: [0; origins::NAMES.len()],
+            origins: [0; origin_cases::NAMES.len()],
         }
     }
 }
@@ -100,7 +100,7 @@ impl Tally {
 
     /// A case by its name.
     pub fn add_origin(&mut self, name: &str) {
-        let position = origins::NAMES.iter().position(|known| *known == name);
+        let position = origin_cases::NAMES.iter().position(|known| *known == name);
         self.origins[position.unwrap_or_else(|| panic!("{name} is no case"))] += 1;
     }
 
@@ -115,7 +115,7 @@ impl Tally {
         let counts = counts.chain(pairs.zip(self.pairs));
         let counts = counts.chain(profiles.zip(self.profiles));
         let counts = counts.chain(numberings.zip(self.numberings));
-        counts.chain(origins::NAMES.into_iter().zip(self.origins))
+        counts.chain(origin_cases::NAMES.into_iter().zip(self.origins))
     }
 
     /// Adds what another one has counted.

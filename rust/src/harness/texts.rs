@@ -10,7 +10,7 @@ use crate::read::sentences::{sentence, Sentence};
 use crate::read::tokens::{most_open, tokens, MOST_OPEN};
 use crate::tree::{Form, Node, DEEPEST_RULE};
 
-/// As many make a chain long.
+/// A chain of this many or more counts as long.
 const MANY: usize = 1_000;
 const MOST_NODES: usize = 768;
 

@@ -23,78 +23,48 @@ impl Parts<'_, '_> {
         }
     }
 
-    /// A form whose line holds nothing but operands.
-    fn only(&mut self, form: Form, count: usize) -> Form {
-        self.operands(count);
-        form
-    }
-
     fn form(&mut self) -> Form {
-        match self.fields.next() {
-            b"true" => Form::True,
-            b"false" => Form::False,
-            b"undef" => Form::Undef,
+        let word = self.fields.next();
+        if let Some((form, count)) = plain(word) {
+            self.operands(count);
+            return form;
+        }
+        match word {
             b"int" => Form::Int(self.fields.integer()),
             b"real" => Form::Real(self.fields.real()),
-            b"self" => Form::SelfObject,
             b"var" => Form::Var(self.fields.variable()),
+            b"all" => Form::All(self.fields.class()),
             b"coll" => self.collection(),
             b"let" => {
                 let variable = self.fields.variable();
-                self.only(Form::Let(variable), 2)
+                self.operands(2);
+                Form::Let(variable)
             }
-            b"if" => self.only(Form::If, 3),
-            b"and" => self.only(Form::And, 2),
-            b"or" => self.only(Form::Or, 2),
-            b"not" => self.only(Form::Not, 1),
-            b"isUndef" => self.only(Form::IsUndef, 1),
-            b"eq" => self.only(Form::Eq, 2),
-            b"less" => self.only(Form::Less(None), 2),
-            b"plus" => self.only(Form::Plus(None), 2),
-            b"minus" => self.only(Form::Minus(None), 2),
-            b"times" => self.only(Form::Times(None), 2),
-            b"div" => self.only(Form::Div, 2),
-            b"mod" => self.only(Form::Mod, 2),
-            b"over" => self.only(Form::Over, 2),
-            b"attr" => {
-                self.operands(1);
-                let name = self.fields.name();
-                Form::Attr { name, row: None }
-            }
-            b"collect" => {
-                self.operands(1);
-                let name = self.fields.name();
-                Form::Collect { name, mark: None }
-            }
-            b"all" => Form::All(self.fields.class()),
-            b"as" => {
-                self.operands(1);
-                Form::As(self.fields.class())
-            }
-            b"size" => self.only(Form::Size, 1),
-            b"includes" => self.only(Form::Includes, 2),
-            b"asSet" => self.only(Form::Convert(Kind::Set), 1),
-            b"asSequence" => self.only(Form::Convert(Kind::Sequence), 1),
-            b"asBag" => self.only(Form::Convert(Kind::Bag), 1),
-            b"including" => self.only(Form::Including, 2),
-            b"union" => self.only(Form::Union, 2),
             b"iter" => self.iteration(),
-            b"forAll" => {
-                let variable = self.quantified();
-                self.only(Form::ForAll(variable), 1)
-            }
-            b"exists" => {
-                let variable = self.quantified();
-                self.only(Form::Exists(variable), 1)
-            }
-            b"call" => {
-                self.operands(1);
-                Form::Call(self.fields.definition())
-            }
+            b"forAll" => Form::ForAll(self.quantified()),
+            b"exists" => Form::Exists(self.quantified()),
+            b"attr" | b"collect" | b"as" | b"call" => self.with_operand(word),
             _ => {
                 self.fields.note(Refusal::BadLine);
                 Form::Undef
             }
+        }
+    }
+
+    /// A form whose operand stands before what it asks of it.
+    fn with_operand(&mut self, word: &[u8]) -> Form {
+        self.operands(1);
+        match word {
+            b"attr" => Form::Attr {
+                name: self.fields.name(),
+                row: None,
+            },
+            b"collect" => Form::Collect {
+                name: self.fields.name(),
+                mark: None,
+            },
+            b"as" => Form::As(self.fields.class()),
+            _ => Form::Call(self.fields.definition()),
         }
     }
 
@@ -120,10 +90,44 @@ impl Parts<'_, '_> {
         }
     }
 
+    /// The variable of a quantifier, which stands between its operands.
     fn quantified(&mut self) -> u8 {
         self.operands(1);
-        self.fields.variable()
+        let variable = self.fields.variable();
+        self.operands(1);
+        variable
     }
+}
+
+/// A form whose line holds nothing but operands, and how many it has.
+fn plain(word: &[u8]) -> Option<(Form, usize)> {
+    Some(match word {
+        b"true" => (Form::True, 0),
+        b"false" => (Form::False, 0),
+        b"undef" => (Form::Undef, 0),
+        b"self" => (Form::SelfObject, 0),
+        b"if" => (Form::If, 3),
+        b"and" => (Form::And, 2),
+        b"or" => (Form::Or, 2),
+        b"not" => (Form::Not, 1),
+        b"isUndef" => (Form::IsUndef, 1),
+        b"eq" => (Form::Eq, 2),
+        b"less" => (Form::Less(None), 2),
+        b"plus" => (Form::Plus(None), 2),
+        b"minus" => (Form::Minus(None), 2),
+        b"times" => (Form::Times(None), 2),
+        b"div" => (Form::Div, 2),
+        b"mod" => (Form::Mod, 2),
+        b"over" => (Form::Over, 2),
+        b"size" => (Form::Size, 1),
+        b"includes" => (Form::Includes, 2),
+        b"asSet" => (Form::Convert(Kind::Set), 1),
+        b"asSequence" => (Form::Convert(Kind::Sequence), 1),
+        b"asBag" => (Form::Convert(Kind::Bag), 1),
+        b"including" => (Form::Including, 2),
+        b"union" => (Form::Union, 2),
+        _ => return None,
+    })
 }
 
 impl Reader {
@@ -162,6 +166,7 @@ impl Reader {
         self.nodes += 1;
         Ok(())
     }
+
     /// A definition that a form calls. Those that are read are all that a rule finds
     /// on the sheet, and the ones smaller than a definition that is being read.
     pub(super) fn callable(&self, form: &Form, in_definition: bool) -> Result<(), Refusal> {

@@ -111,59 +111,98 @@ fn simple(field: &[u8]) -> Spelt<Value> {
 }
 
 /// A value as written, its members in the order given. A misspelling anywhere
-/// goes before a limit crossed, so reading goes on after the latter. The open
-/// collections stand in a list, since a line can nest thousands of them.
+/// goes before a limit crossed, so reading goes on after the latter.
 pub fn value(field: &[u8]) -> Spelt<Value> {
-    let mut rest = field;
-    let mut open: Vec<(Kind, Vec<Value>)> = Vec::new();
-    let mut over = false;
-    // Stands in for a value outside its limits, and is never looked at.
-    let lost = Value::Bool(false);
+    let mut reading = Reading {
+        rest: field,
+        open: Vec::new(),
+        over: false,
+    };
     loop {
-        let mut whole = match rest {
-            [letter @ (b'S' | b'Q' | b'B'), b'(', inside @ ..] => {
-                rest = inside;
-                let kind = Kind::from_letter(*letter).ok_or(Refusal::BadLine)?;
-                open.push((kind, Vec::new()));
-                over |= open.len() > DEEPEST;
-                if rest.first() != Some(&b')') {
-                    continue;
-                }
-                None
-            }
-            _ => {
-                let part = |byte: &u8| *byte == b',' || *byte == b')';
-                let end = rest.iter().position(part).unwrap_or(rest.len());
-                let spelt = simple(&rest[..end]);
-                rest = &rest[end..];
-                over |= spelt == Err(Refusal::OutOfLimits);
-                Some(match spelt {
-                    Err(Refusal::OutOfLimits) => lost.clone(),
-                    other => other?,
-                })
-            }
+        let member = if !reading.opens()? {
+            Some(reading.simple()?)
+        } else if reading.rest.first() == Some(&b')') {
+            None
+        } else {
+            continue;
         };
-        // After a member come its comma or the end of collections.
+        if let Some(whole) = reading.after(member)? {
+            return Ok(whole);
+        }
+    }
+}
+
+/// Stands in for a value outside its limits, and is never looked at.
+const LOST: Value = Value::Bool(false);
+
+/// A value that is read in part.
+struct Reading<'f> {
+    rest: &'f [u8],
+    /// A list, since a line can nest thousands of collections.
+    open: Vec<(Kind, Vec<Value>)>,
+    /// Whether a limit was crossed.
+    over: bool,
+}
+
+impl Reading<'_> {
+    /// Whether a collection begins here, which is then open.
+    #[inline]
+    fn opens(&mut self) -> Spelt<bool> {
+        let [letter @ (b'S' | b'Q' | b'B'), b'(', inside @ ..] = self.rest else {
+            return Ok(false);
+        };
+        self.rest = inside;
+        let kind = Kind::from_letter(*letter).ok_or(Refusal::BadLine)?;
+        self.open.push((kind, Vec::new()));
+        self.over |= self.open.len() > DEEPEST;
+        Ok(true)
+    }
+
+    #[inline]
+    fn simple(&mut self) -> Spelt<Value> {
+        let part = |byte: &u8| *byte == b',' || *byte == b')';
+        let end = self.rest.iter().position(part).unwrap_or(self.rest.len());
+        let (field, rest) = self.rest.split_at(end);
+        self.rest = rest;
+        match simple(field) {
+            Err(Refusal::OutOfLimits) => {
+                self.over = true;
+                Ok(LOST)
+            }
+            spelt => spelt,
+        }
+    }
+
+    /// After a member come its comma or the end of collections. Gives the value where it
+    /// ends here, and none where another member is due. An empty collection has no member.
+    #[inline]
+    fn after(&mut self, mut member: Option<Value>) -> Spelt<Option<Value>> {
         loop {
-            if let (Some(member), Some((_, members))) = (&whole, open.last_mut()) {
+            if let (Some(member), Some((_, members))) = (&member, self.open.last_mut()) {
                 members.push(member.clone());
             }
-            match rest {
-                [b',', after @ ..] if !open.is_empty() => {
-                    rest = after;
-                    break;
+            match self.rest {
+                [b',', after @ ..] if !self.open.is_empty() => {
+                    self.rest = after;
+                    return Ok(None);
                 }
                 [b')', after @ ..] => {
-                    rest = after;
-                    let (kind, members) = open.pop().ok_or(Refusal::BadLine)?;
-                    let formed = Collection::as_given(kind, members).filter(|_| !over);
-                    over |= formed.is_none();
-                    whole = Some(formed.unwrap_or_else(|| lost.clone()));
+                    self.rest = after;
+                    member = Some(self.closed()?);
                 }
-                [] if open.is_empty() && over => return Err(Refusal::OutOfLimits),
-                [] if open.is_empty() => return whole.ok_or(Refusal::BadLine),
+                [] if self.open.is_empty() && self.over => return Err(Refusal::OutOfLimits),
+                [] if self.open.is_empty() => return member.ok_or(Refusal::BadLine).map(Some),
                 _ => return Err(Refusal::BadLine),
             }
         }
+    }
+
+    /// The innermost collection, which ends.
+    #[inline]
+    fn closed(&mut self) -> Spelt<Value> {
+        let (kind, members) = self.open.pop().ok_or(Refusal::BadLine)?;
+        let formed = Collection::as_given(kind, members).filter(|_| !self.over);
+        self.over |= formed.is_none();
+        Ok(formed.unwrap_or(LOST))
     }
 }

@@ -82,14 +82,39 @@ fn members(text: &[u8]) -> usize {
 const EVALUATE: Call = Call::Evaluate { rule: 0, object: 0 };
 
 pub fn workloads() -> Vec<Workload> {
-    let workload = |name, unit, call, jobs: [Vec<Vec<u8>>; 2]| Workload {
+    let all = [
+        reading(),
+        judging(),
+        reporting(),
+        days(),
+        stepping(),
+        forming(),
+    ];
+    all.into_iter().flatten().collect()
+}
+
+fn workload(name: &'static str, unit: Unit, call: Call, jobs: [Vec<Vec<u8>>; 2]) -> Workload {
+    Workload {
         name,
         unit,
         call,
         jobs,
         number: 0,
-    };
-    let one = |small: Vec<u8>, large: Vec<u8>| [vec![small], vec![large]];
+    }
+}
+
+/// The jobs of one text each.
+fn one(small: Vec<u8>, large: Vec<u8>) -> [Vec<Vec<u8>>; 2] {
+    [vec![small], vec![large]]
+}
+
+/// The jobs of a tenth of a day and of a whole one.
+fn day(sheet: fn(u64) -> Vec<u8>) -> [Vec<Vec<u8>>; 2] {
+    [40, 400].map(|sheets| (0..sheets).map(sheet).collect())
+}
+
+/// Lines and texts, to the end of reading.
+fn reading() -> Vec<Workload> {
     vec![
         workload(
             "reading, values",
@@ -124,6 +149,12 @@ pub fn workloads() -> Vec<Workload> {
                 one(texts::sum(4_900), texts::sum(49_000)),
             )
         },
+    ]
+}
+
+/// What is told of rules that are read: types, rows and the profile.
+fn judging() -> Vec<Workload> {
+    vec![
         workload("typing", Unit::Node, Call::Read, one(types(10), types(96))),
         workload("rows", Unit::Line, Call::Rows, one(rows(6), rows(60))),
         workload(
@@ -138,6 +169,12 @@ pub fn workloads() -> Vec<Workload> {
             Call::FreeNumbering,
             one(types(10), types(96)),
         ),
+    ]
+}
+
+/// Verdicts of all rules, and where undefined ones came from.
+fn reporting() -> Vec<Workload> {
+    vec![
         workload(
             "undefined, a report",
             Unit::Line,
@@ -150,30 +187,42 @@ pub fn workloads() -> Vec<Workload> {
             Call::Undefined,
             one(blank(6), blank(60)),
         ),
+    ]
+}
+
+/// Reports of as many sheets as a day has.
+fn days() -> Vec<Workload> {
+    vec![
         workload(
             "a day of 400 cap sheets",
             Unit::Line,
             Call::Report,
-            [40, 400].map(|sheets| (0..sheets).map(cap).collect()),
+            day(cap),
         ),
         workload(
             "a day of 400 texts",
             Unit::Line,
             Call::Report,
-            [40, 400].map(|sheets| (0..sheets).map(texts::told).collect()),
+            day(texts::told),
         ),
         workload(
             "a day of 400 area sheets",
             Unit::Line,
             Call::Report,
-            [40, 400].map(|sheets| (0..sheets).map(areas).collect()),
+            day(areas),
         ),
         workload(
             "a day of 400 density sheets",
             Unit::Line,
             Call::Report,
-            [40, 400].map(|sheets| (0..sheets).map(densities).collect()),
+            day(densities),
         ),
+    ]
+}
+
+/// One rule of many steps.
+fn stepping() -> Vec<Workload> {
+    vec![
         workload(
             "steps, forAll in forAll",
             Unit::Step,
@@ -192,6 +241,12 @@ pub fn workloads() -> Vec<Workload> {
             EVALUATE,
             one(real_iterations(31), real_iterations(68)),
         ),
+    ]
+}
+
+/// One rule that forms large values.
+fn forming() -> Vec<Workload> {
+    vec![
         workload(
             "values, Sets",
             Unit::Member,

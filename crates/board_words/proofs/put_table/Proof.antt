@@ -46,7 +46,7 @@ loop-again c =
     (put-more (at-start .args .words .now) (at-start .args .table .now) (at-start .args .at) (at-start .args .room) (at-start .args .n) (at-loop .loop .i) (at-loop .loop .inv .0) (at-start .pre .0) (at-start .pre .1) (at-loop-test .loop-test .taken) (c .word-or .ensures), omega arith, simp length-set (at-loop .loop .inv .2))
 
 same-length : tie.Need-same-length Inv-loop μ-loop
-same-length c = c .before .loop .inv .2
+same-length c = cc
 
 returns : tie.Need-returns Inv-loop μ-loop
 returns c =

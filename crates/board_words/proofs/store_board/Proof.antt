@@ -4,6 +4,7 @@ use Prim.Native.Nat.{zero-le}
 use lib.ListN.{length-set}
 use Rattle.board_words.proofs.StoringLaws.{part-long, written1, written2, written3, written4, written5, written6, board-stored}
 use borrow.Author.Needs.{needs}
+use Rattle.memory.specs.Map as memory
 use Rattle.board_words.proofs.store_board.Statement.{statement}
 use Rattle.board_words.proofs.store_board.Tie as tie
 
@@ -33,7 +34,7 @@ put-table-requires-2 c κs =
     let at-put-table = c .before .before .before .before in
     let at-wide = at-put-table .before .before in
     let at-start = at-wide .before .before .before .before in
-    ((let s = (written1 (at-start .args .st) (at-start .args .w0 .now) (at-start .args .ends .now) (at-start .args .words .now) (at-start .pre .3) (at-put-table .put-table .ensures)) .size in omega (arith, at-start .pre .3)), part-long (at-start .args .w0 .now) 352 1024 (at-start .pre .0) (omega arith) (let f = at-start .pre .1 .slots in let u = at-wide .wide .ensures in omega arith))
+    ((let s = (written1 (at-start .args .st) (at-start .args .w0 .now) (at-start .args .ends .now) (at-start .args .words .now) (at-start .pre .3) (at-put-table .put-table .ensures)) .size in omega (arith, at-start .pre .3)), part-long (at-start .args .w0 .now) memory.keys 1024 (at-start .pre .0) (omega arith) (let f = at-start .pre .1 .slots in let u = at-wide .wide .ensures in omega arith))
 
 sub-put-table-2 : tie.Need-sub-put-table-2
 sub-put-table-2 c = search needs
@@ -50,7 +51,7 @@ put-table-requires-3 c κs =
     let at-put-table = at-put-table2 .before .before .before .before .before in
     let at-wide = at-put-table .before .before in
     let at-start = at-wide .before .before .before .before in
-    ((let s = (written2 (at-start .args .st) (at-start .args .w0 .now) (at-start .args .ends .now) (at-start .args .words .now) (at-start .pre .3) (at-put-table .put-table .ensures) (at-wide .wide .ensures) (at-put-table2 .put-table2 .ensures)) .size in omega (arith, at-start .pre .3)), part-long (at-start .args .w0 .now) 1376 1024 (at-start .pre .0) (omega arith) (let f = at-start .pre .1 .slots in let u = at-wide .wide .ensures in omega arith))
+    ((let s = (written2 (at-start .args .st) (at-start .args .w0 .now) (at-start .args .ends .now) (at-start .args .words .now) (at-start .pre .3) (at-put-table .put-table .ensures) (at-wide .wide .ensures) (at-put-table2 .put-table2 .ensures)) .size in omega (arith, at-start .pre .3)), part-long (at-start .args .w0 .now) memory.starts 1024 (at-start .pre .0) (omega arith) (let f = at-start .pre .1 .slots in let u = at-wide .wide .ensures in omega arith))
 
 sub-put-table-3 : tie.Need-sub-put-table-3
 sub-put-table-3 c = search needs
@@ -71,7 +72,7 @@ put-table-requires-4 c κs =
     let at-put-table = at-put-table2 .before .before .before .before .before in
     let at-wide = at-put-table .before .before in
     let at-start = at-wide .before .before .before .before in
-    ((let s = (written3 (at-start .args .st) (at-start .args .w0 .now) (at-start .args .ends .now) (at-start .args .words .now) (at-start .pre .3) (at-put-table .put-table .ensures) (at-wide .wide .ensures) (at-put-table2 .put-table2 .ensures) (at-put-table3 .put-table3 .ensures)) .size in omega (arith, at-start .pre .3)), part-long (at-start .args .w0 .now) 2400 2048 (at-start .pre .0) (omega arith) (let f = at-start .pre .1 .cells in let u = c .wide2 .ensures in omega arith))
+    ((let s = (written3 (at-start .args .st) (at-start .args .w0 .now) (at-start .args .ends .now) (at-start .args .words .now) (at-start .pre .3) (at-put-table .put-table .ensures) (at-wide .wide .ensures) (at-put-table2 .put-table2 .ensures) (at-put-table3 .put-table3 .ensures)) .size in omega (arith, at-start .pre .3)), part-long (at-start .args .w0 .now) memory.cells 2048 (at-start .pre .0) (omega arith) (let f = at-start .pre .1 .cells in let u = c .wide2 .ensures in omega arith))
 
 wide-requires-3 : tie.Need-wide-requires-3
 wide-requires-3 c κs = search needs

@@ -11,7 +11,7 @@ shared-slice-read-result : tie.Need-shared-slice-read-result
 shared-slice-read-result c = search needs
 
 returns : tie.Need-returns
-returns c = word-there _ (c .before .if1 .taken)
+returns c = search word-there
 
 returns-2 : tie.Need-returns-2
 returns-2 c = word-past _ (c .if1 .left)

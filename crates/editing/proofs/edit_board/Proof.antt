@@ -8,13 +8,17 @@ use Rattle.editing.proofs.edit_board.Statement.{statement}
 use Rattle.editing.proofs.edit_board.Tie as tie
 
 replay-edit-requires : tie.Need-replay-edit-requires
-replay-edit-requires c κs = (c .before .before .before .before .before .before .before .before .pre .0 .3, c .before .before .before .before .before .before .before .before .pre .0 .0, lying-accepted (c .before .before .before .before .before .before .before .before .pre .1 .accepted))
+replay-edit-requires c κs = search lying-accepted
 
 enum-known-edited : tie.Need-enum-known-edited
 enum-known-edited c = search needs
 
 renew-board-requires : tie.Need-renew-board-requires
-renew-board-requires c κs = ((omega (arith, c .before .before .before .before .before .before .before .before .before .before .before .before .before .before .before .before .before .before .pre .0 .0, (c .before .before .before .before .before .before .before .before .before .replay-edit .ensures []) .kept .size), c .before .before .before .before .before .before .before .before .before .before .before .before .before .before .before .before .before .before .pre .0 .1, c .before .before .before .before .before .before .before .before .before .before .before .before .before .before .before .before .before .before .pre .0 .2, edit-known (c .before .before .before .before .before .before .before .before .before .replay-edit .ensures _) (c .before .before .before .before .before .edited .given .1) (c .before .before .before .before .before .before .before .before .before .before .before .before .before .before .before .before .before .before .pre .1)), (edit-row (c .before .before .before .before .before .before .before .before .before .replay-edit .ensures _) (c .before .before .before .before .before .edited .given .1) (c .before .before .before .before .before .before .before .before .before .before .before .before .before .before .before .before .before .before .pre .1), c .before .before .before .before .before .before .before .before .before .before .before .before .before .before .before .before .before .before .pre .0 .3))
+renew-board-requires c κs =
+    let at-edited = c .before .before .before .before .before in
+    let at-replay-edit = at-edited .before .before .before .before in
+    let at-start = at-replay-edit .before .before .before .before .before .before .before .before .before in
+    ((omega (arith, at-start .pre .0 .0, (at-replay-edit .replay-edit .ensures []) .kept .size), at-start .pre .0 .1, at-start .pre .0 .2, edit-known (at-replay-edit .replay-edit .ensures _) (at-edited .edited .given .1) (at-start .pre .1)), (edit-row (at-replay-edit .replay-edit .ensures _) (at-edited .edited .given .1) (at-start .pre .1), at-start .pre .0 .3))
 
 enum-known-n : tie.Need-enum-known-n
 enum-known-n c = search needs
@@ -32,7 +36,11 @@ same-length-4 : tie.Need-same-length-4
 same-length-4 c = search needs
 
 returns : tie.Need-returns
-returns c = edit-made (c .before .before .before .before .before .before .before .before .before .before .before .before .before .before .before .before .replay-edit .ensures _) (c .before .before .before .before .before .before .before .before .before .before .before .before .edited .given .1) (c .before .before .before .before .before .before .renew-board .ensures)
+returns c =
+    let at-renew-board = c .before .before .before .before .before .before in
+    let at-edited = at-renew-board .before .before .before .before .before .before in
+    let at-replay-edit = at-edited .before .before .before .before in
+    edit-made (at-replay-edit .replay-edit .ensures _) (at-edited .edited .given .1) (at-renew-board .renew-board .ensures)
 
 same-length-5 : tie.Need-same-length-5
 same-length-5 c = search needs

@@ -47,7 +47,12 @@ same-length-3 : tie.Need-same-length-3
 same-length-3 c = search needs
 
 returns : tie.Need-returns
-returns c = board-renewed _ (c .before .before .before .before .before .before .before .before .before .before .before .before .before .before .before .before .before .before .before .before .before .before .before .before .pre .0 .3) (c .before .before .before .before .before .before .before .before .before .before .before .before .before .renew .ensures) (c .before .before .before .before .before .before .end .given .1) (omega (arith, c .before .before .before .before .before .before .before .before .before .before .before .before .before .renew .ensures .placed-size, length-replicate {A = ℕ} 64 0)) (c .before .before .store-board .ensures) (search needs)
+returns c =
+    let at-store-board = c .before .before in
+    let at-end = at-store-board .before .before .before .before in
+    let at-renew = at-end .before .before .before .before .before .before .before in
+    let at-start = at-renew .before .before .before .before .before .before .before .before .before .before .before in
+    board-renewed _ (at-start .pre .0 .3) (at-renew .renew .ensures) (at-end .end .given .1) (omega (arith, at-renew .renew .ensures .placed-size, length-replicate {A = ℕ} 64 0)) (at-store-board .store-board .ensures) (search needs)
 
 same-length-4 : tie.Need-same-length-4
 same-length-4 c = search needs
@@ -59,7 +64,7 @@ same-length-6 : tie.Need-same-length-6
 same-length-6 c = search needs
 
 returns-2 : tie.Need-returns-2
-returns-2 c = board-short _ (c .before .before .before .before .before .before .before .before .before .before .before .before .before .before .before .before .before .before .pre .0 .3) (c .before .before .before .before .before .before .before .renew .ensures) (c .enum-told .given .1)
+returns-2 c = search board-short
 
 same-length-7 : tie.Need-same-length-7
 same-length-7 c = search needs
@@ -71,7 +76,7 @@ same-length-9 : tie.Need-same-length-9
 same-length-9 c = search needs
 
 returns-3 : tie.Need-returns-3
-returns-3 c = board-foreign _ (c .before .before .before .before .before .before .before .before .before .before .before .before .before .before .before .before .before .before .pre .0 .3) (c .before .before .before .before .before .before .before .renew .ensures) (c .enum-told2 .given .1)
+returns-3 c = search board-foreign
 
 pub renew-board-spec : {M : Type 1} → statement M
 renew-board-spec =

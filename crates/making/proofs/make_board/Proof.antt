@@ -1,5 +1,4 @@
 -- `making::make_board` meets its contract. Assumes nothing.
-use native.Mathlib.Omega.{arith}
 use Rattle.making.proofs.MadeLaws.{room-to-count, made-short, made-written}
 use borrow.Author.Needs.{needs}
 use Rattle.making.proofs.make_board.Statement.{statement}
@@ -21,13 +20,15 @@ slice-aggregate-rule-ends-2 : tie.Need-slice-aggregate-rule-ends-2
 slice-aggregate-rule-ends-2 c = search needs
 
 rule-ends-requires : tie.Need-rule-ends-requires
-rule-ends-requires c κs = ((c .before .before .before .before .before .before .before .before .before .before .before .before .before .before .before .before .before .before .pre .0 .0, c .before .before .before .before .before .before .before .before .before .before .before .before .before .before .before .before .before .before .pre .0 .1, (let k = c .before .before .before .before .before .before .before .before .before .before .report-sheet .ensures .kept .size in omega (arith, c .before .before .before .before .before .before .before .before .before .before .before .before .before .before .before .before .before .before .pre .0 .2))), (room-to-count (c .before .before .before .before .before .before .before .before .before .before .before .before .before .before .before .before .before .before .pre .1 .0), c .before .before .before .before .before .before .before .before .before .before .before .before .before .before .before .before .before .before .pre .1 .0 .accepted .lies .fine, search needs))
+rule-ends-requires c κs = search (room-to-count, needs)
 
 slice-aggregate-store-board : tie.Need-slice-aggregate-store-board
 slice-aggregate-store-board c = search needs
 
 store-board-requires : tie.Need-store-board-requires
-store-board-requires c κs = (c .before .before .before .before .before .before .before .before .before .before .before .before .before .before .before .before .before .before .before .before .before .before .before .before .before .pre .0 .0, c .before .before .before .before .before .before .before .before .before .before .before .before .before .before .before .before .before .before .before .before .before .before .before .before .before .pre .1 .0 .accepted .lies .fine, search needs, c .before .before .before .before .before .before .before .before .before .before .before .before .before .before .before .before .before .before .before .before .before .before .before .before .before .pre .0 .3)
+store-board-requires c κs =
+    let at-start = c .before .before .before .before .before .before .before .before .before .before .before .before .before .before .before .before .before .before .before .before .before .before .before .before .before in
+    (at-start .pre .0 .0, at-start .pre .1 .0 .accepted .lies .fine, search needs, at-start .pre .0 .3)
 
 same-length : tie.Need-same-length
 same-length c = search needs
@@ -36,7 +37,7 @@ same-length-2 : tie.Need-same-length-2
 same-length-2 c = search needs
 
 returns : tie.Need-returns
-returns c = made-short (c .before .before .before .before .before .before .report-sheet .ensures) (c .enum-told .given .1)
+returns c = search made-short
 
 same-length-3 : tie.Need-same-length-3
 same-length-3 c = search needs
@@ -48,7 +49,7 @@ same-length-5 : tie.Need-same-length-5
 same-length-5 c = search needs
 
 returns-2 : tie.Need-returns-2
-returns-2 c = made-written (c .before .before .before .before .before .before .before .before .before .before .before .before .before .before .before .before .before .before .before .before .report-sheet .ensures) (c .before .before .before .before .before .before .before .before .before .before .before .before .before .before .n .given .1) (c .before .before .before .before .before .before .before .before .before .rule-ends .ensures) (c .before .before .store-board .ensures)
+returns-2 c = search made-written
 
 pub make-board-spec : {M : Type 1} → statement M
 make-board-spec =

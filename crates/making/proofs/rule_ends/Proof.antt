@@ -23,13 +23,13 @@ loop-holds : tie.Need-loop-holds Inv-loop μ-loop
 loop-holds c = (rules-none _ _, ends-none, refl)
 
 object-lines-requires : tie.Need-object-lines-requires Inv-loop μ-loop
-object-lines-requires c κs = ((c .before .before .before .before .before .before .before .before .before .before .pre .0 .0, c .before .before .before .before .before .before .before .before .before .before .pre .0 .1, (let k = c .before .before .before .loop .inv .0 .kept .size in omega (arith, c .before .before .before .before .before .before .before .before .before .before .pre .0 .2))), rule-room (c .before .before .before .before .wide .ensures) (c .before .before .before .loop .inv .0) (c .before .before .loop-test .taken) (c .before .before .before .before .before .before .before .before .before .before .pre .1 .0) refl refl)
+object-lines-requires c κs = search (rule-room, needs)
 
 mul-ends : tie.Need-mul-ends Inv-loop μ-loop
-mul-ends c = (let f = c .before .before .before .before .before .before .before .before .before .before .before .before .before .before .before .pre .1 .1 .rules in let u = c .before .before .before .before .before .before .before .before .before .wide .ensures in let k = c .before .before .before .before .before .before .before .before .loop .inv .2 in omega (arith, c .before .before .before .before .before .before .before .before .before .before .before .before .before .before .before .pre .1 .2))
+mul-ends c = search needs
 
 slice-write-ends : tie.Need-slice-write-ends Inv-loop μ-loop
-slice-write-ends c = (let f = c .before .before .before .before .before .before .before .before .before .before .before .before .before .before .before .pre .1 .1 .rules in let u = c .before .before .before .before .before .before .before .before .before .wide .ensures in let k = c .before .before .before .before .before .before .before .before .loop .inv .2 in omega (arith, c .before .before .before .before .before .before .before .before .before .before .before .before .before .before .before .pre .1 .2))
+slice-write-ends c = search needs
 
 add-r : tie.Need-add-r Inv-loop μ-loop
 add-r c = omega arith
@@ -38,19 +38,29 @@ loop-less : tie.Need-loop-less Inv-loop μ-loop
 loop-less c = omega arith
 
 loop-again : tie.Need-loop-again Inv-loop μ-loop
-loop-again c = (rules-next (c .before .before .before .before .before .before .before .before .before .wide .ensures) (c .before .before .before .before .before .before .before .before .loop .inv .0) (c .before .before .before .before .before .before .before .loop-test .taken) (rule-room (c .before .before .before .before .before .before .before .before .before .wide .ensures) (c .before .before .before .before .before .before .before .before .loop .inv .0) (c .before .before .before .before .before .before .before .loop-test .taken) (c .before .before .before .before .before .before .before .before .before .before .before .before .before .before .before .pre .1 .0) refl refl) refl (c .before .before .before .before .object-lines .ensures), ends-next (c .before .before .before .before .before .before .before .before .loop .inv .1) (rules-next (c .before .before .before .before .before .before .before .before .before .wide .ensures) (c .before .before .before .before .before .before .before .before .loop .inv .0) (c .before .before .before .before .before .before .before .loop-test .taken) (rule-room (c .before .before .before .before .before .before .before .before .before .wide .ensures) (c .before .before .before .before .before .before .before .before .loop .inv .0) (c .before .before .before .before .before .before .before .loop-test .taken) (c .before .before .before .before .before .before .before .before .before .before .before .before .before .before .before .pre .1 .0) refl refl) refl (c .before .before .before .before .object-lines .ensures)) (let f = c .before .before .before .before .before .before .before .before .before .before .before .before .before .before .before .pre .1 .1 .rules in let u = c .before .before .before .before .before .before .before .before .before .wide .ensures in let k = c .before .before .before .before .before .before .before .before .loop .inv .2 in omega (arith, c .before .before .before .before .before .before .before .before .before .before .before .before .before .before .before .pre .1 .2)), simp length-set (c .before .before .before .before .before .before .before .before .loop .inv .2))
+loop-again c =
+    let at-object-lines = c .before .before .before .before in
+    let at-loop-test = at-object-lines .before .before .before in
+    let at-loop = at-loop-test .before in
+    let at-wide = at-loop .before in
+    let at-start = at-wide .before .before .before .before .before .before in
+    (rules-next (at-wide .wide .ensures) (at-loop .loop .inv .0) (at-loop-test .loop-test .taken) (rule-room (at-wide .wide .ensures) (at-loop .loop .inv .0) (at-loop-test .loop-test .taken) (at-start .pre .1 .0) refl refl) refl (at-object-lines .object-lines .ensures), ends-next (at-loop .loop .inv .1) (rules-next (at-wide .wide .ensures) (at-loop .loop .inv .0) (at-loop-test .loop-test .taken) (rule-room (at-wide .wide .ensures) (at-loop .loop .inv .0) (at-loop-test .loop-test .taken) (at-start .pre .1 .0) refl refl) refl (at-object-lines .object-lines .ensures)) (let f = at-start .pre .1 .1 .rules in let u = at-wide .wide .ensures in let k = at-loop .loop .inv .2 in omega (arith, at-start .pre .1 .2)), simp length-set (at-loop .loop .inv .2))
 
 same-length : tie.Need-same-length Inv-loop μ-loop
-same-length c = c .before .loop .inv .0 .kept .size
+same-length c = search needs
 
 same-length-2 : tie.Need-same-length-2 Inv-loop μ-loop
-same-length-2 c = c .before .loop .inv .0 .size
+same-length-2 c = search needs
 
 same-length-3 : tie.Need-same-length-3 Inv-loop μ-loop
-same-length-3 c = c .before .loop .inv .2
+same-length-3 c = search needs
 
 returns : tie.Need-returns Inv-loop μ-loop
-returns c = ends-all (c .before .before .wide .ensures) (c .before .before .before .before .before .before .before .before .pre .1 .1) (let k = c .before .loop .inv .2 in omega (arith, c .before .before .before .before .before .before .before .before .pre .1 .2)) (c .before .loop .inv .1) (c .before .loop .inv .0) (omega arith)
+returns c =
+    let at-loop = c .before in
+    let at-wide = at-loop .before in
+    let at-start = at-wide .before .before .before .before .before .before in
+    ends-all (at-wide .wide .ensures) (at-start .pre .1 .1) (let k = at-loop .loop .inv .2 in omega (arith, at-start .pre .1 .2)) (at-loop .loop .inv .1) (at-loop .loop .inv .0) (omega arith)
 
 pub rule-ends-spec : {M : Type 1} → statement M
 rule-ends-spec =

@@ -17,10 +17,15 @@ node-word-requires-2 : tie.Need-node-word-requires-2
 node-word-requires-2 c κs = search needs
 
 returns-3 : tie.Need-returns-3
-returns-3 c = lower-right _ _ _ (c .before .before .before .if2 .left) (c .before .before .before .before .if1 .left) (c .before .node-word2 .ensures) (c .before .before .node-word .ensures) (c .if3 .taken)
+returns-3 c =
+    let at-node-word2 = c .before in
+    let at-node-word = at-node-word2 .before in
+    let at-if2 = at-node-word .before in
+    let at-if1 = at-if2 .before in
+    lower-right _ _ _ (at-if2 .if2 .left) (at-if1 .if1 .left) (at-node-word2 .node-word2 .ensures) (at-node-word .node-word .ensures) (c .if3 .taken)
 
 returns-4 : tie.Need-returns-4
-returns-4 c = lower-left _ _ _ (c .before .before .before .if2 .left) (c .before .before .before .before .if1 .left) (c .before .node-word2 .ensures) (c .before .before .node-word .ensures) (c .if3 .left)
+returns-4 c = search lower-left
 
 pub lower-spec : {M : Type 1} → statement M
 lower-spec =

@@ -23,7 +23,11 @@ member-count-requires : tie.Need-member-count-requires
 member-count-requires c κs = search needs
 
 returns-6 : tie.Need-returns-6
-returns-6 c = coll-count _ _ (c .before .before .before .before .before .before .if1 .left) (c .before .before .if5 .left) (c .before .if6 .taken) (c .member-count .ensures)
+returns-6 c =
+    let at-if6 = c .before in
+    let at-if5 = at-if6 .before in
+    let at-if1 = at-if5 .before .before .before .before in
+    coll-count _ _ (at-if1 .if1 .left) (at-if5 .if5 .left) (at-if6 .if6 .taken) (c .member-count .ensures)
 
 late-count-requires : tie.Need-late-count-requires
 late-count-requires c κs = search needs

@@ -6,16 +6,16 @@ use Rattle.reader.proofs.body_line.Statement.{statement}
 use Rattle.reader.proofs.body_line.Tie as tie
 
 node-line-requires : tie.Need-node-line-requires
-node-line-requires c κs = (c .before .before .before .before .before .before .pre .0, node-letter (fieldsOf (c .before .before .before .before .before .before .args .line .now)) (c .before .before .before .before .before .before .args .kind) (c .before .before .before .before .before .before .pre .1) (c .before .if1 .taken), c .before .before .before .before .before .before .pre .3, c .before .before .before .before .before .before .pre .4, c .before .before .before .before .before .before .pre .6)
+node-line-requires c κs = search (node-letter, fieldsOf)
 
 same-length : tie.Need-same-length
 same-length c = search needs
 
 returns : tie.Need-returns
-returns c = by-node _ (c .before .before .node-line .ensures)
+returns c = search by-node
 
 text-line-requires : tie.Need-text-line-requires
-text-line-requires c κs = (c .before .before .before .before .before .before .before .pre .0, text-letter (fieldsOf (c .before .before .before .before .before .before .before .args .line .now)) (c .before .before .before .before .before .before .before .args .kind) (c .before .before .before .before .before .before .before .pre .1) (c .before .before .before .before .before .before .before .pre .2) (c .before .before .if1 .left), c .before .before .before .before .before .before .before .pre .3, c .before .before .before .before .before .before .before .pre .4, c .before .before .before .before .before .before .before .pre .5, c .before .before .before .before .before .before .before .pre .6)
+text-line-requires c κs = search (text-letter, fieldsOf)
 
 same-length-2 : tie.Need-same-length-2
 same-length-2 c = search needs
@@ -24,7 +24,7 @@ same-length-3 : tie.Need-same-length-3
 same-length-3 c = search needs
 
 returns-2 : tie.Need-returns-2
-returns-2 c = c .before .before .before .before .text-line .ensures
+returns-2 c = search needs
 
 pub body-line-spec : {M : Type 1} → statement M
 body-line-spec =

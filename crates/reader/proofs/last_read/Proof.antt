@@ -28,10 +28,16 @@ add-t13 : tie.Need-add-t13
 add-t13 c = search needs
 
 returns : tie.Need-returns
-returns c = body-last (c .before .before .before .before .before .before .before .before .before .args .st) (c .before .before .before .before .before .before .before .before .before .args .k) (c .before .before .before .before .before .before .before .before .before .args .part .now) (in-body (fieldsOf (c .before .before .before .before .before .before .before .before .before .args .part .now)) (c .before .before .byte-kind .result) (c .before .before .byte-kind .ensures ∙ ap byteKind (c .before .before .before .letter .ensures ∙ ap onlyByte (c .before .before .before .before .field .ensures))) (c .before .in-body .ensures) (c .if1 .taken))
+returns c =
+    let at-in-body = c .before in
+    let at-byte-kind = at-in-body .before in
+    let at-letter = at-byte-kind .before in
+    let at-field = at-letter .before in
+    let at-start = at-field .before .before .before .before .before in
+    body-last (at-start .args .st) (at-start .args .k) (at-start .args .part .now) (in-body (fieldsOf (at-start .args .part .now)) (at-byte-kind .byte-kind .result) (at-byte-kind .byte-kind .ensures ∙ ap byteKind (at-letter .letter .ensures ∙ ap onlyByte (at-field .field .ensures))) (at-in-body .in-body .ensures) (c .if1 .taken))
 
 end-rule-requires : tie.Need-end-rule-requires
-end-rule-requires c κs = (c .before .before .before .before .before .before .before .before .before .before .pre .0, c .before .before .before .before .before .before .before .before .before .before .pre .1, c .before .before .before .before .before .before .before .before .before .before .pre .2 .fine, rule-room (c .before .before .before .before .before .before .before .before .before .before .pre .2 .sheet) (c .before .before .before .before .before .before .before .before .before .before .pre .2 .holds) (c .before .before .before .before .before .before .before .before .before .before .pre .2 .good))
+end-rule-requires c κs = search rule-room
 
 enum-known-n : tie.Need-enum-known-n
 enum-known-n c = search needs
@@ -46,19 +52,46 @@ same-length : tie.Need-same-length
 same-length c = search needs
 
 returns-2 : tie.Need-returns-2
-returns-2 c = stop-last (c .before .before .before .before .before .before .before .before .before .before .before .before .before .before .before .before .args .st) (c .before .before .before .before .before .before .before .before .before .before .before .before .before .before .before .before .args .k) (c .before .before .before .before .before .before .before .before .before .before .before .before .before .before .before .before .args .part .now) (not-body (fieldsOf (c .before .before .before .before .before .before .before .before .before .before .before .before .before .before .before .before .args .part .now)) (c .before .before .before .before .before .before .before .before .before .byte-kind .result) (c .before .before .before .before .before .before .before .before .before .byte-kind .ensures ∙ ap byteKind (c .before .before .before .before .before .before .before .before .before .before .letter .ensures ∙ ap onlyByte (c .before .before .before .before .before .before .before .before .before .before .before .field .ensures))) (c .before .before .before .before .before .before .before .before .in-body .ensures) (c .before .before .before .before .before .before .before .if1 .left)) (rw (c .before .n .given .1) at (c .before .before .before .before .before .end-rule .ensures))
+returns-2 c =
+    let at-n = c .before in
+    let at-end-rule = at-n .before .before .before .before in
+    let at-if1 = at-end-rule .before .before in
+    let at-in-body = at-if1 .before in
+    let at-byte-kind = at-in-body .before in
+    let at-letter = at-byte-kind .before in
+    let at-field = at-letter .before in
+    let at-start = at-field .before .before .before .before .before in
+    stop-last (at-start .args .st) (at-start .args .k) (at-start .args .part .now) (not-body (fieldsOf (at-start .args .part .now)) (at-byte-kind .byte-kind .result) (at-byte-kind .byte-kind .ensures ∙ ap byteKind (at-letter .letter .ensures ∙ ap onlyByte (at-field .field .ensures))) (at-in-body .in-body .ensures) (at-if1 .if1 .left)) (rw (at-n .n .given .1) at (at-end-rule .end-rule .ensures))
 
 same-length-2 : tie.Need-same-length-2
 same-length-2 c = search needs
 
 returns-3 : tie.Need-returns-3
-returns-3 c = sheet-last (c .before .before .before .before .before .before .before .before .before .before .before .before .before .before .before .before .before .args .st) (c .before .before .before .before .before .before .before .before .before .before .before .before .before .before .before .before .before .args .k) (c .before .before .before .before .before .before .before .before .before .before .before .before .before .before .before .before .before .args .part .now) (not-body (fieldsOf (c .before .before .before .before .before .before .before .before .before .before .before .before .before .before .before .before .before .args .part .now)) (c .before .before .before .before .before .before .before .before .before .before .byte-kind .result) (c .before .before .before .before .before .before .before .before .before .before .byte-kind .ensures ∙ ap byteKind (c .before .before .before .before .before .before .before .before .before .before .before .letter .ensures ∙ ap onlyByte (c .before .before .before .before .before .before .before .before .before .before .before .before .field .ensures))) (c .before .before .before .before .before .before .before .before .before .in-body .ensures) (c .before .before .before .before .before .before .before .before .if1 .left)) (rw (c .before .before .next .given .1) at (c .before .before .before .before .before .before .end-rule .ensures)) (c .if2 .taken)
+returns-3 c =
+    let at-next = c .before .before in
+    let at-end-rule = at-next .before .before .before .before in
+    let at-if1 = at-end-rule .before .before in
+    let at-in-body = at-if1 .before in
+    let at-byte-kind = at-in-body .before in
+    let at-letter = at-byte-kind .before in
+    let at-field = at-letter .before in
+    let at-start = at-field .before .before .before .before .before in
+    sheet-last (at-start .args .st) (at-start .args .k) (at-start .args .part .now) (not-body (fieldsOf (at-start .args .part .now)) (at-byte-kind .byte-kind .result) (at-byte-kind .byte-kind .ensures ∙ ap byteKind (at-letter .letter .ensures ∙ ap onlyByte (at-field .field .ensures))) (at-in-body .in-body .ensures) (at-if1 .if1 .left)) (rw (at-next .next .given .1) at (at-end-rule .end-rule .ensures)) (c .if2 .taken)
 
 same-length-3 : tie.Need-same-length-3
 same-length-3 c = search needs
 
 returns-4 : tie.Need-returns-4
-returns-4 c = left-last (c .before .before .before .before .before .before .before .before .before .before .before .before .before .before .before .before .before .args .st) (c .before .before .before .before .before .before .before .before .before .before .before .before .before .before .before .before .before .args .k) (c .before .before .before .before .before .before .before .before .before .before .before .before .before .before .before .before .before .args .part .now) (not-body (fieldsOf (c .before .before .before .before .before .before .before .before .before .before .before .before .before .before .before .before .before .args .part .now)) (c .before .before .before .before .before .before .before .before .before .before .byte-kind .result) (c .before .before .before .before .before .before .before .before .before .before .byte-kind .ensures ∙ ap byteKind (c .before .before .before .before .before .before .before .before .before .before .before .letter .ensures ∙ ap onlyByte (c .before .before .before .before .before .before .before .before .before .before .before .before .field .ensures))) (c .before .before .before .before .before .before .before .before .before .in-body .ensures) (c .before .before .before .before .before .before .before .before .if1 .left)) (rw (c .before .before .next .given .1) at (c .before .before .before .before .before .before .end-rule .ensures)) (c .if2 .left)
+returns-4 c =
+    let at-next = c .before .before in
+    let at-end-rule = at-next .before .before .before .before in
+    let at-if1 = at-end-rule .before .before in
+    let at-in-body = at-if1 .before in
+    let at-byte-kind = at-in-body .before in
+    let at-letter = at-byte-kind .before in
+    let at-field = at-letter .before in
+    let at-start = at-field .before .before .before .before .before in
+    left-last (at-start .args .st) (at-start .args .k) (at-start .args .part .now) (not-body (fieldsOf (at-start .args .part .now)) (at-byte-kind .byte-kind .result) (at-byte-kind .byte-kind .ensures ∙ ap byteKind (at-letter .letter .ensures ∙ ap onlyByte (at-field .field .ensures))) (at-in-body .in-body .ensures) (at-if1 .if1 .left)) (rw (at-next .next .given .1) at (at-end-rule .end-rule .ensures)) (c .if2 .left)
 
 pub last-read-spec : {M : Type 1} → statement M
 last-read-spec =

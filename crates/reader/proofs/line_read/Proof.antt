@@ -29,7 +29,15 @@ add-body-line : tie.Need-add-body-line
 add-body-line c = search needs
 
 body-line-requires : tie.Need-body-line-requires
-body-line-requires c κs = (c .before .before .before .before .before .before .before .before .cut .ensures, (c .before .before .before .before .before .byte-kind .ensures ∙ ap byteKind (c .before .before .before .before .before .before .letter .ensures ∙ ap onlyByte (c .before .before .before .before .before .before .before .field .ensures))), sym (c .before .before .before .before .in-body .ensures) ∙ c .before .before .before .if1 .taken, c .before .before .before .before .before .before .before .before .before .before .before .before .before .pre .0, c .before .before .before .before .before .before .before .before .before .before .before .before .before .pre .1, c .before .before .before .before .before .before .before .before .before .before .before .before .before .pre .2, c .before .before .before .before .before .before .before .before .before .before .before .before .before .pre .3 .fine)
+body-line-requires c κs =
+    let at-if1 = c .before .before .before in
+    let at-in-body = at-if1 .before in
+    let at-byte-kind = at-in-body .before in
+    let at-letter = at-byte-kind .before in
+    let at-field = at-letter .before in
+    let at-cut = at-field .before in
+    let at-start = at-cut .before .before .before .before .before in
+    (at-cut .cut .ensures, (at-byte-kind .byte-kind .ensures ∙ ap byteKind (at-letter .letter .ensures ∙ ap onlyByte (at-field .field .ensures))), sym (at-in-body .in-body .ensures) ∙ at-if1 .if1 .taken, at-start .pre .0, at-start .pre .1, at-start .pre .2, at-start .pre .3 .fine)
 
 add-placed : tie.Need-add-placed
 add-placed c = search needs
@@ -47,10 +55,18 @@ same-length-3 : tie.Need-same-length-3
 same-length-3 c = search needs
 
 returns : tie.Need-returns
-returns c = rw (c .placed .ensures) (body-whole (c .before .before .before .before .before .before .before .before .before .before .before .before .before .before .before .before .before .before .before .args .st) (c .before .before .before .before .before .before .before .before .before .before .before .before .before .before .before .before .before .before .before .args .k) (c .before .before .before .before .before .before .before .before .before .before .before .before .before .before .before .before .before .before .before .args .line .now) (in-body (fieldsOf (c .before .before .before .before .before .before .before .before .before .before .before .before .before .before .before .before .before .before .before .args .line .now)) (c .before .before .before .before .before .before .before .before .before .before .before .byte-kind .result) (c .before .before .before .before .before .before .before .before .before .before .before .byte-kind .ensures ∙ ap byteKind (c .before .before .before .before .before .before .before .before .before .before .before .before .letter .ensures ∙ ap onlyByte (c .before .before .before .before .before .before .before .before .before .before .before .before .before .field .ensures))) (c .before .before .before .before .before .before .before .before .before .before .in-body .ensures) (c .before .before .before .before .before .before .before .before .before .if1 .taken)) (c .before .before .before .before .before .body-line .ensures))
+returns c =
+    let at-body-line = c .before .before .before .before .before in
+    let at-if1 = at-body-line .before .before .before .before in
+    let at-in-body = at-if1 .before in
+    let at-byte-kind = at-in-body .before in
+    let at-letter = at-byte-kind .before in
+    let at-field = at-letter .before in
+    let at-start = at-field .before .before .before .before .before .before in
+    rw (c .placed .ensures) (body-whole (at-start .args .st) (at-start .args .k) (at-start .args .line .now) (in-body (fieldsOf (at-start .args .line .now)) (at-byte-kind .byte-kind .result) (at-byte-kind .byte-kind .ensures ∙ ap byteKind (at-letter .letter .ensures ∙ ap onlyByte (at-field .field .ensures))) (at-in-body .in-body .ensures) (at-if1 .if1 .taken)) (at-body-line .body-line .ensures))
 
 end-rule-requires : tie.Need-end-rule-requires
-end-rule-requires c κs = (c .before .before .before .before .before .before .before .before .before .before .before .before .pre .0, c .before .before .before .before .before .before .before .before .before .before .before .before .pre .1, c .before .before .before .before .before .before .before .before .before .before .before .before .pre .3 .fine, rule-room (c .before .before .before .before .before .before .before .before .before .before .before .before .pre .3 .sheet) (c .before .before .before .before .before .before .before .before .before .before .before .before .pre .3 .holds) (c .before .before .before .before .before .before .before .before .before .before .before .before .pre .3 .good))
+end-rule-requires c κs = search rule-room
 
 enum-known-n : tie.Need-enum-known-n
 enum-known-n c = search needs
@@ -59,7 +75,17 @@ enum-known-next : tie.Need-enum-known-next
 enum-known-next c = search needs
 
 other-line-requires : tie.Need-other-line-requires
-other-line-requires c κs = (c .before .before .before .before .before .before .before .before .before .before .before .before .before .before .cut .ensures, (c .before .before .before .before .before .before .before .before .before .before .before .byte-kind .ensures ∙ ap byteKind (c .before .before .before .before .before .before .before .before .before .before .before .before .letter .ensures ∙ ap onlyByte (c .before .before .before .before .before .before .before .before .before .before .before .before .before .field .ensures))), sym (c .before .before .before .before .before .before .before .before .before .before .in-body .ensures) ∙ c .before .before .before .before .before .before .before .before .before .if1 .left, omega (arith, c .before .before .before .before .before .before .before .before .before .before .before .before .before .before .before .before .before .before .before .pre .0, c .before .before .before .before .before .before .end-rule .ensures .kept .size), ended-fine _ (c .before .before .before .before .before .before .end-rule .ensures .is (c .before .before .before .before .before .before .before .before .before .before .before .before .before .before .before .before .before .before .before .pre .3 .sheet) (c .before .before .before .before .before .before .before .before .before .before .before .before .before .before .before .before .before .before .before .pre .3 .holds)) (c .before .before .next .given .1))
+other-line-requires c κs =
+    let at-next = c .before .before in
+    let at-end-rule = at-next .before .before .before .before in
+    let at-if1 = at-end-rule .before .before .before in
+    let at-in-body = at-if1 .before in
+    let at-byte-kind = at-in-body .before in
+    let at-letter = at-byte-kind .before in
+    let at-field = at-letter .before in
+    let at-cut = at-field .before in
+    let at-start = at-cut .before .before .before .before .before in
+    (at-cut .cut .ensures, (at-byte-kind .byte-kind .ensures ∙ ap byteKind (at-letter .letter .ensures ∙ ap onlyByte (at-field .field .ensures))), sym (at-in-body .in-body .ensures) ∙ at-if1 .if1 .left, omega (arith, at-start .pre .0, at-end-rule .end-rule .ensures .kept .size), ended-fine _ (at-end-rule .end-rule .ensures .is (at-start .pre .3 .sheet) (at-start .pre .3 .holds)) (at-next .next .given .1))
 
 add-placed-2 : tie.Need-add-placed-2
 add-placed-2 c = omega (arith, c .before .before .before .before .before .before .before .before .before .before .before .before .before .before .before .before .before .before .before .before .before .before .pre .4)
@@ -74,7 +100,16 @@ same-length-5 : tie.Need-same-length-5
 same-length-5 c = search needs
 
 returns-2 : tie.Need-returns-2
-returns-2 c = stop-whole (c .before .before .before .before .before .before .before .before .before .before .before .before .before .before .before .before .before .before .args .st) (c .before .before .before .before .before .before .before .before .before .before .before .before .before .before .before .before .before .before .args .k) (c .before .before .before .before .before .before .before .before .before .before .before .before .before .before .before .before .before .before .args .line .now) _ (not-body (fieldsOf (c .before .before .before .before .before .before .before .before .before .before .before .before .before .before .before .before .before .before .args .line .now)) (c .before .before .before .before .before .before .before .before .before .before .byte-kind .result) (c .before .before .before .before .before .before .before .before .before .before .byte-kind .ensures ∙ ap byteKind (c .before .before .before .before .before .before .before .before .before .before .before .letter .ensures ∙ ap onlyByte (c .before .before .before .before .before .before .before .before .before .before .before .before .field .ensures))) (c .before .before .before .before .before .before .before .before .before .in-body .ensures) (c .before .before .before .before .before .before .before .before .if1 .left)) (rw (c .before .n .given .1) at (c .before .before .before .before .before .end-rule .ensures))
+returns-2 c =
+    let at-n = c .before in
+    let at-end-rule = at-n .before .before .before .before in
+    let at-if1 = at-end-rule .before .before .before in
+    let at-in-body = at-if1 .before in
+    let at-byte-kind = at-in-body .before in
+    let at-letter = at-byte-kind .before in
+    let at-field = at-letter .before in
+    let at-start = at-field .before .before .before .before .before .before in
+    stop-whole (at-start .args .st) (at-start .args .k) (at-start .args .line .now) _ (not-body (fieldsOf (at-start .args .line .now)) (at-byte-kind .byte-kind .result) (at-byte-kind .byte-kind .ensures ∙ ap byteKind (at-letter .letter .ensures ∙ ap onlyByte (at-field .field .ensures))) (at-in-body .in-body .ensures) (at-if1 .if1 .left)) (rw (at-n .n .given .1) at (at-end-rule .end-rule .ensures))
 
 same-length-6 : tie.Need-same-length-6
 same-length-6 c = search needs
@@ -83,7 +118,17 @@ same-length-7 : tie.Need-same-length-7
 same-length-7 c = search needs
 
 returns-3 : tie.Need-returns-3
-returns-3 c = rw (c .placed2 .ensures) (next-whole (c .before .before .before .before .before .before .before .before .before .before .before .before .before .before .before .before .before .before .before .before .before .before .before .args .st) (c .before .before .before .before .before .before .before .before .before .before .before .before .before .before .before .before .before .before .before .before .before .before .before .args .k) (c .before .before .before .before .before .before .before .before .before .before .before .before .before .before .before .before .before .before .before .before .before .before .before .args .line .now) _ (not-body (fieldsOf (c .before .before .before .before .before .before .before .before .before .before .before .before .before .before .before .before .before .before .before .before .before .before .before .args .line .now)) (c .before .before .before .before .before .before .before .before .before .before .before .before .before .before .before .byte-kind .result) (c .before .before .before .before .before .before .before .before .before .before .before .before .before .before .before .byte-kind .ensures ∙ ap byteKind (c .before .before .before .before .before .before .before .before .before .before .before .before .before .before .before .before .letter .ensures ∙ ap onlyByte (c .before .before .before .before .before .before .before .before .before .before .before .before .before .before .before .before .before .field .ensures))) (c .before .before .before .before .before .before .before .before .before .before .before .before .before .before .in-body .ensures) (c .before .before .before .before .before .before .before .before .before .before .before .before .before .if1 .left)) (rw (c .before .before .before .before .before .before .next .given .1) at (c .before .before .before .before .before .before .before .before .before .before .end-rule .ensures)) (c .before .before .before .other-line .ensures (c .before .before .before .before .before .before .before .before .before .before .before .before .before .before .before .before .before .before .before .before .before .before .before .args .w1 .now) (c .before .before .before .before .before .before .before .before .before .before .before .before .before .before .before .before .before .before .before .before .before .before .before .args .k + 1)))
+returns-3 c =
+    let at-other-line = c .before .before .before in
+    let at-next = at-other-line .before .before .before in
+    let at-end-rule = at-next .before .before .before .before in
+    let at-if1 = at-end-rule .before .before .before in
+    let at-in-body = at-if1 .before in
+    let at-byte-kind = at-in-body .before in
+    let at-letter = at-byte-kind .before in
+    let at-field = at-letter .before in
+    let at-start = at-field .before .before .before .before .before .before in
+    rw (c .placed2 .ensures) (next-whole (at-start .args .st) (at-start .args .k) (at-start .args .line .now) _ (not-body (fieldsOf (at-start .args .line .now)) (at-byte-kind .byte-kind .result) (at-byte-kind .byte-kind .ensures ∙ ap byteKind (at-letter .letter .ensures ∙ ap onlyByte (at-field .field .ensures))) (at-in-body .in-body .ensures) (at-if1 .if1 .left)) (rw (at-next .next .given .1) at (at-end-rule .end-rule .ensures)) (at-other-line .other-line .ensures (at-start .args .w1 .now) (at-start .args .k + 1)))
 
 pub line-read-spec : {M : Type 1} → statement M
 line-read-spec =

@@ -7,22 +7,22 @@ use Rattle.reader.proofs.other_line.Statement.{statement}
 use Rattle.reader.proofs.other_line.Tie as tie
 
 class-line-requires : tie.Need-class-line-requires
-class-line-requires c κs = (record { cut = c .before .before .before .before .pre .0; is-letter = class-letter (fieldsOf (c .before .before .before .before .args .line .now)) (c .before .before .before .before .args .kind) (c .before .before .before .before .pre .1) (c .before .match .keys1) }, c .before .before .before .before .pre .3, c .before .before .before .before .pre .4)
+class-line-requires c κs = search (class-letter, fieldsOf)
 
 row-line-requires : tie.Need-row-line-requires
-row-line-requires c κs = (record { cut = c .before .before .before .before .pre .0; is-letter = row-letter (fieldsOf (c .before .before .before .before .args .line .now)) (c .before .before .before .before .args .kind) (c .before .before .before .before .pre .1) (c .before .match .keys2) }, c .before .before .before .before .pre .3, c .before .before .before .before .pre .4)
+row-line-requires c κs = search (row-letter, fieldsOf)
 
 object-line-requires : tie.Need-object-line-requires
-object-line-requires c κs = (record { cut = c .before .before .before .before .pre .0; is-letter = object-letter (fieldsOf (c .before .before .before .before .args .line .now)) (c .before .before .before .before .args .kind) (c .before .before .before .before .pre .1) (c .before .match .keys3) }, c .before .before .before .before .pre .3, c .before .before .before .before .pre .4)
+object-line-requires c κs = search (object-letter, fieldsOf)
 
 value-line-requires : tie.Need-value-line-requires
-value-line-requires c κs = (c .before .before .before .before .pre .0, value-letter (fieldsOf (c .before .before .before .before .args .line .now)) (c .before .before .before .before .args .kind) (c .before .before .before .before .pre .1) (c .before .match .keys4), c .before .before .before .before .pre .3, c .before .before .before .before .pre .4)
+value-line-requires c κs = search (value-letter, fieldsOf)
 
 rule-line-requires : tie.Need-rule-line-requires
-rule-line-requires c κs = (record { cut = c .before .before .before .pre .0; is-letter = rule-letter (fieldsOf (c .before .before .before .args .line .now)) (c .before .before .before .args .kind) (c .before .before .before .pre .1) (c .match .keys5) }, c .before .before .before .pre .4)
+rule-line-requires c κs = search (rule-letter, fieldsOf)
 
 definition-line-requires : tie.Need-definition-line-requires
-definition-line-requires c κs = (record { cut = c .before .before .before .pre .0; is-letter = definition-letter (fieldsOf (c .before .before .before .args .line .now)) (c .before .before .before .args .kind) (c .before .before .before .pre .1) (c .match .keys6) }, c .before .before .before .pre .4)
+definition-line-requires c κs = search (definition-letter, fieldsOf)
 
 same-length : tie.Need-same-length
 same-length c = search needs
@@ -55,7 +55,7 @@ returns-6 : tie.Need-returns-6
 returns-6 c = λ w1 k. by-any (c .definition-line .ensures (c .before .before .before .before .args .w0 .now) w1 k)
 
 returns-7 : tie.Need-returns-7
-returns-7 c = λ w1 k. by-any (unspelled (c .before .before .before .args .st) k (c .before .before .before .args .w0 .now) w1 (c .before .before .before .args .line .now) (unknown-line (fieldsOf (c .before .before .before .args .line .now)) (c .before .before .before .args .kind) (c .before .before .before .pre .1) (c .match .rest .0 .0 .0 .0 .0 .1) (c .match .rest .0 .0 .0 .0 .1) (c .match .rest .0 .0 .0 .1) (c .match .rest .0 .0 .1) (c .match .rest .0 .1) (c .match .rest .1) (c .before .before .before .pre .2)))
+returns-7 c = search (by-any, unspelled, unknown-line, fieldsOf)
 
 pub other-line-spec : {M : Type 1} → statement M
 other-line-spec =

@@ -1,5 +1,4 @@
 -- The loop's invariant: `Going` of proofs/Loop.antt. What is left of the text falls. Assumes nothing.
-use mathlib.Core.Path.{sym, _∙_}
 use native.Mathlib.Omega.{arith}
 use lib.ListN.{length}
 use lib.Seq.{length-take-le}
@@ -21,70 +20,86 @@ find-requires : tie.Need-find-requires Inv-loop μ-loop
 find-requires c κs = search needs
 
 loop-holds : tie.Need-loop-holds Inv-loop μ-loop
-loop-holds c = going-start (c .before .before .before .before .before .before .args .text .now) (c .before .before .before .before .before .before .args .w0 .now) (c .before .before .before .before .before .before .args .w1 .now) (c .before .before .before .before .before .before .args .w2 .now) (c .before .nothing .result) (c .before .nothing .ensures) (c .find .ensures)
+loop-holds c = search going-start
 
 slice-aggregate-line-read : tie.Need-slice-aggregate-line-read Inv-loop μ-loop
-slice-aggregate-line-read c = sym (length-take-le _ _ (c .before .before .loop .inv .ends .within))
+slice-aggregate-line-read c = search length-take-le
 
 line-read-requires : tie.Need-line-read-requires Inv-loop μ-loop
-line-read-requires c κs = (omega (arith, c .before .before .before .before .before .loop .inv .kept0 .size, c .before .before .before .before .before .before .before .before .before .before .before .before .pre .0), omega (arith, c .before .before .before .before .before .loop .inv .kept1 .size, c .before .before .before .before .before .before .before .before .before .before .before .before .pre .1), omega (arith, c .before .before .before .before .before .loop .inv .kept2 .size, c .before .before .before .before .before .before .before .before .before .before .before .before .pre .2), c .before .before .before .before .before .loop .inv .held, omega (arith, c .before .before .before .before .before .loop .inv .short, c .before .before .before .before .before .before .before .before .before .before .before .before .pre .3))
+line-read-requires c κs = search needs
 
 enum-known-n : tie.Need-enum-known-n Inv-loop μ-loop
 enum-known-n c = search needs
 
 same-length : tie.Need-same-length Inv-loop μ-loop
-same-length c = c .before .before .before .before .before .before .before .before .before .line-read .ensures .kept0 .size ∙ c .before .before .before .before .before .before .before .before .before .before .before .before .before .before .before .loop .inv .kept0 .size
+same-length c = search needs
 
 same-length-2 : tie.Need-same-length-2 Inv-loop μ-loop
-same-length-2 c = c .before .before .before .before .before .before .before .before .before .line-read .ensures .kept1 .size ∙ c .before .before .before .before .before .before .before .before .before .before .before .before .before .before .before .loop .inv .kept1 .size
+same-length-2 c = search needs
 
 same-length-3 : tie.Need-same-length-3 Inv-loop μ-loop
-same-length-3 c = c .before .before .before .before .before .before .before .before .before .line-read .ensures .kept2 .size ∙ c .before .before .before .before .before .before .before .before .before .before .before .before .before .before .before .loop .inv .kept2 .size
+same-length-3 c = search needs
 
 returns : tie.Need-returns Inv-loop μ-loop
-returns c = going-refused (c .before .before .before .before .before .before .before .before .before .before .before .before .before .before .before .loop .inv) (c .before .before .before .before .before .before .before .before .before .before .before .before .before .before .loop-test .taken) (rw (c .before .n .given .1) at (c .before .before .before .before .before .before .before .before .before .line-read .ensures))
+returns c =
+    let at-n = c .before in
+    let at-line-read = at-n .before .before .before .before .before .before .before .before in
+    let at-loop-test = at-line-read .before .before .before .before .before in
+    let at-loop = at-loop-test .before in
+    going-refused (at-loop .loop .inv) (at-loop-test .loop-test .taken) (rw (at-n .n .given .1) at (at-line-read .line-read .ensures))
 
 enum-known-next : tie.Need-enum-known-next Inv-loop μ-loop
 enum-known-next c = search needs
 
 add-rest : tie.Need-add-rest Inv-loop μ-loop
-add-rest c = omega (arith, c .before .before .before .before .before .before .before .before .before .before .before .before .before .before .before .loop .inv .ends .within, c .before .before .before .before .before .before .before .before .before .before .before .before .before .before .before .loop .inv .short, c .before .before .before .before .before .before .before .before .before .before .before .before .before .before .before .before .before .before .before .before .before .before .pre .3)
+add-rest c =
+    let at-loop = c .before .before .before .before .before .before .before .before .before .before .before .before .before .before .before in
+    let at-start = at-loop .before .before .before .before .before .before .before in
+    omega (arith, at-loop .loop .inv .ends .within, at-loop .loop .inv .short, at-start .pre .3)
 
 sub-rest : tie.Need-sub-rest Inv-loop μ-loop
-sub-rest c = omega (arith, c .before .before .before .before .before .before .before .before .before .before .before .before .before .before .before .loop .inv .ends .within, c .before .before .before .before .before .before .before .before .before .before .before .before .before .before .loop-test .taken)
+sub-rest c = omega arith
 
 part-rest-start : tie.Need-part-rest-start Inv-loop μ-loop
-part-rest-start c = omega (arith, c .before .before .before .before .before .before .before .before .before .before .before .before .before .before .before .loop .inv .ends .within, c .before .before .before .before .before .before .before .before .before .before .before .before .before .before .loop-test .taken)
+part-rest-start c = omega arith
 
 part-rest-end : tie.Need-part-rest-end Inv-loop μ-loop
 part-rest-end c = search needs
 
 add-k : tie.Need-add-k Inv-loop μ-loop
-add-k c = omega (arith, c .before .before .before .before .before .before .before .before .before .before .before .before .before .before .before .before .loop .inv .short, c .before .before .before .before .before .before .before .before .before .before .before .before .before .before .before .before .before .before .before .before .before .before .before .pre .3)
+add-k c =
+    let at-loop = c .before .before .before .before .before .before .before .before .before .before .before .before .before .before .before .before in
+    let at-start = at-loop .before .before .before .before .before .before .before in
+    omega (arith, at-loop .loop .inv .short, at-start .pre .3)
 
 find-requires-2 : tie.Need-find-requires-2 Inv-loop μ-loop
 find-requires-2 c κs = search needs
 
 loop-less : tie.Need-loop-less Inv-loop μ-loop
-loop-less c = omega (arith, c .before .rest .given .2, c .before .before .before .before .before .before .before .before .before .before .before .before .before .before .before .before .loop-test .taken)
+loop-less c = omega arith
 
 loop-again : tie.Need-loop-again Inv-loop μ-loop
-loop-again c = going-next (c .before .before .before .before .before .before .before .before .before .before .before .before .before .before .before .before .before .loop .inv) (c .before .before .before .before .before .before .before .before .before .before .before .before .before .before .before .before .loop-test .taken) (rw (c .before .before .before .next .given .1) at (c .before .before .before .before .before .before .before .before .before .before .before .line-read .ensures)) (c .find2 .ensures)
+loop-again c =
+    let at-next = c .before .before .before in
+    let at-line-read = at-next .before .before .before .before .before .before .before .before in
+    let at-loop-test = at-line-read .before .before .before .before .before in
+    let at-loop = at-loop-test .before in
+    going-next (at-loop .loop .inv) (at-loop-test .loop-test .taken) (rw (at-next .next .given .1) at (at-line-read .line-read .ensures)) (c .find2 .ensures)
 
 last-read-requires : tie.Need-last-read-requires Inv-loop μ-loop
-last-read-requires c κs = (omega (arith, c .before .before .before .loop .inv .kept0 .size, c .before .before .before .before .before .before .before .before .before .before .pre .0), omega (arith, c .before .before .before .loop .inv .kept1 .size, c .before .before .before .before .before .before .before .before .before .before .pre .1), c .before .before .before .loop .inv .held, omega (arith, c .before .before .before .loop .inv .short, c .before .before .before .before .before .before .before .before .before .before .pre .3))
+last-read-requires c κs = search needs
 
 same-length-4 : tie.Need-same-length-4 Inv-loop μ-loop
-same-length-4 c = c .before .before .last-read .ensures .kept0 .size ∙ c .before .before .before .before .before .before .loop .inv .kept0 .size
+same-length-4 c = search needs
 
 same-length-5 : tie.Need-same-length-5 Inv-loop μ-loop
-same-length-5 c = c .before .before .before .before .before .before .loop .inv .kept1 .size
+same-length-5 c = search needs
 
 same-length-6 : tie.Need-same-length-6 Inv-loop μ-loop
-same-length-6 c = c .before .before .before .before .before .before .loop .inv .kept2 .size
+same-length-6 c = search needs
 
 returns-2 : tie.Need-returns-2 Inv-loop μ-loop
-returns-2 c = going-last (c .before .before .before .before .before .before .loop .inv) (c .before .before .before .before .before .loop-test .left) (c .before .before .last-read .ensures)
+returns-2 c = search going-last
 
 pub read-spec : {M : Type 1} → statement M
 read-spec =

@@ -23,7 +23,11 @@ slice-aggregate-place : tie.Need-slice-aggregate-place
 slice-aggregate-place c = search needs
 
 place-requires : tie.Need-place-requires
-place-requires c κs = ((few-rules (c .before .before .before .before .before .before .before .before .before .before .wide .ensures) (c .before .before .before .before .before .before .before .before .before .before .before .before .before .before .before .before .before .pre .0 .3), omega (arith, few-rules (c .before .before .before .before .before .before .before .before .before .before .wide .ensures) (c .before .before .before .before .before .before .before .before .before .before .before .before .before .before .before .before .before .pre .0 .3), c .before .before .before .before .before .before .before .before .before .before .before .before .before .before .before .before .before .pre .1 .0), omega (arith, few-rules (c .before .before .before .before .before .before .before .before .before .before .wide .ensures) (c .before .before .before .before .before .before .before .before .before .before .before .before .before .before .before .before .before .pre .0 .3), c .before .before .before .before .before .before .fresh-rules .ensures .ends-size, length-replicate {A = ℕ} 64 0), omega (arith, few-rules (c .before .before .before .before .before .before .before .before .before .before .wide .ensures) (c .before .before .before .before .before .before .before .before .before .before .before .before .before .before .before .before .before .pre .0 .3), c .before .before .before .before .before .before .before .before .before .before .before .before .before .before .before .before .before .pre .1 .1)), (rising-by (c .before .before .before .before .before .before .before .before .before .before .wide .ensures) (c .before .before .before .before .before .before .before .before .before .before .before .before .before .before .before .before .before .pre .1 .2), fresh-rising (c .before .before .before .before .before .before .before .before .before .before .wide .ensures) (c .before .before .before .before .before .before .fresh-rules .ensures) (c .before .before .before .before .before .before .before .before .before .before .before .before .before .before .before .before .before .pre .0 .3)))
+place-requires c κs =
+    let at-fresh-rules = c .before .before .before .before .before .before in
+    let at-wide = at-fresh-rules .before .before .before .before in
+    let at-start = at-wide .before .before .before .before .before .before .before in
+    ((few-rules (at-wide .wide .ensures) (at-start .pre .0 .3), omega (arith, few-rules (at-wide .wide .ensures) (at-start .pre .0 .3), at-start .pre .1 .0), omega (arith, few-rules (at-wide .wide .ensures) (at-start .pre .0 .3), at-fresh-rules .fresh-rules .ensures .ends-size, length-replicate {A = ℕ} 64 0), omega (arith, few-rules (at-wide .wide .ensures) (at-start .pre .0 .3), at-start .pre .1 .1)), (rising-by (at-wide .wide .ensures) (at-start .pre .1 .2), fresh-rising (at-wide .wide .ensures) (at-fresh-rules .fresh-rules .ensures) (at-start .pre .0 .3)))
 
 slice-aggregate-rearrange : tie.Need-slice-aggregate-rearrange
 slice-aggregate-rearrange c = search needs
@@ -32,10 +36,20 @@ slice-aggregate-rearrange-2 : tie.Need-slice-aggregate-rearrange-2
 slice-aggregate-rearrange-2 c = search needs
 
 rearrange-requires : tie.Need-rearrange-requires
-rearrange-requires c κs = ((c .before .before .before .before .before .before .before .before .before .before .before .before .before .before .before .before .before .before .before .before .before .before .before .before .before .before .pre .0 .0, c .before .before .before .before .before .before .before .before .before .before .before .before .before .before .before .before .before .before .before .before .before .before .before .before .before .before .pre .0 .1, omega (arith, c .before .before .before .before .before .before .before .before .before .before .before .before .before .before .before .before .before .before .before .before .before .before .before .before .before .before .pre .0 .2, c .before .before .before .before .before .before .before .before .before .before .before .before .before .before .before .fresh-rules .ensures .kept .size), c .before .before .before .before .before .before .before .before .before .before .before .before .before .before .before .before .before .before .before .before .before .before .before .before .before .before .pre .1 .0, omega (arith, c .before .before .before .before .before .before .before .before .before .before .before .before .before .before .before .fresh-rules .ensures .ends-size, length-replicate {A = ℕ} 64 0), omega (arith, c .before .before .before .before .before .before .before .before .before .before .before .before .before .before .before .fresh-rules .ensures .size, length-replicate {A = ℕ} 18944 0)), (omega (arith, c .before .before .before .before .before .before .before .before .before .before .before .before .before .before .before .before .before .before .before .before .before .before .before .before .before .before .pre .1 .1, c .before .before .before .before .before .before .before .before .place .ensures .size), some-placing (c .before .before .before .before .before .before .before .before .before .before .before .before .before .before .before .fresh-rules .ensures) _ (c .before .before .before .before .before .before .before .before .before .before .before .before .before .before .before .before .before .before .before .wide .ensures) (c .before .before .before .before .before .before .before .before .place .ensures) (c .before .before .before .before .before .if1 .taken) (c .before .before .before .before .before .before .before .before .before .before .before .before .before .before .before .before .before .before .before .before .before .before .before .before .before .before .pre .0 .3) (c .before .before .before .before .before .before .before .before .before .before .before .before .before .before .before .before .before .before .before .before .before .before .before .before .before .before .pre .1 .2), c .before .before .before .before .before .before .before .before .before .before .before .before .before .before .before .before .before .before .before .before .before .before .before .before .before .before .pre .1 .2))
+rearrange-requires c κs =
+    let at-if1 = c .before .before .before .before .before in
+    let at-place = at-if1 .before .before .before in
+    let at-fresh-rules = at-place .before .before .before .before .before .before .before in
+    let at-wide = at-fresh-rules .before .before .before .before in
+    let at-start = at-wide .before .before .before .before .before .before .before in
+    ((at-start .pre .0 .0, at-start .pre .0 .1, omega (arith, at-start .pre .0 .2, at-fresh-rules .fresh-rules .ensures .kept .size), at-start .pre .1 .0, omega (arith, at-fresh-rules .fresh-rules .ensures .ends-size, length-replicate {A = ℕ} 64 0), omega (arith, at-fresh-rules .fresh-rules .ensures .size, length-replicate {A = ℕ} 18944 0)), (omega (arith, at-start .pre .1 .1, at-place .place .ensures .size), some-placing (at-fresh-rules .fresh-rules .ensures) _ (at-wide .wide .ensures) (at-place .place .ensures) (at-if1 .if1 .taken) (at-start .pre .0 .3) (at-start .pre .1 .2), at-start .pre .1 .2))
 
 start-of-requires : tie.Need-start-of-requires
-start-of-requires c κs = omega (arith, few-rules (c .before .before .before .before .before .before .before .before .before .before .before .before .before .before .before .before .before .before .before .before .before .before .before .before .before .wide .ensures) (c .before .before .before .before .before .before .before .before .before .before .before .before .before .before .before .before .before .before .before .before .before .before .before .before .before .before .before .before .before .before .before .before .pre .0 .3), c .before .before .before .before .before .before .before .before .before .before .before .before .before .before .before .before .before .before .before .before .before .before .before .before .before .before .before .before .before .before .before .before .pre .1 .1, c .before .before .before .before .before .before .before .before .before .before .before .before .before .before .place .ensures .size)
+start-of-requires c κs =
+    let at-place = c .before .before .before .before .before .before .before .before .before .before .before .before .before .before in
+    let at-wide = at-place .before .before .before .before .before .before .before .before .before .before .before in
+    let at-start = at-wide .before .before .before .before .before .before .before in
+    omega (arith, few-rules (at-wide .wide .ensures) (at-start .pre .0 .3), at-start .pre .1 .1, at-place .place .ensures .size)
 
 same-length : tie.Need-same-length
 same-length c = search needs
@@ -47,7 +61,7 @@ same-length-3 : tie.Need-same-length-3
 same-length-3 c = search needs
 
 returns : tie.Need-returns
-returns c = renewed-written (c .before .before .before .before .before .before .before .before .before .before .before .before .before .before .before .before .before .before .before .before .before .before .fresh-rules .ensures) _ (c .before .before .before .before .before .before .before .before .before .before .before .before .before .before .before .before .before .before .before .before .before .before .before .before .before .before .wide .ensures) (c .before .before .before .before .before .before .before .before .before .before .before .before .before .before .before .place .ensures) (c .before .before .before .before .before .before .before .before .before .before .before .before .if1 .taken) (c .before .before .before .before .before .before .rearrange .ensures) (c .start-of .ensures)
+returns c = search renewed-written
 
 same-length-4 : tie.Need-same-length-4
 same-length-4 c = search needs
@@ -56,7 +70,7 @@ same-length-5 : tie.Need-same-length-5
 same-length-5 c = search needs
 
 returns-2 : tie.Need-returns-2
-returns-2 c = renewed-short (c .before .before .before .before .before .before .before .before .before .before .fresh-rules .ensures) _ (c .before .before .before .before .before .before .before .before .before .before .before .before .before .before .wide .ensures) (c .before .before .before .place .ensures) (c .if1 .left)
+returns-2 c = search renewed-short
 
 pub renew-touched-spec : {M : Type 1} → statement M
 renew-touched-spec =

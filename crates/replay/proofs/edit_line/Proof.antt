@@ -22,10 +22,20 @@ byte-kind-requires : tie.Need-byte-kind-requires
 byte-kind-requires c κs = search needs
 
 returns : tie.Need-returns
-returns c = not-value (c .before .byte-kind .ensures ∙ ap byteKind (c .before .before .letter .ensures ∙ ap onlyByte (c .before .before .before .field .ensures))) (c .if1 .taken)
+returns c =
+    let at-byte-kind = c .before in
+    let at-letter = at-byte-kind .before in
+    let at-field = at-letter .before in
+    not-value (at-byte-kind .byte-kind .ensures ∙ ap byteKind (at-letter .letter .ensures ∙ ap onlyByte (at-field .field .ensures))) (c .if1 .taken)
 
 edit-slots-requires : tie.Need-edit-slots-requires
-edit-slots-requires c κs = (c .before .before .before .before .before .cut .ensures, value-letter (fieldsOf (c .before .before .before .before .before .before .before .before .before .args .own .now)) (c .before .before .byte-kind .ensures ∙ ap byteKind (c .before .before .before .letter .ensures ∙ ap onlyByte (c .before .before .before .before .field .ensures))) (omega arith), c .before .before .before .before .before .before .before .before .before .pre .0, c .before .before .before .before .before .before .before .before .before .pre .1, c .before .before .before .before .before .before .before .before .before .pre .2)
+edit-slots-requires c κs =
+    let at-byte-kind = c .before .before in
+    let at-letter = at-byte-kind .before in
+    let at-field = at-letter .before in
+    let at-cut = at-field .before in
+    let at-start = at-cut .before .before .before .before in
+    (at-cut .cut .ensures, value-letter (fieldsOf (at-start .args .own .now)) (at-byte-kind .byte-kind .ensures ∙ ap byteKind (at-letter .letter .ensures ∙ ap onlyByte (at-field .field .ensures))) (omega arith), at-start .pre .0, at-start .pre .1, at-start .pre .2)
 
 same-length : tie.Need-same-length
 same-length c = search needs

@@ -7,7 +7,7 @@ use Rattle.replay.proofs.edit_slots.Statement.{statement}
 use Rattle.replay.proofs.edit_slots.Tie as tie
 
 judge-requires : tie.Need-judge-requires
-judge-requires c κs = (c .before .before .before .before .pre .0, c .before .before .before .before .pre .1, c .before .before .before .before .pre .3, c .before .before .before .before .pre .4 .fine)
+judge-requires c κs = search needs
 
 enum-known-n : tie.Need-enum-known-n
 enum-known-n c = search needs
@@ -19,7 +19,11 @@ emptied-requires : tie.Need-emptied-requires
 emptied-requires c κs = search needs
 
 replay-requires : tie.Need-replay-requires
-replay-requires c κs = (c .before .before .before .before .before .before .before .before .before .before .before .before .pre .0, c .before .before .before .before .before .before .before .before .before .before .before .before .pre .1, spelled-judged (c .before .before .before .before .before .before .before .before .before .before .before .before .pre .4) (rw (c .before .before .before .key .given .1) at (c .before .before .before .before .before .before .before .judge .ensures)), c .before .before .before .before .before .before .before .before .before .before .before .before .pre .2, (let k = c .before .before .before .before .before .before .before .judge .ensures [] .kept .size in omega arith), rw (c .emptied .ensures) (lying-emptied (c .before .before .before .before .before .before .before .before .before .before .before .before .pre .4) (rw (c .before .before .before .key .given .1) at (c .before .before .before .before .before .before .before .judge .ensures))))
+replay-requires c κs =
+    let at-key = c .before .before .before in
+    let at-judge = at-key .before .before .before .before in
+    let at-start = at-judge .before .before .before .before .before in
+    (at-start .pre .0, at-start .pre .1, spelled-judged (at-start .pre .4) (rw (at-key .key .given .1) at (at-judge .judge .ensures)), at-start .pre .2, (let k = at-judge .judge .ensures [] .kept .size in omega arith), rw (c .emptied .ensures) (lying-emptied (at-start .pre .4) (rw (at-key .key .given .1) at (at-judge .judge .ensures))))
 
 enum-told : tie.Need-enum-told
 enum-told c = search needs
@@ -40,13 +44,27 @@ same-length-2 : tie.Need-same-length-2
 same-length-2 c = search needs
 
 returns-2 : tie.Need-returns-2
-returns-2 c = edit-full (rw (c .before .before .before .before .before .before .before .before .key .given .1) at (c .before .before .before .before .before .before .before .before .before .before .before .before .judge .ensures)) (c .before .before .before .before .before .emptied .ensures) (c .enum-told .given .1) (c .before .before .before .before .replay .ensures)
+returns-2 c =
+    let at-replay = c .before .before .before .before in
+    let at-emptied = at-replay .before in
+    let at-key = at-emptied .before .before .before in
+    let at-judge = at-key .before .before .before .before in
+    edit-full (rw (at-key .key .given .1) at (at-judge .judge .ensures)) (at-emptied .emptied .ensures) (c .enum-told .given .1) (at-replay .replay .ensures)
 
 same-length-3 : tie.Need-same-length-3
-same-length-3 c = (let a = c .before .before .before .before .before .before .before .before .before .before .before .before .before .before .judge .ensures [] .kept .size in let b = c .before .before .before .before .before .before .replay .ensures [] .kept .size in omega arith)
+same-length-3 c =
+    let at-replay = c .before .before .before .before .before .before in
+    let at-judge = at-replay .before .before .before .before .before .before .before .before in
+    (let a = at-judge .judge .ensures [] .kept .size in let b = at-replay .replay .ensures [] .kept .size in omega arith)
 
 returns-3 : tie.Need-returns-3
-returns-3 c = edit-made (rw (c .before .before .before .before .before .before .before .before .before .before .key .given .1) at (c .before .before .before .before .before .before .before .before .before .before .before .before .before .before .judge .ensures)) (c .before .before .before .before .before .before .before .emptied .ensures) (c .before .before .su .given .1) (c .finished .ensures) (c .before .before .before .before .before .before .replay .ensures)
+returns-3 c =
+    let at-su = c .before .before in
+    let at-replay = at-su .before .before .before .before in
+    let at-emptied = at-replay .before in
+    let at-key = at-emptied .before .before .before in
+    let at-judge = at-key .before .before .before .before in
+    edit-made (rw (at-key .key .given .1) at (at-judge .judge .ensures)) (at-emptied .emptied .ensures) (at-su .su .given .1) (c .finished .ensures) (at-replay .replay .ensures)
 
 pub edit-slots-spec : {M : Type 1} → statement M
 edit-slots-spec =

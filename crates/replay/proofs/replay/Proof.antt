@@ -15,13 +15,13 @@ wide-requires : tie.Need-wide-requires
 wide-requires c κs = search needs
 
 returns : tie.Need-returns
-returns c = replay-many (c .before .wide .ensures) (c .if1 .taken)
+returns c = search replay-many
 
 slots-before-requires : tie.Need-slots-before-requires
 slots-before-requires c κs = search needs
 
 take-slots-requires : tie.Need-take-slots-requires
-take-slots-requires c κs = (c .before .before .before .before .before .before .before .before .pre .3, c .before .before .before .before .before .before .before .before .pre .4, c .before .before .before .before .before .before .before .before .pre .5, zero-le, c .before .slots-before .ensures .low, omega arith)
+take-slots-requires c κs = search zero-le
 
 enum-known-a : tie.Need-enum-known-a
 enum-known-a c = search needs
@@ -33,10 +33,14 @@ same-length : tie.Need-same-length
 same-length c = search needs
 
 returns-2 : tie.Need-returns-2
-returns-2 c = replay-first (c .before .before .before .before .before .before .before .before .wide .ensures) (c .before .before .before .before .before .before .before .if1 .left) (c .before .before .before .before .before .before .slots-before .ensures) (c .before .before .before .before .take-slots .ensures) (c .enum-told .given .1)
+returns-2 c = search replay-first
 
 own-slot-requires : tie.Need-own-slot-requires
-own-slot-requires c κs = (c .before .before .before .before .before .before .before .before .before .before .before .before .before .before .before .pre .0, c .before .before .before .before .before .before .before .before .before .before .before .before .before .before .before .pre .1, (let k = c .before .before .before .before .before .before .take-slots .ensures [] .kept .size in omega arith), lying-slots (c .before .before .before .before .before .before .before .before .before .before .before .before .before .before .before .pre .5) (c .before .before .before .before .before .before .take-slots .ensures) (c .before .before .a .given .1))
+own-slot-requires c κs =
+    let at-a = c .before .before in
+    let at-take-slots = at-a .before .before .before .before in
+    let at-start = at-take-slots .before .before .before .before .before .before .before .before .before in
+    (at-start .pre .0, at-start .pre .1, (let k = at-take-slots .take-slots .ensures [] .kept .size in omega arith), lying-slots (at-start .pre .5) (at-take-slots .take-slots .ensures) (at-a .a .given .1))
 
 enum-known-b : tie.Need-enum-known-b
 enum-known-b c = search needs
@@ -48,19 +52,47 @@ same-length-2 : tie.Need-same-length-2
 same-length-2 c = search needs
 
 returns-3 : tie.Need-returns-3
-returns-3 c = replay-own (c .before .before .before .before .before .before .before .before .before .before .before .before .before .before .before .wide .ensures) (c .before .before .before .before .before .before .before .before .before .before .before .before .before .before .if1 .left) (c .before .before .before .before .before .before .before .before .before .before .before .before .before .slots-before .ensures) (c .before .before .before .before .before .before .before .before .before .before .before .take-slots .ensures) (c .before .before .before .before .before .before .before .a .given .1) (c .before .before .before .before .own-slot .ensures) (c .enum-told2 .given .1)
+returns-3 c =
+    let at-own-slot = c .before .before .before .before in
+    let at-a = at-own-slot .before .before .before in
+    let at-take-slots = at-a .before .before .before .before in
+    let at-slots-before = at-take-slots .before .before in
+    let at-if1 = at-slots-before .before in
+    let at-wide = at-if1 .before in
+    replay-own (at-wide .wide .ensures) (at-if1 .if1 .left) (at-slots-before .slots-before .ensures) (at-take-slots .take-slots .ensures) (at-a .a .given .1) (at-own-slot .own-slot .ensures) (c .enum-told2 .given .1)
 
 slot-after-requires : tie.Need-slot-after-requires
-slot-after-requires c κs = (c .before .before .before .before .before .before .before .before .before .before .before .before .before .before .before .before .before .before .before .before .before .pre .3, c .before .before .before .before .before .before .before .before .before .before .before .before .before .before .slots-before .ensures .low, omega arith)
+slot-after-requires c κs =
+    let at-slots-before = c .before .before .before .before .before .before .before .before .before .before .before .before .before .before in
+    let at-start = at-slots-before .before .before .before .before .before .before .before in
+    (at-start .pre .3, at-slots-before .slots-before .ensures .low, omega arith)
 
 take-slots-requires-2 : tie.Need-take-slots-requires-2
-take-slots-requires-2 c κs = (c .before .before .before .before .before .before .before .before .before .before .before .before .before .before .before .before .before .before .before .before .before .before .before .pre .3, (let k = c .before .before .before .before .before .before .before .before .before .before .before .before .before .before .take-slots .ensures [] .kept .size in let l = c .before .before .before .before .before .before .before .own-slot .ensures [] .kept .size in omega (arith, c .before .before .before .before .before .before .before .before .before .before .before .before .before .before .before .before .before .before .before .before .before .before .before .pre .4)), lying-own (lying-slots (c .before .before .before .before .before .before .before .before .before .before .before .before .before .before .before .before .before .before .before .before .before .before .before .pre .5) (c .before .before .before .before .before .before .before .before .before .before .before .before .before .before .take-slots .ensures) (c .before .before .before .before .before .before .before .before .before .before .a .given .1)) (c .before .before .before .before .before .before .before .before .before .before .before .before .before .before .before .before .before .before .before .before .before .before .before .pre .2) (c .before .before .before .before .before .before .before .own-slot .ensures) (c .before .before .before .b .given .1), after-low _ _ (c .before .before .before .before .before .before .before .before .before .before .before .before .before .before .before .before .slots-before .ensures .low) (c .before .slot-after .ensures), omega arith, omega arith)
+take-slots-requires-2 c κs =
+    let at-slot-after = c .before in
+    let at-b = at-slot-after .before .before in
+    let at-own-slot = at-b .before .before .before .before in
+    let at-a = at-own-slot .before .before .before in
+    let at-take-slots = at-a .before .before .before .before in
+    let at-slots-before = at-take-slots .before .before in
+    let at-start = at-slots-before .before .before .before .before .before .before .before in
+    (at-start .pre .3, (let k = at-take-slots .take-slots .ensures [] .kept .size in let l = at-own-slot .own-slot .ensures [] .kept .size in omega (arith, at-start .pre .4)), lying-own (lying-slots (at-start .pre .5) (at-take-slots .take-slots .ensures) (at-a .a .given .1)) (at-start .pre .2) (at-own-slot .own-slot .ensures) (at-b .b .given .1), after-low _ _ (at-slots-before .slots-before .ensures .low) (at-slot-after .slot-after .ensures), omega arith, omega arith)
 
 same-length-3 : tie.Need-same-length-3
 same-length-3 c = search needs
 
 returns-4 : tie.Need-returns-4
-returns-4 c = replay-last (c .before .before .before .before .before .before .before .before .before .before .before .before .before .before .before .before .before .before .before .before .before .wide .ensures) (c .before .before .before .before .before .before .before .before .before .before .before .before .before .before .before .before .before .before .before .before .if1 .left) (c .before .before .before .before .before .before .before .before .before .before .before .before .before .before .before .before .before .before .before .slots-before .ensures) (c .before .before .before .before .before .before .before .before .before .before .before .before .before .before .before .before .before .take-slots .ensures) (c .before .before .before .before .before .before .before .before .before .before .before .before .before .a .given .1) (c .before .before .before .before .before .before .before .before .before .before .own-slot .ensures) (c .before .before .before .before .before .before .b .given .1) (c .before .before .before .before .slot-after .ensures) (c .before .before .take-slots2 .ensures)
+returns-4 c =
+    let at-take-slots2 = c .before .before in
+    let at-slot-after = at-take-slots2 .before .before in
+    let at-b = at-slot-after .before .before in
+    let at-own-slot = at-b .before .before .before .before in
+    let at-a = at-own-slot .before .before .before in
+    let at-take-slots = at-a .before .before .before .before in
+    let at-slots-before = at-take-slots .before .before in
+    let at-if1 = at-slots-before .before in
+    let at-wide = at-if1 .before in
+    replay-last (at-wide .wide .ensures) (at-if1 .if1 .left) (at-slots-before .slots-before .ensures) (at-take-slots .take-slots .ensures) (at-a .a .given .1) (at-own-slot .own-slot .ensures) (at-b .b .given .1) (at-slot-after .slot-after .ensures) (at-take-slots2 .take-slots2 .ensures)
 
 pub replay-spec : {M : Type 1} → statement M
 replay-spec =

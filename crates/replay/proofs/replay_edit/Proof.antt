@@ -1,6 +1,5 @@
 -- `replay::replay_edit` meets its contract. Assumes nothing.
 use native.Mathlib.Omega.{arith}
-use mathlib.Core.Path.{sym}
 use lib.Seq.{length-take-le}
 use Rattle.replay.proofs.EditLineLaws.{no-feed, two-lines, one-line}
 use borrow.Author.Needs.{needs}
@@ -11,16 +10,16 @@ find-requires : tie.Need-find-requires
 find-requires c κs = search needs
 
 returns : tie.Need-returns
-returns c = λ w1. no-feed (c .before .find .ensures) (c .if1 .taken)
+returns c = search no-feed
 
 add-if2 : tie.Need-add-if2
 add-if2 c = search needs
 
 returns-2 : tie.Need-returns-2
-returns-2 c = λ w1. two-lines (c .before .before .find .ensures) (c .if2 .taken)
+returns-2 c = search two-lines
 
 slice-aggregate-edit-line : tie.Need-slice-aggregate-edit-line
-slice-aggregate-edit-line c = sym (length-take-le _ (c .before .before .before .before .before .before .before .args .line .now) (omega arith))
+slice-aggregate-edit-line c = search length-take-le
 
 edit-line-requires : tie.Need-edit-line-requires
 edit-line-requires c κs = search needs

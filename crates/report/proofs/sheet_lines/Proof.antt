@@ -11,7 +11,12 @@ lines-fit-requires : tie.Need-lines-fit-requires
 lines-fit-requires c κs = search (bounded-by, needs)
 
 rule-lines-requires : tie.Need-rule-lines-requires
-rule-lines-requires c κs = ((search needs, search needs, search needs), all-room (c .before .before .before .before .before .before .before .all-bound .ensures) (c .before .before .before .before .before .lines-fit .ensures) (c .before .before .if1 .taken) (c .before .before .before .before .before .before .before .before .before .before .before .before .before .pre .1 .0) (c .before .before .before .before .before .before .before .before .before .before .before .before .before .pre .1 .1))
+rule-lines-requires c κs =
+    let at-if1 = c .before .before in
+    let at-lines-fit = at-if1 .before .before .before in
+    let at-all-bound = at-lines-fit .before .before in
+    let at-start = at-all-bound .before .before .before .before .before .before in
+    ((search needs, search needs, search needs), all-room (at-all-bound .all-bound .ensures) (at-lines-fit .lines-fit .ensures) (at-if1 .if1 .taken) (at-start .pre .1 .0) (at-start .pre .1 .1))
 
 same-length : tie.Need-same-length
 same-length c = search needs

@@ -1,5 +1,4 @@
 -- `put_value` meets its contract. Assumes nothing.
-use mathlib.Core.Path.{sym}
 use lib.Seq.{length-take-le}
 use Rattle.spelling.proofs.CellLaws.{stands-last}
 use borrow.Author.Needs.{needs}
@@ -7,10 +6,10 @@ use Rattle.spelling.proofs.put_value.Statement.{statement}
 use Rattle.spelling.proofs.put_value.Tie as tie
 
 slice-aggregate-put-next : tie.Need-slice-aggregate-put-next
-slice-aggregate-put-next c = sym (length-take-le (c .before .before .before .before .args .end) (c .before .before .before .before .args .cells .now) (c .before .before .before .before .pre .within))
+slice-aggregate-put-next c = search length-take-le
 
 put-next-requires : tie.Need-put-next-requires
-put-next-requires c κs = record { v = c .before .before .before .before .pre .v; fits = c .before .before .before .before .pre .fits; stands = stands-last (c .before .before .before .before .pre .lies); enough = c .before .before .before .before .pre .enough }
+put-next-requires c κs = search stands-last
 
 same-length : tie.Need-same-length
 same-length c = search needs

@@ -1,5 +1,4 @@
 -- `few_by_bytes` meets its contract: what is left of the text tells what the whole does.
-use mathlib.Core.Path.{refl}
 use Prim.Native.Nat.{_-_}
 use native.Mathlib.Omega.{arith}
 use lib.ListN.{length}
@@ -21,22 +20,22 @@ shared-slice-read-b : tie.Need-shared-slice-read-b Inv-loop μ-loop
 shared-slice-read-b c = search needs
 
 open-by-requires : tie.Need-open-by-requires Inv-loop μ-loop
-open-by-requires c κs = c .before .before .loop .inv .few
+open-by-requires c κs = search needs
 
 returns : tie.Need-returns Inv-loop μ-loop
-returns c = bytes-over (c .before .before .before .before .loop .inv) (c .before .before .before .loop-test .taken) (c .before .open-by .ensures) (c .if1 .taken)
+returns c = search bytes-over
 
 add-i : tie.Need-add-i Inv-loop μ-loop
-add-i c = omega (arith, c .before .before .before .loop-test .taken, c .before .before .before .before .before .before .good)
+add-i c = omega arith
 
 loop-less : tie.Need-loop-less Inv-loop μ-loop
-loop-less c = omega (arith, c .before .before .before .loop-test .taken)
+loop-less c = omega arith
 
 loop-again : tie.Need-loop-again Inv-loop μ-loop
-loop-again c = bytes-next (c .before .before .before .before .loop .inv) (c .before .before .before .loop-test .taken) (c .before .open-by .ensures) (c .if1 .left) refl
+loop-again c = search bytes-next
 
 returns-2 : tie.Need-returns-2 Inv-loop μ-loop
-returns-2 c = bytes-end (c .before .loop .inv) (c .loop-test .left)
+returns-2 c = search bytes-end
 
 pub few-by-bytes-spec : {M : Type 1} → statement M
 few-by-bytes-spec =

@@ -27,13 +27,13 @@ loop-holds : tie.Need-loop-holds Inv-loop μ-loop
 loop-holds c = few-begin (c .next-token .ensures)
 
 open-after-requires : tie.Need-open-after-requires Inv-loop μ-loop
-open-after-requires c κs = c .before .before .loop .inv .few
+open-after-requires c κs = search needs
 
 returns-2 : tie.Need-returns-2 Inv-loop μ-loop
 returns-2 c = search too-many
 
 next-token-requires-2 : tie.Need-next-token-requires-2 Inv-loop μ-loop
-next-token-requires-2 c κs = c .before .before .before .before .loop .inv .ahead .within
+next-token-requires-2 c κs = search needs
 
 loop-less : tie.Need-loop-less Inv-loop μ-loop
 loop-less c = search few-less

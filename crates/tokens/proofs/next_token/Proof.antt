@@ -1,5 +1,4 @@
 -- `next_token` meets its contract. Assumes nothing.
-use mathlib.Core.Path.{refl}
 use Rattle.tokens.proofs.TokenLaws.{next-none, next-one}
 use borrow.Author.Needs.{needs}
 use Rattle.tokens.proofs.next_token.Statement.{statement}
@@ -24,10 +23,10 @@ token-code-requires : tie.Need-token-code-requires
 token-code-requires c κs = search needs
 
 returns : tie.Need-returns
-returns c = next-one _ _ _ _ _ (c .before .before .before .before .skip .ensures) (c .before .before .token-end .ensures) refl refl (c .token-code .ensures)
+returns c = search next-one
 
 returns-2 : tie.Need-returns-2
-returns-2 c = next-none _ _ _ _ (c .before .skip .ensures) (c .if1 .left) refl refl refl
+returns-2 c = search next-none
 
 pub next-token-spec : {M : Type 1} → statement M
 next-token-spec =

@@ -1,6 +1,5 @@
 -- `ocl_edit_board` meets its contract. Assumes nothing.
-use Rattle.checker.proofs.MakeCalls.{board-lent}
-use Rattle.checker.proofs.EditCalls.{edit-wide, edit-short, edit-long}
+use Rattle.checker.proofs.BoardCalls.{board-lent, edit-wide, edit-short, edit-long}
 use borrow.Author.Needs.{needs}
 use Rattle.checker.proofs.edit_board_call.ocl_edit_board.Statement.{statement}
 use Rattle.checker.proofs.edit_board_call.ocl_edit_board.Tie as tie
@@ -27,13 +26,22 @@ same-length-5 : tie.Need-same-length-5
 same-length-5 c = search needs
 
 returns : tie.Need-returns
-returns c = edit-short (c .before .before .short-board .ensures) (c .before .if1 .taken) (c .no-output .ensures)
+returns c = search edit-short
 
 edit-text-requires : tie.Need-edit-text-requires
-edit-text-requires c κs = board-lent (c .before .before .before .before .before .before .before .before .before .before .before .before .before .before .before .before .before .before .before .args .w0 .now) (c .before .before .before .before .before .before .before .before .before .before .before .before .before .before .before .before .before .before .before .args .w1 .now) (c .before .before .before .before .before .before .before .before .before .before .before .before .before .before .before .before .before .before .before .args .w2 .now) (c .before .before .before .before .before .before .before .before .before .before .before .before .before .before .before .before .before .before .before .args .words .now) (c .before .before .before .before .before .before .before .before .before .before .before .before .before .before .before .before .before .before .before .args .out .now) (c .before .before .before .before .before .before .short-board .ensures) (c .before .before .before .before .before .if1 .left)
+edit-text-requires c κs =
+    let at-if1 = c .before .before .before .before .before in
+    let at-short-board = at-if1 .before in
+    let at-start = at-short-board .before .before .before .before .before .before .before .before .before .before .before .before .before in
+    board-lent (at-start .args .w0 .now) (at-start .args .w1 .now) (at-start .args .w2 .now) (at-start .args .words .now) (at-start .args .out .now) (at-short-board .short-board .ensures) (at-if1 .if1 .left)
 
 wipe-all-requires : tie.Need-wipe-all-requires
-wipe-all-requires c κs = edit-wide (board-lent (c .before .before .before .before .before .before .before .before .before .before .before .before .before .before .before .before .before .before .before .before .before .before .before .before .before .before .before .before .before .before .before .before .before .args .w0 .now) (c .before .before .before .before .before .before .before .before .before .before .before .before .before .before .before .before .before .before .before .before .before .before .before .before .before .before .before .before .before .before .before .before .before .args .w1 .now) (c .before .before .before .before .before .before .before .before .before .before .before .before .before .before .before .before .before .before .before .before .before .before .before .before .before .before .before .before .before .before .before .before .before .args .w2 .now) (c .before .before .before .before .before .before .before .before .before .before .before .before .before .before .before .before .before .before .before .before .before .before .before .before .before .before .before .before .before .before .before .before .before .args .words .now) (c .before .before .before .before .before .before .before .before .before .before .before .before .before .before .before .before .before .before .before .before .before .before .before .before .before .before .before .before .before .before .before .before .before .args .out .now) (c .before .before .before .before .before .before .before .before .before .before .before .before .before .before .before .before .before .before .before .before .short-board .ensures) (c .before .before .before .before .before .before .before .before .before .before .before .before .before .before .before .before .before .before .before .if1 .left) .0) (c .before .before .before .before .before .before .before .before .before .before .before .before .before .edit-text .ensures)
+wipe-all-requires c κs =
+    let at-edit-text = c .before .before .before .before .before .before .before .before .before .before .before .before .before in
+    let at-if1 = at-edit-text .before .before .before .before .before .before in
+    let at-short-board = at-if1 .before in
+    let at-start = at-short-board .before .before .before .before .before .before .before .before .before .before .before .before .before in
+    edit-wide (board-lent (at-start .args .w0 .now) (at-start .args .w1 .now) (at-start .args .w2 .now) (at-start .args .words .now) (at-start .args .out .now) (at-short-board .short-board .ensures) (at-if1 .if1 .left) .0) (at-edit-text .edit-text .ensures)
 
 same-length-6 : tie.Need-same-length-6
 same-length-6 c = search needs
@@ -51,7 +59,7 @@ same-length-10 : tie.Need-same-length-10
 same-length-10 c = search needs
 
 returns-2 : tie.Need-returns-2
-returns-2 c = edit-long (c .before .before .before .before .before .before .before .before .before .before .before .before .before .before .before .before .before .before .before .before .before .before .before .before .before .before .before .short-board .ensures) (c .before .before .before .before .before .before .before .before .before .before .before .before .before .before .before .before .before .before .before .before .before .before .before .before .before .before .if1 .left) (c .before .before .before .before .before .before .before .before .before .before .before .before .before .before .before .before .before .before .before .before .edit-text .ensures) (c .before .before .before .before .before .before .wipe-all .ensures)
+returns-2 c = search edit-long
 
 pub ocl-edit-board-spec : {M : Type 1} → statement M
 ocl-edit-board-spec =

@@ -2,7 +2,7 @@
 use borrow.Author.Needs.{needs}
 use Rattle.sheet.specs.Calls.{evaluateCall}
 use Rattle.opening.proofs.Answers.{all-lent, still-long, short-call, long-call}
-use Rattle.checker.proofs.EvaluateCalls.{evaluate-number}
+use Rattle.answering.proofs.EvaluateCalls.{evaluate-number}
 use Rattle.checker.proofs.evaluate_call.ocl_evaluate_rule.Statement.{statement}
 use Rattle.checker.proofs.evaluate_call.ocl_evaluate_rule.Tie as tie
 
@@ -29,10 +29,17 @@ unfolding evaluateCall
 returns c = search short-call
 
 evaluate-answer-requires : tie.Need-evaluate-answer-requires
-evaluate-answer-requires c κs = all-lent (c .before .before .before .before .before .short-lent .ensures) (c .before .before .before .before .if1 .left)
+evaluate-answer-requires c κs =
+    let at-if1 = c .before .before .before .before in
+    let at-short-lent = at-if1 .before in
+    all-lent (at-short-lent .short-lent .ensures) (at-if1 .if1 .left)
 
 wipe-all-requires : tie.Need-wipe-all-requires
-wipe-all-requires c κs = still-long (all-lent (c .before .before .before .before .before .before .before .before .before .before .before .before .before .before .before .before .before .short-lent .ensures) (c .before .before .before .before .before .before .before .before .before .before .before .before .before .before .before .before .if1 .left)) (c .before .before .before .before .before .before .before .before .before .before .before .evaluate-answer .ensures)
+wipe-all-requires c κs =
+    let at-evaluate-answer = c .before .before .before .before .before .before .before .before .before .before .before in
+    let at-if1 = at-evaluate-answer .before .before .before .before .before in
+    let at-short-lent = at-if1 .before in
+    still-long (all-lent (at-short-lent .short-lent .ensures) (at-if1 .if1 .left)) (at-evaluate-answer .evaluate-answer .ensures)
 
 same-length-5 : tie.Need-same-length-5
 same-length-5 c = search needs
@@ -48,7 +55,12 @@ same-length-8 c = search needs
 
 returns-2 : tie.Need-returns-2
 unfolding evaluateCall
-returns-2 c = long-call _ _ _ _ _ (c .before .before .before .before .before .before .before .before .before .before .before .before .before .before .before .before .before .before .before .before .before .before .before .before .short-lent .ensures) (c .before .before .before .before .before .before .before .before .before .before .before .before .before .before .before .before .before .before .before .before .before .before .before .if1 .left) (evaluate-number _ _ _) (c .before .before .before .before .before .before .before .before .before .before .before .before .before .before .before .before .before .before .evaluate-answer .ensures) (c .before .before .before .before .before .before .wipe-all .ensures)
+returns-2 c =
+    let at-wipe-all = c .before .before .before .before .before .before in
+    let at-evaluate-answer = at-wipe-all .before .before .before .before .before .before .before .before .before .before .before .before in
+    let at-if1 = at-evaluate-answer .before .before .before .before .before in
+    let at-short-lent = at-if1 .before in
+    long-call _ _ _ _ _ (at-short-lent .short-lent .ensures) (at-if1 .if1 .left) (evaluate-number _ _ _) (at-evaluate-answer .evaluate-answer .ensures) (at-wipe-all .wipe-all .ensures)
 
 pub ocl-evaluate-rule-spec : {M : Type 1} → statement M
 ocl-evaluate-rule-spec =

@@ -1,6 +1,6 @@
 -- `checker::make_board_call::ocl_make_board` meets its contract. Assumes nothing.
 use Rattle.opening.proofs.Answers.{still-long}
-use Rattle.checker.proofs.MakeCalls.{board-lent, make-short, make-long}
+use Rattle.checker.proofs.BoardCalls.{board-lent, make-short, make-long}
 use borrow.Author.Needs.{needs}
 use Rattle.checker.proofs.make_board_call.ocl_make_board.Statement.{statement}
 use Rattle.checker.proofs.make_board_call.ocl_make_board.Tie as tie
@@ -27,13 +27,22 @@ same-length-5 : tie.Need-same-length-5
 same-length-5 c = search needs
 
 returns : tie.Need-returns
-returns c = make-short (c .before .before .short-board .ensures) (c .before .if1 .taken) (c .no-output .ensures)
+returns c = search make-short
 
 make-answer-requires : tie.Need-make-answer-requires
-make-answer-requires c κs = board-lent (c .before .before .before .before .before .before .before .before .before .before .before .before .before .before .before .before .before .before .args .w0 .now) (c .before .before .before .before .before .before .before .before .before .before .before .before .before .before .before .before .before .before .args .w1 .now) (c .before .before .before .before .before .before .before .before .before .before .before .before .before .before .before .before .before .before .args .w2 .now) (c .before .before .before .before .before .before .before .before .before .before .before .before .before .before .before .before .before .before .args .words .now) (c .before .before .before .before .before .before .before .before .before .before .before .before .before .before .before .before .before .before .args .out .now) (c .before .before .before .before .before .before .short-board .ensures) (c .before .before .before .before .before .if1 .left)
+make-answer-requires c κs =
+    let at-if1 = c .before .before .before .before .before in
+    let at-short-board = at-if1 .before in
+    let at-start = at-short-board .before .before .before .before .before .before .before .before .before .before .before .before in
+    board-lent (at-start .args .w0 .now) (at-start .args .w1 .now) (at-start .args .w2 .now) (at-start .args .words .now) (at-start .args .out .now) (at-short-board .short-board .ensures) (at-if1 .if1 .left)
 
 wipe-all-requires : tie.Need-wipe-all-requires
-wipe-all-requires c κs = still-long (board-lent (c .before .before .before .before .before .before .before .before .before .before .before .before .before .before .before .before .before .before .before .before .before .before .before .before .before .before .before .before .before .before .before .before .args .w0 .now) (c .before .before .before .before .before .before .before .before .before .before .before .before .before .before .before .before .before .before .before .before .before .before .before .before .before .before .before .before .before .before .before .before .args .w1 .now) (c .before .before .before .before .before .before .before .before .before .before .before .before .before .before .before .before .before .before .before .before .before .before .before .before .before .before .before .before .before .before .before .before .args .w2 .now) (c .before .before .before .before .before .before .before .before .before .before .before .before .before .before .before .before .before .before .before .before .before .before .before .before .before .before .before .before .before .before .before .before .args .words .now) (c .before .before .before .before .before .before .before .before .before .before .before .before .before .before .before .before .before .before .before .before .before .before .before .before .before .before .before .before .before .before .before .before .args .out .now) (c .before .before .before .before .before .before .before .before .before .before .before .before .before .before .before .before .before .before .before .before .short-board .ensures) (c .before .before .before .before .before .before .before .before .before .before .before .before .before .before .before .before .before .before .before .if1 .left) .0) (c .before .before .before .before .before .before .before .before .before .before .before .before .before .make-answer .ensures .leaves)
+wipe-all-requires c κs =
+    let at-make-answer = c .before .before .before .before .before .before .before .before .before .before .before .before .before in
+    let at-if1 = at-make-answer .before .before .before .before .before .before in
+    let at-short-board = at-if1 .before in
+    let at-start = at-short-board .before .before .before .before .before .before .before .before .before .before .before .before in
+    still-long (board-lent (at-start .args .w0 .now) (at-start .args .w1 .now) (at-start .args .w2 .now) (at-start .args .words .now) (at-start .args .out .now) (at-short-board .short-board .ensures) (at-if1 .if1 .left) .0) (at-make-answer .make-answer .ensures .leaves)
 
 same-length-6 : tie.Need-same-length-6
 same-length-6 c = search needs
@@ -51,7 +60,7 @@ same-length-10 : tie.Need-same-length-10
 same-length-10 c = search needs
 
 returns-2 : tie.Need-returns-2
-returns-2 c = make-long (c .before .before .before .before .before .before .before .before .before .before .before .before .before .before .before .before .before .before .before .before .before .before .before .before .before .before .before .short-board .ensures) (c .before .before .before .before .before .before .before .before .before .before .before .before .before .before .before .before .before .before .before .before .before .before .before .before .before .before .if1 .left) (c .before .before .before .before .before .before .before .before .before .before .before .before .before .before .before .before .before .before .before .before .make-answer .ensures) (c .before .before .before .before .before .before .wipe-all .ensures)
+returns-2 c = search make-long
 
 pub ocl-make-board-spec : {M : Type 1} → statement M
 ocl-make-board-spec =

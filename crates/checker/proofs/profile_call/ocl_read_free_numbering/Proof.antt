@@ -2,7 +2,7 @@
 use borrow.Author.Needs.{needs}
 use Rattle.sheet.specs.Profile.{profileCall}
 use Rattle.opening.proofs.Answers.{all-lent, still-long, short-call, long-call}
-use Rattle.checker.proofs.ProfileCalls.{profile-number}
+use Rattle.answering.proofs.ProfileCalls.{profile-number}
 use Rattle.checker.proofs.profile_call.ocl_read_free_numbering.Statement.{statement}
 use Rattle.checker.proofs.profile_call.ocl_read_free_numbering.Tie as tie
 
@@ -29,10 +29,17 @@ unfolding profileCall
 returns c = search short-call
 
 profile-answer-requires : tie.Need-profile-answer-requires
-profile-answer-requires c κs = all-lent (c .before .before .before .before .before .short-lent .ensures) (c .before .before .before .before .if1 .left)
+profile-answer-requires c κs =
+    let at-if1 = c .before .before .before .before in
+    let at-short-lent = at-if1 .before in
+    all-lent (at-short-lent .short-lent .ensures) (at-if1 .if1 .left)
 
 wipe-all-requires : tie.Need-wipe-all-requires
-wipe-all-requires c κs = still-long (all-lent (c .before .before .before .before .before .before .before .before .before .before .before .before .before .before .before .before .before .short-lent .ensures) (c .before .before .before .before .before .before .before .before .before .before .before .before .before .before .before .before .if1 .left)) (c .before .before .before .before .before .before .before .before .before .before .before .profile-answer .ensures)
+wipe-all-requires c κs =
+    let at-profile-answer = c .before .before .before .before .before .before .before .before .before .before .before in
+    let at-if1 = at-profile-answer .before .before .before .before .before in
+    let at-short-lent = at-if1 .before in
+    still-long (all-lent (at-short-lent .short-lent .ensures) (at-if1 .if1 .left)) (at-profile-answer .profile-answer .ensures)
 
 same-length-5 : tie.Need-same-length-5
 same-length-5 c = search needs

@@ -2,7 +2,7 @@
 use borrow.Author.Needs.{needs}
 use Rattle.sheet.specs.Report.{reportCall}
 use Rattle.opening.proofs.Answers.{all-lent, still-long, short-call, long-call}
-use Rattle.checker.proofs.ReportCalls.{report-number}
+use Rattle.answering.proofs.ReportCalls.{report-number}
 use Rattle.checker.proofs.report_call.ocl_report.Statement.{statement}
 use Rattle.checker.proofs.report_call.ocl_report.Tie as tie
 
@@ -29,10 +29,17 @@ unfolding reportCall
 returns c = search short-call
 
 report-answer-requires : tie.Need-report-answer-requires
-report-answer-requires c κs = all-lent (c .before .before .before .before .before .short-lent .ensures) (c .before .before .before .before .if1 .left)
+report-answer-requires c κs =
+    let at-if1 = c .before .before .before .before in
+    let at-short-lent = at-if1 .before in
+    all-lent (at-short-lent .short-lent .ensures) (at-if1 .if1 .left)
 
 wipe-all-requires : tie.Need-wipe-all-requires
-wipe-all-requires c κs = still-long (all-lent (c .before .before .before .before .before .before .before .before .before .before .before .before .before .before .before .before .before .short-lent .ensures) (c .before .before .before .before .before .before .before .before .before .before .before .before .before .before .before .before .if1 .left)) (c .before .before .before .before .before .before .before .before .before .before .before .report-answer .ensures)
+wipe-all-requires c κs =
+    let at-report-answer = c .before .before .before .before .before .before .before .before .before .before .before in
+    let at-if1 = at-report-answer .before .before .before .before .before in
+    let at-short-lent = at-if1 .before in
+    still-long (all-lent (at-short-lent .short-lent .ensures) (at-if1 .if1 .left)) (at-report-answer .report-answer .ensures)
 
 same-length-5 : tie.Need-same-length-5
 same-length-5 c = search needs

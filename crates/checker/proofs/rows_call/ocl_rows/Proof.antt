@@ -2,7 +2,7 @@
 use borrow.Author.Needs.{needs}
 use Rattle.sheet.specs.Rows.{rowsCall}
 use Rattle.opening.proofs.Answers.{all-lent, still-long, short-call, long-call}
-use Rattle.checker.proofs.RowsCalls.{rows-number}
+use Rattle.answering.proofs.RowsCalls.{rows-number}
 use Rattle.checker.proofs.rows_call.ocl_rows.Statement.{statement}
 use Rattle.checker.proofs.rows_call.ocl_rows.Tie as tie
 
@@ -29,10 +29,17 @@ unfolding rowsCall
 returns c = search short-call
 
 rows-answer-requires : tie.Need-rows-answer-requires
-rows-answer-requires c κs = all-lent (c .before .before .before .before .before .short-lent .ensures) (c .before .before .before .before .if1 .left)
+rows-answer-requires c κs =
+    let at-if1 = c .before .before .before .before in
+    let at-short-lent = at-if1 .before in
+    all-lent (at-short-lent .short-lent .ensures) (at-if1 .if1 .left)
 
 wipe-all-requires : tie.Need-wipe-all-requires
-wipe-all-requires c κs = still-long (all-lent (c .before .before .before .before .before .before .before .before .before .before .before .before .before .before .before .before .before .short-lent .ensures) (c .before .before .before .before .before .before .before .before .before .before .before .before .before .before .before .before .if1 .left)) (c .before .before .before .before .before .before .before .before .before .before .before .rows-answer .ensures)
+wipe-all-requires c κs =
+    let at-rows-answer = c .before .before .before .before .before .before .before .before .before .before .before in
+    let at-if1 = at-rows-answer .before .before .before .before .before in
+    let at-short-lent = at-if1 .before in
+    still-long (all-lent (at-short-lent .short-lent .ensures) (at-if1 .if1 .left)) (at-rows-answer .rows-answer .ensures)
 
 same-length-5 : tie.Need-same-length-5
 same-length-5 c = search needs

@@ -2,7 +2,7 @@
 use borrow.Author.Needs.{needs}
 use Rattle.sheet.specs.Origin.{originCall}
 use Rattle.opening.proofs.Answers.{all-lent, still-long, short-call, long-call}
-use Rattle.checker.proofs.ReportCalls.{origins-number}
+use Rattle.answering.proofs.ReportCalls.{origins-number}
 use Rattle.checker.proofs.undefined_call.ocl_undefined.Statement.{statement}
 use Rattle.checker.proofs.undefined_call.ocl_undefined.Tie as tie
 
@@ -29,10 +29,17 @@ unfolding originCall
 returns c = search short-call
 
 origins-answer-requires : tie.Need-origins-answer-requires
-origins-answer-requires c κs = all-lent (c .before .before .before .before .before .short-lent .ensures) (c .before .before .before .before .if1 .left)
+origins-answer-requires c κs =
+    let at-if1 = c .before .before .before .before in
+    let at-short-lent = at-if1 .before in
+    all-lent (at-short-lent .short-lent .ensures) (at-if1 .if1 .left)
 
 wipe-all-requires : tie.Need-wipe-all-requires
-wipe-all-requires c κs = still-long (all-lent (c .before .before .before .before .before .before .before .before .before .before .before .before .before .before .before .before .before .short-lent .ensures) (c .before .before .before .before .before .before .before .before .before .before .before .before .before .before .before .before .if1 .left)) (c .before .before .before .before .before .before .before .before .before .before .before .origins-answer .ensures)
+wipe-all-requires c κs =
+    let at-origins-answer = c .before .before .before .before .before .before .before .before .before .before .before in
+    let at-if1 = at-origins-answer .before .before .before .before .before in
+    let at-short-lent = at-if1 .before in
+    still-long (all-lent (at-short-lent .short-lent .ensures) (at-if1 .if1 .left)) (at-origins-answer .origins-answer .ensures)
 
 same-length-5 : tie.Need-same-length-5
 same-length-5 c = search needs

@@ -9,7 +9,7 @@ use Rattle.declarations.proofs.classes.class_line.Statement.{statement}
 use Rattle.declarations.proofs.classes.class_line.Tie as tie
 
 returns : tie.Need-returns
-returns c = λ w1 k. unspelled (c .before .before .before .before .args .st) k (c .before .before .before .before .args .w0 .now) w1 (c .before .before .before .before .args .line .now) (class-count (c .before .before .before .before .pre .0) (c .if1 .taken))
+returns c = search (unspelled, class-count)
 
 field-requires : tie.Need-field-requires
 field-requires c κs = search needs
@@ -24,7 +24,12 @@ enum-told : tie.Need-enum-told
 enum-told c = search needs
 
 returns-2 : tie.Need-returns-2
-returns-2 c = λ w1 k. unspelled (c .before .before .before .before .before .before .before .before .args .st) k (c .before .before .before .before .before .before .before .before .args .w0 .now) w1 (c .before .before .before .before .before .before .before .before .args .line .now) (class-number (c .before .before .before .before .before .before .before .before .pre .0) (c .before .before .before .before .if1 .left) (c .before .before .before .field .ensures) (sym (c .enum-told .given .1) ∙ c .before .before .number .ensures))
+returns-2 c =
+    let at-number = c .before .before in
+    let at-field = at-number .before in
+    let at-if1 = at-field .before in
+    let at-start = at-if1 .before .before .before .before in
+    λ w1 k. unspelled (at-start .args .st) k (at-start .args .w0 .now) w1 (at-start .args .line .now) (class-number (at-start .pre .0) (at-if1 .if1 .left) (at-field .field .ensures) (sym (c .enum-told .given .1) ∙ at-number .number .ensures))
 
 field-requires-2 : tie.Need-field-requires-2
 field-requires-2 c κs = search needs
@@ -39,13 +44,40 @@ enum-told-2 : tie.Need-enum-told-2
 enum-told-2 c = search needs
 
 returns-3 : tie.Need-returns-3
-returns-3 c = λ w1 k. unspelled (c .before .before .before .before .before .before .before .before .before .before .before .before .before .args .st) k (c .before .before .before .before .before .before .before .before .before .before .before .before .before .args .w0 .now) w1 (c .before .before .before .before .before .before .before .before .before .before .before .before .before .args .line .now) (class-parent (c .before .before .before .before .before .before .before .before .before .before .before .before .before .pre .0) (c .before .before .before .before .before .before .before .before .before .if1 .left) (c .before .before .before .before .before .before .before .before .field .ensures) (c .before .before .before .field2 .ensures) (sym (c .before .before .before .before .before .n .given .1) ∙ c .before .before .before .before .before .before .before .number .ensures) (sym (c .enum-told2 .given .1) ∙ c .before .before .parent .ensures))
+returns-3 c =
+    let at-parent = c .before .before in
+    let at-field2 = at-parent .before in
+    let at-n = at-field2 .before .before in
+    let at-number = at-n .before .before in
+    let at-field = at-number .before in
+    let at-if1 = at-field .before in
+    let at-start = at-if1 .before .before .before .before in
+    λ w1 k. unspelled (at-start .args .st) k (at-start .args .w0 .now) w1 (at-start .args .line .now) (class-parent (at-start .pre .0) (at-if1 .if1 .left) (at-field .field .ensures) (at-field2 .field2 .ensures) (sym (at-n .n .given .1) ∙ at-number .number .ensures) (sym (c .enum-told2 .given .1) ∙ at-parent .parent .ensures))
 
 returns-4 : tie.Need-returns-4
-returns-4 c = λ w1 k. spelled (c .before .before .before .before .before .before .before .before .before .before .before .before .before .before .before .args .line .now) (class-plain _ _) (class-spelled (c .before .before .before .before .before .before .before .before .before .before .before .before .before .before .before .pre .0) (c .before .before .before .before .before .before .before .before .before .before .before .if1 .left) (c .before .before .before .before .before .before .before .before .before .before .field .ensures) (c .before .before .before .before .before .field2 .ensures) (sym (c .before .before .before .before .before .before .before .n .given .1) ∙ c .before .before .before .before .before .before .before .before .before .number .ensures) (sym (c .before .before .p .given .1) ∙ c .before .before .before .before .parent .ensures)) (class-over (c .before .before .before .before .before .before .before .before .before .before .before .before .before .before .before .args .st) k (c .before .before .before .before .before .before .before .before .before .before .before .before .before .before .before .args .w0 .now) w1 _ _ (num-cut _ (sym (c .before .before .before .before .before .before .before .n .given .1) ∙ c .before .before .before .before .before .before .before .before .before .number .ensures)) (c .if2 .taken))
+returns-4 c =
+    let at-p = c .before .before in
+    let at-parent = at-p .before .before in
+    let at-field2 = at-parent .before in
+    let at-n = at-field2 .before .before in
+    let at-number = at-n .before .before in
+    let at-field = at-number .before in
+    let at-if1 = at-field .before in
+    let at-start = at-if1 .before .before .before .before in
+    λ w1 k. spelled (at-start .args .line .now) (class-plain _ _) (class-spelled (at-start .pre .0) (at-if1 .if1 .left) (at-field .field .ensures) (at-field2 .field2 .ensures) (sym (at-n .n .given .1) ∙ at-number .number .ensures) (sym (at-p .p .given .1) ∙ at-parent .parent .ensures)) (class-over (at-start .args .st) k (at-start .args .w0 .now) w1 _ _ (num-cut _ (sym (at-n .n .given .1) ∙ at-number .number .ensures)) (c .if2 .taken))
 
 returns-5 : tie.Need-returns-5
-returns-5 c = λ w1 k. spelled (c .before .before .before .before .before .before .before .before .before .before .before .before .before .before .before .before .args .line .now) (class-plain _ _) (class-spelled (c .before .before .before .before .before .before .before .before .before .before .before .before .before .before .before .before .pre .0) (c .before .before .before .before .before .before .before .before .before .before .before .before .if1 .left) (c .before .before .before .before .before .before .before .before .before .before .before .field .ensures) (c .before .before .before .before .before .before .field2 .ensures) (sym (c .before .before .before .before .before .before .before .before .n .given .1) ∙ c .before .before .before .before .before .before .before .before .before .before .number .ensures) (sym (c .before .before .before .p .given .1) ∙ c .before .before .before .before .before .parent .ensures)) (class-over-parent (c .before .before .before .before .before .before .before .before .before .before .before .before .before .before .before .before .args .st) k (c .before .before .before .before .before .before .before .before .before .before .before .before .before .before .before .before .args .w0 .now) w1 _ _ (num-cut _ (sym (c .before .before .before .before .before .before .before .before .n .given .1) ∙ c .before .before .before .before .before .before .before .before .before .before .number .ensures)) (c .before .if2 .left) (parent-over _ (sym (c .before .before .before .p .given .1) ∙ c .before .before .before .before .before .parent .ensures) (c .if3 .taken)))
+returns-5 c =
+    let at-if2 = c .before in
+    let at-p = at-if2 .before .before in
+    let at-parent = at-p .before .before in
+    let at-field2 = at-parent .before in
+    let at-n = at-field2 .before .before in
+    let at-number = at-n .before .before in
+    let at-field = at-number .before in
+    let at-if1 = at-field .before in
+    let at-start = at-if1 .before .before .before .before in
+    λ w1 k. spelled (at-start .args .line .now) (class-plain _ _) (class-spelled (at-start .pre .0) (at-if1 .if1 .left) (at-field .field .ensures) (at-field2 .field2 .ensures) (sym (at-n .n .given .1) ∙ at-number .number .ensures) (sym (at-p .p .given .1) ∙ at-parent .parent .ensures)) (class-over-parent (at-start .args .st) k (at-start .args .w0 .now) w1 _ _ (num-cut _ (sym (at-n .n .given .1) ∙ at-number .number .ensures)) (at-if2 .if2 .left) (parent-over _ (sym (at-p .p .given .1) ∙ at-parent .parent .ensures) (c .if3 .taken)))
 
 put-class-requires : tie.Need-put-class-requires
 put-class-requires c κs = search needs
@@ -54,7 +86,19 @@ same-length : tie.Need-same-length
 same-length c = search needs
 
 returns-6 : tie.Need-returns-6
-returns-6 c = λ w1 k. spelled (c .before .before .before .before .before .before .before .before .before .before .before .before .before .before .before .before .before .before .before .before .args .line .now) (class-plain _ _) (class-exact (c .before .before .before .before .before .before .before .before .before .before .before .before .before .before .before .before .before .before .before .before .pre .0) (c .before .before .before .before .before .before .before .before .before .before .before .before .before .before .before .before .if1 .left) (c .before .before .before .before .before .before .before .before .before .before .before .before .before .before .before .field .ensures) (c .before .before .before .before .before .before .before .before .before .before .field2 .ensures) (sym (c .before .before .before .before .before .before .before .before .before .before .before .before .n .given .1) ∙ c .before .before .before .before .before .before .before .before .before .before .before .before .before .before .number .ensures) (sym (c .before .before .before .before .before .before .before .p .given .1) ∙ c .before .before .before .before .before .before .before .before .before .parent .ensures) (c .before .before .before .before .before .if2 .left) (c .before .before .before .before .if3 .left)) (c .before .before .put-class .ensures w1 k)
+returns-6 c =
+    let at-put-class = c .before .before in
+    let at-if3 = at-put-class .before .before in
+    let at-if2 = at-if3 .before in
+    let at-p = at-if2 .before .before in
+    let at-parent = at-p .before .before in
+    let at-field2 = at-parent .before in
+    let at-n = at-field2 .before .before in
+    let at-number = at-n .before .before in
+    let at-field = at-number .before in
+    let at-if1 = at-field .before in
+    let at-start = at-if1 .before .before .before .before in
+    λ w1 k. spelled (at-start .args .line .now) (class-plain _ _) (class-exact (at-start .pre .0) (at-if1 .if1 .left) (at-field .field .ensures) (at-field2 .field2 .ensures) (sym (at-n .n .given .1) ∙ at-number .number .ensures) (sym (at-p .p .given .1) ∙ at-parent .parent .ensures) (at-if2 .if2 .left) (at-if3 .if3 .left)) (at-put-class .put-class .ensures w1 k)
 
 pub class-line-spec : {M : Type 1} → statement M
 class-line-spec =

@@ -11,7 +11,7 @@ letter-requires : tie.Need-letter-requires
 letter-requires c κs = search needs
 
 returns : tie.Need-returns
-returns c = no-parent (c .before .before .before .args .f .now) (c .before .letter .ensures) (c .if1 .taken)
+returns c = search no-parent
 
 number-requires : tie.Need-number-requires
 number-requires c κs = search needs
@@ -26,10 +26,21 @@ add-t7 : tie.Need-add-t7
 add-t7 c = omega (arith, num-cut _ (sym (c .before .p .given .1) ∙ c .before .before .before .number .ensures))
 
 returns-2 : tie.Need-returns-2
-returns-2 c = bad-parent (c .before .before .before .before .before .before .args .f .now) (c .before .before .before .before .letter .ensures) (c .before .before .before .if1 .left) (sym (c .enum-told .given .1) ∙ c .before .before .number .ensures)
+returns-2 c =
+    let at-number = c .before .before in
+    let at-if1 = at-number .before in
+    let at-letter = at-if1 .before in
+    let at-start = at-letter .before .before in
+    bad-parent (at-start .args .f .now) (at-letter .letter .ensures) (at-if1 .if1 .left) (sym (c .enum-told .given .1) ∙ at-number .number .ensures)
 
 returns-3 : tie.Need-returns-3
-returns-3 c = some-parent (c .before .before .before .before .before .before .before .args .f .now) (c .before .before .before .before .before .letter .ensures) (c .before .before .before .before .if1 .left) (sym (c .before .p .given .1) ∙ c .before .before .before .number .ensures)
+returns-3 c =
+    let at-p = c .before in
+    let at-number = at-p .before .before in
+    let at-if1 = at-number .before in
+    let at-letter = at-if1 .before in
+    let at-start = at-letter .before .before in
+    some-parent (at-start .args .f .now) (at-letter .letter .ensures) (at-if1 .if1 .left) (sym (at-p .p .given .1) ∙ at-number .number .ensures)
 
 pub parent-spec : {M : Type 1} → statement M
 parent-spec =

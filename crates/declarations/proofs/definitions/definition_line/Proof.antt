@@ -11,7 +11,7 @@ use Rattle.declarations.proofs.definitions.definition_line.Statement.{s
 use Rattle.declarations.proofs.definitions.definition_line.Tie as tie
 
 returns : tie.Need-returns
-returns c = λ w0 w1 k. unspelled (c .before .before .before .args .st) k w0 w1 (c .before .before .before .args .line .now) (definition-count (c .before .before .before .pre .0) (c .if1 .taken))
+returns c = search (unspelled, definition-count)
 
 field-requires : tie.Need-field-requires
 field-requires c κs = search needs
@@ -26,7 +26,12 @@ enum-told : tie.Need-enum-told
 enum-told c = search needs
 
 returns-2 : tie.Need-returns-2
-returns-2 c = λ w0 w1 k. unspelled (c .before .before .before .before .before .before .before .args .st) k w0 w1 (c .before .before .before .before .before .before .before .args .line .now) (definition-number (c .before .before .before .before .before .before .before .pre .0) (c .before .before .before .before .if1 .left) (c .before .before .before .field .ensures) (sym (c .enum-told .given .1) ∙ c .before .before .number .ensures))
+returns-2 c =
+    let at-number = c .before .before in
+    let at-field = at-number .before in
+    let at-if1 = at-field .before in
+    let at-start = at-if1 .before .before .before in
+    λ w0 w1 k. unspelled (at-start .args .st) k w0 w1 (at-start .args .line .now) (definition-number (at-start .pre .0) (at-if1 .if1 .left) (at-field .field .ensures) (sym (c .enum-told .given .1) ∙ at-number .number .ensures))
 
 field-requires-2 : tie.Need-field-requires-2
 field-requires-2 c κs = search needs
@@ -41,7 +46,15 @@ enum-told-2 : tie.Need-enum-told-2
 enum-told-2 c = search needs
 
 returns-3 : tie.Need-returns-3
-returns-3 c = λ w0 w1 k. unspelled (c .before .before .before .before .before .before .before .before .before .before .before .before .args .st) k w0 w1 (c .before .before .before .before .before .before .before .before .before .before .before .before .args .line .now) (definition-class (c .before .before .before .before .before .before .before .before .before .before .before .before .pre .0) (c .before .before .before .before .before .before .before .before .before .if1 .left) (c .before .before .before .before .before .before .before .before .field .ensures) (c .before .before .before .field2 .ensures) (sym (c .before .before .before .before .before .n .given .1) ∙ c .before .before .before .before .before .before .before .number .ensures) (sym (c .enum-told2 .given .1) ∙ c .before .before .number2 .ensures))
+returns-3 c =
+    let at-number2 = c .before .before in
+    let at-field2 = at-number2 .before in
+    let at-n = at-field2 .before .before in
+    let at-number = at-n .before .before in
+    let at-field = at-number .before in
+    let at-if1 = at-field .before in
+    let at-start = at-if1 .before .before .before in
+    λ w0 w1 k. unspelled (at-start .args .st) k w0 w1 (at-start .args .line .now) (definition-class (at-start .pre .0) (at-if1 .if1 .left) (at-field .field .ensures) (at-field2 .field2 .ensures) (sym (at-n .n .given .1) ∙ at-number .number .ensures) (sym (c .enum-told2 .given .1) ∙ at-number2 .number2 .ensures))
 
 field-requires-3 : tie.Need-field-requires-3
 field-requires-3 c κs = search needs
@@ -59,16 +72,55 @@ enum-known-t : tie.Need-enum-known-t
 enum-known-t c = search needs
 
 open-definition-requires : tie.Need-open-definition-requires
-open-definition-requires c κs = (c .before .before .before .before .before .before .before .before .before .before .before .before .before .before .before .before .before .before .pre .1, read-is (readType (c .before .before .before .before .field3 .result .now)) (c .before .before .before .read-type .ensures) (c .before .t .given .0 .0) (c .before .t .given .1) .1)
+open-definition-requires c κs =
+    let at-t = c .before in
+    let at-read-type = at-t .before .before in
+    let at-field3 = at-read-type .before in
+    let at-start = at-field3 .before .before .before .before .before .before .before .before .before .before .before .before .before .before in
+    (at-start .pre .1, read-is (readType (at-field3 .field3 .result .now)) (at-read-type .read-type .ensures) (at-t .t .given .0 .0) (at-t .t .given .1) .1)
 
 returns-4 : tie.Need-returns-4
-returns-4 c = λ w0 w1 k. unspelled (c .before .before .before .before .before .before .before .before .before .before .before .before .before .before .before .before .before .args .st) k w0 w1 (c .before .before .before .before .before .before .before .before .before .before .before .before .before .before .before .before .before .args .line .now) (definition-type (c .before .before .before .before .before .before .before .before .before .before .before .before .before .before .before .before .before .pre .0) (c .before .before .before .before .before .before .before .before .before .before .before .before .before .before .if1 .left) (c .before .before .before .before .before .before .before .before .before .before .before .before .before .field .ensures) (c .before .before .before .before .before .before .before .before .field2 .ensures) (sym (c .before .before .before .before .before .before .before .before .before .before .n .given .1) ∙ c .before .before .before .before .before .before .before .before .before .before .before .before .number .ensures) (c .before .before .before .field3 .ensures) (sym (c .before .before .before .before .before .c .given .1) ∙ c .before .before .before .before .before .before .before .number2 .ensures) (read-bad (readType (c .before .before .before .field3 .result .now)) (c .before .before .read-type .ensures) (c .enum-told3 .given .1)))
+returns-4 c =
+    let at-read-type = c .before .before in
+    let at-field3 = at-read-type .before in
+    let at-c = at-field3 .before .before in
+    let at-number2 = at-c .before .before in
+    let at-field2 = at-number2 .before in
+    let at-n = at-field2 .before .before in
+    let at-number = at-n .before .before in
+    let at-field = at-number .before in
+    let at-if1 = at-field .before in
+    let at-start = at-if1 .before .before .before in
+    λ w0 w1 k. unspelled (at-start .args .st) k w0 w1 (at-start .args .line .now) (definition-type (at-start .pre .0) (at-if1 .if1 .left) (at-field .field .ensures) (at-field2 .field2 .ensures) (sym (at-n .n .given .1) ∙ at-number .number .ensures) (at-field3 .field3 .ensures) (sym (at-c .c .given .1) ∙ at-number2 .number2 .ensures) (read-bad (readType (at-field3 .field3 .result .now)) (at-read-type .read-type .ensures) (c .enum-told3 .given .1)))
 
 returns-5 : tie.Need-returns-5
-returns-5 c = λ w0 w1 k. let t = (read-big (readType (c .before .before .before .field3 .result .now)) (c .before .before .read-type .ensures) (c .enum-told4 .given .1)) in spelled (c .before .before .before .before .before .before .before .before .before .before .before .before .before .before .before .before .before .args .line .now) (definition-plain _ _ _) (definition-spelled (c .before .before .before .before .before .before .before .before .before .before .before .before .before .before .before .before .before .pre .0) (c .before .before .before .before .before .before .before .before .before .before .before .before .before .before .if1 .left) (c .before .before .before .before .before .before .before .before .before .before .before .before .before .field .ensures) (c .before .before .before .before .before .before .before .before .field2 .ensures) (sym (c .before .before .before .before .before .before .before .before .before .before .n .given .1) ∙ c .before .before .before .before .before .before .before .before .before .before .before .before .number .ensures) (c .before .before .before .field3 .ensures) (sym (c .before .before .before .before .before .c .given .1) ∙ c .before .before .before .before .before .before .before .number2 .ensures) (t .1)) (definition-over-type (c .before .before .before .before .before .before .before .before .before .before .before .before .before .before .before .before .before .args .st) k w0 w1 _ _ (t .0) (t .2))
+returns-5 c =
+    let at-read-type = c .before .before in
+    let at-field3 = at-read-type .before in
+    let at-c = at-field3 .before .before in
+    let at-number2 = at-c .before .before in
+    let at-field2 = at-number2 .before in
+    let at-n = at-field2 .before .before in
+    let at-number = at-n .before .before in
+    let at-field = at-number .before in
+    let at-if1 = at-field .before in
+    let at-start = at-if1 .before .before .before in
+    λ w0 w1 k. let t = (read-big (readType (at-field3 .field3 .result .now)) (at-read-type .read-type .ensures) (c .enum-told4 .given .1)) in spelled (at-start .args .line .now) (definition-plain _ _ _) (definition-spelled (at-start .pre .0) (at-if1 .if1 .left) (at-field .field .ensures) (at-field2 .field2 .ensures) (sym (at-n .n .given .1) ∙ at-number .number .ensures) (at-field3 .field3 .ensures) (sym (at-c .c .given .1) ∙ at-number2 .number2 .ensures) (t .1)) (definition-over-type (at-start .args .st) k w0 w1 _ _ (t .0) (t .2))
 
 returns-6 : tie.Need-returns-6
-returns-6 c = λ w0 w1 k. let t = (read-is (readType (c .before .before .before .before .before .field3 .result .now)) (c .before .before .before .before .read-type .ensures) (c .before .before .t .given .0 .0) (c .before .before .t .given .1)) in spelled (c .before .before .before .before .before .before .before .before .before .before .before .before .before .before .before .before .before .before .before .args .line .now) (definition-plain _ _ _) (definition-spelled (c .before .before .before .before .before .before .before .before .before .before .before .before .before .before .before .before .before .before .before .pre .0) (c .before .before .before .before .before .before .before .before .before .before .before .before .before .before .before .before .if1 .left) (c .before .before .before .before .before .before .before .before .before .before .before .before .before .before .before .field .ensures) (c .before .before .before .before .before .before .before .before .before .before .field2 .ensures) (sym (c .before .before .before .before .before .before .before .before .before .before .before .before .n .given .1) ∙ c .before .before .before .before .before .before .before .before .before .before .before .before .before .before .number .ensures) (c .before .before .before .before .before .field3 .ensures) (sym (c .before .before .before .before .before .before .before .c .given .1) ∙ c .before .before .before .before .before .before .before .before .before .number2 .ensures) (t .0)) (c .open-definition .ensures .is w0 w1 k _ _ (num-cut _ (sym (c .before .before .before .before .before .before .before .before .before .before .before .before .n .given .1) ∙ c .before .before .before .before .before .before .before .before .before .before .before .before .before .before .number .ensures)) (num-cut _ (sym (c .before .before .before .before .before .before .before .c .given .1) ∙ c .before .before .before .before .before .before .before .before .before .number2 .ensures)))
+returns-6 c =
+    let at-t = c .before .before in
+    let at-read-type = at-t .before .before in
+    let at-field3 = at-read-type .before in
+    let at-c = at-field3 .before .before in
+    let at-number2 = at-c .before .before in
+    let at-field2 = at-number2 .before in
+    let at-n = at-field2 .before .before in
+    let at-number = at-n .before .before in
+    let at-field = at-number .before in
+    let at-if1 = at-field .before in
+    let at-start = at-if1 .before .before .before in
+    λ w0 w1 k. let t = (read-is (readType (at-field3 .field3 .result .now)) (at-read-type .read-type .ensures) (at-t .t .given .0 .0) (at-t .t .given .1)) in spelled (at-start .args .line .now) (definition-plain _ _ _) (definition-spelled (at-start .pre .0) (at-if1 .if1 .left) (at-field .field .ensures) (at-field2 .field2 .ensures) (sym (at-n .n .given .1) ∙ at-number .number .ensures) (at-field3 .field3 .ensures) (sym (at-c .c .given .1) ∙ at-number2 .number2 .ensures) (t .0)) (c .open-definition .ensures .is w0 w1 k _ _ (num-cut _ (sym (at-n .n .given .1) ∙ at-number .number .ensures)) (num-cut _ (sym (at-c .c .given .1) ∙ at-number2 .number2 .ensures)))
 
 pub definition-line-spec : {M : Type 1} → statement M
 definition-line-spec =

@@ -21,16 +21,29 @@ enum-known-n-2 : tie.Need-enum-known-n-2
 enum-known-n-2 c = search needs
 
 put-object-requires : tie.Need-put-object-requires
-put-object-requires c κs = let p = pair-within 96 (twoNumbers (drop 1 (fieldsOf (c .before .before .before .before .before .before .before .args .line .now)))) (sym (c .before .before .n2 .given .1) ∙ c .before .before .before .before .read-pair .ensures) in (c .before .before .before .before .before .before .before .pre .1, c .before .before .before .before .before .before .before .pre .2, p .low, p .class)
+put-object-requires c κs =
+    let at-n2 = c .before .before in
+    let at-read-pair = at-n2 .before .before in
+    let at-start = at-read-pair .before .before .before in
+    let p = pair-within 96 (twoNumbers (drop 1 (fieldsOf (at-start .args .line .now)))) (sym (at-n2 .n2 .given .1) ∙ at-read-pair .read-pair .ensures) in (at-start .pre .1, at-start .pre .2, p .low, p .class)
 
 returns : tie.Need-returns
-returns c = λ w1 k. pair-stopped (c .before .before .before .before .before .before .args .st) k (c .before .before .before .before .before .before .args .w0 .now) w1 (c .before .before .before .before .before .before .args .line .now) (twoNumbers (drop 1 (fieldsOf (c .before .before .before .before .before .before .args .line .now)))) objectLine 96 (object-fields _ (c .before .before .before .before .before .before .pre .0 .is-letter)) object-plain object-limits (sym (c .before .n .given .1) ∙ c .before .before .before .read-pair .ensures)
+returns c =
+    let at-n = c .before in
+    let at-read-pair = at-n .before .before in
+    let at-start = at-read-pair .before .before .before in
+    λ w1 k. pair-stopped (at-start .args .st) k (at-start .args .w0 .now) w1 (at-start .args .line .now) (twoNumbers (drop 1 (fieldsOf (at-start .args .line .now)))) objectLine 96 (object-fields _ (at-start .pre .0 .is-letter)) object-plain object-limits (sym (at-n .n .given .1) ∙ at-read-pair .read-pair .ensures)
 
 same-length : tie.Need-same-length
 same-length c = search needs
 
 returns-2 : tie.Need-returns-2
-returns-2 c = λ w1 k. pair-taken (c .before .before .before .before .before .before .before .before .before .before .args .st) k (c .before .before .before .before .before .before .before .before .before .before .args .w0 .now) w1 (c .before .before .before .before .before .before .before .before .before .before .args .line .now) (twoNumbers (drop 1 (fieldsOf (c .before .before .before .before .before .before .before .before .before .before .args .line .now)))) objectLine 96 (object-fields _ (c .before .before .before .before .before .before .before .before .before .before .pre .0 .is-letter)) object-plain object-limits (pair-within 96 (twoNumbers (drop 1 (fieldsOf (c .before .before .before .before .before .before .before .before .before .before .args .line .now)))) (sym (c .before .before .before .before .before .n2 .given .1) ∙ c .before .before .before .before .before .before .before .read-pair .ensures) .are) (c .before .before .put-object .ensures w1 k)
+returns-2 c =
+    let at-put-object = c .before .before in
+    let at-n2 = at-put-object .before .before .before in
+    let at-read-pair = at-n2 .before .before in
+    let at-start = at-read-pair .before .before .before in
+    λ w1 k. pair-taken (at-start .args .st) k (at-start .args .w0 .now) w1 (at-start .args .line .now) (twoNumbers (drop 1 (fieldsOf (at-start .args .line .now)))) objectLine 96 (object-fields _ (at-start .pre .0 .is-letter)) object-plain object-limits (pair-within 96 (twoNumbers (drop 1 (fieldsOf (at-start .args .line .now)))) (sym (at-n2 .n2 .given .1) ∙ at-read-pair .read-pair .ensures) .are) (at-put-object .put-object .ensures w1 k)
 
 pub object-line-spec : {M : Type 1} → statement M
 object-line-spec =

@@ -5,13 +5,13 @@ use Rattle.declarations.proofs.objects.put_object.Statement.{statement}
 use Rattle.declarations.proofs.objects.put_object.Tie as tie
 
 returns : tie.Need-returns
-returns c = λ w1 k. object-block (c .before .before .args .st) k (c .before .before .args .w0 .now) w1 (c .before .before .args .n) (c .before .before .args .c) (c .before .before .pre .2) (c .before .before .pre .3) (c .if1 .taken)
+returns c = search object-block
 
 returns-2 : tie.Need-returns-2
-returns-2 c = λ w1 k. object-gap (c .before .before .before .before .args .st) k (c .before .before .before .before .args .w0 .now) w1 (c .before .before .before .before .args .n) (c .before .before .before .before .args .c) (c .before .before .before .before .pre .2) (c .before .before .before .before .pre .3) (c .before .before .if1 .left) (c .if2 .taken)
+returns-2 c = search object-gap
 
 returns-3 : tie.Need-returns-3
-returns-3 c = λ w1 k. object-unknown (c .before .before .before .before .before .before .args .st) k (c .before .before .before .before .before .before .args .w0 .now) w1 (c .before .before .before .before .before .before .args .n) (c .before .before .before .before .before .before .args .c) (c .before .before .before .before .before .before .pre .2) (c .before .before .before .before .before .before .pre .3) (c .before .before .before .before .if1 .left) (c .before .before .if2 .left) (c .if3 .taken)
+returns-3 c = search object-unknown
 
 add-i : tie.Need-add-i
 add-i c = search needs
@@ -29,7 +29,7 @@ same-length : tie.Need-same-length
 same-length c = search needs
 
 returns-4 : tie.Need-returns-4
-returns-4 c = λ w1 k. object-put (c .before .before .before .before .before .before .args .st) k (c .before .before .before .before .before .before .args .w0 .now) w1 (c .before .before .before .before .before .before .args .n) (c .before .before .before .before .before .before .args .c) (c .before .before .before .before .before .before .pre .2) (c .before .before .before .before .before .before .pre .3) (c .before .before .before .before .if1 .left) (c .before .before .if2 .left) (c .before .before .before .before .before .before .pre .1) (c .before .before .before .before .before .before .pre .0) (c .if3 .left)
+returns-4 c = search object-put
 
 pub put-object-spec : {M : Type 1} → statement M
 put-object-spec =

@@ -8,7 +8,7 @@ tag-requires : tie.Need-tag-requires
 tag-requires c κs = search needs
 
 returns : tie.Need-returns
-returns c = known-without (c .before .before .args .classes) (c .before .before .args .t) (c .before .tag .ensures) (c .if1 .taken)
+returns c = search known-without
 
 class-in-requires : tie.Need-class-in-requires
 class-in-requires c κs = search needs
@@ -17,7 +17,7 @@ cast-result : tie.Need-cast-result
 cast-result c = search needs
 
 returns-2 : tie.Need-returns-2
-returns-2 c = known-class (c .before .before .before .args .classes) (c .before .before .before .args .t) (c .before .before .tag .ensures) (c .before .if1 .left) (c .class-in .ensures)
+returns-2 c = search known-class
 
 pub class-known-spec : {M : Type 1} → statement M
 class-known-spec = tie.close (tie.spec tag-requires returns class-in-requires cast-result returns-2)

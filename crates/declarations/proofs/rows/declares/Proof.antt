@@ -5,6 +5,7 @@ use Prim.Native.Nat.{_≤_, _-_}
 use mathlib.Core.Path.{_≡_, refl}
 use mathlib.Core.Logic.{⊎-elim}
 use lib.ListN.{drop}
+use Rattle.memory.specs.Map as memory
 use Rattle.tables.specs.Layout.{tab}
 use Rattle.declarations.specs.Fields.{namedIn}
 use Rattle.declarations.proofs.KnownLaws.{declares-end, declares-here, declares-name, declares-owner}
@@ -12,7 +13,7 @@ use Rattle.declarations.proofs.rows.declares.Statement.{statement}
 use Rattle.declarations.proofs.rows.declares.Tie as tie
 
 abbrev Inv-loop : tie.InvT-loop
-Inv-loop w0 rows c name i₀ i = (i ≤ rows) × (namedIn (drop i (tab 64 rows w0)) (drop i (tab 128 rows w0)) c name ≡ namedIn (tab 64 rows w0) (tab 128 rows w0) c name)
+Inv-loop w0 rows c name i₀ i = (i ≤ rows) × (namedIn (drop i (tab memory.owners rows w0)) (drop i (tab memory.names rows w0)) c name ≡ namedIn (tab memory.owners rows w0) (tab memory.names rows w0) c name)
 
 abbrev μ-loop : tie.MeasureT-loop
 μ-loop w0 rows c name i₀ i = rows - i
@@ -39,7 +40,7 @@ shared-slice-read-if2 : tie.Need-shared-slice-read-if2 Inv-loop μ-loop
 shared-slice-read-if2 c = search needs
 
 returns : tie.Need-returns Inv-loop μ-loop
-returns c = declares-here (c .before .before .before .before .before .before .args .w0 .now) (c .before .before .before .before .before .before .args .rows) (c .before .before .before .before .before .before .args .c) (c .before .before .before .before .before .before .args .name) (c .before .before .before .before .before .loop .i) (c .before .before .before .before .before .before .pre .0) (c .before .before .before .before .before .before .pre .1) (c .before .before .before .before .before .loop .inv .1) (c .before .before .before .before .loop-test .taken) (c .before .before .if1 .taken) (c .if2 .taken)
+returns c = search declares-here
 
 add-i : tie.Need-add-i Inv-loop μ-loop
 add-i c = search needs
@@ -57,7 +58,7 @@ loop-again c = (
 )
 
 returns-2 : tie.Need-returns-2 Inv-loop μ-loop
-returns-2 c = declares-end (c .before .before .args .w0 .now) (c .before .before .args .rows) (c .before .before .args .c) (c .before .before .args .name) (c .before .loop .i) (c .before .before .pre .0) (c .before .before .pre .1) (c .before .loop .inv .1) (c .loop-test .left)
+returns-2 c = search declares-end
 
 pub declares-spec : {M : Type 1} → statement M
 declares-spec =

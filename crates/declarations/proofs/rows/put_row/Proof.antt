@@ -9,10 +9,10 @@ use Rattle.declarations.proofs.rows.put_row.Statement.{statement}
 use Rattle.declarations.proofs.rows.put_row.Tie as tie
 
 returns : tie.Need-returns
-returns c = λ w1 k. row-block (c .before .before .before .args .st) k (c .before .before .before .args .w0 .now) w1 (c .before .before .before .args .n) (c .before .before .before .args .c) (c .before .before .before .args .name) (tyOf (c .before .before .before .args .t)) (c .before .before .before .pre .2) (c .before .before .before .pre .3) (c .if1 .taken)
+returns c = search (row-block, tyOf)
 
 returns-2 : tie.Need-returns-2
-returns-2 c = λ w1 k. row-gap (c .before .before .before .before .before .args .st) k (c .before .before .before .before .before .args .w0 .now) w1 (c .before .before .before .before .before .args .n) (c .before .before .before .before .before .args .c) (c .before .before .before .before .before .args .name) (tyOf (c .before .before .before .before .before .args .t)) (c .before .before .before .before .before .pre .2) (c .before .before .before .before .before .pre .3) (c .before .before .if1 .left) (c .if2 .taken)
+returns-2 c = search (row-gap, tyOf)
 
 declares-requires : tie.Need-declares-requires
 declares-requires c κs = search needs
@@ -21,13 +21,13 @@ same-length : tie.Need-same-length
 same-length c = search needs
 
 returns-3 : tie.Need-returns-3
-returns-3 c = λ w1 k. row-twice (c .before .before .before .before .before .before .before .before .args .st) k (c .before .before .before .before .before .before .before .before .args .w0 .now) w1 (c .before .before .before .before .before .before .before .before .args .n) (c .before .before .before .before .before .before .before .before .args .c) (c .before .before .before .before .before .before .before .before .args .name) (tyOf (c .before .before .before .before .before .before .before .before .args .t)) (c .before .before .before .before .before .before .before .before .pre .2) (c .before .before .before .before .before .before .before .before .pre .3) (c .before .before .before .before .before .if1 .left) (c .before .before .before .if2 .left) (c .before .declares .ensures) (c .if3 .taken)
+returns-3 c = search (row-twice, tyOf)
 
 same-length-2 : tie.Need-same-length-2
 same-length-2 c = search needs
 
 returns-4 : tie.Need-returns-4
-returns-4 c = λ w1 k. row-unknown (c .before .before .before .before .before .before .before .before .before .before .args .st) k (c .before .before .before .before .before .before .before .before .before .before .args .w0 .now) w1 (c .before .before .before .before .before .before .before .before .before .before .args .n) (c .before .before .before .before .before .before .before .before .before .before .args .c) (c .before .before .before .before .before .before .before .before .before .before .args .name) (tyOf (c .before .before .before .before .before .before .before .before .before .before .args .t)) (c .before .before .before .before .before .before .before .before .before .before .pre .2) (c .before .before .before .before .before .before .before .before .before .before .pre .3) (c .before .before .before .before .before .before .before .if1 .left) (c .before .before .before .before .before .if2 .left) (c .before .before .before .declares .ensures) (c .before .before .if3 .left) (c .if4 .taken)
+returns-4 c = search (row-unknown, tyOf)
 
 class-known-requires : tie.Need-class-known-requires
 class-known-requires c κs = search needs
@@ -36,7 +36,7 @@ same-length-3 : tie.Need-same-length-3
 same-length-3 c = search needs
 
 returns-5 : tie.Need-returns-5
-returns-5 c = λ w1 k. row-unknown-type (c .before .before .before .before .before .before .before .before .before .before .before .before .args .st) k (c .before .before .before .before .before .before .before .before .before .before .before .before .args .w0 .now) w1 (c .before .before .before .before .before .before .before .before .before .before .before .before .args .n) (c .before .before .before .before .before .before .before .before .before .before .before .before .args .c) (c .before .before .before .before .before .before .before .before .before .before .before .before .args .name) (tyOf (c .before .before .before .before .before .before .before .before .before .before .before .before .args .t)) (c .before .before .before .before .before .before .before .before .before .before .before .before .pre .2) (c .before .before .before .before .before .before .before .before .before .before .before .before .pre .3) (c .before .before .before .before .before .before .before .before .before .if1 .left) (c .before .before .before .before .before .before .before .if2 .left) (c .before .before .before .before .before .declares .ensures) (c .before .before .before .before .if3 .left) (c .before .before .if4 .left) (c .before .class-known .ensures) (not-true _ (c .if5 .taken))
+returns-5 c = search (row-unknown-type, tyOf, not-true)
 
 add-w0 : tie.Need-add-w0
 add-w0 c = search needs
@@ -54,7 +54,7 @@ mul-w0-2 : tie.Need-mul-w0-2
 mul-w0-2 c = search needs
 
 slice-write-w0-2 : tie.Need-slice-write-w0-2
-slice-write-w0-2 c = simp length-set (omega (arith, c .before .before .before .before .before .before .before .before .before .before .before .before .pre .0, c .before .before .before .before .before .before .before .before .before .before .before .before .pre .1 .rows, c .before .before .before .before .before .before .before .if2 .left))
+slice-write-w0-2 c = simp length-set (omega arith)
 
 pack-requires : tie.Need-pack-requires
 pack-requires c κs = search needs
@@ -66,7 +66,7 @@ mul-w0-3 : tie.Need-mul-w0-3
 mul-w0-3 c = search needs
 
 slice-write-w0-3 : tie.Need-slice-write-w0-3
-slice-write-w0-3 c = simp length-set (omega (arith, c .before .before .before .before .before .before .before .before .before .before .before .before .before .pre .0, c .before .before .before .before .before .before .before .before .before .before .before .before .before .pre .1 .rows, c .before .before .before .before .before .before .before .before .if2 .left))
+slice-write-w0-3 c = simp length-set (omega arith)
 
 add-next : tie.Need-add-next
 add-next c = search needs
@@ -75,7 +75,7 @@ same-length-4 : tie.Need-same-length-4
 same-length-4 c = search needs
 
 returns-6 : tie.Need-returns-6
-returns-6 c = λ w1 k. row-put (c .before .before .before .before .before .before .before .before .before .before .before .before .before .args .st) k (c .before .before .before .before .before .before .before .before .before .before .before .before .before .args .w0 .now) w1 (c .before .before .before .before .before .before .before .before .before .before .before .before .before .args .n) (c .before .before .before .before .before .before .before .before .before .before .before .before .before .args .c) (c .before .before .before .before .before .before .before .before .before .before .before .before .before .args .name) (tyOf (c .before .before .before .before .before .before .before .before .before .before .before .before .before .args .t)) (c .before .before .before .before .before .before .before .before .before .before .before .before .before .pre .2) (c .before .before .before .before .before .before .before .before .before .before .before .before .before .pre .3) (c .before .before .before .before .before .before .before .before .before .before .if1 .left) (c .before .before .before .before .before .before .before .before .if2 .left) (c .before .before .before .before .before .before .declares .ensures) (c .before .before .before .before .before .if3 .left) (c .before .before .before .if4 .left) (c .before .before .class-known .ensures) (c .pack .result) (not-false _ (c .before .if5 .left)) (c .pack .ensures) (c .before .before .before .before .before .before .before .before .before .before .before .before .before .pre .1) (c .before .before .before .before .before .before .before .before .before .before .before .before .before .pre .0)
+returns-6 c = search (row-put, tyOf, not-false)
 
 pub put-row-spec : {M : Type 1} → statement M
 put-row-spec =

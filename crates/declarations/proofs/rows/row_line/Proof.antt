@@ -11,7 +11,7 @@ use Rattle.declarations.proofs.rows.row_line.Statement.{statement}
 use Rattle.declarations.proofs.rows.row_line.Tie as tie
 
 returns : tie.Need-returns
-returns c = λ w1 k. unspelled (c .before .before .before .before .args .st) k (c .before .before .before .before .args .w0 .now) w1 (c .before .before .before .before .args .line .now) (row-count (c .before .before .before .before .pre .0) (c .if1 .taken))
+returns c = search (unspelled, row-count)
 
 field-requires : tie.Need-field-requires
 field-requires c κs = search needs
@@ -26,7 +26,12 @@ enum-told : tie.Need-enum-told
 enum-told c = search needs
 
 returns-2 : tie.Need-returns-2
-returns-2 c = λ w1 k. unspelled (c .before .before .before .before .before .before .before .before .args .st) k (c .before .before .before .before .before .before .before .before .args .w0 .now) w1 (c .before .before .before .before .before .before .before .before .args .line .now) (row-number (c .before .before .before .before .before .before .before .before .pre .0) (c .before .before .before .before .if1 .left) (c .before .before .before .field .ensures) (sym (c .enum-told .given .1) ∙ c .before .before .number .ensures))
+returns-2 c =
+    let at-number = c .before .before in
+    let at-field = at-number .before in
+    let at-if1 = at-field .before in
+    let at-start = at-if1 .before .before .before .before in
+    λ w1 k. unspelled (at-start .args .st) k (at-start .args .w0 .now) w1 (at-start .args .line .now) (row-number (at-start .pre .0) (at-if1 .if1 .left) (at-field .field .ensures) (sym (c .enum-told .given .1) ∙ at-number .number .ensures))
 
 field-requires-2 : tie.Need-field-requires-2
 field-requires-2 c κs = search needs
@@ -41,7 +46,15 @@ enum-told-2 : tie.Need-enum-told-2
 enum-told-2 c = search needs
 
 returns-3 : tie.Need-returns-3
-returns-3 c = λ w1 k. unspelled (c .before .before .before .before .before .before .before .before .before .before .before .before .before .args .st) k (c .before .before .before .before .before .before .before .before .before .before .before .before .before .args .w0 .now) w1 (c .before .before .before .before .before .before .before .before .before .before .before .before .before .args .line .now) (row-class (c .before .before .before .before .before .before .before .before .before .before .before .before .before .pre .0) (c .before .before .before .before .before .before .before .before .before .if1 .left) (c .before .before .before .before .before .before .before .before .field .ensures) (c .before .before .before .field2 .ensures) (sym (c .before .before .before .before .before .n .given .1) ∙ c .before .before .before .before .before .before .before .number .ensures) (sym (c .enum-told2 .given .1) ∙ c .before .before .number2 .ensures))
+returns-3 c =
+    let at-number2 = c .before .before in
+    let at-field2 = at-number2 .before in
+    let at-n = at-field2 .before .before in
+    let at-number = at-n .before .before in
+    let at-field = at-number .before in
+    let at-if1 = at-field .before in
+    let at-start = at-if1 .before .before .before .before in
+    λ w1 k. unspelled (at-start .args .st) k (at-start .args .w0 .now) w1 (at-start .args .line .now) (row-class (at-start .pre .0) (at-if1 .if1 .left) (at-field .field .ensures) (at-field2 .field2 .ensures) (sym (at-n .n .given .1) ∙ at-number .number .ensures) (sym (c .enum-told2 .given .1) ∙ at-number2 .number2 .ensures))
 
 field-requires-3 : tie.Need-field-requires-3
 field-requires-3 c κs = search needs
@@ -56,7 +69,18 @@ enum-told-3 : tie.Need-enum-told-3
 enum-told-3 c = search needs
 
 returns-4 : tie.Need-returns-4
-returns-4 c = λ w1 k. unspelled (c .before .before .before .before .before .before .before .before .before .before .before .before .before .before .before .before .before .before .args .st) k (c .before .before .before .before .before .before .before .before .before .before .before .before .before .before .before .before .before .before .args .w0 .now) w1 (c .before .before .before .before .before .before .before .before .before .before .before .before .before .before .before .before .before .before .args .line .now) (row-name (c .before .before .before .before .before .before .before .before .before .before .before .before .before .before .before .before .before .before .pre .0) (c .before .before .before .before .before .before .before .before .before .before .before .before .before .before .if1 .left) (c .before .before .before .before .before .before .before .before .before .before .before .before .before .field .ensures) (c .before .before .before .before .before .before .before .before .field2 .ensures) (sym (c .before .before .before .before .before .before .before .before .before .before .n .given .1) ∙ c .before .before .before .before .before .before .before .before .before .before .before .before .number .ensures) (c .before .before .before .field3 .ensures) (sym (c .before .before .before .before .before .c .given .1) ∙ c .before .before .before .before .before .before .before .number2 .ensures) (sym (c .enum-told3 .given .1) ∙ c .before .before .number3 .ensures))
+returns-4 c =
+    let at-number3 = c .before .before in
+    let at-field3 = at-number3 .before in
+    let at-c = at-field3 .before .before in
+    let at-number2 = at-c .before .before in
+    let at-field2 = at-number2 .before in
+    let at-n = at-field2 .before .before in
+    let at-number = at-n .before .before in
+    let at-field = at-number .before in
+    let at-if1 = at-field .before in
+    let at-start = at-if1 .before .before .before .before in
+    λ w1 k. unspelled (at-start .args .st) k (at-start .args .w0 .now) w1 (at-start .args .line .now) (row-name (at-start .pre .0) (at-if1 .if1 .left) (at-field .field .ensures) (at-field2 .field2 .ensures) (sym (at-n .n .given .1) ∙ at-number .number .ensures) (at-field3 .field3 .ensures) (sym (at-c .c .given .1) ∙ at-number2 .number2 .ensures) (sym (c .enum-told3 .given .1) ∙ at-number3 .number3 .ensures))
 
 field-requires-4 : tie.Need-field-requires-4
 field-requires-4 c κs = search needs
@@ -77,22 +101,91 @@ numbers-within-requires : tie.Need-numbers-within-requires
 numbers-within-requires c κs = search needs
 
 put-row-requires : tie.Need-put-row-requires
-put-row-requires c κs = (c .before .before .before .before .before .before .before .before .before .before .before .before .before .before .before .before .before .before .before .before .before .before .before .before .before .before .before .pre .1, c .before .before .before .before .before .before .before .before .before .before .before .before .before .before .before .before .before .before .before .before .before .before .before .before .before .before .before .pre .2, sym (c .before .before .numbers-within .ensures) ∙ c .before .if2 .taken, (read-is (readType (c .before .before .before .before .before .before .before .field4 .result .now)) (c .before .before .before .before .before .before .read-type .ensures) (c .before .before .before .before .t .given .0 .0) (c .before .before .before .before .t .given .1)) .1)
+put-row-requires c κs =
+    let at-if2 = c .before in
+    let at-numbers-within = at-if2 .before in
+    let at-t = at-numbers-within .before .before in
+    let at-read-type = at-t .before .before in
+    let at-field4 = at-read-type .before in
+    let at-start = at-field4 .before .before .before .before .before .before .before .before .before .before .before .before .before .before .before .before .before .before .before .before in
+    (at-start .pre .1, at-start .pre .2, sym (at-numbers-within .numbers-within .ensures) ∙ at-if2 .if2 .taken, (read-is (readType (at-field4 .field4 .result .now)) (at-read-type .read-type .ensures) (at-t .t .given .0 .0) (at-t .t .given .1)) .1)
 
 returns-5 : tie.Need-returns-5
-returns-5 c = λ w1 k. unspelled (c .before .before .before .before .before .before .before .before .before .before .before .before .before .before .before .before .before .before .before .before .before .before .before .args .st) k (c .before .before .before .before .before .before .before .before .before .before .before .before .before .before .before .before .before .before .before .before .before .before .before .args .w0 .now) w1 (c .before .before .before .before .before .before .before .before .before .before .before .before .before .before .before .before .before .before .before .before .before .before .before .args .line .now) (row-type (c .before .before .before .before .before .before .before .before .before .before .before .before .before .before .before .before .before .before .before .before .before .before .before .pre .0) (c .before .before .before .before .before .before .before .before .before .before .before .before .before .before .before .before .before .before .before .if1 .left) (c .before .before .before .before .before .before .before .before .before .before .before .before .before .before .before .before .before .before .field .ensures) (c .before .before .before .before .before .before .before .before .before .before .before .before .before .field2 .ensures) (sym (c .before .before .before .before .before .before .before .before .before .before .before .before .before .before .before .n .given .1) ∙ c .before .before .before .before .before .before .before .before .before .before .before .before .before .before .before .before .before .number .ensures) (c .before .before .before .before .before .before .before .before .field3 .ensures) (sym (c .before .before .before .before .before .before .before .before .before .before .c .given .1) ∙ c .before .before .before .before .before .before .before .before .before .before .before .before .number2 .ensures) (c .before .before .before .field4 .ensures) (sym (c .before .before .before .before .before .name .given .1) ∙ c .before .before .before .before .before .before .before .number3 .ensures) (read-bad (readType (c .before .before .before .field4 .result .now)) (c .before .before .read-type .ensures) (c .enum-told4 .given .1)))
+returns-5 c =
+    let at-read-type = c .before .before in
+    let at-field4 = at-read-type .before in
+    let at-name = at-field4 .before .before in
+    let at-number3 = at-name .before .before in
+    let at-field3 = at-number3 .before in
+    let at-c = at-field3 .before .before in
+    let at-number2 = at-c .before .before in
+    let at-field2 = at-number2 .before in
+    let at-n = at-field2 .before .before in
+    let at-number = at-n .before .before in
+    let at-field = at-number .before in
+    let at-if1 = at-field .before in
+    let at-start = at-if1 .before .before .before .before in
+    λ w1 k. unspelled (at-start .args .st) k (at-start .args .w0 .now) w1 (at-start .args .line .now) (row-type (at-start .pre .0) (at-if1 .if1 .left) (at-field .field .ensures) (at-field2 .field2 .ensures) (sym (at-n .n .given .1) ∙ at-number .number .ensures) (at-field3 .field3 .ensures) (sym (at-c .c .given .1) ∙ at-number2 .number2 .ensures) (at-field4 .field4 .ensures) (sym (at-name .name .given .1) ∙ at-number3 .number3 .ensures) (read-bad (readType (at-field4 .field4 .result .now)) (at-read-type .read-type .ensures) (c .enum-told4 .given .1)))
 
 returns-6 : tie.Need-returns-6
-returns-6 c = λ w1 k. let t = (read-big (readType (c .before .before .before .field4 .result .now)) (c .before .before .read-type .ensures) (c .enum-told5 .given .1)) in spelled (c .before .before .before .before .before .before .before .before .before .before .before .before .before .before .before .before .before .before .before .before .before .before .before .args .line .now) (row-plain _ _ _ _) (row-spelled (c .before .before .before .before .before .before .before .before .before .before .before .before .before .before .before .before .before .before .before .before .before .before .before .pre .0) (c .before .before .before .before .before .before .before .before .before .before .before .before .before .before .before .before .before .before .before .if1 .left) (c .before .before .before .before .before .before .before .before .before .before .before .before .before .before .before .before .before .before .field .ensures) (c .before .before .before .before .before .before .before .before .before .before .before .before .before .field2 .ensures) (sym (c .before .before .before .before .before .before .before .before .before .before .before .before .before .before .before .n .given .1) ∙ c .before .before .before .before .before .before .before .before .before .before .before .before .before .before .before .before .before .number .ensures) (c .before .before .before .before .before .before .before .before .field3 .ensures) (sym (c .before .before .before .before .before .before .before .before .before .before .c .given .1) ∙ c .before .before .before .before .before .before .before .before .before .before .before .before .number2 .ensures) (c .before .before .before .field4 .ensures) (sym (c .before .before .before .before .before .name .given .1) ∙ c .before .before .before .before .before .before .before .number3 .ensures) (t .1)) (row-over-type (c .before .before .before .before .before .before .before .before .before .before .before .before .before .before .before .before .before .before .before .before .before .before .before .args .st) k (c .before .before .before .before .before .before .before .before .before .before .before .before .before .before .before .before .before .before .before .before .before .before .before .args .w0 .now) w1 _ _ _ _ (t .2))
+returns-6 c =
+    let at-read-type = c .before .before in
+    let at-field4 = at-read-type .before in
+    let at-name = at-field4 .before .before in
+    let at-number3 = at-name .before .before in
+    let at-field3 = at-number3 .before in
+    let at-c = at-field3 .before .before in
+    let at-number2 = at-c .before .before in
+    let at-field2 = at-number2 .before in
+    let at-n = at-field2 .before .before in
+    let at-number = at-n .before .before in
+    let at-field = at-number .before in
+    let at-if1 = at-field .before in
+    let at-start = at-if1 .before .before .before .before in
+    λ w1 k. let t = (read-big (readType (at-field4 .field4 .result .now)) (at-read-type .read-type .ensures) (c .enum-told5 .given .1)) in spelled (at-start .args .line .now) (row-plain _ _ _ _) (row-spelled (at-start .pre .0) (at-if1 .if1 .left) (at-field .field .ensures) (at-field2 .field2 .ensures) (sym (at-n .n .given .1) ∙ at-number .number .ensures) (at-field3 .field3 .ensures) (sym (at-c .c .given .1) ∙ at-number2 .number2 .ensures) (at-field4 .field4 .ensures) (sym (at-name .name .given .1) ∙ at-number3 .number3 .ensures) (t .1)) (row-over-type (at-start .args .st) k (at-start .args .w0 .now) w1 _ _ _ _ (t .2))
 
 same-length : tie.Need-same-length
 same-length c = search needs
 
 returns-7 : tie.Need-returns-7
-returns-7 c = λ w1 k. let t = (read-is (readType (c .before .before .before .before .before .before .before .before .before .before .field4 .result .now)) (c .before .before .before .before .before .before .before .before .before .read-type .ensures) (c .before .before .before .before .before .before .before .t .given .0 .0) (c .before .before .before .before .before .before .before .t .given .1)) in let low = (are-low (c .before .before .before .before .before .before .before .before .before .before .before .before .before .before .before .before .before .before .before .before .before .before .n .given .0 .0) (c .before .before .before .before .before .before .before .before .before .before .before .before .before .before .before .before .before .c .given .0 .0) (c .before .before .before .before .before .before .before .before .before .before .before .before .name .given .0 .0) (sym (c .before .before .before .before .before .numbers-within .ensures) ∙ c .before .before .before .before .if2 .taken)) in spelled (c .before .before .before .before .before .before .before .before .before .before .before .before .before .before .before .before .before .before .before .before .before .before .before .before .before .before .before .before .before .before .args .line .now) (row-plain _ _ _ _) (row-exact (c .before .before .before .before .before .before .before .before .before .before .before .before .before .before .before .before .before .before .before .before .before .before .before .before .before .before .before .before .before .before .pre .0) (c .before .before .before .before .before .before .before .before .before .before .before .before .before .before .before .before .before .before .before .before .before .before .before .before .before .before .if1 .left) (c .before .before .before .before .before .before .before .before .before .before .before .before .before .before .before .before .before .before .before .before .before .before .before .before .before .field .ensures) (c .before .before .before .before .before .before .before .before .before .before .before .before .before .before .before .before .before .before .before .before .field2 .ensures) (sym (c .before .before .before .before .before .before .before .before .before .before .before .before .before .before .before .before .before .before .before .before .before .before .n .given .1) ∙ c .before .before .before .before .before .before .before .before .before .before .before .before .before .before .before .before .before .before .before .before .before .before .before .before .number .ensures) (c .before .before .before .before .before .before .before .before .before .before .before .before .before .before .before .field3 .ensures) (sym (c .before .before .before .before .before .before .before .before .before .before .before .before .before .before .before .before .before .c .given .1) ∙ c .before .before .before .before .before .before .before .before .before .before .before .before .before .before .before .before .before .before .before .number2 .ensures) (c .before .before .before .before .before .before .before .before .before .before .field4 .ensures) (sym (c .before .before .before .before .before .before .before .before .before .before .before .before .name .given .1) ∙ c .before .before .before .before .before .before .before .before .before .before .before .before .before .before .number3 .ensures) (t .0) (low .number) (low .class) (low .named)) (c .before .before .put-row .ensures w1 k)
+returns-7 c =
+    let at-put-row = c .before .before in
+    let at-if2 = at-put-row .before .before in
+    let at-numbers-within = at-if2 .before in
+    let at-t = at-numbers-within .before .before in
+    let at-read-type = at-t .before .before in
+    let at-field4 = at-read-type .before in
+    let at-name = at-field4 .before .before in
+    let at-number3 = at-name .before .before in
+    let at-field3 = at-number3 .before in
+    let at-c = at-field3 .before .before in
+    let at-number2 = at-c .before .before in
+    let at-field2 = at-number2 .before in
+    let at-n = at-field2 .before .before in
+    let at-number = at-n .before .before in
+    let at-field = at-number .before in
+    let at-if1 = at-field .before in
+    let at-start = at-if1 .before .before .before .before in
+    λ w1 k. let t = (read-is (readType (at-field4 .field4 .result .now)) (at-read-type .read-type .ensures) (at-t .t .given .0 .0) (at-t .t .given .1)) in let low = (are-low (at-n .n .given .0 .0) (at-c .c .given .0 .0) (at-name .name .given .0 .0) (sym (at-numbers-within .numbers-within .ensures) ∙ at-if2 .if2 .taken)) in spelled (at-start .args .line .now) (row-plain _ _ _ _) (row-exact (at-start .pre .0) (at-if1 .if1 .left) (at-field .field .ensures) (at-field2 .field2 .ensures) (sym (at-n .n .given .1) ∙ at-number .number .ensures) (at-field3 .field3 .ensures) (sym (at-c .c .given .1) ∙ at-number2 .number2 .ensures) (at-field4 .field4 .ensures) (sym (at-name .name .given .1) ∙ at-number3 .number3 .ensures) (t .0) (low .number) (low .class) (low .named)) (at-put-row .put-row .ensures w1 k)
 
 returns-8 : tie.Need-returns-8
-returns-8 c = λ w1 k. let t = (read-is (readType (c .before .before .before .before .before .before .field4 .result .now)) (c .before .before .before .before .before .read-type .ensures) (c .before .before .before .t .given .0 .0) (c .before .before .before .t .given .1)) in spelled (c .before .before .before .before .before .before .before .before .before .before .before .before .before .before .before .before .before .before .before .before .before .before .before .before .before .before .args .line .now) (row-plain _ _ _ _) (row-spelled (c .before .before .before .before .before .before .before .before .before .before .before .before .before .before .before .before .before .before .before .before .before .before .before .before .before .before .pre .0) (c .before .before .before .before .before .before .before .before .before .before .before .before .before .before .before .before .before .before .before .before .before .before .if1 .left) (c .before .before .before .before .before .before .before .before .before .before .before .before .before .before .before .before .before .before .before .before .before .field .ensures) (c .before .before .before .before .before .before .before .before .before .before .before .before .before .before .before .before .field2 .ensures) (sym (c .before .before .before .before .before .before .before .before .before .before .before .before .before .before .before .before .before .before .n .given .1) ∙ c .before .before .before .before .before .before .before .before .before .before .before .before .before .before .before .before .before .before .before .before .number .ensures) (c .before .before .before .before .before .before .before .before .before .before .before .field3 .ensures) (sym (c .before .before .before .before .before .before .before .before .before .before .before .before .before .c .given .1) ∙ c .before .before .before .before .before .before .before .before .before .before .before .before .before .before .before .number2 .ensures) (c .before .before .before .before .before .before .field4 .ensures) (sym (c .before .before .before .before .before .before .before .before .name .given .1) ∙ c .before .before .before .before .before .before .before .before .before .before .number3 .ensures) (t .0)) (row-over (c .before .before .before .before .before .before .before .before .before .before .before .before .before .before .before .before .before .before .before .before .before .before .before .before .before .before .args .st) k (c .before .before .before .before .before .before .before .before .before .before .before .before .before .before .before .before .before .before .before .before .before .before .before .before .before .before .args .w0 .now) w1 _ _ _ _ (num-cut _ (sym (c .before .before .before .before .before .before .before .before .before .before .before .before .before .before .before .before .before .before .n .given .1) ∙ c .before .before .before .before .before .before .before .before .before .before .before .before .before .before .before .before .before .before .before .before .number .ensures)) (num-cut _ (sym (c .before .before .before .before .before .before .before .before .before .before .before .before .before .c .given .1) ∙ c .before .before .before .before .before .before .before .before .before .before .before .before .before .before .before .number2 .ensures)) (num-cut _ (sym (c .before .before .before .before .before .before .before .before .name .given .1) ∙ c .before .before .before .before .before .before .before .before .before .before .number3 .ensures)) (sym (c .before .numbers-within .ensures) ∙ c .if2 .left))
+returns-8 c =
+    let at-numbers-within = c .before in
+    let at-t = at-numbers-within .before .before in
+    let at-read-type = at-t .before .before in
+    let at-field4 = at-read-type .before in
+    let at-name = at-field4 .before .before in
+    let at-number3 = at-name .before .before in
+    let at-field3 = at-number3 .before in
+    let at-c = at-field3 .before .before in
+    let at-number2 = at-c .before .before in
+    let at-field2 = at-number2 .before in
+    let at-n = at-field2 .before .before in
+    let at-number = at-n .before .before in
+    let at-field = at-number .before in
+    let at-if1 = at-field .before in
+    let at-start = at-if1 .before .before .before .before in
+    λ w1 k. let t = (read-is (readType (at-field4 .field4 .result .now)) (at-read-type .read-type .ensures) (at-t .t .given .0 .0) (at-t .t .given .1)) in spelled (at-start .args .line .now) (row-plain _ _ _ _) (row-spelled (at-start .pre .0) (at-if1 .if1 .left) (at-field .field .ensures) (at-field2 .field2 .ensures) (sym (at-n .n .given .1) ∙ at-number .number .ensures) (at-field3 .field3 .ensures) (sym (at-c .c .given .1) ∙ at-number2 .number2 .ensures) (at-field4 .field4 .ensures) (sym (at-name .name .given .1) ∙ at-number3 .number3 .ensures) (t .0)) (row-over (at-start .args .st) k (at-start .args .w0 .now) w1 _ _ _ _ (num-cut _ (sym (at-n .n .given .1) ∙ at-number .number .ensures)) (num-cut _ (sym (at-c .c .given .1) ∙ at-number2 .number2 .ensures)) (num-cut _ (sym (at-name .name .given .1) ∙ at-number3 .number3 .ensures)) (sym (at-numbers-within .numbers-within .ensures) ∙ c .if2 .left))
 
 pub row-line-spec : {M : Type 1} → statement M
 row-line-spec =

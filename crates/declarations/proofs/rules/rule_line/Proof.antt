@@ -21,13 +21,25 @@ enum-known-n-2 : tie.Need-enum-known-n-2
 enum-known-n-2 c = search needs
 
 open-rule-requires : tie.Need-open-rule-requires
-open-rule-requires c κs = let p = pair-within 64 (twoNumbers (drop 1 (fieldsOf (c .before .before .before .before .before .args .line .now)))) (sym (c .before .n2 .given .1) ∙ c .before .before .before .read-pair .ensures) in (c .before .before .before .before .before .pre .1, p .low, p .class)
+open-rule-requires c κs =
+    let at-n2 = c .before in
+    let at-read-pair = at-n2 .before .before in
+    let at-start = at-read-pair .before .before in
+    let p = pair-within 64 (twoNumbers (drop 1 (fieldsOf (at-start .args .line .now)))) (sym (at-n2 .n2 .given .1) ∙ at-read-pair .read-pair .ensures) in (at-start .pre .1, p .low, p .class)
 
 returns : tie.Need-returns
-returns c = λ w0 w1 k. pair-stopped (c .before .before .before .before .before .args .st) k w0 w1 (c .before .before .before .before .before .args .line .now) (twoNumbers (drop 1 (fieldsOf (c .before .before .before .before .before .args .line .now)))) ruleLine 64 (rule-fields _ (c .before .before .before .before .before .pre .0 .is-letter)) rule-plain rule-limits (sym (c .before .n .given .1) ∙ c .before .before .before .read-pair .ensures)
+returns c =
+    let at-n = c .before in
+    let at-read-pair = at-n .before .before in
+    let at-start = at-read-pair .before .before in
+    λ w0 w1 k. pair-stopped (at-start .args .st) k w0 w1 (at-start .args .line .now) (twoNumbers (drop 1 (fieldsOf (at-start .args .line .now)))) ruleLine 64 (rule-fields _ (at-start .pre .0 .is-letter)) rule-plain rule-limits (sym (at-n .n .given .1) ∙ at-read-pair .read-pair .ensures)
 
 returns-2 : tie.Need-returns-2
-returns-2 c = λ w0 w1 k. pair-taken (c .before .before .before .before .before .before .args .st) k w0 w1 (c .before .before .before .before .before .before .args .line .now) (twoNumbers (drop 1 (fieldsOf (c .before .before .before .before .before .before .args .line .now)))) ruleLine 64 (rule-fields _ (c .before .before .before .before .before .before .pre .0 .is-letter)) rule-plain rule-limits (pair-within 64 (twoNumbers (drop 1 (fieldsOf (c .before .before .before .before .before .before .args .line .now)))) (sym (c .before .before .n2 .given .1) ∙ c .before .before .before .before .read-pair .ensures) .are) (c .open-rule .ensures w0 w1 k)
+returns-2 c =
+    let at-n2 = c .before .before in
+    let at-read-pair = at-n2 .before .before in
+    let at-start = at-read-pair .before .before in
+    λ w0 w1 k. pair-taken (at-start .args .st) k w0 w1 (at-start .args .line .now) (twoNumbers (drop 1 (fieldsOf (at-start .args .line .now)))) ruleLine 64 (rule-fields _ (at-start .pre .0 .is-letter)) rule-plain rule-limits (pair-within 64 (twoNumbers (drop 1 (fieldsOf (at-start .args .line .now)))) (sym (at-n2 .n2 .given .1) ∙ at-read-pair .read-pair .ensures) .are) (c .open-rule .ensures w0 w1 k)
 
 pub rule-line-spec : {M : Type 1} → statement M
 rule-line-spec =

@@ -8,7 +8,7 @@ use native.Mathlib.Omega.{arith}
 use Rattle.evaluation.proofs.walk.below.Reads as below
 use Rattle.evaluation.proofs.bind.call.Reads as call
 use Rattle.nodes.proofs.node_word.Reads as node-word-reads
-use Rattle.operations.proofs.lookup.is_object.Reads as is-object-reads
+use Rattle.outcomes.proofs.lookup.is_object.Reads as is-object-reads
 use Rattle.values.proofs.cells.slide.Reads as slide-reads
 use Rattle.evaluation.proofs.+bind-call+bind-fold+bind-iter+bind-let_in+bind-quantified+bind-seek+lazy-conditional+lazy-connective+lazy-right+walk-below+walk-binary+walk-coll+walk-node+walk-unary+walk-word.Lts-bind-call as lts
 use Rattle.evaluation.proofs.+bind-call+bind-fold+bind-iter+bind-let_in+bind-quantified+bind-seek+lazy-conditional+lazy-connective+lazy-right+walk-below+walk-binary+walk-coll+walk-node+walk-unary+walk-word.Proof.Base.{below-below, call-at}

@@ -10,7 +10,7 @@ use Rattle.evaluation.proofs.walk.below.Reads as below
 use Rattle.values.proofs.cells.push.Reads as push-reads
 use Rattle.evaluation.proofs.bind.seek.Reads as seeking
 use Rattle.values.proofs.cells.skip.Reads as skip-reads
-use Rattle.operations.proofs.answers.truth.Reads as truth-reads
+use Rattle.outcomes.proofs.answers.truth.Reads as truth-reads
 use Rattle.evaluation.proofs.+bind-call+bind-fold+bind-iter+bind-let_in+bind-quantified+bind-seek+lazy-conditional+lazy-connective+lazy-right+walk-below+walk-binary+walk-coll+walk-node+walk-unary+walk-word.Lts-bind-seek as lts
 use Rattle.evaluation.proofs.+bind-call+bind-fold+bind-iter+bind-let_in+bind-quantified+bind-seek+lazy-conditional+lazy-connective+lazy-right+walk-below+walk-binary+walk-coll+walk-node+walk-unary+walk-word.Proof.Base.{below-below, seek-at}
 

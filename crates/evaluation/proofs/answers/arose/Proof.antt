@@ -1,7 +1,7 @@
 -- `evaluation::answers::arose` meets its contract. Assumes nothing.
 use mathlib.Core.Path.{sym, ap}
 use borrow.Author.Needs.{needs}
-use Rattle.operations.specs.declared.Ended.{Ended}
+use Rattle.outcomes.specs.declared.Ended.{Ended}
 use Rattle.evaluation.specs.Traces.{arisen}
 use Rattle.evaluation.proofs.answers.arose.Statement.{statement}
 use Rattle.evaluation.proofs.answers.arose.Tie as tie

@@ -18,17 +18,21 @@ misspelled-requires : tie.Need-misspelled-requires
 misspelled-requires c κs = search needs
 
 returns : tie.Need-returns
-returns c = self-leaf (c .before .before .before .pre) (c .before .match .keys1) (c .built .ensures)
+returns c = search self-leaf
 
 returns-2 : tie.Need-returns-2
 returns-2 c = search needs
 
 returns-3 : tie.Need-returns-3
-returns-3 c = constant-leaf (c .before .before .before .before .pre) (c .before .if1 .taken) (c .built2 .ensures)
+returns-3 c = search constant-leaf
 
 returns-4 : tie.Need-returns-4
 unfolding mapSome
-returns-4 c = rw (no-leaf (c .before .before .before .before .pre) (c .before .if1 .left) (c .before .before .match .rest .0 .1) (c .before .before .match .rest .1)) (c .misspelled .ensures _)
+returns-4 c =
+    let at-if1 = c .before in
+    let at-match = at-if1 .before in
+    let at-start = at-match .before .before in
+    rw (no-leaf (at-start .pre) (at-if1 .if1 .left) (at-match .match .rest .0 .1) (at-match .match .rest .1)) (c .misspelled .ensures _)
 
 pub leaf-spec : {M : Type 1} → statement M
 leaf-spec =

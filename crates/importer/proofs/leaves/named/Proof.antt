@@ -7,7 +7,9 @@ use Rattle.importer.proofs.leaves.named.Statement.{statement}
 use Rattle.importer.proofs.leaves.named.Tie as tie
 
 shared-slice-read-b : tie.Need-shared-slice-read-b
-shared-slice-read-b c = omega (arith, (c .before .before .pre) .0 .one (coded-one (c .before .before .pre .0) (c .before .before .pre .1)) .0, (c .before .before .pre) .0 .within)
+shared-slice-read-b c =
+    let at-start = c .before .before in
+    omega (arith, (at-start .pre) .0 .one (coded-one (at-start .pre .0) (at-start .pre .1)) .0, (at-start .pre) .0 .within)
 
 sub-real-literal : tie.Need-sub-real-literal
 sub-real-literal c = search needs
@@ -25,7 +27,11 @@ number-form-requires : tie.Need-number-form-requires
 number-form-requires c κs = search needs
 
 returns : tie.Need-returns
-returns c = real-read (c .before .before .before .before .before .before .pre .0) (c .before .before .before .before .before .before .pre .1) (c .before .before .before .if1 .taken) (c .number-form .ensures _ (c .before .real-literal .ensures))
+returns c =
+    let at-real-literal = c .before in
+    let at-if1 = at-real-literal .before .before in
+    let at-start = at-if1 .before .before .before in
+    real-read (at-start .pre .0) (at-start .pre .1) (at-if1 .if1 .taken) (c .number-form .ensures _ (at-real-literal .real-literal .ensures))
 
 is-digit-requires : tie.Need-is-digit-requires
 is-digit-requires c κs = search needs
@@ -49,13 +55,19 @@ number-form-requires-2 : tie.Need-number-form-requires-2
 number-form-requires-2 c κs = search needs
 
 returns-2 : tie.Need-returns-2
-returns-2 c = digit-read (c .before .before .before .before .before .before .before .before .before .pre .0) (c .before .before .before .before .before .before .before .before .before .pre .1) (c .before .before .before .before .before .is-digit .ensures) (c .before .before .before .before .if2 .taken) (c .number-form2 .ensures _ (c .before .integer-literal .ensures _ (c .before .before .integer .ensures)))
+returns-2 c =
+    let at-integer-literal = c .before in
+    let at-integer = at-integer-literal .before in
+    let at-if2 = at-integer .before .before in
+    let at-is-digit = at-if2 .before in
+    let at-start = at-is-digit .before .before .before .before in
+    digit-read (at-start .pre .0) (at-start .pre .1) (at-is-digit .is-digit .ensures) (at-if2 .if2 .taken) (c .number-form2 .ensures _ (at-integer-literal .integer-literal .ensures _ (at-integer .integer .ensures)))
 
 variable-requires : tie.Need-variable-requires
 variable-requires c κs = search needs
 
 returns-3 : tie.Need-returns-3
-returns-3 c = variable-read (c .before .before .before .before .before .before .pre .0) (c .before .before .before .before .before .before .pre .1) (c .before .before .is-digit .ensures) (c .before .before .before .if1 .left) (c .before .if2 .left) (c .variable .ensures)
+returns-3 c = search variable-read
 
 pub named-spec : {M : Type 1} → statement M
 named-spec =

@@ -16,28 +16,37 @@ loop-holds : tie.Need-loop-holds Inv-loop μ-loop
 loop-holds c = (negate-start _ _ _, omega arith)
 
 add-loop : tie.Need-add-loop Inv-loop μ-loop
-add-loop c = omega (arith, c .before .before .pre .2)
+add-loop c = omega arith
 
 sub-t13 : tie.Need-sub-t13 Inv-loop μ-loop
-sub-t13 c = omega (arith, c .before .before .before .before .pre .1, c .before .before .loop .inv .0 .from)
+sub-t13 c = omega arith
 
 built-requires : tie.Need-built-requires Inv-loop μ-loop
 built-requires c κs = refl
 
 emit-requires : tie.Need-emit-requires Inv-loop μ-loop
-emit-requires c κs = (omega (arith, c .before .before .before .loop .inv .0 .kept .kept .size, c .before .before .before .before .before .pre .0), c .built .ensures .fine .size, c .built .ensures .fine .few, c .built .ensures .fine .classes)
+emit-requires c κs =
+    let at-loop = c .before .before .before in
+    let at-start = at-loop .before .before in
+    (omega (arith, at-loop .loop .inv .0 .kept .kept .size, at-start .pre .0), c .built .ensures .fine .size, c .built .ensures .fine .few, c .built .ensures .fine .classes)
 
 add-m : tie.Need-add-m Inv-loop μ-loop
-add-m c = omega (arith, c .before .before .before .before .before .before .before .before .pre .2, c .before .before .before .before .before .loop-test .taken)
+add-m c = omega arith
 
 loop-less : tie.Need-loop-less Inv-loop μ-loop
-loop-less c = omega (arith, c .before .before .before .before .before .loop-test .taken)
+loop-less c = omega arith
 
 loop-again : tie.Need-loop-again Inv-loop μ-loop
-loop-again c = (negate-next _ _ _ (c .before .before .before .before .before .before .loop .inv .0) (c .before .before .before .before .before .before .before .before .pre .1) (c .before .before .before .built .ensures) (c .before .before .emit .ensures), omega (arith, c .before .before .before .before .before .loop-test .taken))
+loop-again c =
+    let at-emit = c .before .before in
+    let at-built = at-emit .before in
+    let at-loop-test = at-built .before .before in
+    let at-loop = at-loop-test .before in
+    let at-start = at-loop .before .before in
+    (negate-next _ _ _ (at-loop .loop .inv .0) (at-start .pre .1) (at-built .built .ensures) (at-emit .emit .ensures), omega (arith, at-loop-test .loop-test .taken))
 
 same-length : tie.Need-same-length Inv-loop μ-loop
-same-length c = c .before .loop .inv .0 .kept .kept .size
+same-length c = cc
 
 returns : tie.Need-returns Inv-loop μ-loop
 returns c = negate-end _ _ _ (c .before .loop .inv .0) (omega (arith, c .before .loop .inv .1, c .loop-test .left))

@@ -14,7 +14,7 @@ abbrev μ-loop : tie.MeasureT-loop
 μ-loop s u₀ n₀ u n = length s - u .start
 
 loop-holds : tie.Need-loop-holds Inv-loop μ-loop
-loop-holds c = noted-none (c .before .pre)
+loop-holds c = search noted-none
 
 after-requires : tie.Need-after-requires Inv-loop μ-loop
 after-requires c κs = (c .loop .inv .ahead, λ e. omega arith)
@@ -23,19 +23,23 @@ enum-known-not : tie.Need-enum-known-not Inv-loop μ-loop
 enum-known-not c = search needs
 
 add-n : tie.Need-add-n Inv-loop μ-loop
-add-n c = omega (arith, noted-small (noted-next (c .before .before .before .before .loop .inv) (c .before .before .before .after .ensures) (c .before .not .given .1)))
+add-n c = search (noted-small, noted-next, needs)
 
 loop-less : tie.Need-loop-less Inv-loop μ-loop
-loop-less c = omega (arith, noted-less (c .before .before .before .after .ensures) (c .before .not .given .1), noted-next (c .before .before .before .before .loop .inv) (c .before .before .before .after .ensures) (c .before .not .given .1) .ahead .order, noted-next (c .before .before .before .before .loop .inv) (c .before .before .before .after .ensures) (c .before .not .given .1) .ahead .within)
+loop-less c =
+    let at-not = c .before in
+    let at-after = at-not .before .before in
+    let at-loop = at-after .before in
+    omega (arith, noted-less (at-after .after .ensures) (at-not .not .given .1), noted-next (at-loop .loop .inv) (at-after .after .ensures) (at-not .not .given .1) .ahead .order, noted-next (at-loop .loop .inv) (at-after .after .ensures) (at-not .not .given .1) .ahead .within)
 
 loop-again : tie.Need-loop-again Inv-loop μ-loop
-loop-again c = noted-next (c .before .before .before .before .loop .inv) (c .before .before .before .after .ensures) (c .before .not .given .1)
+loop-again c = search noted-next
 
 enum-told : tie.Need-enum-told Inv-loop μ-loop
 enum-told c = search needs
 
 returns : tie.Need-returns Inv-loop μ-loop
-returns c = noted-end (c .before .before .before .loop .inv) (c .before .before .after .ensures) (c .enum-told .given .1)
+returns c = search noted-end
 
 pub nots-spec : {M : Type 1} → statement M
 nots-spec =

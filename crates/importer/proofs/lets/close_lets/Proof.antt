@@ -12,67 +12,76 @@ abbrev μ-loop : tie.MeasureT-loop
 μ-loop w2₀ nodes lets from k n₀ d₀ w2 n d = d
 
 add-if1 : tie.Need-add-if1 Inv-loop μ-loop
-add-if1 c = omega (arith, c .before .pre .3, c .before .fits)
+add-if1 c = omega arith
 
 returns : tie.Need-returns Inv-loop μ-loop
-returns c = close-over _ _ _ _ _ (c .before .before .pre .1) (c .if1 .taken)
+returns c = search close-over
 
 loop-holds : tie.Need-loop-holds Inv-loop μ-loop
-loop-holds c = close-start _ _ _ _ _ (c .before .before .pre .1) (c .before .before .pre .2) (c .if1 .left)
+loop-holds c = search close-start
 
 add-root : tie.Need-add-root Inv-loop μ-loop
-add-root c = omega (arith, c .before .loop .inv .kept .size, c .before .loop .inv .sum, c .before .loop .inv .few, c .before .before .before .before .pre .0)
+add-root c = omega arith
 
 mul-root : tie.Need-mul-root Inv-loop μ-loop
-mul-root c = omega (arith, c .before .loop .inv .kept .size, c .before .loop .inv .sum, c .before .loop .inv .few, c .before .before .before .before .pre .0)
+mul-root c = omega arith
 
 slice-read-root : tie.Need-slice-read-root Inv-loop μ-loop
-slice-read-root c = omega (arith, c .before .before .loop .inv .kept .size, c .before .before .loop .inv .sum, c .before .before .loop .inv .few, c .before .before .before .before .before .pre .0)
+slice-read-root c = omega arith
 
 same-length : tie.Need-same-length Inv-loop μ-loop
-same-length c = c .before .before .before .loop .inv .kept .size
+same-length c = cc
 
 returns-2 : tie.Need-returns-2 Inv-loop μ-loop
-returns-2 c = close-value _ _ _ _ _ (c .before .before .before .loop .inv) (c .before .before .loop-test .taken) (c .if2 .taken)
+returns-2 c = search close-value
 
 add-variable : tie.Need-add-variable Inv-loop μ-loop
-add-variable c = omega (arith, c .before .before .before .loop .inv .kept .size, c .before .before .before .loop .inv .sum, c .before .before .before .loop .inv .few, c .before .before .before .before .before .before .pre .0)
+add-variable c = omega arith
 
 mul-variable : tie.Need-mul-variable Inv-loop μ-loop
-mul-variable c = omega (arith, c .before .before .before .loop .inv .kept .size, c .before .before .before .loop .inv .sum, c .before .before .before .loop .inv .few, c .before .before .before .before .before .before .pre .0)
+mul-variable c = omega arith
 
 slice-read-variable : tie.Need-slice-read-variable Inv-loop μ-loop
-slice-read-variable c = omega (arith, c .before .before .before .before .loop .inv .kept .size, c .before .before .before .before .loop .inv .sum, c .before .before .before .before .loop .inv .few, c .before .before .before .before .before .before .before .pre .0)
+slice-read-variable c = omega arith
 
 sub-t16 : tie.Need-sub-t16 Inv-loop μ-loop
-sub-t16 c = omega (arith, c .before .before .if2 .left)
+sub-t16 c = omega arith
 
 sub-t23 : tie.Need-sub-t23 Inv-loop μ-loop
-sub-t23 c = omega (arith, c .before .before .before .before .before .loop .inv .some)
+sub-t23 c = omega arith
 
 built-requires : tie.Need-built-requires Inv-loop μ-loop
 built-requires c κs = refl
 
 emit-requires : tie.Need-emit-requires Inv-loop μ-loop
-emit-requires c κs = (omega (arith, c .before .before .before .before .before .before .loop .inv .kept .size, c .before .before .before .before .before .before .before .before .before .pre .0), c .built .ensures .fine .size, c .built .ensures .fine .few, c .built .ensures .fine .classes)
+emit-requires c κs =
+    let at-loop = c .before .before .before .before .before .before in
+    let at-start = at-loop .before .before .before in
+    (omega (arith, at-loop .loop .inv .kept .size, at-start .pre .0), c .built .ensures .fine .size, c .built .ensures .fine .few, c .built .ensures .fine .classes)
 
 add-n : tie.Need-add-n Inv-loop μ-loop
-add-n c = omega (arith, c .before .before .before .before .before .before .before .before .before .loop .inv .kept .size, c .before .before .before .before .before .before .before .before .before .loop .inv .sum, c .before .before .before .before .before .before .before .before .before .loop .inv .few, c .before .before .before .before .before .before .before .before .before .before .before .before .pre .0)
+add-n c = omega arith
 
 sub-d : tie.Need-sub-d Inv-loop μ-loop
-sub-d c = omega (arith, c .before .before .before .before .before .before .before .before .loop-test .taken)
+sub-d c = omega arith
 
 loop-less : tie.Need-loop-less Inv-loop μ-loop
-loop-less c = omega (arith, c .before .before .before .before .before .before .before .before .loop-test .taken)
+loop-less c = omega arith
 
 loop-again : tie.Need-loop-again Inv-loop μ-loop
-loop-again c = close-body _ _ _ _ _ (c .before .before .before .before .before .before .before .before .before .loop .inv) (c .before .before .before .before .before .before .before .before .loop-test .taken) (c .before .before .before .before .before .before .if2 .left) (c .before .before .before .built .ensures) (c .before .before .emit .ensures)
+loop-again c =
+    let at-emit = c .before .before in
+    let at-built = at-emit .before in
+    let at-if2 = at-built .before .before .before in
+    let at-loop-test = at-if2 .before .before in
+    let at-loop = at-loop-test .before in
+    close-body _ _ _ _ _ (at-loop .loop .inv) (at-loop-test .loop-test .taken) (at-if2 .if2 .left) (at-built .built .ensures) (at-emit .emit .ensures)
 
 same-length-2 : tie.Need-same-length-2 Inv-loop μ-loop
-same-length-2 c = c .before .loop .inv .kept .size
+same-length-2 c = cc
 
 returns-3 : tie.Need-returns-3 Inv-loop μ-loop
-returns-3 c = close-all _ _ _ _ _ (c .before .loop .inv) (c .loop-test .left)
+returns-3 c = search close-all
 
 pub close-lets-spec : {M : Type 1} → statement M
 close-lets-spec =

@@ -22,13 +22,13 @@ mul-w2-2 : tie.Need-mul-w2-2
 mul-w2-2 c = search needs
 
 slice-write-w2-2 : tie.Need-slice-write-w2-2
-slice-write-w2-2 c = simp length-set (omega (arith, c .before .pre, c .if1 .taken))
+slice-write-w2-2 c = simp length-set (omega arith)
 
 same-length : tie.Need-same-length
 same-length c = search needs
 
 returns : tie.Need-returns
-returns c = is-opened _ _ _ (c .before .pre) (c .if1 .taken)
+returns c = search is-opened
 
 returns-2 : tie.Need-returns-2
 returns-2 c = not-opened _ (c .if1 .left)

@@ -15,10 +15,16 @@ returns : tie.Need-returns
 returns c = search joined-none
 
 put-two-requires : tie.Need-put-two-requires
-put-two-requires c κs = (c .before .before .before .before .before .pre .0, c .before .before .before .before .before .pre .1, behind-is (c .before .before .before .before .before .pre .2) (c .before .before .right .given .1) .0)
+put-two-requires c κs =
+    let at-right = c .before .before in
+    let at-start = at-right .before .before .before in
+    (at-start .pre .0, at-start .pre .1, behind-is (at-start .pre .2) (at-right .right .given .1) .0)
 
 add-t11 : tie.Need-add-t11
-add-t11 c = omega (arith, behind-is (c .before .before .before .before .before .before .before .before .pre .2) (c .before .before .before .before .before .right .given .1) .1)
+add-t11 c =
+    let at-right = c .before .before .before .before .before in
+    let at-start = at-right .before .before .before in
+    omega (arith, behind-is (at-start .pre .2) (at-right .right .given .1) .1)
 
 same-length : tie.Need-same-length
 same-length c = search needs

@@ -34,19 +34,25 @@ same-length : tie.Need-same-length
 same-length c = search needs
 
 returns : tie.Need-returns
-returns c = put-let-is (c .before .before .before .before .before .before .before .pre .1) (c .before .before .before .before .before .before .before .pre .2) (c .before .before .emit .ensures) (c .before .before .before .before .before .match .keys1) (c .before .before .before .built .ensures)
+returns c = search put-let-is
 
 same-length-2 : tie.Need-same-length-2
 same-length-2 c = search needs
 
 returns-2 : tie.Need-returns-2
-returns-2 c = put-quantified-is (c .before .before .before .before .before .before .before .before .before .pre .1) (c .before .before .before .before .before .before .before .before .before .pre .2) (c .before .before .emit2 .ensures) (c .before .before .before .before .before .before .if1 .left) (c .before .before .before .before .before .if2 .taken) (c .before .before .before .built2 .ensures)
+returns-2 c = search put-quantified-is
 
 same-length-3 : tie.Need-same-length-3
 same-length-3 c = search needs
 
 returns-3 : tie.Need-returns-3
-returns-3 c = put-two-is (c .before .before .before .before .before .before .before .before .pre .1) (c .before .before .before .before .before .before .before .before .pre .2) (c .before .before .emit3 .ensures) (⊎-elim (λ w e. omega arith) (λ w e. omega arith) (c .before .before .before .before .before .if1 .came)) (⊎-elim (λ w e. omega arith) (λ w e. omega arith) (c .before .before .before .before .before .if1 .came)) (c .before .before .before .before .before .before .match .rest .1) (c .before .before .before .built3 .ensures)
+returns-3 c =
+    let at-emit3 = c .before .before in
+    let at-built3 = at-emit3 .before in
+    let at-if1 = at-built3 .before .before in
+    let at-match = at-if1 .before in
+    let at-start = at-match .before .before in
+    put-two-is (at-start .pre .1) (at-start .pre .2) (at-emit3 .emit3 .ensures) (⊎-elim (λ w e. omega arith) (λ w e. omega arith) (at-if1 .if1 .came)) (⊎-elim (λ w e. omega arith) (λ w e. omega arith) (at-if1 .if1 .came)) (at-match .match .rest .1) (at-built3 .built3 .ensures)
 
 pub put-two-spec : {M : Type 1} → statement M
 put-two-spec =

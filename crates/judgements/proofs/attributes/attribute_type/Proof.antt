@@ -15,7 +15,7 @@ enum-told : tie.Need-enum-told
 enum-told c = search needs
 
 returns : tie.Need-returns
-returns c = λ m h. attribute-not m _ _ _ _ (c .before .before .is-class .ensures) (c .enum-told .given .1)
+returns c = search attribute-not
 
 row-type-requires : tie.Need-row-type-requires
 row-type-requires c κs = search needs
@@ -24,7 +24,11 @@ same-length : tie.Need-same-length
 same-length c = search needs
 
 returns-2 : tie.Need-returns-2
-returns-2 c = λ m h. attribute-row m _ _ _ _ (c .before .before .before .before .before .before .before .is-class .ensures) _ (c .before .before .before .before .before .c .given .1) (c .before .before .row-type .ensures m h ofRow row-word)
+returns-2 c =
+    let at-row-type = c .before .before in
+    let at-c = at-row-type .before .before .before in
+    let at-is-class = at-c .before .before in
+    λ m h. attribute-row m _ _ _ _ (at-is-class .is-class .ensures) _ (at-c .c .given .1) (at-row-type .row-type .ensures m h ofRow row-word)
 
 pub attribute-type-spec : {M : Type 1} → statement M
 attribute-type-spec =

@@ -12,7 +12,7 @@ outer-code-requires : tie.Need-outer-code-requires
 outer-code-requires c κs = search needs
 
 returns : tie.Need-returns
-returns c = λ m h. collect-not m _ _ _ (c .before .outer-code .ensures) (c .if1 .taken)
+returns c = search collect-not
 
 member-type-requires : tie.Need-member-type-requires
 member-type-requires c κs = search needs
@@ -27,7 +27,7 @@ enum-told : tie.Need-enum-told
 enum-told c = search needs
 
 returns-2 : tie.Need-returns-2
-returns-2 c = λ m h. collect-no-class m _ _ _ (c .before .before .before .before .before .outer-code .ensures) (c .before .before .before .before .if1 .left) _ (c .before .before .before .member-type .ensures) (c .before .before .is-class .ensures) (c .enum-told .given .1)
+returns-2 c = search collect-no-class
 
 collect-code-requires : tie.Need-collect-code-requires
 collect-code-requires c κs = search needs
@@ -42,7 +42,7 @@ mul-row-type : tie.Need-mul-row-type
 mul-row-type c = search needs
 
 row-type-requires : tie.Need-row-type-requires
-row-type-requires c κs = omega (arith, code-room _ (c .before .collect-code .ensures))
+row-type-requires c κs = search (code-room, needs)
 
 enum-known-found : tie.Need-enum-known-found
 enum-known-found c = search needs
@@ -54,16 +54,33 @@ same-length : tie.Need-same-length
 same-length c = search needs
 
 returns-3 : tie.Need-returns-3
-returns-3 c = λ m h. collect-early m _ _ _ (c .before .before .before .before .before .before .before .before .before .before .before .before .before .outer-code .ensures) (c .before .before .before .before .before .before .before .before .before .before .before .before .if1 .left) _ (c .before .before .before .before .before .before .before .before .before .before .before .member-type .ensures) (c .before .before .before .before .before .before .before .before .before .before .is-class .ensures) _ (c .before .before .before .before .before .before .before .before .c .given .1) (c .before .before .before .before .row-type .ensures m h (ofRows (collectKind (letterOf (c .before .before .before .before .before .before .before .before .before .before .before .before .before .outer-code .result)))) (λ i. more-word _ i (c .before .before .before .before .before .before .collect-code .ensures))) (c .enum-told2 .given .1)
+returns-3 c =
+    let at-row-type = c .before .before .before .before in
+    let at-collect-code = at-row-type .before .before in
+    let at-c = at-collect-code .before .before in
+    let at-is-class = at-c .before .before in
+    let at-member-type = at-is-class .before in
+    let at-if1 = at-member-type .before in
+    let at-outer-code = at-if1 .before in
+    λ m h. collect-early m _ _ _ (at-outer-code .outer-code .ensures) (at-if1 .if1 .left) _ (at-member-type .member-type .ensures) (at-is-class .is-class .ensures) _ (at-c .c .given .1) (at-row-type .row-type .ensures m h (ofRows (collectKind (letterOf (at-outer-code .outer-code .result)))) (λ i. more-word _ i (at-collect-code .collect-code .ensures))) (c .enum-told2 .given .1)
 
 wrapped-requires : tie.Need-wrapped-requires
-wrapped-requires c κs = omega (arith, code-some _ (c .before .before .before .before .before .before .before .collect-code .ensures))
+wrapped-requires c κs = search (code-some, needs)
 
 same-length-2 : tie.Need-same-length-2
 same-length-2 c = search needs
 
 returns-4 : tie.Need-returns-4
-returns-4 c = λ m h. collect-done m _ _ _ (c .before .before .before .before .before .before .before .before .before .before .before .before .before .before .before .outer-code .ensures) (c .before .before .before .before .before .before .before .before .before .before .before .before .before .before .if1 .left) _ (c .before .before .before .before .before .before .before .before .before .before .before .before .before .member-type .ensures) (c .before .before .before .before .before .before .before .before .before .before .before .before .is-class .ensures) _ (c .before .before .before .before .before .before .before .before .before .before .c .given .1) (c .before .before .before .before .before .before .row-type .ensures m h (ofRows (collectKind (letterOf (c .before .before .before .before .before .before .before .before .before .before .before .before .before .before .before .outer-code .result)))) (λ i. more-word _ i (c .before .before .before .before .before .before .before .before .collect-code .ensures))) (c .before .before .found .given .1) (c .before .before .before .before .before .before .before .before .collect-code .ensures) (c .wrapped .ensures)
+returns-4 c =
+    let at-found = c .before .before in
+    let at-row-type = at-found .before .before .before .before in
+    let at-collect-code = at-row-type .before .before in
+    let at-c = at-collect-code .before .before in
+    let at-is-class = at-c .before .before in
+    let at-member-type = at-is-class .before in
+    let at-if1 = at-member-type .before in
+    let at-outer-code = at-if1 .before in
+    λ m h. collect-done m _ _ _ (at-outer-code .outer-code .ensures) (at-if1 .if1 .left) _ (at-member-type .member-type .ensures) (at-is-class .is-class .ensures) _ (at-c .c .given .1) (at-row-type .row-type .ensures m h (ofRows (collectKind (letterOf (at-outer-code .outer-code .result)))) (λ i. more-word _ i (at-collect-code .collect-code .ensures))) (at-found .found .given .1) (at-collect-code .collect-code .ensures) (c .wrapped .ensures)
 
 pub collect-type-spec : {M : Type 1} → statement M
 collect-type-spec =

@@ -34,10 +34,14 @@ enum-told : tie.Need-enum-told
 enum-told c = search needs
 
 returns : tie.Need-returns
-returns c = λ m h mark e. no-row m h _ _ _ mark _ (c .before .before .row-read .ensures) (c .enum-told .given .1)
+returns c = search no-row
 
 add-marks : tie.Need-add-marks
-add-marks c = let h : c .before .i .given .0 .0 < c .before .before .before .before .before .before .before .before .before .args .rows = row-small _ _ _ _ _ _ _ (c .before .before .before .row-read .ensures) (c .before .i .given .1) in omega arith
+add-marks c =
+    let at-i = c .before in
+    let at-row-read = at-i .before .before in
+    let at-start = at-row-read .before .before .before .before .before .before in
+    let h : at-i .i .given .0 .0 < at-start .args .rows = row-small _ _ _ _ _ _ _ (at-row-read .row-read .ensures) (at-i .i .given .1) in omega arith
 
 mul-marks : tie.Need-mul-marks
 mul-marks c = search needs
@@ -49,13 +53,25 @@ wide-requires : tie.Need-wide-requires
 wide-requires c κs = search needs
 
 add-unpack : tie.Need-add-unpack
-add-unpack c = let h : c .before .before .i .given .0 .0 < c .before .before .before .before .before .before .before .before .before .before .args .rows = row-small _ _ _ _ _ _ _ (c .before .before .before .before .row-read .ensures) (c .before .before .i .given .1) in omega arith
+add-unpack c =
+    let at-i = c .before .before in
+    let at-row-read = at-i .before .before in
+    let at-start = at-row-read .before .before .before .before .before .before in
+    let h : at-i .i .given .0 .0 < at-start .args .rows = row-small _ _ _ _ _ _ _ (at-row-read .row-read .ensures) (at-i .i .given .1) in omega arith
 
 mul-unpack : tie.Need-mul-unpack
-mul-unpack c = let h : c .before .before .i .given .0 .0 < c .before .before .before .before .before .before .before .before .before .before .args .rows = row-small _ _ _ _ _ _ _ (c .before .before .before .before .row-read .ensures) (c .before .before .i .given .1) in omega arith
+mul-unpack c =
+    let at-i = c .before .before in
+    let at-row-read = at-i .before .before in
+    let at-start = at-row-read .before .before .before .before .before .before in
+    let h : at-i .i .given .0 .0 < at-start .args .rows = row-small _ _ _ _ _ _ _ (at-row-read .row-read .ensures) (at-i .i .given .1) in omega arith
 
 shared-slice-read-unpack : tie.Need-shared-slice-read-unpack
-shared-slice-read-unpack c = let h : c .before .before .before .i .given .0 .0 < c .before .before .before .before .before .before .before .before .before .before .before .args .rows = row-small _ _ _ _ _ _ _ (c .before .before .before .before .before .row-read .ensures) (c .before .before .before .i .given .1) in omega arith
+shared-slice-read-unpack c =
+    let at-i = c .before .before .before in
+    let at-row-read = at-i .before .before in
+    let at-start = at-row-read .before .before .before .before .before .before in
+    let h : at-i .i .given .0 .0 < at-start .args .rows = row-small _ _ _ _ _ _ _ (at-row-read .row-read .ensures) (at-i .i .given .1) in omega arith
 
 unpack-requires : tie.Need-unpack-requires
 unpack-requires c κs = search needs
@@ -64,7 +80,7 @@ same-length : tie.Need-same-length
 same-length c = search needs
 
 returns-2 : tie.Need-returns-2
-returns-2 c = λ m h mark e. row-at m h _ _ _ mark _ (c .before .before .before .before .before .before .row-read .ensures) (omega arith) (c .before .before .before .before .i .given .1) (c .before .before .wide .ensures) (c .unpack .ensures) (e _)
+returns-2 c = search row-at
 
 pub row-type-spec : {M : Type 1} → statement M
 row-type-spec =

@@ -61,7 +61,11 @@ returns-4 : tie.Need-returns-4
 returns-4 c = λ m e. including-binary m _ _ _ _ (c .before .match .keys4) (c .including-type .ensures m e)
 
 returns-5 : tie.Need-returns-5
-returns-5 c = λ m e. over-binary m _ _ _ _ (c .before .before .before .match .keys5) (c .before .before .plain .ensures) (c .before .plain2 .ensures) (c .both-below .ensures m e)
+returns-5 c =
+    let at-plain2 = c .before in
+    let at-plain = at-plain2 .before in
+    let at-match = at-plain .before in
+    λ m e. over-binary m _ _ _ _ (at-match .match .keys5) (at-plain .plain .ensures) (at-plain2 .plain2 .ensures) (c .both-below .ensures m e)
 
 same-length-2 : tie.Need-same-length-2
 same-length-2 c = search needs

@@ -15,16 +15,24 @@ enum-told : tie.Need-enum-told
 enum-told c = search needs
 
 returns : tie.Need-returns
-returns c = λ m e. call-other m _ e _ _ _ _ _ (c .before .before .is-class .ensures) (c .enum-told .given .1)
+returns c = search call-other
 
 class-below-requires : tie.Need-class-below-requires
 class-below-requires c κs = search needs
 
 returns-2 : tie.Need-returns-2
-returns-2 c = λ m e. call-in m _ e _ _ _ _ _ _ (c .before .before .before .before .before .is-class .ensures) (c .before .before .before .d .given .1) (sym (c .if1 .taken) ∙ c .before .class-below .ensures)
+returns-2 c =
+    let at-class-below = c .before in
+    let at-d = at-class-below .before .before in
+    let at-is-class = at-d .before .before in
+    λ m e. call-in m _ e _ _ _ _ _ _ (at-is-class .is-class .ensures) (at-d .d .given .1) (sym (c .if1 .taken) ∙ at-class-below .class-below .ensures)
 
 returns-3 : tie.Need-returns-3
-returns-3 c = λ m e. call-out m _ e _ _ _ _ _ _ (c .before .before .before .before .before .is-class .ensures) (c .before .before .before .d .given .1) (sym (c .if1 .left) ∙ c .before .class-below .ensures)
+returns-3 c =
+    let at-class-below = c .before in
+    let at-d = at-class-below .before .before in
+    let at-is-class = at-d .before .before in
+    λ m e. call-out m _ e _ _ _ _ _ _ (at-is-class .is-class .ensures) (at-d .d .given .1) (sym (c .if1 .left) ∙ at-class-below .class-below .ensures)
 
 pub call-type-spec : {M : Type 1} → statement M
 call-type-spec =

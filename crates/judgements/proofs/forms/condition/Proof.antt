@@ -15,7 +15,11 @@ plain-requires-2 : tie.Need-plain-requires-2
 plain-requires-2 c κs = search needs
 
 returns : tie.Need-returns
-returns c = λ m e. condition-yes m _ e _ _ (c .plain2 .ensures) (c .before .before .before .plain .ensures) (sym (c .before .if1 .taken) ∙ c .before .before .subtype .ensures)
+returns c =
+    let at-if1 = c .before in
+    let at-subtype = at-if1 .before in
+    let at-plain = at-subtype .before in
+    λ m e. condition-yes m _ e _ _ (c .plain2 .ensures) (at-plain .plain .ensures) (sym (at-if1 .if1 .taken) ∙ at-subtype .subtype .ensures)
 
 returns-2 : tie.Need-returns-2
 returns-2 c = λ m e. condition-no m _ e _ _ (c .before .before .plain .ensures) (sym (c .if1 .left) ∙ c .before .subtype .ensures)

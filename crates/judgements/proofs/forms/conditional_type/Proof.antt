@@ -15,7 +15,11 @@ common-type-requires : tie.Need-common-type-requires
 common-type-requires c κs = search needs
 
 returns : tie.Need-returns
-returns c = λ m e. choice-yes m _ e _ _ _ _ (c .before .before .before .plain .ensures) (sym (c .before .if1 .taken) ∙ c .before .before .subtype .ensures) (c .common-type .ensures m e)
+returns c =
+    let at-if1 = c .before in
+    let at-subtype = at-if1 .before in
+    let at-plain = at-subtype .before in
+    λ m e. choice-yes m _ e _ _ _ _ (at-plain .plain .ensures) (sym (at-if1 .if1 .taken) ∙ at-subtype .subtype .ensures) (c .common-type .ensures m e)
 
 returns-2 : tie.Need-returns-2
 returns-2 c = λ m e. choice-no m _ e _ _ _ _ (c .before .before .plain .ensures) (sym (c .if1 .left) ∙ c .before .subtype .ensures)

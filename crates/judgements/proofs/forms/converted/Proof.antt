@@ -20,7 +20,12 @@ wrapped-requires : tie.Need-wrapped-requires
 wrapped-requires c κs = search needs
 
 returns-2 : tie.Need-returns-2
-returns-2 c = on-members _ (λ l u. wrap (c .before .before .before .before .args .n) (letterOf (c .before .before .before .before .args .code)) u) _ (c .before .before .before .outer-code .ensures) (c .before .before .if1 .left) (c .wrapped .ensures ∙ ap (wrap (c .before .before .before .before .args .n) (letterOf (c .before .before .before .before .args .code))) (c .before .member-type .ensures))
+returns-2 c =
+    let at-member-type = c .before in
+    let at-if1 = at-member-type .before in
+    let at-outer-code = at-if1 .before in
+    let at-start = at-outer-code .before in
+    on-members _ (λ l u. wrap (at-start .args .n) (letterOf (at-start .args .code)) u) _ (at-outer-code .outer-code .ensures) (at-if1 .if1 .left) (c .wrapped .ensures ∙ ap (wrap (at-start .args .n) (letterOf (at-start .args .code))) (at-member-type .member-type .ensures))
 
 pub converted-spec : {M : Type 1} → statement M
 converted-spec =

@@ -17,7 +17,11 @@ comparable-requires : tie.Need-comparable-requires
 comparable-requires c κs = search needs
 
 returns-2 : tie.Need-returns-2
-returns-2 c = λ m e. includes-yes m _ _ _ _ (c .before .before .before .outer-code .ensures) (c .before .before .if1 .left) (c .before .member-type .ensures) (c .comparable .ensures m e)
+returns-2 c =
+    let at-member-type = c .before in
+    let at-if1 = at-member-type .before in
+    let at-outer-code = at-if1 .before in
+    λ m e. includes-yes m _ _ _ _ (at-outer-code .outer-code .ensures) (at-if1 .if1 .left) (at-member-type .member-type .ensures) (c .comparable .ensures m e)
 
 pub includes-type-spec : {M : Type 1} → statement M
 includes-type-spec =

@@ -54,13 +54,21 @@ returns-3 : tie.Need-returns-3
 returns-3 c = search leaf-self
 
 returns-4 : tie.Need-returns-4
-returns-4 c = leaf-var _ _ _ _ (c .before .before .before .match .keys4) (c .bound2 .ensures ∙ ap (λ (i : ℕ). boundType (c .before .before .before .before .before .args .n) (envOf (c .before .before .before .before .before .args .env) (i % 16))) (c .before .wide .ensures ∙ c .before .before .node-word2 .ensures))
+returns-4 c =
+    let at-wide = c .before in
+    let at-node-word2 = at-wide .before in
+    let at-match = at-node-word2 .before in
+    let at-start = at-match .before .before in
+    leaf-var _ _ _ _ (at-match .match .keys4) (c .bound2 .ensures ∙ ap (λ (i : ℕ). boundType (at-start .args .n) (envOf (at-start .args .env) (i % 16))) (at-wide .wide .ensures ∙ at-node-word2 .node-word2 .ensures))
 
 returns-5 : tie.Need-returns-5
 returns-5 c = leaf-truth _ _ _ _ (omega arith) (c .plain2 .ensures)
 
 returns-6 : tie.Need-returns-6
-returns-6 c = leaf-all _ _ _ _ (omega arith) (c .before .before .before .match .rest .0 .0 .0 .1) (c .before .before .before .match .rest .0 .0 .1) (c .before .before .before .match .rest .0 .1) (c .before .before .before .match .rest .1) (c .set-of-class .ensures ∙ ap (λ (i : ℕ). around (exactly set) (Class (classIn i))) (c .before .node-word3 .ensures))
+returns-6 c =
+    let at-node-word3 = c .before in
+    let at-match = at-node-word3 .before .before in
+    leaf-all _ _ _ _ (omega arith) (at-match .match .rest .0 .0 .0 .1) (at-match .match .rest .0 .0 .1) (at-match .match .rest .0 .1) (at-match .match .rest .1) (c .set-of-class .ensures ∙ ap (λ (i : ℕ). around (exactly set) (Class (classIn i))) (at-node-word3 .node-word3 .ensures))
 
 pub leaf-type-spec : {M : Type 1} → statement M
 leaf-type-spec =

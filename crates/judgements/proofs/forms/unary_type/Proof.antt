@@ -42,7 +42,12 @@ returns-3 : tie.Need-returns-3
 returns-3 c = λ m e. unary-convert m _ _ _ _ (omega arith) (omega arith) (c .converted .ensures)
 
 returns-4 : tie.Need-returns-4
-returns-4 c = λ m e. unary-cast m _ _ _ _ (c .before .before .before .match .rest .0 .1) (c .before .before .before .match .rest .1) (λ l h. ⊎-elim (λ w. omega arith) (λ w. omega arith) (c .before .before .if1 .came)) (c .cast-type .ensures m e ∙ ap (λ (k : ℕ). castType m (c .before .before .before .before .before .before .args .n) (classIn k) (tyOf (c .before .before .before .before .before .before .args .t))) (c .before .node-word .ensures))
+returns-4 c =
+    let at-node-word = c .before in
+    let at-if1 = at-node-word .before in
+    let at-match = at-if1 .before in
+    let at-start = at-match .before .before .before in
+    λ m e. unary-cast m _ _ _ _ (at-match .match .rest .0 .1) (at-match .match .rest .1) (λ l h. ⊎-elim (λ w. omega arith) (λ w. omega arith) (at-if1 .if1 .came)) (c .cast-type .ensures m e ∙ ap (λ (k : ℕ). castType m (at-start .args .n) (classIn k) (tyOf (at-start .args .t))) (at-node-word .node-word .ensures))
 
 pub unary-type-spec : {M : Type 1} → statement M
 unary-type-spec =

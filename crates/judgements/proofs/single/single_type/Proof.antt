@@ -41,19 +41,34 @@ same-length : tie.Need-same-length
 same-length c = search needs
 
 returns-2 : tie.Need-returns-2
-returns-2 c = λ m h. attribute-single m _ _ _ _ (c .before .before .before .before .before .match .keys2) (c .before .before .before .before .node-word .ensures) (c .before .before .attribute-type .ensures m h)
+returns-2 c =
+    let at-attribute-type = c .before .before in
+    let at-node-word = at-attribute-type .before .before in
+    let at-match = at-node-word .before in
+    λ m h. attribute-single m _ _ _ _ (at-match .match .keys2) (at-node-word .node-word .ensures) (at-attribute-type .attribute-type .ensures m h)
 
 same-length-2 : tie.Need-same-length-2
 same-length-2 c = search needs
 
 returns-3 : tie.Need-returns-3
-returns-3 c = λ m h. collect-single m _ _ _ _ (c .before .before .before .before .before .match .keys3) (c .before .before .before .before .node-word2 .ensures) (c .before .before .collect-type .ensures m h)
+returns-3 c =
+    let at-collect-type = c .before .before in
+    let at-node-word2 = at-collect-type .before .before in
+    let at-match = at-node-word2 .before in
+    λ m h. collect-single m _ _ _ _ (at-match .match .keys3) (at-node-word2 .node-word2 .ensures) (at-collect-type .collect-type .ensures m h)
 
 returns-4 : tie.Need-returns-4
-returns-4 c = λ m h. call-single m _ _ _ _ (c .before .before .before .before .match .keys4) (c .before .before .before .node-word3 .ensures) (c .before .before .node-word4 .ensures) (c .before .unpack .ensures) (c .call-type .ensures m (h .classes .parent))
+returns-4 c =
+    let at-unpack = c .before in
+    let at-node-word4 = at-unpack .before in
+    let at-node-word3 = at-node-word4 .before in
+    let at-match = at-node-word3 .before in
+    λ m h. call-single m _ _ _ _ (at-match .match .keys4) (at-node-word3 .node-word3 .ensures) (at-node-word4 .node-word4 .ensures) (at-unpack .unpack .ensures) (c .call-type .ensures m (h .classes .parent))
 
 returns-5 : tie.Need-returns-5
-returns-5 c = λ m h. unary-single m _ _ _ _ (c .before .match .rest .0 .0 .0 .1) (c .before .match .rest .0 .0 .1) (c .before .match .rest .0 .1) (c .before .match .rest .1) (c .unary-type .ensures m (h .classes .parent))
+returns-5 c =
+    let at-match = c .before in
+    λ m h. unary-single m _ _ _ _ (at-match .match .rest .0 .0 .0 .1) (at-match .match .rest .0 .0 .1) (at-match .match .rest .0 .1) (at-match .match .rest .1) (c .unary-type .ensures m (h .classes .parent))
 
 pub single-type-spec : {M : Type 1} → statement M
 single-type-spec =

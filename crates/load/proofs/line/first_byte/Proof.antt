@@ -8,13 +8,13 @@ byte-kind-requires : tie.Need-byte-kind-requires
 byte-kind-requires c κs = search needs
 
 returns : tie.Need-returns
-returns c = first-bad (c .before .before .args .b) (c .before .byte-kind .ensures) (c .if1 .taken)
+returns c = search first-bad
 
 digit-requires : tie.Need-digit-requires
 digit-requires c κs = search needs
 
 returns-2 : tie.Need-returns-2
-returns-2 c = first-digit (c .before .before .before .args .b) (c .before .before .byte-kind .ensures) (c .before .if1 .left) (c .digit .ensures)
+returns-2 c = search first-digit
 
 pub first-byte-spec : {M : Type 1} → statement M
 first-byte-spec = tie.close (tie.spec byte-kind-requires returns digit-requires returns-2)

@@ -5,13 +5,13 @@ use Rattle.load.proofs.line.with_digit.Statement.{statement}
 use Rattle.load.proofs.line.with_digit.Tie as tie
 
 returns : tie.Need-returns
-returns c = digit-after-zero (c .before .args .n) (c .before .args .b) (c .if1 .taken)
+returns c = search digit-after-zero
 
 byte-kind-requires : tie.Need-byte-kind-requires
 byte-kind-requires c κs = search needs
 
 returns-2 : tie.Need-returns-2
-returns-2 c = digit-bad (c .before .before .before .args .b) (c .before .byte-kind .ensures) (c .before .before .before .args .n) (c .before .before .if1 .left) (c .if2 .taken)
+returns-2 c = search digit-bad
 
 at-most-requires : tie.Need-at-most-requires
 at-most-requires c κs = search needs
@@ -26,7 +26,7 @@ add-t7 : tie.Need-add-t7
 add-t7 c = search needs
 
 returns-3 : tie.Need-returns-3
-returns-3 c = digit-more (c .before .before .before .before .before .args .b) (c .before .before .before .byte-kind .ensures) (c .before .before .before .before .before .args .n) (c .before .before .before .before .if1 .left) (c .before .before .if2 .left) (c .before .at-most .ensures) (c .digit .ensures)
+returns-3 c = search digit-more
 
 pub with-digit-spec : {M : Type 1} → statement M
 with-digit-spec =

@@ -9,14 +9,14 @@ ended-requires : tie.Need-ended-requires
 ended-requires c κs = search needs
 
 returns : tie.Need-returns
-returns c = byte-ends (c .before .before .if1 .taken) (c .ended .ensures)
+returns c = search byte-ends
 
 with-byte-requires : tie.Need-with-byte-requires
 with-byte-requires c κs = search needs
 
 returns-2 : tie.Need-returns-2
 unfolding readerWith
-returns-2 c = byte-more (c .before .if1 .left) (c .with-byte .ensures)
+returns-2 c = search byte-more
 
 pub byte-read-spec : {M : Type 1} → statement M
 byte-read-spec = tie.close (tie.spec ended-requires returns with-byte-requires returns-2)

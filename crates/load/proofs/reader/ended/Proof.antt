@@ -20,19 +20,32 @@ after-line-requires : tie.Need-after-line-requires
 after-line-requires c κs = search needs
 
 returns : tie.Need-returns
-returns c = ended-bad (c .before .before .before .before .before .args .recent .now) (λ l e. rw (c .before .before .enum-told .given .1) at (c .before .before .before .before .value .ensures l e)) (c .before .line-number .ensures _) (c .after-line .ensures)
+returns c =
+    let at-line-number = c .before in
+    let at-enum-told = at-line-number .before in
+    let at-value = at-enum-told .before .before in
+    let at-start = at-value .before in
+    ended-bad (at-start .args .recent .now) (λ l e. rw (at-enum-told .enum-told .given .1) at (at-value .value .ensures l e)) (at-line-number .line-number .ensures _) (c .after-line .ensures)
 
 first-line-requires : tie.Need-first-line-requires
 first-line-requires c κs = search needs
 
 returns-2 : tie.Need-returns-2
-returns-2 c = ended-first (λ l e. rw (c .before .before .before .before .n .given .1) at (c .before .before .before .before .before .before .value .ensures l e)) (c .first-line .result) (c .before .if1 .taken) (c .first-line .ensures)
+returns-2 c =
+    let at-if1 = c .before in
+    let at-n = at-if1 .before .before .before in
+    let at-value = at-n .before .before in
+    ended-first (λ l e. rw (at-n .n .given .1) at (at-value .value .ensures l e)) (c .first-line .result) (at-if1 .if1 .taken) (c .first-line .ensures)
 
 length-line-requires : tie.Need-length-line-requires
 length-line-requires c κs = search needs
 
 returns-3 : tie.Need-returns-3
-returns-3 c = ended-length (λ l e. rw (c .before .before .before .before .before .n .given .1) at (c .before .before .before .before .before .before .before .value .ensures l e)) (c .before .before .if1 .left) (c .length-line .ensures)
+returns-3 c =
+    let at-if1 = c .before .before in
+    let at-n = at-if1 .before .before .before in
+    let at-value = at-n .before .before in
+    ended-length (λ l e. rw (at-n .n .given .1) at (at-value .value .ensures l e)) (at-if1 .if1 .left) (c .length-line .ensures)
 
 pub ended-spec : {M : Type 1} → statement M
 ended-spec =

@@ -24,7 +24,7 @@ tally-of-requires : tie.Need-tally-of-requires Inv-loop μ-loop
 tally-of-requires c κs = search needs
 
 loop-holds : tie.Need-loop-holds Inv-loop μ-loop
-loop-holds c = (search needs, λ text e. going-start text (c .before .before .before .before .before .before .args .piece .now) e)
+loop-holds c = search (going-start, needs)
 
 shared-slice-read-byte-read : tie.Need-shared-slice-read-byte-read Inv-loop μ-loop
 shared-slice-read-byte-read c = search needs
@@ -37,7 +37,15 @@ refused-requires c κs = search needs
 
 returns-2 : tie.Need-returns-2 Inv-loop μ-loop
 unfolding readerOf
-returns-2 c = record { is = λ text e. c .refused .ensures ∙ going-refused (c .before .before .before .byte-read .result) _ (going-on (c .before .before .before .before .before .before .before .before .before .before .before .before .before .before .args .piece .now) (c .before .before .before .before .before .before .before .loop .i) (c .before .before .before .before .before .before .loop-test .taken) (c .before .before .before .before .before .before .before .loop .inv .1 text (reading-from (c .before .before .before .before .before .before .before .before .before .before .before .if1 .left) (c .before .before .before .before .before .before .before .before .tally-of .ensures) text e)) (c .before .before .before .byte-read .ensures)) (c .before .if2 .taken) }
+returns-2 c =
+    let at-if2 = c .before in
+    let at-byte-read = at-if2 .before .before in
+    let at-loop-test = at-byte-read .before .before .before in
+    let at-loop = at-loop-test .before in
+    let at-tally-of = at-loop .before in
+    let at-if1 = at-tally-of .before .before .before in
+    let at-start = at-if1 .before .before .before in
+    record { is = λ text e. c .refused .ensures ∙ going-refused (at-byte-read .byte-read .result) _ (going-on (at-start .args .piece .now) (at-loop .loop .i) (at-loop-test .loop-test .taken) (at-loop .loop .inv .1 text (reading-from (at-if1 .if1 .left) (at-tally-of .tally-of .ensures) text e)) (at-byte-read .byte-read .ensures)) (at-if2 .if2 .taken) }
 
 add-i : tie.Need-add-i Inv-loop μ-loop
 add-i c = search needs
@@ -46,14 +54,26 @@ loop-less : tie.Need-loop-less Inv-loop μ-loop
 loop-less c = search needs
 
 loop-again : tie.Need-loop-again Inv-loop μ-loop
-loop-again c = (search needs, λ text e. going-next (c .before .before .before .before .before .before .before .before .before .before .before .before .before .before .args .piece .now) (c .before .before .before .before .before .before .before .loop .i) (c .before .before .before .byte-read .result) (c .before .before .before .before .before .before .loop-test .taken) (c .before .before .before .before .before .before .before .loop .inv .1 text e) (c .before .before .before .byte-read .ensures) (c .before .if2 .left))
+loop-again c =
+    let at-if2 = c .before in
+    let at-byte-read = at-if2 .before .before in
+    let at-loop-test = at-byte-read .before .before .before in
+    let at-loop = at-loop-test .before in
+    let at-start = at-loop .before .before .before .before .before .before .before in
+    (search needs, λ text e. going-next (at-start .args .piece .now) (at-loop .loop .i) (at-byte-read .byte-read .result) (at-loop-test .loop-test .taken) (at-loop .loop .inv .1 text e) (at-byte-read .byte-read .ensures) (at-if2 .if2 .left))
 
 with-ring-requires : tie.Need-with-ring-requires Inv-loop μ-loop
 with-ring-requires c κs = search needs
 
 returns-3 : tie.Need-returns-3 Inv-loop μ-loop
 unfolding readerOf
-returns-3 c = record { is = λ text e. rw (c .with-ring .ensures) (going-over (c .before .before .before .before .before .before .before .before .before .args .piece .now) (c .before .before .loop .i) (c .before .loop-test .left) (c .before .before .loop .inv .1 text (reading-from (c .before .before .before .before .before .before .if1 .left) (c .before .before .before .tally-of .ensures) text e))) }
+returns-3 c =
+    let at-loop-test = c .before in
+    let at-loop = at-loop-test .before in
+    let at-tally-of = at-loop .before in
+    let at-if1 = at-tally-of .before .before .before in
+    let at-start = at-if1 .before .before .before in
+    record { is = λ text e. rw (c .with-ring .ensures) (going-over (at-start .args .piece .now) (at-loop .loop .i) (at-loop-test .loop-test .left) (at-loop .loop .inv .1 text (reading-from (at-if1 .if1 .left) (at-tally-of .tally-of .ensures) text e))) }
 
 pub feed-spec : {M : Type 1} → statement M
 feed-spec =

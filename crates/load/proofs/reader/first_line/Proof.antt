@@ -16,7 +16,7 @@ after-line-requires-2 : tie.Need-after-line-requires-2
 after-line-requires-2 c κs = search needs
 
 returns-2 : tie.Need-returns-2
-returns-2 c = first-taken (c .before .before .if1 .left) (ltb-false 64 (c .before .before .before .args .n) (c .before .if2 .left)) (c .after-line2 .ensures)
+returns-2 c = search (first-taken, ltb-false)
 
 pub first-line-spec : {M : Type 1} → statement M
 first-line-spec = tie.close (tie.spec after-line-requires returns after-line-requires-2 returns-2)

@@ -6,7 +6,7 @@ use Rattle.load.proofs.reader.line_number.Statement.{statement}
 use Rattle.load.proofs.reader.line_number.Tie as tie
 
 returns : tie.Need-returns
-returns c = λ ring. number-first (withRing (c .before .before .args .t) ring) (c .if1 .taken)
+returns c = search (number-first, withRing)
 
 at-most-requires : tie.Need-at-most-requires
 at-most-requires c κs = search needs
@@ -15,7 +15,7 @@ add-result : tie.Need-add-result
 add-result c = search needs
 
 returns-2 : tie.Need-returns-2
-returns-2 c = λ ring. number-length (withRing (c .before .before .before .args .t) ring) (c .before .if1 .left) (c .at-most .ensures)
+returns-2 c = search (number-length, withRing)
 
 pub line-number-spec : {M : Type 1} → statement M
 line-number-spec = tie.close (tie.spec returns at-most-requires add-result returns-2)

@@ -14,7 +14,11 @@ put-answer-requires : tie.Need-put-answer-requires
 put-answer-requires c κs = search needs
 
 returns : tie.Need-returns
-returns c = c .put-answer .ensures .is (c .before .before .before .before .before .args .text .now) (c .before .before .feed .ensures .is [] (c .before .before .before .start .ensures))
+returns c =
+    let at-feed = c .before .before in
+    let at-start = at-feed .before in
+    let at-start-5 = at-start .before .before in
+    c .put-answer .ensures .is (at-start-5 .args .text .now) (at-feed .feed .ensures .is [] (at-start .start .ensures))
 
 pub load-text-spec : {M : Type 1} → statement M
 load-text-spec = tie.close (tie.spec start-requires feed-requires put-answer-requires returns)

@@ -6,7 +6,7 @@ use Rattle.load.proofs.window.oldest.Statement.{statement}
 use Rattle.load.proofs.window.oldest.Tie as tie
 
 returns : tie.Need-returns
-returns c = oldest-none (withRing (c .before .args .t) (c .before .args .recent .now)) (c .if1 .taken)
+returns c = search (oldest-none, withRing)
 
 mul-wide : tie.Need-mul-wide
 mul-wide c = search needs
@@ -18,7 +18,7 @@ wide-requires : tie.Need-wide-requires
 wide-requires c κs = search needs
 
 returns-2 : tie.Need-returns-2
-returns-2 c = oldest-some (withRing (c .before .before .before .args .t) (c .before .before .before .args .recent .now)) (c .before .before .if1 .left) (c .wide .ensures)
+returns-2 c = search (oldest-some, withRing)
 
 pub oldest-spec : {M : Type 1} → statement M
 oldest-spec = tie.close (tie.spec returns mul-wide element-copy-out-wide wide-requires returns-2)

@@ -35,13 +35,13 @@ wide-requires : tie.Need-wide-requires
 wide-requires c κs = search needs
 
 add-next : tie.Need-add-next
-add-next c = omega (arith, c .wide .ensures, ltb-false 64000 (c .before .before .before .before .before .before .before .args .t .sum) (c .before .before .if3 .left))
+add-next c = omega (arith, ltb-false)
 
 add-next-2 : tie.Need-add-next-2
-add-next-2 c = omega (arith, leb-false 1000000 (c .before .before .before .before .before .before .before .args .t .count) (c .before .before .before .if2 .left))
+add-next-2 c = omega (arith, leb-false)
 
 with-best-requires : tie.Need-with-best-requires
-with-best-requires c κs = omega (arith, leb-false 1000000 (c .before .before .before .before .before .before .before .args .t .count) (c .before .before .before .if2 .left))
+with-best-requires c κs = omega (arith, leb-false)
 
 returns-2 : tie.Need-returns-2
 unfolding stored

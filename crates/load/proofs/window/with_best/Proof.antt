@@ -8,10 +8,10 @@ use Rattle.load.proofs.window.with_best.Statement.{statement}
 use Rattle.load.proofs.window.with_best.Tie as tie
 
 returns : tie.Need-returns
-returns c = λ ring. kept-none (withRing (c .before .before .args .t) ring) (c .if1 .taken)
+returns c = search (kept-none, withRing)
 
 returns-2 : tie.Need-returns-2
-returns-2 c = λ ring. kept-old (withRing (c .before .before .before .before .before .before .args .t) ring) (c .before .before .before .before .if1 .left) (c .before .before .if2 .taken) (c .if3 .taken)
+returns-2 c = search (kept-old, withRing)
 
 add-next : tie.Need-add-next
 add-next c = search needs

@@ -20,10 +20,20 @@ same-length : tie.Need-same-length
 same-length c = search needs
 
 returns-3 : tie.Need-returns-3
-returns-3 c = own-looks _ _ _ _ _ _ _ (c .before .before .before .before .before .before .before .if1 .left) (c .before .before .before .before .before .before .if2 .left) (c .before .before .before .before .before .looks .ensures) (c .before .before .before .before .if3 .taken) (c .before .before .on-sequence .ensures)
+returns-3 c =
+    let at-on-sequence = c .before .before in
+    let at-if3 = at-on-sequence .before .before in
+    let at-looks = at-if3 .before in
+    let at-if2 = at-looks .before in
+    let at-if1 = at-if2 .before in
+    own-looks _ _ _ _ _ _ _ (at-if1 .if1 .left) (at-if2 .if2 .left) (at-looks .looks .ensures) (at-if3 .if3 .taken) (at-on-sequence .on-sequence .ensures)
 
 returns-4 : tie.Need-returns-4
-returns-4 c = own-not _ _ _ _ _ _ _ (c .before .before .before .if1 .left) (c .before .before .if2 .left) (c .before .looks .ensures) (c .if3 .left)
+returns-4 c =
+    let at-looks = c .before in
+    let at-if2 = at-looks .before in
+    let at-if1 = at-if2 .before in
+    own-not _ _ _ _ _ _ _ (at-if1 .if1 .left) (at-if2 .if2 .left) (at-looks .looks .ensures) (c .if3 .left)
 
 pub is-outside-spec : {M : Type 1} → statement M
 is-outside-spec =

@@ -14,7 +14,11 @@ same-length : tie.Need-same-length
 same-length c = search needs
 
 returns : tie.Need-returns
-returns c = (own-found _ _ _ _ _ _ _ _ (c .before .before .before .before .is-outside .ensures) _ (c .before .before .before .before .before .before .before .before .before .before .pre .in-nodes) (c .before .if1 .taken) (c .lower .ensures), search needs)
+returns c =
+    let at-if1 = c .before in
+    let at-is-outside = at-if1 .before .before .before in
+    let at-start = at-is-outside .before .before .before .before .before .before in
+    (own-found _ _ _ _ _ _ _ _ (at-is-outside .is-outside .ensures) _ (at-start .pre .in-nodes) (at-if1 .if1 .taken) (c .lower .ensures), search needs)
 
 same-length-2 : tie.Need-same-length-2
 same-length-2 c = search needs

@@ -1,5 +1,4 @@
 -- `lowest_outside` meets its contract. Assumes nothing.
-use native.Mathlib.Omega.{arith}
 use borrow.Author.Needs.{needs}
 use Rattle.numbering.proofs.Sheets.{sheet-room, few-rules, roots-in, outside-found}
 use Rattle.numbering.proofs.whole.lowest_outside.Statement.{statement}
@@ -9,7 +8,7 @@ tell-calls-requires : tie.Need-tell-calls-requires
 tell-calls-requires c κs = search sheet-room
 
 rules-outside-requires : tie.Need-rules-outside-requires
-rules-outside-requires c κs = (sheet-room (c .before .before .before .before .before .before .before .before .before .before .before .before .pre .1) (omega arith) (omega arith) (omega arith), (few-rules (c .before .before .before .before .before .before .before .before .before .before .before .before .pre .1), roots-in (c .before .before .before .before .before .before .before .before .before .before .before .before .pre .1)))
+rules-outside-requires c κs = search (sheet-room, few-rules, roots-in, needs)
 
 same-length : tie.Need-same-length
 same-length c = search needs
@@ -18,7 +17,7 @@ same-length-2 : tie.Need-same-length-2
 same-length-2 c = search needs
 
 returns : tie.Need-returns
-returns c = outside-found (c .before .before .before .before .before .before .before .before .before .tell-calls .ensures) (c .before .before .rules-outside .ensures)
+returns c = search outside-found
 
 pub lowest-outside-spec : {M : Type 1} → statement M
 lowest-outside-spec =

@@ -4,6 +4,7 @@ use native.Mathlib.Omega.{arith}
 use lib.ListN.{length-drop}
 use lib.Seq.{length-take-le}
 use borrow.Author.Needs.{needs}
+use Rattle.memory.specs.Map as memory
 use Rattle.numbering.proofs.Roots.{root-found}
 use Rattle.numbering.proofs.whole.root_outside.Statement.{statement}
 use Rattle.numbering.proofs.whole.root_outside.Tie as tie
@@ -33,7 +34,9 @@ start-env-requires : tie.Need-start-env-requires
 start-env-requires c κs = search needs
 
 node-requires : tie.Need-node-requires
-node-requires c κs = let l = length-take-le 6144 (c .before .before .before .before .before .before .before .before .args .w1 .now) (omega arith) in let d = length-drop 6912 (c .before .before .before .before .before .before .before .before .args .w1 .now) in let m = length-take-le 768 (c .before .before .before .before .before .before .before .before .args .w2 .now) (omega arith) in search needs
+node-requires c κs =
+    let at-start = c .before .before .before .before .before .before .before .before in
+    let l = length-take-le memory.nodesEnd (at-start .args .w1 .now) (omega arith) in let d = length-drop memory.depths (at-start .args .w1 .now) in let m = length-take-le 768 (at-start .args .w2 .now) (omega arith) in search needs
 
 same-length : tie.Need-same-length
 same-length c = search needs

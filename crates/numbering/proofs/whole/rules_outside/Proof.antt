@@ -50,7 +50,7 @@ wide-requires-4 : tie.Need-wide-requires-4 Inv-loop μ-loop
 wide-requires-4 c κs = search needs
 
 root-outside-requires : tie.Need-root-outside-requires Inv-loop μ-loop
-root-outside-requires c κs = let q = low-root (c .before .before .before .before .before .before .before .before .before .before .before .before .pre .1 .1) (c .before .before .before .before .loop-test .taken) (c .before .before .before .before .before .before .wide3 .ensures) (c .before .wide4 .ensures) in omega (arith, q, c .before .before .before .before .before .before .before .before .before .before .before .before, c .before .before .before .before .before .before .before .before .wide, c .before .before .before .before .before .before .before .wide2, c .before .before .before .before .before .loop .inv .kept .size)
+root-outside-requires c κs = search (low-root, needs)
 
 add-r : tie.Need-add-r Inv-loop μ-loop
 add-r c = omega arith
@@ -59,13 +59,20 @@ loop-less : tie.Need-loop-less Inv-loop μ-loop
 loop-less c = omega arith
 
 loop-again : tie.Need-loop-again Inv-loop μ-loop
-loop-again c = one-gone _ (c .before .before .before .before .before .before .before .before .loop .inv) (c .before .before .before .before .before .before .before .loop-test .taken) (low-root (c .before .before .before .before .before .before .before .before .before .before .before .before .before .before .before .pre .1 .1) (c .before .before .before .before .before .before .before .loop-test .taken) (c .before .before .before .before .before .before .before .before .before .wide3 .ensures) (c .before .before .before .before .wide4 .ensures)) (c .before .before .before .before .wide4 .ensures) refl (c .before .before .root-outside .ensures)
+loop-again c =
+    let at-root-outside = c .before .before in
+    let at-wide4 = at-root-outside .before .before in
+    let at-loop-test = at-wide4 .before .before .before in
+    let at-loop = at-loop-test .before in
+    let at-wide3 = at-loop .before in
+    let at-start = at-wide3 .before .before .before .before .before .before in
+    one-gone _ (at-loop .loop .inv) (at-loop-test .loop-test .taken) (low-root (at-start .pre .1 .1) (at-loop-test .loop-test .taken) (at-wide3 .wide3 .ensures) (at-wide4 .wide4 .ensures)) (at-wide4 .wide4 .ensures) refl (at-root-outside .root-outside .ensures)
 
 same-length : tie.Need-same-length Inv-loop μ-loop
-same-length c = c .before .loop .inv .kept .size
+same-length c = search needs
 
 returns : tie.Need-returns Inv-loop μ-loop
-returns c = all-gone (c .before .before .before .before .wide .ensures) (c .before .before .before .wide2 .ensures) (c .before .before .wide3 .ensures) (c .loop-test .left) (c .before .loop .inv)
+returns c = search all-gone
 
 pub rules-outside-spec : {M : Type 1} → statement M
 rules-outside-spec =

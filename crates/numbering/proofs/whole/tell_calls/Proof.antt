@@ -22,7 +22,7 @@ loop-holds : tie.Need-loop-holds Inv-loop μ-loop
 loop-holds c = tell-none _ _ _ _ _
 
 called-outside-requires : tie.Need-called-outside-requires Inv-loop μ-loop
-called-outside-requires c κs = omega (arith, c .before .before .before .before .before .before .before .before .before, c .before .before .before .before .before .wide, c .before .before .before .before .wide2, c .before .before .loop-test, c .before .before .before .loop .inv .kept1 .size, c .before .before .before .loop .inv .kept .size)
+called-outside-requires c κs = omega arith
 
 add-w1 : tie.Need-add-w1 Inv-loop μ-loop
 add-w1 c = omega arith
@@ -31,7 +31,7 @@ mul-w1 : tie.Need-mul-w1 Inv-loop μ-loop
 mul-w1 c = omega arith
 
 slice-write-w1 : tie.Need-slice-write-w1 Inv-loop μ-loop
-slice-write-w1 c = omega (arith, c .before .before .before .before .before .before .before .before .before .before .before .before, c .before .before .before .before .before .loop-test, c .before .before .before .before .before .before .loop .inv .kept1 .size)
+slice-write-w1 c = omega arith
 
 add-n : tie.Need-add-n Inv-loop μ-loop
 add-n c = omega arith
@@ -40,16 +40,16 @@ loop-less : tie.Need-loop-less Inv-loop μ-loop
 loop-less c = omega arith
 
 loop-again : tie.Need-loop-again Inv-loop μ-loop
-loop-again c = tell-more _ (c .before .before .before .before .before .before .before .before .before .before .before .before .pre .all-nodes) (c .before .before .before .before .before .loop-test .taken) (c .before .before .before .before .before .before .loop .inv) (c .before .before .called-outside .ensures)
+loop-again c = search tell-more
 
 same-length : tie.Need-same-length Inv-loop μ-loop
-same-length c = c .before .loop .inv .kept1 .size
+same-length c = search needs
 
 same-length-2 : tie.Need-same-length-2 Inv-loop μ-loop
-same-length-2 c = c .before .loop .inv .kept .size
+same-length-2 c = search needs
 
 returns : tie.Need-returns Inv-loop μ-loop
-returns c = tell-done (c .before .before .before .wide .ensures) (c .before .before .wide2 .ensures) (c .loop-test .left) (c .before .loop .inv)
+returns c = search tell-done
 
 pub tell-calls-spec : {M : Type 1} → statement M
 tell-calls-spec =

@@ -67,7 +67,18 @@ returns-5 : tie.Need-returns-5
 returns-5 c = search no-close
 
 returns-6 : tie.Need-returns-6
-returns-6 c = all-instances (c .before .before .before .before .before .before .before .before .before .before .before .before .before .before .before .before .before .before .before .labelled-at .ensures) (c .before .before .before .before .before .before .before .before .before .before .before .before .before .before .before .before .before .class .given .1) (c .before .before .before .before .before .before .before .before .before .before .before .before .before .before .before .after .ensures) (c .before .before .before .before .before .before .before .before .before .before .before .before .before .dot .given .1) (c .before .before .before .before .before .before .before .before .before .before .before .after2 .ensures) (c .before .before .before .before .before .before .before .before .before .called .given .1) (c .before .before .before .before .before .before .before .after3 .ensures) (c .before .before .before .before .before .opened .given .1) (c .before .before .before .after4 .ensures) (c .before .closed .given .1)
+returns-6 c =
+    let at-closed = c .before in
+    let at-after4 = at-closed .before .before in
+    let at-opened = at-after4 .before .before in
+    let at-after3 = at-opened .before .before in
+    let at-called = at-after3 .before .before in
+    let at-after2 = at-called .before .before in
+    let at-dot = at-after2 .before .before in
+    let at-after = at-dot .before .before in
+    let at-class = at-after .before .before in
+    let at-labelled-at = at-class .before .before in
+    all-instances (at-labelled-at .labelled-at .ensures) (at-class .class .given .1) (at-after .after .ensures) (at-dot .dot .given .1) (at-after2 .after2 .ensures) (at-called .called .given .1) (at-after3 .after3 .ensures) (at-opened .opened .given .1) (at-after4 .after4 .ensures) (at-closed .closed .given .1)
 
 pub instances-spec : {M : Type 1} → statement M
 instances-spec =

@@ -43,7 +43,7 @@ module _ (t : ℕ) where
   returns c = c .single-type .ensures
 
   next-token-requires : type-in-lts.Need-next-token-requires calls (type-in-at t) type-in.Post
-  next-token-requires c κs = c .before .before .before .pre .1 .within
+  next-token-requires c κs = search needs
 
   after-requires : type-in-lts.Need-after-requires calls (type-in-at t) type-in.Post
   after-requires c κs = (c .next-token .ensures .ahead, λ e. omega arith)
@@ -58,7 +58,14 @@ module _ (t : ℕ) where
   returns-2 c = search letter-alone
 
   type-in-requires : type-in-lts.Need-type-in-requires calls (type-in-at t) type-in.Post
-  type-in-requires c κs = (omega (arith, member-less (c .before .before .before .before .before .before .before .before .pre .1) (c .before .before .before .before .before .before .is-letter .ensures) (c .before .before .before .before .before .if1 .left) (c .before .before .before .before .next-token .ensures) (c .before .before .before .after .ensures) (c .before .opened .given .1), c .before .before .before .before .before .before .before .before .pre .0), came-ahead (c .before .before .before .after .ensures) (c .before .opened .given .1))
+  type-in-requires c κs =
+      let at-opened = c .before in
+      let at-after = at-opened .before .before in
+      let at-next-token = at-after .before in
+      let at-if1 = at-next-token .before in
+      let at-is-letter = at-if1 .before in
+      let at-start = at-is-letter .before .before in
+      (omega (arith, member-less (at-start .pre .1) (at-is-letter .is-letter .ensures) (at-if1 .if1 .left) (at-next-token .next-token .ensures) (at-after .after .ensures) (at-opened .opened .given .1), at-start .pre .0), came-ahead (at-after .after .ensures) (at-opened .opened .given .1))
 
   enum-known-member : type-in-lts.Need-enum-known-member calls (type-in-at t) type-in.Post
   enum-known-member c = search needs
@@ -88,7 +95,18 @@ module _ (t : ℕ) where
   lettered-requires c κs = search needs
 
   returns-5 : type-in-lts.Need-returns-5 calls (type-in-at t) type-in.Post
-  returns-5 c = member-closed (c .before .before .before .before .before .before .before .before .before .before .before .before .before .before .before .before .before .before .pre .1) (c .before .before .before .before .before .before .before .before .before .before .before .before .before .before .before .before .is-letter .ensures) (c .before .before .before .before .before .before .before .before .before .before .before .before .before .before .before .if1 .left) (c .before .before .before .before .before .before .before .before .before .before .before .before .before .before .next-token .ensures) (c .before .before .before .before .before .before .before .before .before .before .before .before .before .after .ensures) (c .before .before .before .before .before .before .before .before .before .before .before .opened .given .1) (c .before .before .before .before .before .before .before .before .before .type-in .ensures) (c .before .before .before .before .before .before .before .member .given .1) (c .before .before .before .before .before .after2 .ensures) (c .before .before .before .closed .given .1) (c .lettered .ensures)
+  returns-5 c =
+      let at-closed = c .before .before .before in
+      let at-after2 = at-closed .before .before in
+      let at-member = at-after2 .before .before in
+      let at-type-in = at-member .before .before in
+      let at-opened = at-type-in .before .before in
+      let at-after = at-opened .before .before in
+      let at-next-token = at-after .before in
+      let at-if1 = at-next-token .before in
+      let at-is-letter = at-if1 .before in
+      let at-start = at-is-letter .before .before in
+      member-closed (at-start .pre .1) (at-is-letter .is-letter .ensures) (at-if1 .if1 .left) (at-next-token .next-token .ensures) (at-after .after .ensures) (at-opened .opened .given .1) (at-type-in .type-in .ensures) (at-member .member .given .1) (at-after2 .after2 .ensures) (at-closed .closed .given .1) (c .lettered .ensures)
 
   closed : {M : Type 1} → type-in-lts.Closed calls (type-in-at t) type-in.Post M
   closed = type-in-lts.spec calls (type-in-at t) type-in.Post is-letter-requires single-type-requires returns next-token-requires after-requires enum-known-opened enum-told returns-2 type-in-requires enum-known-member enum-told-2 returns-3 after-requires-2 enum-known-closed enum-told-3 returns-4 shared-slice-read-lettered lettered-requires returns-5

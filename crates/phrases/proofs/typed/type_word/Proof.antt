@@ -1,5 +1,4 @@
 -- `type_word` meets its contract. Assumes nothing.
-use mathlib.Core.Path.{refl}
 use Rattle.ocl.specs.Types.{void, Boolean, Integer, Real, Any, depth}
 use Rattle.sheet.specs.Limits.{typeWithin, classBelow, simpleClassBelow}
 use Rattle.tokens.proofs.CodeLaws.{byCode}
@@ -31,23 +30,23 @@ class-of-requires c κs = search needs
 
 returns : tie.Need-returns
 unfolding byCode simples typeWithin classBelow simpleClassBelow depth
-returns c = a-simple (c .before .before .before .pre .0) (c .before .before .before .pre .1) 54 void _ (c .before .match .keys1) refl (c .plain .ensures) refl
+returns c = search (a-simple, void)
 
 returns-2 : tie.Need-returns-2
 unfolding byCode simples typeWithin classBelow simpleClassBelow depth
-returns-2 c = a-simple (c .before .before .before .pre .0) (c .before .before .before .pre .1) 55 Boolean _ (c .before .match .keys2) refl (c .plain2 .ensures) refl
+returns-2 c = search (a-simple, Boolean)
 
 returns-3 : tie.Need-returns-3
 unfolding byCode simples typeWithin classBelow simpleClassBelow depth
-returns-3 c = a-simple (c .before .before .before .pre .0) (c .before .before .before .pre .1) 56 Integer _ (c .before .match .keys3) refl (c .plain3 .ensures) refl
+returns-3 c = search (a-simple, Integer)
 
 returns-4 : tie.Need-returns-4
 unfolding byCode simples typeWithin classBelow simpleClassBelow depth
-returns-4 c = a-simple (c .before .before .before .pre .0) (c .before .before .before .pre .1) 57 Real _ (c .before .match .keys4) refl (c .plain4 .ensures) refl
+returns-4 c = search (a-simple, Real)
 
 returns-5 : tie.Need-returns-5
 unfolding byCode simples typeWithin classBelow simpleClassBelow depth
-returns-5 c = a-simple (c .before .before .before .pre .0) (c .before .before .before .pre .1) 58 Any _ (c .before .match .keys5) refl (c .plain5 .ensures) refl
+returns-5 c = search (a-simple, Any)
 
 returns-6 : tie.Need-returns-6
 returns-6 c = search a-class

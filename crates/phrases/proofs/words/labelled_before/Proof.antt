@@ -17,7 +17,7 @@ returns : tie.Need-returns
 returns c = search before-none
 
 after-requires : tie.Need-after-requires
-after-requires c κs = (search labelled-ahead, c .before .before .before .before .before .pre .1)
+after-requires c κs = search labelled-ahead
 
 enum-known-u : tie.Need-enum-known-u
 enum-known-u c = search needs

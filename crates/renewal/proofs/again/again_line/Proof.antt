@@ -1,5 +1,4 @@
 -- `again_line` meets its contract. Assumes nothing.
-use Prim.Native.Nat.{ℕ}
 use lib.ListN.{length-replicate}
 use Rattle.renewal.proofs.AgainLaws.{line-size, line-room, line-again}
 use borrow.Author.Needs.{needs}
@@ -16,10 +15,10 @@ array-share-prefix-line : tie.Need-array-share-prefix-line
 array-share-prefix-line c = search needs
 
 slice-aggregate-put-bytes : tie.Need-slice-aggregate-put-bytes
-slice-aggregate-put-bytes c = line-size _ (c .before .before .before .before .before .fresh-line .ensures) (length-replicate {A = ℕ} 5120 0)
+slice-aggregate-put-bytes c = search (line-size, length-replicate)
 
 put-bytes-requires : tie.Need-put-bytes-requires
-put-bytes-requires c κs = line-room _ (c .before .before .before .before .before .fresh-line .ensures) (length-replicate {A = ℕ} 5120 0) (c .before .before .before .before .before .before .before .before .before .before .before .before .pre .1)
+put-bytes-requires c κs = search (line-room, length-replicate)
 
 same-length : tie.Need-same-length
 same-length c = search needs
@@ -28,7 +27,7 @@ same-length-2 : tie.Need-same-length-2
 same-length-2 c = search needs
 
 returns : tie.Need-returns
-returns c = line-again _ (c .before .before .before .before .before .before .before .before .fresh-line .ensures) (length-replicate {A = ℕ} 5120 0) (c .before .before .put-bytes .ensures) (search needs)
+returns c = search (line-again, length-replicate)
 
 pub again-line-spec : {M : Type 1} → statement M
 again-line-spec =

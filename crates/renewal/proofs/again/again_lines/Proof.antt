@@ -1,6 +1,5 @@
 -- `again_lines` meets its contract. Assumes nothing.
 use Prim.Native.Nat.{_-_}
-use native.Mathlib.Omega.{arith}
 use Rattle.renewal.proofs.AgainLaws.{AgainTo, again-none, again-room, again-next, again-all}
 use borrow.Author.Needs.{needs}
 use Rattle.renewal.proofs.again.again_lines.Statement.{statement}
@@ -16,7 +15,7 @@ loop-holds : tie.Need-loop-holds Inv-loop μ-loop
 loop-holds c = again-none _ _
 
 again-line-requires : tie.Need-again-line-requires Inv-loop μ-loop
-again-line-requires c κs = ((c .before .before .before .before .before .before .before .before .before .pre .0 .0, c .before .before .before .before .before .before .before .before .before .pre .0 .1, omega (arith, c .before .before .before .before .before .before .before .before .before .pre .0 .2, c .before .before .before .before .loop .inv .kept .size), c .before .before .if1 .taken), again-room (c .before .before .before .before .loop .inv) (c .before .before .if1 .taken) (c .before .before .before .before .before .before .before .before .before .pre .1))
+again-line-requires c κs = search (again-room, needs)
 
 add-o : tie.Need-add-o Inv-loop μ-loop
 add-o c = search needs
@@ -25,16 +24,16 @@ loop-less : tie.Need-loop-less Inv-loop μ-loop
 loop-less c = search needs
 
 loop-again : tie.Need-loop-again Inv-loop μ-loop
-loop-again c = again-next (c .before .before .before .before .before .before .before .before .before .loop .inv) (c .before .before .before .before .before .before .before .if1 .taken) (c .before .before .before .before .before .before .before .before .before .before .before .before .before .before .pre .1) (c .before .before .before .before .again-line .ensures)
+loop-again c = search again-next
 
 same-length : tie.Need-same-length Inv-loop μ-loop
-same-length c = c .before .before .loop .inv .kept .size
+same-length c = search needs
 
 same-length-2 : tie.Need-same-length-2 Inv-loop μ-loop
-same-length-2 c = c .before .before .loop .inv .size
+same-length-2 c = search needs
 
 returns : tie.Need-returns Inv-loop μ-loop
-returns c = again-all (c .before .before .loop .inv) (c .if1 .left)
+returns c = search again-all
 
 pub again-lines-spec : {M : Type 1} → statement M
 again-lines-spec =

@@ -16,7 +16,11 @@ loop-holds : tie.Need-loop-holds Inv-loop μ-loop
 loop-holds c = objects-none _ _
 
 fresh-line-requires : tie.Need-fresh-line-requires Inv-loop μ-loop
-fresh-line-requires c κs = ((c .before .before .before .before .before .before .before .before .before .pre .0 .0, c .before .before .before .before .before .before .before .before .before .pre .0 .1, omega (arith, c .before .before .before .before .before .before .before .before .before .pre .0 .2, c .before .before .before .before .loop .inv .so .kept .size), c .before .before .before .before .before .before .before .before .before .pre .0 .3, c .before .before .if1 .taken), (omega (arith, c .before .before .before .before .before .before .before .before .before .pre .1 .0, c .before .before .before .before .loop .inv .so .size), objects-few (c .before .before .before .before .loop .inv) (c .before .before .before .before .before .before .before .before .before .pre .0 .3) (c .before .before .before .before .before .before .before .before .before .pre .1 .1) (c .before .before .before .before .before .before .before .before .before .pre .1 .2) .0, objects-few (c .before .before .before .before .loop .inv) (c .before .before .before .before .before .before .before .before .before .pre .0 .3) (c .before .before .before .before .before .before .before .before .before .pre .1 .1) (c .before .before .before .before .before .before .before .before .before .pre .1 .2) .1))
+fresh-line-requires c κs =
+    let at-if1 = c .before .before in
+    let at-loop = at-if1 .before .before in
+    let at-start = at-loop .before .before .before .before .before in
+    ((at-start .pre .0 .0, at-start .pre .0 .1, omega (arith, at-start .pre .0 .2, at-loop .loop .inv .so .kept .size), at-start .pre .0 .3, at-if1 .if1 .taken), (omega (arith, at-start .pre .1 .0, at-loop .loop .inv .so .size), objects-few (at-loop .loop .inv) (at-start .pre .0 .3) (at-start .pre .1 .1) (at-start .pre .1 .2) .0, objects-few (at-loop .loop .inv) (at-start .pre .0 .3) (at-start .pre .1 .1) (at-start .pre .1 .2) .1))
 
 add-o : tie.Need-add-o Inv-loop μ-loop
 add-o c = search needs

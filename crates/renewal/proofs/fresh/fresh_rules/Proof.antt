@@ -19,13 +19,18 @@ loop-holds : tie.Need-loop-holds Inv-loop μ-loop
 loop-holds c = rules-none _ _ _
 
 told-lines-requires : tie.Need-told-lines-requires Inv-loop μ-loop
-told-lines-requires c κs = ((c .before .before .before .before .before .before .before .before .before .before .pre .0 .0, c .before .before .before .before .before .before .before .before .before .before .pre .0 .1, omega (arith, c .before .before .before .before .before .before .before .before .before .before .pre .0 .2, c .before .before .before .loop .inv .so .kept .size), some-rule (c .before .before .before .before .before .before .before .before .before .before .pre .0 .3) (omega (arith, c .before .before .before .before .wide .ensures, c .before .before .loop-test .taken)), omega (arith, c .before .before .before .before .before .before .before .before .before .before .pre .0 .3 .accepted .lies .fine .rules, c .before .before .before .before .wide .ensures, c .before .before .loop-test .taken)), (omega (arith, c .before .before .before .before .before .before .before .before .before .before .pre .1 .0, c .before .before .before .loop .inv .so .size), rules-few (c .before .before .before .before .before .before .before .before .before .before .pre .0 .3) (c .before .before .before .loop .inv) .0, rules-few (c .before .before .before .before .before .before .before .before .before .before .pre .0 .3) (c .before .before .before .loop .inv) .1))
+told-lines-requires c κs =
+    let at-loop-test = c .before .before in
+    let at-loop = at-loop-test .before in
+    let at-wide = at-loop .before in
+    let at-start = at-wide .before .before .before .before .before .before in
+    ((at-start .pre .0 .0, at-start .pre .0 .1, omega (arith, at-start .pre .0 .2, at-loop .loop .inv .so .kept .size), some-rule (at-start .pre .0 .3) (omega (arith, at-wide .wide .ensures, at-loop-test .loop-test .taken)), omega (arith, at-start .pre .0 .3 .accepted .lies .fine .rules, at-wide .wide .ensures, at-loop-test .loop-test .taken)), (omega (arith, at-start .pre .1 .0, at-loop .loop .inv .so .size), rules-few (at-start .pre .0 .3) (at-loop .loop .inv) .0, rules-few (at-start .pre .0 .3) (at-loop .loop .inv) .1))
 
 mul-ends : tie.Need-mul-ends Inv-loop μ-loop
-mul-ends c = omega (arith, c .before .before .before .before .before .before .before .before .before .before .before .before .before .before .before .pre .0 .3 .accepted .lies .fine .rules, c .before .before .before .before .before .before .before .before .before .wide .ensures, c .before .before .before .before .before .before .before .loop-test .taken)
+mul-ends c = omega arith
 
 slice-write-ends : tie.Need-slice-write-ends Inv-loop μ-loop
-slice-write-ends c = omega (arith, c .before .before .before .before .before .before .before .before .before .before .before .before .before .before .before .pre .1 .1, c .before .before .before .before .before .before .before .before .before .before .before .before .before .before .before .pre .0 .3 .accepted .lies .fine .rules, c .before .before .before .before .before .before .before .before .before .wide .ensures, c .before .before .before .before .before .before .before .loop-test .taken, c .before .before .before .before .before .before .before .before .loop .inv .so .ends-size)
+slice-write-ends c = omega arith
 
 add-r : tie.Need-add-r Inv-loop μ-loop
 add-r c = search needs
@@ -34,7 +39,13 @@ loop-less : tie.Need-loop-less Inv-loop μ-loop
 loop-less c = search needs
 
 loop-again : tie.Need-loop-again Inv-loop μ-loop
-loop-again c = rules-next (c .before .before .before .before .before .before .before .before .loop .inv) (c .before .before .before .before .before .before .before .before .before .wide .ensures) (c .before .before .before .before .before .before .before .loop-test .taken) (c .before .before .before .before .before .before .before .before .before .before .before .before .before .before .before .pre .1 .1) (omega (arith, c .before .before .before .before .before .before .before .before .before .before .before .before .before .before .before .pre .0 .3 .accepted .lies .fine .rules, c .before .before .before .before .before .before .before .before .before .wide .ensures)) (c .before .before .before .before .told-lines .ensures)
+loop-again c =
+    let at-told-lines = c .before .before .before .before in
+    let at-loop-test = at-told-lines .before .before .before in
+    let at-loop = at-loop-test .before in
+    let at-wide = at-loop .before in
+    let at-start = at-wide .before .before .before .before .before .before in
+    rules-next (at-loop .loop .inv) (at-wide .wide .ensures) (at-loop-test .loop-test .taken) (at-start .pre .1 .1) (omega (arith, at-start .pre .0 .3 .accepted .lies .fine .rules, at-wide .wide .ensures)) (at-told-lines .told-lines .ensures)
 
 same-length : tie.Need-same-length Inv-loop μ-loop
 same-length c = cc
@@ -46,7 +57,7 @@ same-length-3 : tie.Need-same-length-3 Inv-loop μ-loop
 same-length-3 c = cc
 
 returns : tie.Need-returns Inv-loop μ-loop
-returns c = rules-all (c .before .loop .inv) (c .before .before .wide .ensures) (c .loop-test .left)
+returns c = search rules-all
 
 pub fresh-rules-spec : {M : Type 1} → statement M
 fresh-rules-spec =

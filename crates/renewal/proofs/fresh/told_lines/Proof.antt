@@ -18,10 +18,10 @@ same-length-2 : tie.Need-same-length-2
 same-length-2 c = search needs
 
 returns : tie.Need-returns
-returns c = told (bit (c .before .before .before .before .before .before .before .before .before .before .before .before .before .args .touched)) (c .before .before .before .before .before .before .before .before .has-row .ensures) (c .before .before .before .before .before .before .before .if1 .taken) (c .before .before .before .before .fresh-lines .ensures)
+returns c = search (told, bit)
 
 returns-2 : tie.Need-returns-2
-returns-2 c = not-told (bit (c .before .before .before .before .before .before .args .touched)) (c .before .has-row .ensures) (c .if1 .left) _ _
+returns-2 c = search (not-told, bit)
 
 pub told-lines-spec : {M : Type 1} → statement M
 told-lines-spec =

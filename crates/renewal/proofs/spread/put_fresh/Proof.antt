@@ -21,25 +21,34 @@ sub-if1 : tie.Need-sub-if1
 sub-if1 c = search needs
 
 sub-put-bytes : tie.Need-sub-put-bytes
-sub-put-bytes c = omega (arith, fresh-order (c .before .before .before .before .before .before .before .before .before .before .before .pre .0 .3) (c .before .before .before .before .before .before .before .before .before .before .before .pre .1), c .before .before .before .before .start-of .ensures, c .before .before .wide .ensures)
+sub-put-bytes c =
+    let at-wide = c .before .before in
+    let at-start-of = at-wide .before .before in
+    let at-start = at-start-of .before .before .before .before .before .before .before in
+    omega (arith, fresh-order (at-start .pre .0 .3) (at-start .pre .1), at-start-of .start-of .ensures, at-wide .wide .ensures)
 
 part-put-bytes-start : tie.Need-part-put-bytes-start
-part-put-bytes-start c = omega (arith, fresh-order (c .before .before .before .before .before .before .before .before .before .before .before .pre .0 .3) (c .before .before .before .before .before .before .before .before .before .before .before .pre .1), c .before .before .before .before .start-of .ensures, c .before .before .wide .ensures, c .before .if1 .taken)
+part-put-bytes-start c =
+    let at-if1 = c .before in
+    let at-wide = at-if1 .before in
+    let at-start-of = at-wide .before .before in
+    let at-start = at-start-of .before .before .before .before .before .before .before in
+    omega (arith, fresh-order (at-start .pre .0 .3) (at-start .pre .1), at-start-of .start-of .ensures, at-wide .wide .ensures, at-if1 .if1 .taken)
 
 part-put-bytes-end : tie.Need-part-put-bytes-end
 part-put-bytes-end c = search needs
 
 put-bytes-requires : tie.Need-put-bytes-requires
-put-bytes-requires c κs = fresh-room (c .before .before .before .before .before .before .before .before .before .before .before .before .pre .0 .3) (c .before .before .before .before .before .before .before .before .before .before .before .before .pre .1) (c .before .before .before .before .before .start-of .ensures) (c .before .before .before .wide .ensures) (c .before .before .if1 .taken) (c .before .before .before .before .before .before .before .before .before .before .before .before .pre .0 .5)
+put-bytes-requires c κs = search fresh-room
 
 same-length : tie.Need-same-length
 same-length c = search needs
 
 returns : tie.Need-returns
-returns c = fresh-held (c .before .before .before .before .before .before .before .before .before .before .before .before .before .before .before .pre .0 .3) (c .before .before .before .before .before .before .before .before .start-of .ensures) (c .before .before .before .before .before .before .wide .ensures) (c .before .before .before .before .before .if1 .taken) (c .before .before .before .before .before .before .before .before .before .before .before .before .before .before .before .pre .0 .5) (c .before .before .put-bytes .ensures) (search needs) _
+returns c = search fresh-held
 
 again-lines-requires : tie.Need-again-lines-requires
-again-lines-requires c κs = ((c .before .before .before .before .before .before .before .before .before .before .before .before .pre .0 .0, c .before .before .before .before .before .before .before .before .before .before .before .before .pre .0 .1, c .before .before .before .before .before .before .before .before .before .before .before .before .pre .0 .2), again-fits (c .before .before .before .before .before .before .before .before .before .before .before .before .pre .0 .3) (c .before .before .before .before .before .before .before .before .before .before .before .before .pre .1))
+again-lines-requires c κs = search again-fits
 
 same-length-2 : tie.Need-same-length-2
 same-length-2 c = search needs
@@ -48,7 +57,7 @@ same-length-3 : tie.Need-same-length-3
 same-length-3 c = search needs
 
 returns-2 : tie.Need-returns-2
-returns-2 c = fresh-again (c .before .before .before .before .before .before .before .before .before .before .before .before .before .before .before .before .before .pre .0 .3) (c .before .before .before .before .again-lines .ensures)
+returns-2 c = search fresh-again
 
 pub put-fresh-spec : {M : Type 1} → statement M
 put-fresh-spec =

@@ -21,22 +21,22 @@ sub-r : tie.Need-sub-r Inv-loop μ-loop
 sub-r c = omega (arith, c .loop-test .taken)
 
 put-rule-requires : tie.Need-put-rule-requires Inv-loop μ-loop
-put-rule-requires c κs = ((c .before .before .before .before .before .before .before .before .before .before .before .before .pre .0 .0, c .before .before .before .before .before .before .before .before .before .before .before .before .pre .0 .1, omega (arith, c .before .before .before .before .before .before .before .before .before .before .before .before .pre .0 .2, c .before .before .before .loop .inv .kept .size), omega (arith, c .before .before .before .loop .inv .within, c .before .before .loop-test .taken), c .before .before .before .before .before .before .before .before .before .before .before .before .pre .0 .3, c .before .before .before .before .before .before .before .before .before .before .before .before .pre .0 .4), (c .before .before .before .before .before .before .before .before .before .before .before .before .pre .1 .0, still-placing (c .before .before .before .loop .inv) (c .before .before .before .before .before .before .before .before .before .before .before .before .pre .1 .1)))
+put-rule-requires c κs = search (still-placing, needs)
 
 loop-less : tie.Need-loop-less Inv-loop μ-loop
-loop-less c = omega (arith, c .before .before .before .before .before .before .before .loop-test .taken)
+loop-less c = omega arith
 
 loop-again : tie.Need-loop-again Inv-loop μ-loop
-loop-again c = spread-turn (c .before .before .before .before .before .before .before .before .loop .inv) (c .before .before .before .before .before .before .before .loop-test .taken) (c .before .before .before .before .put-rule .ensures)
+loop-again c = search spread-turn
 
 same-length : tie.Need-same-length Inv-loop μ-loop
-same-length c = c .before .loop .inv .kept .size
+same-length c = search needs
 
 same-length-2 : tie.Need-same-length-2 Inv-loop μ-loop
-same-length-2 c = c .before .loop .inv .size
+same-length-2 c = search needs
 
 returns : tie.Need-returns Inv-loop μ-loop
-returns c = spread-done (c .before .loop .inv) (c .loop-test .left)
+returns c = search spread-done
 
 pub spread-rules-spec : {M : Type 1} → statement M
 spread-rules-spec =

@@ -32,16 +32,25 @@ wide-requires-2 : tie.Need-wide-requires-2 Inv-loop μ-loop
 wide-requires-2 c κs = search needs
 
 mul-has-row : tie.Need-mul-has-row Inv-loop μ-loop
-mul-has-row c = omega (arith, root-low (c .before .before .before .before .before .before .before .pre .3) (c .before .before .before .before .wide .ensures) (c .before .before .loop-test .taken) (c .wide2 .ensures))
+mul-has-row c =
+    let at-loop-test = c .before .before in
+    let at-wide = at-loop-test .before .before in
+    let at-start = at-wide .before .before .before in
+    omega (arith, root-low (at-start .pre .3) (at-wide .wide .ensures) (at-loop-test .loop-test .taken) (c .wide2 .ensures))
 
 shared-slice-read-has-row : tie.Need-shared-slice-read-has-row Inv-loop μ-loop
-shared-slice-read-has-row c = omega (arith, root-low (c .before .before .before .before .before .before .before .before .pre .3) (c .before .before .before .before .before .wide .ensures) (c .before .before .before .loop-test .taken) (c .before .wide2 .ensures))
+shared-slice-read-has-row c =
+    let at-wide2 = c .before in
+    let at-loop-test = at-wide2 .before .before in
+    let at-wide = at-loop-test .before .before in
+    let at-start = at-wide .before .before .before in
+    omega (arith, root-low (at-start .pre .3) (at-wide .wide .ensures) (at-loop-test .loop-test .taken) (at-wide2 .wide2 .ensures))
 
 has-row-requires : tie.Need-has-row-requires Inv-loop μ-loop
 has-row-requires c κs = search needs
 
 with-bit-requires : tie.Need-with-bit-requires Inv-loop μ-loop
-with-bit-requires c κs = omega (arith, c .before .before .before .before .before .before .before .before .before .pre .3 .rules, c .before .before .before .before .before .before .wide .ensures, c .before .before .before .before .loop-test .taken)
+with-bit-requires c κs = omega arith
 
 add-r : tie.Need-add-r Inv-loop μ-loop
 add-r c = search needs

@@ -1,24 +1,23 @@
 -- `replay::judging::clears` meets its contract. Assumes nothing.
-use native.Mathlib.Omega.{arith}
 use Rattle.replay.proofs.ClearingLaws.{clears-count, clears-long, clears-byte}
 use borrow.Author.Needs.{needs}
 use Rattle.replay.proofs.judging.clears.Statement.{statement}
 use Rattle.replay.proofs.judging.clears.Tie as tie
 
 returns : tie.Need-returns
-returns c = clears-count (c .before .before .before .pre) (c .if1 .taken)
+returns c = search clears-count
 
 field-requires : tie.Need-field-requires
 field-requires c κs = search needs
 
 returns-2 : tie.Need-returns-2
-returns-2 c = clears-long (c .before .before .before .before .before .pre) (omega arith) (c .before .field .ensures) (c .if2 .taken)
+returns-2 c = search clears-long
 
 shared-slice-read-result : tie.Need-shared-slice-read-result
 shared-slice-read-result c = search needs
 
 returns-3 : tie.Need-returns-3
-returns-3 c = clears-byte (c .before .before .before .before .before .before .pre) (omega arith) (c .before .before .field .ensures) (omega arith)
+returns-3 c = search clears-byte
 
 pub clears-spec : {M : Type 1} → statement M
 clears-spec =

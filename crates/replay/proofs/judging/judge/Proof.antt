@@ -8,7 +8,11 @@ clears-requires : tie.Need-clears-requires
 clears-requires c κs = search needs
 
 judge-clearing-requires : tie.Need-judge-clearing-requires
-judge-clearing-requires c κs = (c .before .before .before .before .before .pre .0, c .before .before .before .before .before .pre .1, sym (c .before .before .clears .ensures) ∙ c .before .if1 .taken, c .before .before .before .before .before .pre .2, c .before .before .before .before .before .pre .3)
+judge-clearing-requires c κs =
+    let at-if1 = c .before in
+    let at-clears = at-if1 .before in
+    let at-start = at-clears .before .before .before in
+    (at-start .pre .0, at-start .pre .1, sym (at-clears .clears .ensures) ∙ at-if1 .if1 .taken, at-start .pre .2, at-start .pre .3)
 
 same-length : tie.Need-same-length
 same-length c = search needs
@@ -17,7 +21,11 @@ returns : tie.Need-returns
 returns c = search needs
 
 judge-value-requires : tie.Need-judge-value-requires
-judge-value-requires c κs = (c .before .before .before .before .before .pre .0, c .before .before .before .before .before .pre .1, sym (c .before .before .clears .ensures) ∙ c .before .if1 .left, c .before .before .before .before .before .pre .2, c .before .before .before .before .before .pre .3)
+judge-value-requires c κs =
+    let at-if1 = c .before in
+    let at-clears = at-if1 .before in
+    let at-start = at-clears .before .before .before in
+    (at-start .pre .0, at-start .pre .1, sym (at-clears .clears .ensures) ∙ at-if1 .if1 .left, at-start .pre .2, at-start .pre .3)
 
 same-length-2 : tie.Need-same-length-2
 same-length-2 c = search needs

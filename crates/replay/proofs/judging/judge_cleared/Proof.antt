@@ -34,7 +34,10 @@ wide-requires-3 : tie.Need-wide-requires-3
 wide-requires-3 c κs = search needs
 
 slice-aggregate-object-suits : tie.Need-slice-aggregate-object-suits
-slice-aggregate-object-suits c = sym (length-take-le _ (c .before .before .before .before .before .before .before .before .before .before .before .args .w0 .now) (let z = c .before .before .before .wide .ensures in let f = c .before .before .before .before .before .before .before .before .before .before .before .pre .1 .classes in omega arith))
+slice-aggregate-object-suits c =
+    let at-wide = c .before .before .before in
+    let at-start = at-wide .before .before .before .before .before .before .before .before in
+    sym (length-take-le _ (at-start .args .w0 .now) (let z = at-wide .wide .ensures in let f = at-start .pre .1 .classes in omega arith))
 
 sub-object-suits : tie.Need-sub-object-suits
 sub-object-suits c = search needs
@@ -58,7 +61,7 @@ object-suits-requires : tie.Need-object-suits-requires
 object-suits-requires c κs = search needs
 
 returns-5 : tie.Need-returns-5
-returns-5 c = λ w1. clear-unsuited (omega arith) (omega arith) (omega arith) (omega arith) (c .before .before .before .before .before .before .before .before .before .before .before .before .before .before .before .pre .0) (c .before .before .before .before .before .before .before .before .before .before .before .before .before .before .before .pre .1) (parents-part (c .before .before .before .before .before .before .before .before .before .before .before .before .before .before .before .args .w0 .now) _ (c .before .before .before .before .before .before .before .wide .ensures)) (objects-part (c .before .before .before .before .before .before .before .before .before .before .before .before .before .before .before .args .w0 .now) _ (c .before .before .before .before .before .before .wide2 .ensures)) (c .before .before .before .before .before .wide3 .ensures) (c .before .object-suits .ensures) (not-true _ (c .if5 .taken))
+returns-5 c = search (clear-unsuited, parents-part, objects-part, not-true)
 
 mul-t18 : tie.Need-mul-t18
 mul-t18 c = search needs
@@ -67,7 +70,7 @@ add-t20 : tie.Need-add-t20
 add-t20 c = search needs
 
 returns-6 : tie.Need-returns-6
-returns-6 c = λ w1. clear-taken (omega arith) (omega arith) (omega arith) (omega arith) (c .before .before .before .before .before .before .before .before .before .before .before .before .before .before .before .pre .0) (c .before .before .before .before .before .before .before .before .before .before .before .before .before .before .before .pre .1) (parents-part (c .before .before .before .before .before .before .before .before .before .before .before .before .before .before .before .args .w0 .now) _ (c .before .before .before .before .before .before .before .wide .ensures)) (objects-part (c .before .before .before .before .before .before .before .before .before .before .before .before .before .before .before .args .w0 .now) _ (c .before .before .before .before .before .before .wide2 .ensures)) (c .before .before .before .before .before .wide3 .ensures) (c .before .object-suits .ensures) (not-false _ (c .if5 .left))
+returns-6 c = search (clear-taken, parents-part, objects-part, not-false)
 
 pub judge-cleared-spec : {M : Type 1} → statement M
 judge-cleared-spec =

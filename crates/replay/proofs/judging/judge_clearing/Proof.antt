@@ -6,7 +6,9 @@ use Rattle.replay.proofs.judging.judge_clearing.Statement.{statement}
 use Rattle.replay.proofs.judging.judge_clearing.Tie as tie
 
 field-requires : tie.Need-field-requires
-field-requires c κs = (c .before .before .pre .0, (let z = clears-four (c .before .before .pre .0) (c .before .before .pre .2) in omega arith), omega arith)
+field-requires c κs =
+    let at-start = c .before .before in
+    (at-start .pre .0, (let z = clears-four (at-start .pre .0) (at-start .pre .2) in omega arith), omega arith)
 
 number-requires : tie.Need-number-requires
 number-requires c κs = search needs
@@ -18,10 +20,12 @@ enum-told : tie.Need-enum-told
 enum-told c = search needs
 
 returns : tie.Need-returns
-returns c = λ w1. clearing-unread (cleared-object (c .before .before .before .before .before .before .pre .0) (c .before .before .before .before .before .before .pre .1) (c .before .before .before .before .before .before .pre .2) (c .before .before .before .field .ensures) (c .before .before .number .ensures) (c .enum-told .given .1))
+returns c = search (clearing-unread, cleared-object)
 
 field-requires-2 : tie.Need-field-requires-2
-field-requires-2 c κs = (c .before .before .before .before .before .before .before .pre .0, (let z = clears-four (c .before .before .before .before .before .before .before .pre .0) (c .before .before .before .before .before .before .before .pre .2) in omega arith), omega arith)
+field-requires-2 c κs =
+    let at-start = c .before .before .before .before .before .before .before in
+    (at-start .pre .0, (let z = clears-four (at-start .pre .0) (at-start .pre .2) in omega arith), omega arith)
 
 number-requires-2 : tie.Need-number-requires-2
 number-requires-2 c κs = search needs
@@ -33,13 +37,21 @@ enum-told-2 : tie.Need-enum-told-2
 enum-told-2 c = search needs
 
 returns-2 : tie.Need-returns-2
-returns-2 c = λ w1. clearing-unread (cleared-row (c .before .before .before .before .before .before .before .before .before .before .before .pre .0) (c .before .before .before .before .before .before .before .before .before .before .before .pre .1) (c .before .before .before .before .before .before .before .before .before .before .before .pre .2) (c .before .before .before .before .before .before .before .before .field .ensures) (c .before .before .before .before .before .before .before .number .ensures) (c .before .before .before .before .before .o .given .1) (c .before .before .before .field2 .ensures) (c .before .before .number2 .ensures) (c .enum-told2 .given .1))
+returns-2 c = search (clearing-unread, cleared-row)
 
 judge-cleared-requires : tie.Need-judge-cleared-requires
 judge-cleared-requires c κs = search needs
 
 returns-3 : tie.Need-returns-3
-returns-3 c = λ w1. clearing-judged (c .before .before .before .before .before .before .before .before .before .before .before .before .before .pre .0) (c .before .before .before .before .before .before .before .before .before .before .before .before .before .pre .1) (c .before .before .before .before .before .before .before .before .before .before .before .before .before .pre .2) (c .before .before .before .before .before .before .before .before .before .before .field .ensures) (c .before .before .before .before .before .before .before .before .before .number .ensures) (c .before .before .before .before .before .before .before .o .given .1) (c .before .before .before .before .before .field2 .ensures) (c .before .before .before .before .number2 .ensures) (c .before .before .a .given .1) (c .judge-cleared .ensures w1)
+returns-3 c =
+    let at-a = c .before .before in
+    let at-number2 = at-a .before .before in
+    let at-field2 = at-number2 .before in
+    let at-o = at-field2 .before .before in
+    let at-number = at-o .before .before in
+    let at-field = at-number .before in
+    let at-start = at-field .before .before .before in
+    λ w1. clearing-judged (at-start .pre .0) (at-start .pre .1) (at-start .pre .2) (at-field .field .ensures) (at-number .number .ensures) (at-o .o .given .1) (at-field2 .field2 .ensures) (at-number2 .number2 .ensures) (at-a .a .given .1) (c .judge-cleared .ensures w1)
 
 pub judge-clearing-spec : {M : Type 1} → statement M
 judge-clearing-spec =

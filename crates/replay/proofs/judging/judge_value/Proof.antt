@@ -9,7 +9,9 @@ emptied-requires : tie.Need-emptied-requires
 emptied-requires c κs = search needs
 
 value-line-requires : tie.Need-value-line-requires
-value-line-requires c κs = (c .before .before .before .before .pre .0, c .before .before .before .before .pre .1, c .before .before .before .before .pre .3, rw (c .emptied .ensures) (empty-fine (c .before .before .before .before .pre .4)))
+value-line-requires c κs =
+    let at-start = c .before .before .before .before in
+    (at-start .pre .0, at-start .pre .1, at-start .pre .3, rw (c .emptied .ensures) (empty-fine (at-start .pre .4)))
 
 enum-known-n : tie.Need-enum-known-n
 enum-known-n c = search needs
@@ -24,13 +26,13 @@ same-length : tie.Need-same-length
 same-length c = search needs
 
 returns : tie.Need-returns
-returns c = value-stop (c .before .before .before .before .before .before .before .before .before .before .pre .1) (c .before .before .before .before .before .before .before .before .before .before .pre .2) (c .before .before .before .before .before .before .emptied .ensures) (c .before .before .before .before .before .value-line .ensures) (c .before .n .given .1)
+returns c = search value-stop
 
 same-length-2 : tie.Need-same-length-2
 same-length-2 c = search needs
 
 returns-2 : tie.Need-returns-2
-returns-2 c = value-next (c .before .before .before .before .before .before .before .before .before .before .pre .1) (c .before .before .before .before .before .before .before .before .before .before .pre .2) (c .before .before .before .before .before .before .emptied .ensures) (c .before .before .before .before .before .value-line .ensures) (c .before .enum-told .given .1)
+returns-2 c = search value-next
 
 pub judge-value-spec : {M : Type 1} → statement M
 judge-value-spec =

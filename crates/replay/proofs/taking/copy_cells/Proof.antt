@@ -39,13 +39,17 @@ loop-less : tie.Need-loop-less Inv-loop μ-loop
 loop-less c = omega arith
 
 loop-again : tie.Need-loop-again Inv-loop μ-loop
-loop-again c = (paste-more (c .before .before .before .args .w0 .now) (c .before .before .before .args .cells .now) (c .before .before .before .args .at) (c .before .before .loop .i) (c .before .before .loop .inv .0) (omega arith) (c .before .loop-test .taken), omega arith, simp length-set (c .before .before .loop .inv .2))
+loop-again c =
+    let at-loop-test = c .before in
+    let at-loop = at-loop-test .before in
+    let at-start = at-loop .before in
+    (paste-more (at-start .args .w0 .now) (at-start .args .cells .now) (at-start .args .at) (at-loop .loop .i) (at-loop .loop .inv .0) (omega arith) (at-loop-test .loop-test .taken), omega arith, simp length-set (at-loop .loop .inv .2))
 
 same-length : tie.Need-same-length Inv-loop μ-loop
-same-length c = c .before .loop .inv .2
+same-length c = cc
 
 returns : tie.Need-returns Inv-loop μ-loop
-returns c = paste-done (c .before .before .args .w0 .now) (c .before .before .args .cells .now) (c .before .before .args .at) (c .before .loop .i) (c .before .loop .inv .0) (omega arith) (c .before .loop .inv .1)
+returns c = search paste-done
 
 pub copy-cells-spec : {M : Type 1} → statement M
 copy-cells-spec =

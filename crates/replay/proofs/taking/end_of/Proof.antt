@@ -11,7 +11,7 @@ shared-slice-read-result : tie.Need-shared-slice-read-result
 shared-slice-read-result c = search needs
 
 returns : tie.Need-returns
-returns c = end-last _ _ _ (c .before .if1 .taken)
+returns c = search end-last
 
 add-result : tie.Need-add-result
 add-result c = search needs
@@ -26,7 +26,7 @@ shared-slice-read-result-2 : tie.Need-shared-slice-read-result-2
 shared-slice-read-result-2 c = search needs
 
 returns-2 : tie.Need-returns-2
-returns-2 c = end-next _ _ _ (c .before .if1 .left)
+returns-2 c = search end-next
 
 pub end-of-spec : {M : Type 1} → statement M
 end-of-spec =

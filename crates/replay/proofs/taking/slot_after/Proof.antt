@@ -17,10 +17,10 @@ add-result : tie.Need-add-result
 add-result c = search needs
 
 returns : tie.Need-returns
-returns c = after-same _ _ (c .before .before .if1 .taken) (c .if2 .taken)
+returns c = search after-same
 
 returns-2 : tie.Need-returns-2
-returns-2 c = after-other _ _ (c .before .before .if1 .taken) (c .if2 .left)
+returns-2 c = search after-other
 
 returns-3 : tie.Need-returns-3
 returns-3 c = after-end _ _ (c .if1 .left)

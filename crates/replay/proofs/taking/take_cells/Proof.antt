@@ -10,31 +10,42 @@ is-value-requires : tie.Need-is-value-requires
 is-value-requires c κs = search needs
 
 returns : tie.Need-returns
-returns c = λ w1. no-cells _ w1 (c .before .is-value .ensures) (not-true _ (c .if1 .taken))
+returns c = search (no-cells, not-true)
 
 wide-requires : tie.Need-wide-requires
 wide-requires c κs = search needs
 
 sub-if2 : tie.Need-sub-if2
-sub-if2 c = let f = c .before .before .before .before .before .pre .1 .fine .cells in let u = c .wide .ensures in omega arith
+sub-if2 c = search needs
 
 returns-2 : tie.Need-returns-2
-returns-2 c = λ w1. no-room _ w1 (c .before .before .before .is-value .ensures) (c .before .before .before .before .before .before .pre .1 .fine) (let u = c .before .wide .ensures in omega arith)
+returns-2 c =
+    let at-wide = c .before in
+    let at-is-value = at-wide .before .before in
+    let at-start = at-is-value .before .before .before in
+    λ w1. no-room _ w1 (at-is-value .is-value .ensures) (at-start .pre .1 .fine) (let u = at-wide .wide .ensures in omega arith)
 
 add-copy-cells : tie.Need-add-copy-cells
-add-copy-cells c = let f = c .before .before .before .before .before .before .before .pre .1 .fine .cells in let u = c .before .before .wide .ensures in omega arith
+add-copy-cells c = search needs
 
 copy-cells-requires : tie.Need-copy-cells-requires
-copy-cells-requires c κs = let f = c .before .before .before .before .before .before .before .pre .1 .fine .cells in let u = c .before .before .wide .ensures in omega arith
+copy-cells-requires c κs = search needs
 
 put-slot-requires : tie.Need-put-slot-requires
-put-slot-requires c κs = let f = c .before .before .before .before .before .before .before .before .before .before .before .pre .1 .fine .cells in let u = c .before .before .before .before .before .before .wide .ensures in (omega arith, c .before .before .before .before .before .before .before .before .before .before .before .pre .1 .fine, omega arith, omega arith)
+put-slot-requires c κs = search needs
 
 same-length : tie.Need-same-length
 same-length c = search needs
 
 returns-3 : tie.Need-returns-3
-returns-3 c = λ w1. put-cells _ w1 (c .before .before .before .before .before .before .before .before .before .before .before .is-value .ensures) (not-false _ (c .before .before .before .before .before .before .before .before .before .before .if1 .left)) (c .before .before .before .before .before .before .before .before .before .before .before .before .before .before .pre .3) (c .before .before .before .before .before .before .before .before .before .before .before .before .before .before .pre .1 .fine) (c .before .before .before .before .before .before .before .before .before .before .before .before .before .before .pre .0) (let u = c .before .before .before .before .before .before .before .before .before .wide .ensures in let f = c .before .before .before .before .before .before .before .before .before .before .before .before .before .before .pre .1 .fine .cells in omega arith) (c .before .before .before .before .before .before .before .before .before .wide .ensures) (c .before .before .before .before .before .before .copy-cells .ensures) (c .before .before .before .before .before .before .copy-cells .kept .0) (c .before .before .put-slot .ensures w1 1)
+returns-3 c =
+    let at-put-slot = c .before .before in
+    let at-copy-cells = at-put-slot .before .before .before .before in
+    let at-wide = at-copy-cells .before .before .before in
+    let at-if1 = at-wide .before in
+    let at-is-value = at-if1 .before in
+    let at-start = at-is-value .before .before .before in
+    λ w1. put-cells _ w1 (at-is-value .is-value .ensures) (not-false _ (at-if1 .if1 .left)) (at-start .pre .3) (at-start .pre .1 .fine) (at-start .pre .0) (let u = at-wide .wide .ensures in let f = at-start .pre .1 .fine .cells in omega arith) (at-wide .wide .ensures) (at-copy-cells .copy-cells .ensures) (at-copy-cells .copy-cells .kept .0) (at-put-slot .put-slot .ensures w1 1)
 
 pub take-cells-spec : {M : Type 1} → statement M
 take-cells-spec =

@@ -40,7 +40,11 @@ returns-2 : tie.Need-returns-2
 returns-2 c = λ w1. high-end _ _ _ (c .before .wide2 .ensures ∙ c .before .before .end-of .ensures) (c .if2 .taken)
 
 returns-3 : tie.Need-returns-3
-returns-3 c = λ w1. no-cell _ _ _ (c .before .before .before .before .wide .ensures) (c .before .before .wide2 .ensures ∙ c .before .before .before .end-of .ensures) (c .if3 .taken)
+returns-3 c =
+    let at-wide2 = c .before .before in
+    let at-end-of = at-wide2 .before in
+    let at-wide = at-end-of .before in
+    λ w1. no-cell _ _ _ (at-wide .wide .ensures) (at-wide2 .wide2 .ensures ∙ at-end-of .end-of .ensures) (c .if3 .taken)
 
 add-a : tie.Need-add-a
 add-a c = search needs
@@ -67,7 +71,13 @@ same-length : tie.Need-same-length
 same-length c = search needs
 
 returns-4 : tie.Need-returns-4
-returns-4 c = λ w1. slot-took _ _ _ (c .before .before .before .before .before .before .before .before .before .wide .ensures) (c .before .before .before .before .before .before .before .wide2 .ensures ∙ c .before .before .before .before .before .before .before .before .end-of .ensures) (omega arith) (omega arith) (omega arith) (c .before .before .before .before .before .before .before .before .before .before .before .before .before .before .before .pre .0) (c .before .before .take-cells .ensures w1)
+returns-4 c =
+    let at-take-cells = c .before .before in
+    let at-wide2 = at-take-cells .before .before .before .before .before in
+    let at-end-of = at-wide2 .before in
+    let at-wide = at-end-of .before in
+    let at-start = at-wide .before .before .before .before .before .before in
+    λ w1. slot-took _ _ _ (at-wide .wide .ensures) (at-wide2 .wide2 .ensures ∙ at-end-of .end-of .ensures) (omega arith) (omega arith) (omega arith) (at-start .pre .0) (at-take-cells .take-cells .ensures w1)
 
 pub take-slot-spec : {M : Type 1} → statement M
 take-slot-spec =

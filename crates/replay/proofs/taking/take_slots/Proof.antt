@@ -13,10 +13,10 @@ abbrev μ-loop : tie.MeasureT-loop
 μ-loop words n from to w0₀ su₀ j₀ w0 su j = to - j
 
 loop-holds : tie.Need-loop-holds Inv-loop μ-loop
-loop-holds c = taking-first (c .before .before .pre .3) (c .before .before .pre .2)
+loop-holds c = search taking-first
 
 take-slot-requires : tie.Need-take-slot-requires Inv-loop μ-loop
-take-slot-requires c κs = (c .before .before .before .before .before .pre .0, let k = c .before .before .loop .inv .kept .size in omega arith, c .before .before .loop .inv .lying, omega arith, c .before .before .before .before .before .pre .5)
+take-slot-requires c κs = search needs
 
 enum-known-k : tie.Need-enum-known-k Inv-loop μ-loop
 enum-known-k c = search needs
@@ -25,7 +25,7 @@ same-length : tie.Need-same-length Inv-loop μ-loop
 same-length c = search needs
 
 returns : tie.Need-returns Inv-loop μ-loop
-returns c = taking-stop (c .before .before .before .before .before .before .before .before .loop .inv) (c .before .before .before .before .before .before .before .loop-test .taken) (c .before .before .before .before .before .take-slot .ensures) (c .before .k .given .1)
+returns c = search taking-stop
 
 enum-known-next : tie.Need-enum-known-next Inv-loop μ-loop
 enum-known-next c = search needs
@@ -37,13 +37,13 @@ loop-less : tie.Need-loop-less Inv-loop μ-loop
 loop-less c = omega arith
 
 loop-again : tie.Need-loop-again Inv-loop μ-loop
-loop-again c = taking-again (c .before .before .before .before .before .before .before .before .loop .inv) (c .before .before .before .before .before .before .before .loop-test .taken) (c .before .before .before .before .before .take-slot .ensures) (c .before .next .given .1)
+loop-again c = search taking-again
 
 same-length-2 : tie.Need-same-length-2 Inv-loop μ-loop
-same-length-2 c = c .before .loop .inv .kept .size
+same-length-2 c = search needs
 
 returns-2 : tie.Need-returns-2 Inv-loop μ-loop
-returns-2 c = taking-end (c .before .loop .inv) (omega arith)
+returns-2 c = search taking-end
 
 pub take-slots-spec : {M : Type 1} → statement M
 take-slots-spec =

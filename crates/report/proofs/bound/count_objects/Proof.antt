@@ -29,10 +29,17 @@ loop-less : tie.Need-loop-less Inv-loop μ-loop
 loop-less c = omega arith
 
 loop-again : tie.Need-loop-again Inv-loop μ-loop
-loop-again c = count-next (c .before .before .before .before .loop .inv) (c .before .is-a .ensures) (c .before .before .if1 .taken) (⊎-elim (λ w. rw (w .0 .taken) (w .1)) (λ w. rw (w .0 .left) (w .1 ∙ omega arith)) (c .if2 .came))
+loop-again c =
+    let at-is-a = c .before in
+    let at-if1 = at-is-a .before in
+    let at-loop = at-if1 .before .before in
+    count-next (at-loop .loop .inv) (at-is-a .is-a .ensures) (at-if1 .if1 .taken) (⊎-elim (λ w. rw (w .0 .taken) (w .1)) (λ w. rw (w .0 .left) (w .1 ∙ omega arith)) (c .if2 .came))
 
 returns : tie.Need-returns Inv-loop μ-loop
-returns c = count-all (c .before .before .loop .inv) (omega (arith, c .before .before .loop .inv .within, c .if1 .left)) (c .before .before .before .before .pre .fine .objects)
+returns c =
+    let at-loop = c .before .before in
+    let at-start = at-loop .before .before in
+    count-all (at-loop .loop .inv) (omega (arith, at-loop .loop .inv .within, c .if1 .left)) (at-start .pre .fine .objects)
 
 pub count-objects-spec : {M : Type 1} → statement M
 count-objects-spec =

@@ -17,7 +17,7 @@ add-result : tie.Need-add-result
 add-result c = omega (arith, c .width .ensures, width-within (tyOf (c .before .before .args .t)) .1)
 
 returns-2 : tie.Need-returns-2
-returns-2 c = report-width _ (c .before .if1 .left) (c .width .ensures)
+returns-2 c = search report-width
 
 pub line-width-spec : {M : Type 1} → statement M
 line-width-spec =

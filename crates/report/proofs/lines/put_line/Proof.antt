@@ -10,16 +10,28 @@ put-column-requires : tie.Need-put-column-requires
 put-column-requires c κs = search rule-room
 
 put-column-requires-2 : tie.Need-put-column-requires-2
-put-column-requires-2 c κs = omega (arith, c .before .before .before .put-column .kept .0, object-room (c .before .before .before .before .before .before .before .pre) (c .before .before .before .put-column .ensures))
+put-column-requires-2 c κs =
+    let at-put-column = c .before .before .before in
+    let at-start = at-put-column .before .before .before .before in
+    omega (arith, at-put-column .put-column .kept .0, object-room (at-start .pre) (at-put-column .put-column .ensures))
 
 put-outcome-requires : tie.Need-put-outcome-requires
-put-outcome-requires c κs = outcome-fits (c .before .before .before .before .before .before .before .before .before .before .before .pre) (c .before .before .before .before .before .before .before .put-column .ensures) (c .before .before .before .put-column2 .ensures) (c .before .before .before .put-column2 .kept .0 ∙ c .before .before .before .before .before .before .before .put-column .kept .0)
+put-outcome-requires c κs =
+    let at-put-column2 = c .before .before .before in
+    let at-put-column = at-put-column2 .before .before .before .before in
+    let at-start = at-put-column .before .before .before .before in
+    outcome-fits (at-start .pre) (at-put-column .put-column .ensures) (at-put-column2 .put-column2 .ensures) (at-put-column2 .put-column2 .kept .0 ∙ at-put-column .put-column .kept .0)
 
 steps-of-requires : tie.Need-steps-of-requires
 steps-of-requires c κs = search needs
 
 put-steps-requires : tie.Need-put-steps-requires
-put-steps-requires c κs = omega (arith, c .before .before .before .before .before .before .before .before .before .before .before .before .put-column .kept .0, c .before .before .before .before .before .before .before .before .put-column2 .kept .0, c .before .before .before .before .put-outcome .kept .0, steps-room (c .before .before .before .before .before .before .before .before .before .before .before .before .before .before .before .before .pre) (c .before .before .before .before .before .before .before .before .before .before .before .before .put-column .ensures) (c .before .before .before .before .before .before .before .before .put-column2 .ensures) (c .before .before .before .before .put-outcome .ensures) (c .steps-of .ensures))
+put-steps-requires c κs =
+    let at-put-outcome = c .before .before .before .before in
+    let at-put-column2 = at-put-outcome .before .before .before .before in
+    let at-put-column = at-put-column2 .before .before .before .before in
+    let at-start = at-put-column .before .before .before .before in
+    omega (arith, at-put-column .put-column .kept .0, at-put-column2 .put-column2 .kept .0, at-put-outcome .put-outcome .kept .0, steps-room (at-start .pre) (at-put-column .put-column .ensures) (at-put-column2 .put-column2 .ensures) (at-put-outcome .put-outcome .ensures) (c .steps-of .ensures))
 
 same-length : tie.Need-same-length
 same-length c = search needs

@@ -21,7 +21,10 @@ enum-told : tie.Need-enum-told
 enum-told c = search needs
 
 put-byte-requires : tie.Need-put-byte-requires
-put-byte-requires c κs = omega (arith, c .before .before .before .before .before .pre .enough, ap length (undefined-spelled (c .before .before .before .before .before .pre .ends) (c .before .enum-told .given .1)))
+put-byte-requires c κs =
+    let at-enum-told = c .before in
+    let at-start = at-enum-told .before .before .before .before in
+    omega (arith, at-start .pre .enough, ap length (undefined-spelled (at-start .pre .ends) (at-enum-told .enum-told .given .1)))
 
 enum-told-2 : tie.Need-enum-told-2
 enum-told-2 c = search needs
@@ -30,16 +33,26 @@ slice-aggregate-put-bytes : tie.Need-slice-aggregate-put-bytes
 slice-aggregate-put-bytes c = search needs
 
 put-bytes-requires : tie.Need-put-bytes-requires
-put-bytes-requires c κs = omega (arith, c .before .before .before .before .before .before .pre .enough, ap length (stuck-spelled (c .before .before .before .before .before .before .pre .ends) (c .before .before .enum-told2 .given .1)))
+put-bytes-requires c κs =
+    let at-enum-told2 = c .before .before in
+    let at-start = at-enum-told2 .before .before .before .before in
+    omega (arith, at-start .pre .enough, ap length (stuck-spelled (at-start .pre .ends) (at-enum-told2 .enum-told2 .given .1)))
 
 enum-known-e-2 : tie.Need-enum-known-e-2
 enum-known-e-2 c = search needs
 
 put-byte-requires-2 : tie.Need-put-byte-requires-2
-put-byte-requires-2 c κs = omega (arith, c .before .before .before .before .before .before .pre .enough, ap length (stop-spelled (c .before .before .before .before .before .before .pre .ends) (c .before .before .e2 .given .1)))
+put-byte-requires-2 c κs =
+    let at-e2 = c .before .before in
+    let at-start = at-e2 .before .before .before .before in
+    omega (arith, at-start .pre .enough, ap length (stop-spelled (at-start .pre .ends) (at-e2 .e2 .given .1)))
 
 put-number-requires : tie.Need-put-number-requires
-put-number-requires c κs = omega (arith, c .before .before .before .before .before .before .before .before .before .before .pre .enough, ap length (stop-spelled (c .before .before .before .before .before .before .before .before .before .before .pre .ends) (c .before .before .before .before .before .before .e2 .given .1)), c .before .before .before .put-byte2 .ensures .end, c .before .before .before .put-byte2 .kept .0)
+put-number-requires c κs =
+    let at-put-byte2 = c .before .before .before in
+    let at-e2 = at-put-byte2 .before .before .before in
+    let at-start = at-e2 .before .before .before .before in
+    omega (arith, at-start .pre .enough, ap length (stop-spelled (at-start .pre .ends) (at-e2 .e2 .given .1)), at-put-byte2 .put-byte2 .ensures .end, at-put-byte2 .put-byte2 .kept .0)
 
 same-length : tie.Need-same-length
 same-length c = search needs

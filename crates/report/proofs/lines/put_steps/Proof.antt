@@ -20,7 +20,12 @@ same-length : tie.Need-same-length
 same-length c = search needs
 
 returns : tie.Need-returns
-returns c = puts-behind (puts-then (c .before .before .before .before .before .before .before .before .before .before .put-byte .ensures) (c .before .before .before .before .before .before .put-number .ensures) (omega (arith, c .before .before .before .before .before .before .before .before .before .before .before .before .before .pre))) (c .before .before .before .before .before .before .put-number .kept .0 ∙ c .before .before .before .before .before .before .before .before .before .before .put-byte .kept .0) (c .before .before .put-byte2 .ensures) (c .before .before .put-byte2 .kept .0) (omega arith)
+returns c =
+    let at-put-byte2 = c .before .before in
+    let at-put-number = at-put-byte2 .before .before .before .before in
+    let at-put-byte = at-put-number .before .before .before .before in
+    let at-start = at-put-byte .before .before .before in
+    puts-behind (puts-then (at-put-byte .put-byte .ensures) (at-put-number .put-number .ensures) (omega (arith, at-start .pre))) (at-put-number .put-number .kept .0 ∙ at-put-byte .put-byte .kept .0) (at-put-byte2 .put-byte2 .ensures) (at-put-byte2 .put-byte2 .kept .0) (omega arith)
 
 pub put-steps-spec : {M : Type 1} → statement M
 put-steps-spec =

@@ -9,13 +9,25 @@ put-column-requires : tie.Need-put-column-requires
 put-column-requires c κs = search place-rule-room
 
 put-column-requires-2 : tie.Need-put-column-requires-2
-put-column-requires-2 c κs = omega (arith, c .before .before .before .put-column .kept .0, place-object-room (c .before .before .before .before .before .before .pre) (c .before .before .before .put-column .ensures))
+put-column-requires-2 c κs =
+    let at-put-column = c .before .before .before in
+    let at-start = at-put-column .before .before .before in
+    omega (arith, at-put-column .put-column .kept .0, place-object-room (at-start .pre) (at-put-column .put-column .ensures))
 
 put-number-requires : tie.Need-put-number-requires
-put-number-requires c κs = omega (arith, c .before .before .before .before .before .before .before .put-column .kept .0, c .before .before .before .put-column2 .kept .0, place-line-room (c .before .before .before .before .before .before .before .before .before .before .pre) (c .before .before .before .before .before .before .before .put-column .ensures) (c .before .before .before .put-column2 .ensures))
+put-number-requires c κs =
+    let at-put-column2 = c .before .before .before in
+    let at-put-column = at-put-column2 .before .before .before .before in
+    let at-start = at-put-column .before .before .before in
+    omega (arith, at-put-column .put-column .kept .0, at-put-column2 .put-column2 .kept .0, place-line-room (at-start .pre) (at-put-column .put-column .ensures) (at-put-column2 .put-column2 .ensures))
 
 put-steps-requires : tie.Need-put-steps-requires
-put-steps-requires c κs = omega (arith, c .before .before .before .before .before .before .before .before .before .before .before .put-column .kept .0, c .before .before .before .before .before .before .before .put-column2 .kept .0, c .before .before .before .put-number .kept .0, place-step-room (c .before .before .before .before .before .before .before .before .before .before .before .before .before .before .pre) (c .before .before .before .before .before .before .before .before .before .before .before .put-column .ensures) (c .before .before .before .before .before .before .before .put-column2 .ensures) (c .before .before .before .put-number .ensures))
+put-steps-requires c κs =
+    let at-put-number = c .before .before .before in
+    let at-put-column2 = at-put-number .before .before .before .before in
+    let at-put-column = at-put-column2 .before .before .before .before in
+    let at-start = at-put-column .before .before .before in
+    omega (arith, at-put-column .put-column .kept .0, at-put-column2 .put-column2 .kept .0, at-put-number .put-number .kept .0, place-step-room (at-start .pre) (at-put-column .put-column .ensures) (at-put-column2 .put-column2 .ensures) (at-put-number .put-number .ensures))
 
 same-length : tie.Need-same-length
 same-length c = search needs

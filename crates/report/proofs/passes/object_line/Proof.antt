@@ -33,7 +33,12 @@ put-verdict-requires-2 : tie.Need-put-verdict-requires-2
 put-verdict-requires-2 c κs = search (room-counted, needs)
 
 add-result : tie.Need-add-result
-add-result c = omega (arith, counted-few _ (c .before .before .before .before .before .before .before .before .before .is-a .ensures) (c .before .before .before .before .before .before .before .before .if1 .taken) (c .before .before .before .before .before .before .before .before .before .before .before .before .before .before .before .pre .1 .0) (c .before .before .before .before .put-verdict2 .ensures))
+add-result c =
+    let at-put-verdict2 = c .before .before .before .before in
+    let at-if1 = at-put-verdict2 .before .before .before .before in
+    let at-is-a = at-if1 .before in
+    let at-start = at-is-a .before .before .before .before .before .before in
+    omega (arith, counted-few _ (at-is-a .is-a .ensures) (at-if1 .if1 .taken) (at-start .pre .1 .0) (at-put-verdict2 .put-verdict2 .ensures))
 
 same-length-3 : tie.Need-same-length-3
 same-length-3 c = search needs

@@ -16,7 +16,11 @@ loop-holds : tie.Need-loop-holds Inv-loop μ-loop
 loop-holds c = lines-none _ _
 
 object-line-requires : tie.Need-object-line-requires Inv-loop μ-loop
-object-line-requires c κs = ((c .before .before .before .before .before .before .before .before .before .pre .0 .0, c .before .before .before .before .before .before .before .before .before .pre .0 .1, omega (arith, c .before .before .before .before .before .before .before .before .before .pre .0 .2, c .before .before .before .before .loop .inv .kept .size)), (lines-room (c .before .before .before .before .loop .inv) (c .before .before .if1 .taken) (c .before .before .before .before .before .before .before .before .before .pre .1) refl refl, c .before .before .if1 .taken))
+object-line-requires c κs =
+    let at-if1 = c .before .before in
+    let at-loop = at-if1 .before .before in
+    let at-start = at-loop .before .before .before .before .before in
+    ((at-start .pre .0 .0, at-start .pre .0 .1, omega (arith, at-start .pre .0 .2, at-loop .loop .inv .kept .size)), (lines-room (at-loop .loop .inv) (at-if1 .if1 .taken) (at-start .pre .1) refl refl, at-if1 .if1 .taken))
 
 add-o : tie.Need-add-o Inv-loop μ-loop
 add-o c = omega arith

@@ -24,7 +24,7 @@ slice-aggregate-stack : tie.Need-slice-aggregate-stack
 slice-aggregate-stack c = search length-take-le
 
 trace-rule-requires : tie.Need-trace-rule-requires
-trace-rule-requires c κs = (rule-room (c .before .before .before .before .before .before .args .w2 .now) (c .before .before .before .before .before .before .pre .0) (c .before .before .before .before .before .before .pre .1 .0) (c .before .before .before .before .before .before .pre .1 .1) (c .before .wide .ensures), (rule-shallow (c .before .before .before .before .before .before .pre .1 .0) (c .before .before .before .before .before .before .pre .1 .1) (c .before .wide .ensures), c .before .before .before .before .before .before .pre .1 .2))
+trace-rule-requires c κs = search (rule-room, rule-shallow)
 
 same-length : tie.Need-same-length
 same-length c = search needs

@@ -20,7 +20,7 @@ shared-slice-read-result : tie.Need-shared-slice-read-result
 shared-slice-read-result c = search needs
 
 returns-2 : tie.Need-returns-2
-returns-2 c = after-some _ _ _ (c .before .if1 .left)
+returns-2 c = search after-some
 
 pub after-last-spec : {M : Type 1} → statement M
 after-last-spec =

@@ -9,13 +9,13 @@ use Rattle.slots.proofs.line.put_slot.Statement.{statement}
 use Rattle.slots.proofs.line.put_slot.Tie as tie
 
 returns : tie.Need-returns
-returns c = λ w1 k. slot-big-object (c .before .before .args .st) k (c .before .before .args .w0 .now) w1 (omega arith)
+returns c = search slot-big-object
 
 returns-2 : tie.Need-returns-2
-returns-2 c = λ w1 k. slot-big-row (c .before .before .before .args .st) k (c .before .before .before .args .w0 .now) w1 (omega arith) (omega arith)
+returns-2 c = search slot-big-row
 
 returns-3 : tie.Need-returns-3
-returns-3 c = λ w1 k. slot-full (c .before .before .before .before .before .args .st) k (c .before .before .before .before .before .args .w0 .now) w1 (omega arith) (omega arith) (omega arith)
+returns-3 c = search slot-full
 
 slot-in-order-requires : tie.Need-slot-in-order-requires
 slot-in-order-requires c κs = search needs
@@ -24,7 +24,7 @@ same-length : tie.Need-same-length
 same-length c = search needs
 
 returns-4 : tie.Need-returns-4
-returns-4 c = λ w1 k. slot-disorder (c .before .before .before .before .before .before .before .before .args .st) k (c .before .before .before .before .before .before .before .before .args .w0 .now) w1 (omega arith) (omega arith) (omega arith) (c .before .before .before .before .before .before .before .before .pre .3) (c .before .slot-in-order .ensures) (not-true _ (c .if4 .taken))
+returns-4 c = search (slot-disorder, not-true)
 
 slot-known-requires : tie.Need-slot-known-requires
 slot-known-requires c κs = search needs
@@ -33,7 +33,7 @@ same-length-2 : tie.Need-same-length-2
 same-length-2 c = search needs
 
 returns-5 : tie.Need-returns-5
-returns-5 c = λ w1 k. slot-unknown (c .before .before .before .before .before .before .before .before .before .before .before .args .st) k (c .before .before .before .before .before .before .before .before .before .before .before .args .w0 .now) w1 (omega arith) (omega arith) (omega arith) (c .before .before .before .before .before .before .before .before .before .before .before .pre .3) (c .before .before .before .before .slot-in-order .ensures) (not-false _ (c .before .before .before .if4 .left)) (c .before .slot-known .ensures) (not-true _ (c .if5 .taken))
+returns-5 c = search (slot-unknown, not-false, not-true)
 
 slot-suits-requires : tie.Need-slot-suits-requires
 slot-suits-requires c κs = search needs
@@ -42,7 +42,7 @@ same-length-3 : tie.Need-same-length-3
 same-length-3 c = search needs
 
 returns-6 : tie.Need-returns-6
-returns-6 c = λ w1 k. slot-unsuited (c .before .before .before .before .before .before .before .before .before .before .before .before .before .before .args .st) k (c .before .before .before .before .before .before .before .before .before .before .before .before .before .before .args .w0 .now) w1 (omega arith) (omega arith) (omega arith) (c .before .before .before .before .before .before .before .before .before .before .before .before .before .before .pre .3) (c .before .before .before .before .before .before .before .slot-in-order .ensures) (not-false _ (c .before .before .before .before .before .before .if4 .left)) (c .before .before .before .before .slot-known .ensures) (not-false _ (c .before .before .before .if5 .left)) (c .before .slot-suits .ensures) (not-true _ (c .if6 .taken))
+returns-6 c = search (slot-unsuited, not-false, not-true)
 
 mul-store-slot : tie.Need-mul-store-slot
 mul-store-slot c = search needs

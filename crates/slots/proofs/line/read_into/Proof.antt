@@ -4,6 +4,7 @@ use borrow.Rule.Slice.PartMut.{mid-len}
 use mathlib.Core.Path.{_∙_}
 use native.Mathlib.Omega.{arith}
 use borrow.Author.Needs.{needs}
+use Rattle.memory.specs.Map as memory
 use Rattle.slots.proofs.line.read_into.Statement.{statement}
 use Rattle.slots.proofs.line.read_into.Tie as tie
 
@@ -29,7 +30,7 @@ same-length : tie.Need-same-length
 same-length c = search needs
 
 returns : tie.Need-returns
-returns c = read-into _ _ _ _ (omega arith) (omega arith) (c .before .before .read-value .kept .1 .0 ∙ mid-len _ 4448 _ (omega arith)) (c .before .before .read-value .ensures)
+returns c = read-into _ _ _ _ (omega arith) (omega arith) (c .before .before .read-value .kept .1 .0 ∙ mid-len _ memory.cellsEnd _ (omega arith)) (c .before .before .read-value .ensures)
 
 pub read-into-spec : {M : Type 1} → statement M
 read-into-spec =

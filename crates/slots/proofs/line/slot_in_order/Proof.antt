@@ -25,7 +25,11 @@ after-last-requires : tie.Need-after-last-requires
 after-last-requires c κs = search needs
 
 returns-2 : tie.Need-returns-2
-returns-2 c = order-slot (c .before .before .before .before .before .before .pre .0) (c .before .before .before .before .before .before .pre .1) (c .before .before .before .before .before .before .pre .3) (omega arith) (c .before .after-last .ensures ∙ ap (λ (n : ℕ). lastBefore (c .before .before .before .before .before .before .args .w0 .now) n (c .before .before .before .before .before .before .args .o * 64 + c .before .before .before .before .before .before .args .a)) (c .before .before .wide .ensures)) (not-true _ (c .if2 .taken))
+returns-2 c =
+    let at-after-last = c .before in
+    let at-wide = at-after-last .before in
+    let at-start = at-wide .before .before .before .before in
+    order-slot (at-start .pre .0) (at-start .pre .1) (at-start .pre .3) (omega arith) (at-after-last .after-last .ensures ∙ ap (λ (n : ℕ). lastBefore (at-start .args .w0 .now) n (at-start .args .o * 64 + at-start .args .a)) (at-wide .wide .ensures)) (not-true _ (c .if2 .taken))
 
 wide-requires-2 : tie.Need-wide-requires-2
 wide-requires-2 c κs = search needs
@@ -52,7 +56,13 @@ in-order-requires : tie.Need-in-order-requires
 in-order-requires c κs = search needs
 
 returns-3 : tie.Need-returns-3
-returns-3 c = order-value (c .before .before .before .before .before .before .before .before .before .pre .0) (c .before .before .before .before .before .before .before .before .before .pre .1) (c .before .before .before .before .before .before .before .before .before .pre .3) (omega arith) (c .before .before .before .before .after-last .ensures ∙ ap (λ (n : ℕ). lastBefore (c .before .before .before .before .before .before .before .before .before .args .w0 .now) n (c .before .before .before .before .before .before .before .before .before .args .o * 64 + c .before .before .before .before .before .before .before .before .before .args .a)) (c .before .before .before .before .before .wide .ensures)) (not-false _ (c .before .before .before .if2 .left)) (omega arith) (part-is _ _ _ (c .before .before .wide2 .ensures)) (c .in-order .ensures)
+returns-3 c =
+    let at-wide2 = c .before .before in
+    let at-if2 = at-wide2 .before in
+    let at-after-last = at-if2 .before in
+    let at-wide = at-after-last .before in
+    let at-start = at-wide .before .before .before .before in
+    order-value (at-start .pre .0) (at-start .pre .1) (at-start .pre .3) (omega arith) (at-after-last .after-last .ensures ∙ ap (λ (n : ℕ). lastBefore (at-start .args .w0 .now) n (at-start .args .o * 64 + at-start .args .a)) (at-wide .wide .ensures)) (not-false _ (at-if2 .if2 .left)) (omega arith) (part-is _ _ _ (at-wide2 .wide2 .ensures)) (c .in-order .ensures)
 
 pub slot-in-order-spec : {M : Type 1} → statement M
 slot-in-order-spec =

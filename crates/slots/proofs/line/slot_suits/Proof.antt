@@ -18,7 +18,10 @@ add-objects-end : tie.Need-add-objects-end
 add-objects-end c = search needs
 
 slice-aggregate-parents : tie.Need-slice-aggregate-parents
-slice-aggregate-parents c = sym (length-take-le _ (c .before .before .before .before .args .w0 .now) (let z = c .before .before .wide .ensures in let f = c .before .before .before .before .pre .1 .classes in omega arith))
+slice-aggregate-parents c =
+    let at-wide = c .before .before in
+    let at-start = at-wide .before .before in
+    sym (length-take-le _ (at-start .args .w0 .now) (let z = at-wide .wide .ensures in let f = at-start .pre .1 .classes in omega arith))
 
 sub-objects : tie.Need-sub-objects
 sub-objects c = search needs
@@ -45,7 +48,7 @@ object-suits-requires : tie.Need-object-suits-requires
 object-suits-requires c κs = search needs
 
 returns : tie.Need-returns
-returns c = suits-object (c .before .before .before .before .before .before .before .before .before .pre .0) (c .before .before .before .before .before .before .before .before .before .pre .1) (parents-part (c .before .before .before .before .before .before .before .before .before .args .w0 .now) _ (c .before .before .before .before .before .before .before .wide .ensures)) (objects-part (c .before .before .before .before .before .before .before .before .before .args .w0 .now) _ (c .before .before .before .before .before .before .wide2 .ensures)) (c .before .before .before .wide3 .ensures) (c .before .object-suits .ensures) (not-true _ (c .if1 .taken))
+returns c = search (suits-object, parents-part, objects-part, not-true)
 
 add-unpack : tie.Need-add-unpack
 add-unpack c = search needs
@@ -84,7 +87,16 @@ belongs-requires : tie.Need-belongs-requires
 belongs-requires c κs = search needs
 
 returns-2 : tie.Need-returns-2
-returns-2 c = suits-value (c .before .before .before .before .before .before .before .before .before .before .before .before .before .before .pre .0) (c .before .before .before .before .before .before .before .before .before .before .before .before .before .before .pre .1) (parents-part (c .before .before .before .before .before .before .before .before .before .before .before .before .before .before .args .w0 .now) _ (c .before .before .before .before .before .before .before .before .before .before .before .before .wide .ensures)) (objects-part (c .before .before .before .before .before .before .before .before .before .before .before .before .before .before .args .w0 .now) _ (c .before .before .before .before .before .before .before .before .before .before .before .wide2 .ensures)) (c .before .before .before .before .before .before .before .before .wide3 .ensures) (c .before .before .before .before .before .before .object-suits .ensures) (not-false _ (c .before .before .before .before .before .if1 .left)) (part-is (c .before .before .before .before .before .before .before .before .before .before .before .before .before .before .args .w0 .now) _ _ (c .before .before .wide4 .ensures)) (omega arith) (c .before .before .before .unpack .ensures) (c .belongs .ensures)
+returns-2 c =
+    let at-wide4 = c .before .before in
+    let at-unpack = at-wide4 .before in
+    let at-if1 = at-unpack .before .before in
+    let at-object-suits = at-if1 .before in
+    let at-wide3 = at-object-suits .before .before in
+    let at-wide2 = at-wide3 .before .before .before in
+    let at-wide = at-wide2 .before in
+    let at-start = at-wide .before .before in
+    suits-value (at-start .pre .0) (at-start .pre .1) (parents-part (at-start .args .w0 .now) _ (at-wide .wide .ensures)) (objects-part (at-start .args .w0 .now) _ (at-wide2 .wide2 .ensures)) (at-wide3 .wide3 .ensures) (at-object-suits .object-suits .ensures) (not-false _ (at-if1 .if1 .left)) (part-is (at-start .args .w0 .now) _ _ (at-wide4 .wide4 .ensures)) (omega arith) (at-unpack .unpack .ensures) (c .belongs .ensures)
 
 pub slot-suits-spec : {M : Type 1} → statement M
 slot-suits-spec =

@@ -4,6 +4,7 @@ use Prim.Native.Nat.{ℕ, _+_}
 use mathlib.Core.Path.{refl, ap}
 use native.Mathlib.Omega.{arith}
 use borrow.Author.Needs.{needs}
+use Rattle.memory.specs.Map as memory
 use Rattle.slots.proofs.line.store_slot.Statement.{statement}
 use Rattle.slots.proofs.line.store_slot.Tie as tie
 
@@ -38,7 +39,10 @@ same-length : tie.Need-same-length
 same-length c = search needs
 
 returns : tie.Need-returns
-returns c = (refl, ap (λ (n : ℕ). set (set (c .before .before .before .before .args .w0 .now) (352 + n) (c .before .before .before .before .args .key)) (1376 + n) (c .before .before .before .before .args .st .cells)) (c .before .before .wide .ensures))
+returns c =
+    let at-wide = c .before .before in
+    let at-start = at-wide .before .before in
+    (refl, ap (λ (n : ℕ). set (set (at-start .args .w0 .now) (memory.keys + n) (at-start .args .key)) (memory.starts + n) (at-start .args .st .cells)) (at-wide .wide .ensures))
 
 pub store-slot-spec : {M : Type 1} → statement M
 store-slot-spec =

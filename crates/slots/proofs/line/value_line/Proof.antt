@@ -7,7 +7,7 @@ use Rattle.slots.proofs.line.value_line.Statement.{statement}
 use Rattle.slots.proofs.line.value_line.Tie as tie
 
 returns : tie.Need-returns
-returns c = λ w1 k. unspelled w1 (kept-refl _) (fields-count (c .before .before .before .before .pre .0) (c .before .before .before .before .pre .1) (c .if1 .taken))
+returns c = search (unspelled, kept-refl, fields-count)
 
 field-requires : tie.Need-field-requires
 field-requires c κs = search needs
@@ -22,7 +22,7 @@ enum-told : tie.Need-enum-told
 enum-told c = search needs
 
 returns-2 : tie.Need-returns-2
-returns-2 c = λ w1 k. unspelled w1 (kept-refl _) (fields-object (c .before .before .before .before .before .before .before .before .pre .0) (c .before .before .before .before .before .before .before .before .pre .1) (omega arith) (c .before .before .before .field .ensures) (c .before .before .number .ensures) (c .enum-told .given .1))
+returns-2 c = search (unspelled, kept-refl, fields-object)
 
 field-requires-2 : tie.Need-field-requires-2
 field-requires-2 c κs = search needs
@@ -37,7 +37,7 @@ enum-told-2 : tie.Need-enum-told-2
 enum-told-2 c = search needs
 
 returns-3 : tie.Need-returns-3
-returns-3 c = λ w1 k. unspelled w1 (kept-refl _) (fields-row (c .before .before .before .before .before .before .before .before .before .before .before .before .before .pre .0) (c .before .before .before .before .before .before .before .before .before .before .before .before .before .pre .1) (omega arith) (c .before .before .before .before .before .before .before .before .field .ensures) (c .before .before .before .before .before .before .before .number .ensures) (c .before .before .before .before .before .o .given .1) (c .before .before .before .field2 .ensures) (c .before .before .number2 .ensures) (c .enum-told2 .given .1))
+returns-3 c = search (unspelled, kept-refl, fields-row)
 
 field-requires-3 : tie.Need-field-requires-3
 field-requires-3 c κs = search needs
@@ -58,25 +58,65 @@ enum-known-read : tie.Need-enum-known-read
 enum-known-read c = search needs
 
 put-slot-requires : tie.Need-put-slot-requires
-put-slot-requires c κs = let d = read-sizes (c .before .before .before .before .before .before .before .wide .ensures) (c .before .before .before .before .before .before .read-into .kept .1 .0) (c .before .before .before .before .before .before .before .before .before .before .before .before .before .before .before .before .before .before .before .before .before .before .before .before .pre .2) (c .before .before .before .before .before .before .before .before .before .before .before .before .before .before .before .before .before .before .before .before .before .before .before .before .pre .3) (rw (c .before .before .read .given .1) at (c .before .before .before .before .before .before .read-into .ensures)) in (omega (arith, c .before .before .before .before .before .before .read-into .kept .1 .0), c .before .before .before .before .before .before .before .before .before .before .before .before .before .before .before .before .before .before .before .before .before .before .before .before .pre .3, d .0, d .1)
+put-slot-requires c κs =
+    let at-read = c .before .before in
+    let at-read-into = at-read .before .before .before .before in
+    let at-wide = at-read-into .before in
+    let at-start = at-wide .before .before .before .before .before .before .before .before .before .before .before .before .before .before .before .before .before in
+    let d = read-sizes (at-wide .wide .ensures) (at-read-into .read-into .kept .1 .0) (at-start .pre .2) (at-start .pre .3) (rw (at-read .read .given .1) at (at-read-into .read-into .ensures)) in (omega (arith, at-read-into .read-into .kept .1 .0), at-start .pre .3, d .0, d .1)
 
 same-length : tie.Need-same-length
 same-length c = search needs
 
 returns-4 : tie.Need-returns-4
-returns-4 c = λ w1 k. unspelled w1 (kept-read (rw (c .enum-told3 .given .1) at (c .before .before .before .before .read-into .ensures)) (c .before .before .before .before .before .wide .ensures) (c .before .before .before .before .read-into .kept .1 .0) (c .before .before .before .before .before .before .before .before .before .before .before .before .before .before .before .before .before .before .before .before .before .before .pre .2) (c .before .before .before .before .before .before .before .before .before .before .before .before .before .before .before .before .before .before .before .before .before .before .pre .3)) (fields-value (c .before .before .before .before .before .before .before .before .before .before .before .before .before .before .before .before .before .before .before .before .before .before .pre .0) (c .before .before .before .before .before .before .before .before .before .before .before .before .before .before .before .before .before .before .before .before .before .before .pre .1) (omega arith) (c .before .before .before .before .before .before .before .before .before .before .before .before .before .before .before .before .before .field .ensures) (c .before .before .before .before .before .before .before .before .before .before .before .before .before .before .before .before .number .ensures) (c .before .before .before .before .before .before .before .before .before .before .before .before .before .before .o .given .1) (c .before .before .before .before .before .before .before .before .before .before .before .before .field2 .ensures) (c .before .before .before .before .before .before .before .before .before .before .before .number2 .ensures) (c .before .before .before .before .before .before .before .before .before .a .given .1) (c .before .before .before .before .before .before .before .field3 .ensures) (bad-value (rw (c .enum-told3 .given .1) at (c .before .before .before .before .read-into .ensures .is))))
+returns-4 c =
+    let at-read-into = c .before .before .before .before in
+    let at-wide = at-read-into .before in
+    let at-field3 = at-wide .before .before in
+    let at-a = at-field3 .before .before in
+    let at-number2 = at-a .before .before in
+    let at-field2 = at-number2 .before in
+    let at-o = at-field2 .before .before in
+    let at-number = at-o .before .before in
+    let at-field = at-number .before in
+    let at-start = at-field .before .before .before .before .before in
+    λ w1 k. unspelled w1 (kept-read (rw (c .enum-told3 .given .1) at (at-read-into .read-into .ensures)) (at-wide .wide .ensures) (at-read-into .read-into .kept .1 .0) (at-start .pre .2) (at-start .pre .3)) (fields-value (at-start .pre .0) (at-start .pre .1) (omega arith) (at-field .field .ensures) (at-number .number .ensures) (at-o .o .given .1) (at-field2 .field2 .ensures) (at-number2 .number2 .ensures) (at-a .a .given .1) (at-field3 .field3 .ensures) (bad-value (rw (c .enum-told3 .given .1) at (at-read-into .read-into .ensures .is))))
 
 same-length-2 : tie.Need-same-length-2
 same-length-2 c = search needs
 
 returns-5 : tie.Need-returns-5
-returns-5 c = λ w1 k. line-over w1 _ _ (λ v e. fields-all (c .before .before .before .before .before .before .before .before .before .before .before .before .before .before .before .before .before .before .before .before .before .before .pre .0) (c .before .before .before .before .before .before .before .before .before .before .before .before .before .before .before .before .before .before .before .before .before .before .pre .1) (omega arith) (c .before .before .before .before .before .before .before .before .before .before .before .before .before .before .before .before .before .field .ensures) (c .before .before .before .before .before .before .before .before .before .before .before .before .before .before .before .before .number .ensures) (c .before .before .before .before .before .before .before .before .before .before .before .before .before .before .o .given .1) (c .before .before .before .before .before .before .before .before .before .before .before .before .field2 .ensures) (c .before .before .before .before .before .before .before .before .before .before .before .number2 .ensures) (c .before .before .before .before .before .before .before .before .before .a .given .1) (c .before .before .before .before .before .before .before .field3 .ensures) e) (c .before .before .before .before .before .wide .ensures) (c .before .before .before .before .read-into .kept .1 .0) (c .before .before .before .before .before .before .before .before .before .before .before .before .before .before .before .before .before .before .before .before .before .before .pre .2) (c .before .before .before .before .before .before .before .before .before .before .before .before .before .before .before .before .before .before .before .before .before .before .pre .3) (rw (c .enum-told4 .given .1) at (c .before .before .before .before .read-into .ensures))
+returns-5 c =
+    let at-read-into = c .before .before .before .before in
+    let at-wide = at-read-into .before in
+    let at-field3 = at-wide .before .before in
+    let at-a = at-field3 .before .before in
+    let at-number2 = at-a .before .before in
+    let at-field2 = at-number2 .before in
+    let at-o = at-field2 .before .before in
+    let at-number = at-o .before .before in
+    let at-field = at-number .before in
+    let at-start = at-field .before .before .before .before .before in
+    λ w1 k. line-over w1 _ _ (λ v e. fields-all (at-start .pre .0) (at-start .pre .1) (omega arith) (at-field .field .ensures) (at-number .number .ensures) (at-o .o .given .1) (at-field2 .field2 .ensures) (at-number2 .number2 .ensures) (at-a .a .given .1) (at-field3 .field3 .ensures) e) (at-wide .wide .ensures) (at-read-into .read-into .kept .1 .0) (at-start .pre .2) (at-start .pre .3) (rw (c .enum-told4 .given .1) at (at-read-into .read-into .ensures))
 
 same-length-3 : tie.Need-same-length-3
 same-length-3 c = search needs
 
 returns-6 : tie.Need-returns-6
-returns-6 c = λ w1 k. line-put w1 _ _ (λ v e. fields-all (c .before .before .before .before .before .before .before .before .before .before .before .before .before .before .before .before .before .before .before .before .before .before .before .before .before .before .before .pre .0) (c .before .before .before .before .before .before .before .before .before .before .before .before .before .before .before .before .before .before .before .before .before .before .before .before .before .before .before .pre .1) (omega arith) (c .before .before .before .before .before .before .before .before .before .before .before .before .before .before .before .before .before .before .before .before .before .before .field .ensures) (c .before .before .before .before .before .before .before .before .before .before .before .before .before .before .before .before .before .before .before .before .before .number .ensures) (c .before .before .before .before .before .before .before .before .before .before .before .before .before .before .before .before .before .before .before .o .given .1) (c .before .before .before .before .before .before .before .before .before .before .before .before .before .before .before .before .before .field2 .ensures) (c .before .before .before .before .before .before .before .before .before .before .before .before .before .before .before .before .number2 .ensures) (c .before .before .before .before .before .before .before .before .before .before .before .before .before .before .a .given .1) (c .before .before .before .before .before .before .before .before .before .before .before .before .field3 .ensures) e) (c .before .before .before .before .before .before .before .before .before .before .wide .ensures) (c .before .before .before .before .before .before .before .before .before .read-into .kept .1 .0) (c .before .before .before .before .before .before .before .before .before .before .before .before .before .before .before .before .before .before .before .before .before .before .before .before .before .before .before .pre .2) (c .before .before .before .before .before .before .before .before .before .before .before .before .before .before .before .before .before .before .before .before .before .before .before .before .before .before .before .pre .3) (rw (c .before .before .before .before .before .read .given .1) at (c .before .before .before .before .before .before .before .before .before .read-into .ensures)) (c .before .before .put-slot .ensures w1 k) (object-cut (c .before .before .before .before .before .before .before .before .before .before .before .before .before .before .before .before .before .before .before .before .before .before .before .before .before .before .before .pre .0) (c .before .before .before .before .before .before .before .before .before .before .before .before .before .before .before .before .before .before .before .before .before .before .before .before .before .before .before .pre .1) (omega arith) (c .before .before .before .before .before .before .before .before .before .before .before .before .before .before .before .before .before .before .before .before .before .before .field .ensures) (c .before .before .before .before .before .before .before .before .before .before .before .before .before .before .before .before .before .before .before .before .before .number .ensures) (c .before .before .before .before .before .before .before .before .before .before .before .before .before .before .before .before .before .before .before .o .given .1) (c .before .before .before .before .before .before .before .before .before .before .before .before .before .before .before .before .before .field2 .ensures) (c .before .before .before .before .before .before .before .before .before .before .before .before .before .before .before .before .number2 .ensures) (c .before .before .before .before .before .before .before .before .before .before .before .before .before .before .a .given .1) (c .before .before .before .before .before .before .before .before .before .before .before .before .field3 .ensures)) (row-cut (c .before .before .before .before .before .before .before .before .before .before .before .before .before .before .before .before .before .before .before .before .before .before .before .before .before .before .before .pre .0) (c .before .before .before .before .before .before .before .before .before .before .before .before .before .before .before .before .before .before .before .before .before .before .before .before .before .before .before .pre .1) (omega arith) (c .before .before .before .before .before .before .before .before .before .before .before .before .before .before .before .before .before .before .before .before .before .before .field .ensures) (c .before .before .before .before .before .before .before .before .before .before .before .before .before .before .before .before .before .before .before .before .before .number .ensures) (c .before .before .before .before .before .before .before .before .before .before .before .before .before .before .before .before .before .before .before .o .given .1) (c .before .before .before .before .before .before .before .before .before .before .before .before .before .before .before .before .before .field2 .ensures) (c .before .before .before .before .before .before .before .before .before .before .before .before .before .before .before .before .number2 .ensures) (c .before .before .before .before .before .before .before .before .before .before .before .before .before .before .a .given .1) (c .before .before .before .before .before .before .before .before .before .before .before .before .field3 .ensures))
+returns-6 c =
+    let at-put-slot = c .before .before in
+    let at-read = at-put-slot .before .before .before in
+    let at-read-into = at-read .before .before .before .before in
+    let at-wide = at-read-into .before in
+    let at-field3 = at-wide .before .before in
+    let at-a = at-field3 .before .before in
+    let at-number2 = at-a .before .before in
+    let at-field2 = at-number2 .before in
+    let at-o = at-field2 .before .before in
+    let at-number = at-o .before .before in
+    let at-field = at-number .before in
+    let at-start = at-field .before .before .before .before .before in
+    λ w1 k. line-put w1 _ _ (λ v e. fields-all (at-start .pre .0) (at-start .pre .1) (omega arith) (at-field .field .ensures) (at-number .number .ensures) (at-o .o .given .1) (at-field2 .field2 .ensures) (at-number2 .number2 .ensures) (at-a .a .given .1) (at-field3 .field3 .ensures) e) (at-wide .wide .ensures) (at-read-into .read-into .kept .1 .0) (at-start .pre .2) (at-start .pre .3) (rw (at-read .read .given .1) at (at-read-into .read-into .ensures)) (at-put-slot .put-slot .ensures w1 k) (object-cut (at-start .pre .0) (at-start .pre .1) (omega arith) (at-field .field .ensures) (at-number .number .ensures) (at-o .o .given .1) (at-field2 .field2 .ensures) (at-number2 .number2 .ensures) (at-a .a .given .1) (at-field3 .field3 .ensures)) (row-cut (at-start .pre .0) (at-start .pre .1) (omega arith) (at-field .field .ensures) (at-number .number .ensures) (at-o .o .given .1) (at-field2 .field2 .ensures) (at-number2 .number2 .ensures) (at-a .a .given .1) (at-field3 .field3 .ensures))
 
 pub value-line-spec : {M : Type 1} → statement M
 value-line-spec =

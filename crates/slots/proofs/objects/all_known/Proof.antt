@@ -30,7 +30,7 @@ known-requires : tie.Need-known-requires Inv-loop μ-loop
 known-requires c κs = search needs
 
 returns : tie.Need-returns Inv-loop μ-loop
-returns c = known-not _ _ _ (c .before .before .before .before .loop .inv .0) (omega arith) (c .before .known .ensures) (not-true _ (c .if1 .taken))
+returns c = search (known-not, not-true)
 
 add-i : tie.Need-add-i Inv-loop μ-loop
 add-i c = search needs
@@ -39,10 +39,10 @@ loop-less : tie.Need-loop-less Inv-loop μ-loop
 loop-less c = omega arith
 
 loop-again : tie.Need-loop-again Inv-loop μ-loop
-loop-again c = (known-again _ _ _ (c .before .before .before .before .loop .inv .0) (omega arith) (c .before .known .ensures) (not-false _ (c .if1 .left)), omega arith)
+loop-again c = search (known-again, not-false, needs)
 
 returns-2 : tie.Need-returns-2 Inv-loop μ-loop
-returns-2 c = known-all _ _ (c .before .loop .i) (c .before .loop .inv .0) (omega arith)
+returns-2 c = search known-all
 
 pub all-known-spec : {M : Type 1} → statement M
 all-known-spec =

@@ -21,7 +21,7 @@ in-row-requires : tie.Need-in-row-requires Inv-loop μ-loop
 in-row-requires c κs = search needs
 
 returns : tie.Need-returns Inv-loop μ-loop
-returns c = order-not (c .before .before .before .loop .inv) (omega arith) (c .before .in-row .ensures) (not-true _ (c .if1 .taken))
+returns c = search (order-not, not-true)
 
 add-p : tie.Need-add-p Inv-loop μ-loop
 add-p c = search needs
@@ -30,10 +30,10 @@ loop-less : tie.Need-loop-less Inv-loop μ-loop
 loop-less c = omega arith
 
 loop-again : tie.Need-loop-again Inv-loop μ-loop
-loop-again c = order-again (c .before .before .before .loop .inv) (omega arith) (c .before .in-row .ensures) (not-false _ (c .if1 .left))
+loop-again c = search (order-again, not-false)
 
 returns-2 : tie.Need-returns-2 Inv-loop μ-loop
-returns-2 c = order-end (c .before .loop .inv) (omega arith)
+returns-2 c = search order-end
 
 pub in-order-spec : {M : Type 1} → statement M
 in-order-spec =

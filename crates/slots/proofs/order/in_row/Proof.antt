@@ -26,7 +26,7 @@ may-follow-requires : tie.Need-may-follow-requires Inv-loop μ-loop
 may-follow-requires c κs = search needs
 
 returns : tie.Need-returns Inv-loop μ-loop
-returns c = row-free (omega arith) (c .before .before .sort-of .ensures) (c .before .may-follow .ensures) (c .if1 .taken)
+returns c = search row-free
 
 skip-requires : tie.Need-skip-requires Inv-loop μ-loop
 skip-requires c κs = search needs
@@ -35,22 +35,22 @@ add-q : tie.Need-add-q Inv-loop μ-loop
 add-q c = search needs
 
 loop-holds : tie.Need-loop-holds Inv-loop μ-loop
-loop-holds c = row-start (omega arith) (c .before .before .before .sort-of .ensures) (c .skip .ensures)
+loop-holds c = search row-start
 
 skip-requires-2 : tie.Need-skip-requires-2 Inv-loop μ-loop
-skip-requires-2 c κs = let b = c .before .loop .inv .room in omega arith
+skip-requires-2 c κs = search needs
 
 returns-2 : tie.Need-returns-2 Inv-loop μ-loop
-returns-2 c = row-last (c .before .before .before .loop .inv) (c .before .before .loop-test .taken) (c .before .skip2 .ensures) (c .if2 .taken)
+returns-2 c = search row-last
 
 skip-requires-3 : tie.Need-skip-requires-3 Inv-loop μ-loop
-skip-requires-3 c κs = let b = c .before .before .before .loop .inv .room in let d = c .before .skip2 .ensures .within in omega arith
+skip-requires-3 c κs = search needs
 
 sub-compare : tie.Need-sub-compare Inv-loop μ-loop
-sub-compare c = let u = c .before .before .skip2 .ensures .up (c .before .before .before .loop-test .taken) in omega arith
+sub-compare c = search needs
 
 sub-compare-2 : tie.Need-sub-compare-2 Inv-loop μ-loop
-sub-compare-2 c = let d = c .before .before .skip2 .ensures .within in let u = c .skip3 .ensures .up (omega arith) in omega arith
+sub-compare-2 c = search needs
 
 compare-requires : tie.Need-compare-requires Inv-loop μ-loop
 compare-requires c κs =
@@ -65,16 +65,27 @@ may-follow-requires-2 : tie.Need-may-follow-requires-2 Inv-loop μ-loop
 may-follow-requires-2 c κs = search needs
 
 returns-3 : tie.Need-returns-3 Inv-loop μ-loop
-returns-3 c = row-not (c .before .before .before .before .before .before .before .loop .inv) (c .before .before .before .before .before .before .loop-test .taken) (c .before .before .before .before .before .skip2 .ensures) (c .before .before .before .before .if2 .left) (c .before .before .before .skip3 .ensures) (c .before .before .compare .ensures) (c .before .may-follow2 .ensures) (not-true _ (c .if3 .taken))
+returns-3 c = search (row-not, not-true)
 
 loop-less : tie.Need-loop-less Inv-loop μ-loop
-loop-less c = let u = c .before .before .before .before .before .skip2 .ensures .up (c .before .before .before .before .before .before .loop-test .taken) in omega arith
+loop-less c =
+    let at-skip2 = c .before .before .before .before .before in
+    let at-loop-test = at-skip2 .before in
+    let u = at-skip2 .skip2 .ensures .up (at-loop-test .loop-test .taken) in omega arith
 
 loop-again : tie.Need-loop-again Inv-loop μ-loop
-loop-again c = row-again (c .before .before .before .before .before .before .before .loop .inv) (c .before .before .before .before .before .before .loop-test .taken) (c .before .before .before .before .before .skip2 .ensures) (c .before .before .before .before .if2 .left) (c .before .before .before .skip3 .ensures) (c .before .before .compare .ensures) (c .before .may-follow2 .ensures) (not-false _ (c .if3 .left))
+loop-again c =
+    let at-may-follow2 = c .before in
+    let at-compare = at-may-follow2 .before in
+    let at-skip3 = at-compare .before in
+    let at-if2 = at-skip3 .before in
+    let at-skip2 = at-if2 .before in
+    let at-loop-test = at-skip2 .before in
+    let at-loop = at-loop-test .before in
+    row-again (at-loop .loop .inv) (at-loop-test .loop-test .taken) (at-skip2 .skip2 .ensures) (at-if2 .if2 .left) (at-skip3 .skip3 .ensures) (at-compare .compare .ensures) (at-may-follow2 .may-follow2 .ensures) (not-false _ (c .if3 .left))
 
 returns-4 : tie.Need-returns-4 Inv-loop μ-loop
-returns-4 c = row-end (c .before .loop .inv) (omega arith)
+returns-4 c = search row-end
 
 pub in-row-spec : {M : Type 1} → statement M
 in-row-spec =

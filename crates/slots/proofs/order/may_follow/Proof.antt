@@ -10,7 +10,7 @@ returns-2 : tie.Need-returns-2
 returns-2 c = follows-bag _ (c .if2 .taken)
 
 returns-3 : tie.Need-returns-3
-returns-3 c = follows-any _ (c .before .if1 .left) (c .if2 .left)
+returns-3 c = search follows-any
 
 pub may-follow-spec : {M : Type 1} → statement M
 may-follow-spec = tie.close (tie.spec returns returns-2 returns-3)

@@ -63,7 +63,9 @@ unfolding kindByte letterByte kindCode
 returns-7 c = part-letter _ _ (omega arith) bag (omega arith) (omega arith) (c .opens-at3 .ensures)
 
 returns-8 : tie.Need-returns-8
-returns-8 c = part-whole _ _ (omega arith) _ refl (λ e. c .before .match .rest .0 .0 .0 .0 .0 .0 .1 (sym e)) (λ e. c .before .match .rest .0 .0 .0 .0 .0 .1 (sym e)) (λ e. c .before .match .rest .0 .0 .0 .0 .1 (sym e)) (λ e. c .before .match .rest .0 .0 .0 .1 (sym e)) (λ e. c .before .match .rest .0 .0 .1 (sym e)) (λ e. c .before .match .rest .0 .1 (sym e)) (λ e. c .before .match .rest .1 (sym e)) (c .whole-at .ensures)
+returns-8 c =
+    let at-match = c .before in
+    part-whole _ _ (omega arith) _ refl (λ e. at-match .match .rest .0 .0 .0 .0 .0 .0 .1 (sym e)) (λ e. at-match .match .rest .0 .0 .0 .0 .0 .1 (sym e)) (λ e. at-match .match .rest .0 .0 .0 .0 .1 (sym e)) (λ e. at-match .match .rest .0 .0 .0 .1 (sym e)) (λ e. at-match .match .rest .0 .0 .1 (sym e)) (λ e. at-match .match .rest .0 .1 (sym e)) (λ e. at-match .match .rest .1 (sym e)) (c .whole-at .ensures)
 
 pub part-at-spec : {M : Type 1} → statement M
 part-at-spec =

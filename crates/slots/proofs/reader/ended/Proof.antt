@@ -18,7 +18,7 @@ same-length : tie.Need-same-length
 same-length c = search needs
 
 returns-2 : tie.Need-returns-2
-returns-2 c = ended-on (c .before .before .before .before .before .before .before .before .pre) (c .before .before .before .before .if1 .left) (c .before .before .raise .ensures)
+returns-2 c = search ended-on
 
 pub ended-spec : {M : Type 1} → statement M
 ended-spec = tie.close (tie.spec last-requires returns raise-requires same-length returns-2)

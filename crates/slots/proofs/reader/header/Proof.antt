@@ -10,7 +10,7 @@ returns-2 : tie.Need-returns-2
 returns-2 c = header-second _ (c .if2 .taken)
 
 returns-3 : tie.Need-returns-3
-returns-3 c = header-third _ (c .before .before .if1 .left) (c .if2 .left)
+returns-3 c = search header-third
 
 pub header-spec : {M : Type 1} → statement M
 header-spec = tie.close (tie.spec returns returns-2 returns-3)

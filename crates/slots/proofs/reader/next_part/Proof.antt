@@ -1,6 +1,5 @@
 -- `slots::reader::next_part` meets its contract. Assumes nothing.
 use mathlib.Core.Logic.{⊎-elim}
-use Prim.Native.Nat.{_+_}
 use Rattle.slots.proofs.TurnLaws.{live-end, is-wanted, is-open, closes, begins, commas, others}
 use Rattle.slots.specs.Machine.{turn-on, turn-stop, read-bad}
 use native.Mathlib.Omega.{arith}
@@ -9,7 +8,7 @@ use Rattle.slots.proofs.reader.next_part.Statement.{statement}
 use Rattle.slots.proofs.reader.next_part.Tie as tie
 
 returns : tie.Need-returns
-returns c = turn-stop (read-bad (live-end (c .before .before .before .pre) (omega arith)))
+returns c = search (turn-stop, read-bad, live-end)
 
 shared-slice-read-if3 : tie.Need-shared-slice-read-if3
 shared-slice-read-if3 c = search needs
@@ -18,10 +17,10 @@ add-ended : tie.Need-add-ended
 add-ended c = search needs
 
 closed-requires : tie.Need-closed-requires
-closed-requires c κs = is-open (c .before .before .before .before .before .before .before .pre) (c .before .before .before .if2 .taken)
+closed-requires c κs = search is-open
 
 ended-requires : tie.Need-ended-requires
-ended-requires c κs = closes (omega arith) (c .before .before .before .before .before .before .before .before .pre) (c .before .before .before .before .if2 .taken) (c .before .before .if3 .taken) (c .closed .ensures)
+ended-requires c κs = search closes
 
 same-length : tie.Need-same-length
 same-length c = search needs
@@ -36,13 +35,16 @@ add-t19 : tie.Need-add-t19
 add-t19 c = search needs
 
 returns-3 : tie.Need-returns-3
-returns-3 c = turn-on {at = c .before .before .before .before .before .before .before .before .before .args .at + 1} (omega arith) (commas (omega arith) (c .before .before .before .before .before .before .before .before .before .pre) (c .before .before .before .before .before .if2 .taken) (c .before .before .if4 .taken) (c .if5 .taken))
+returns-3 c = search (turn-on, commas, needs)
 
 returns-4 : tie.Need-returns-4
-returns-4 c = turn-stop (read-bad (others (omega arith) (c .before .before .before .before .before .before .before .before .before .pre) (c .before .before .before .before .before .if2 .taken) (c .before .before .if4 .taken) (c .before .before .before .if3 .left) (c .if5 .left)))
+returns-4 c = search (turn-stop, read-bad, others)
 
 begin-requires : tie.Need-begin-requires
-begin-requires c κs = (⊎-elim (λ w. begins (omega arith) (c .before .before .before .before .before .pre) (w .3 .left) (w .2 .left)) (λ w. is-wanted (c .before .before .before .before .before .pre) (w .left)) (c .before .if2 .came), omega arith)
+begin-requires c κs =
+    let at-if2 = c .before in
+    let at-start = at-if2 .before .before .before .before in
+    (⊎-elim (λ w. begins (omega arith) (at-start .pre) (w .3 .left) (w .2 .left)) (λ w. is-wanted (at-start .pre) (w .left)) (at-if2 .if2 .came), omega arith)
 
 same-length-2 : tie.Need-same-length-2
 same-length-2 c = search needs

@@ -1,6 +1,5 @@
 -- `slots::reader::open_cell` meets its contract. Assumes nothing.
 use Rattle.slots.proofs.CellLaws.{opened-cell}
-use mathlib.Core.Path.{refl}
 use borrow.Author.Needs.{needs}
 use Rattle.slots.proofs.reader.open_cell.Statement.{statement}
 use Rattle.slots.proofs.reader.open_cell.Tie as tie
@@ -24,7 +23,7 @@ same-length : tie.Need-same-length
 same-length c = search needs
 
 returns : tie.Need-returns
-returns c = opened-cell (c .before .before .before .before .before .before .before .before .before .add-cell .ensures) (c .before .before .before .before .pick .ensures) (c .before .before .pick2 .ensures) (c .pick3 .ensures) refl
+returns c = search opened-cell
 
 pub open-cell-spec : {M : Type 1} → statement M
 open-cell-spec =

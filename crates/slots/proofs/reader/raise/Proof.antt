@@ -21,7 +21,10 @@ slice-read-cells : tie.Need-slice-read-cells
 slice-read-cells c = omega (arith, c .before .header .ensures, c .before .before .before .before .before .pre (omega arith) .0)
 
 add-cells : tie.Need-add-cells
-add-cells c = omega (arith, ap (λ (n : ℕ). getD (c .before .before .before .before .before .args .cells .now) n 0) (c .before .header .ensures), c .before .before .before .before .before .pre (omega arith) .1)
+add-cells c =
+    let at-header = c .before in
+    let at-start = at-header .before .before .before .before in
+    omega (arith, ap (λ (n : ℕ). getD (at-start .args .cells .now) n 0) (at-header .header .ensures), at-start .pre (omega arith) .1)
 
 slice-write-cells : tie.Need-slice-write-cells
 slice-write-cells c = omega (arith, c .before .header .ensures, c .before .before .before .before .before .pre (omega arith) .0)
@@ -30,7 +33,7 @@ same-length : tie.Need-same-length
 same-length c = search needs
 
 returns-2 : tie.Need-returns-2
-returns-2 c = raised (omega arith) (c .before .header .ensures)
+returns-2 c = search raised
 
 pub raise-spec : {M : Type 1} → statement M
 raise-spec =

@@ -20,7 +20,7 @@ loop-holds : tie.Need-loop-holds Inv-loop μ-loop
 loop-holds c = (begun _ _ refl, refl)
 
 next-part-requires : tie.Need-next-part-requires Inv-loop μ-loop
-next-part-requires c κs = c .before .loop .inv .0
+next-part-requires c κs = search needs
 
 enum-known-t : tie.Need-enum-known-t Inv-loop μ-loop
 enum-known-t c = search needs
@@ -29,13 +29,17 @@ loop-less : tie.Need-loop-less Inv-loop μ-loop
 loop-less c = let t = rw (c .before .t .given .1) at (c .before .before .before .before .before .next-part .ensures) in omega (arith, turn-up t, live-within (turn-live t))
 
 loop-again : tie.Need-loop-again Inv-loop μ-loop
-loop-again c = (turn-live (rw (c .before .t .given .1) at (c .before .before .before .before .before .next-part .ensures)), c .before .before .before .before .before .next-part .kept .1 .0 ∙ c .before .before .before .before .before .before .before .loop .inv .1)
+loop-again c =
+    let at-t = c .before in
+    let at-next-part = at-t .before .before .before .before in
+    let at-loop = at-next-part .before .before in
+    (turn-live (rw (at-t .t .given .1) at (at-next-part .next-part .ensures)), at-next-part .next-part .kept .1 .0 ∙ at-loop .loop .inv .1)
 
 enum-known-t-2 : tie.Need-enum-known-t-2 Inv-loop μ-loop
 enum-known-t-2 c = search needs
 
 same-length : tie.Need-same-length Inv-loop μ-loop
-same-length c = c .before .before .before .before .before .next-part .kept .1 .0 ∙ c .before .before .before .before .before .before .before .loop .inv .1
+same-length c = search needs
 
 returns : tie.Need-returns Inv-loop μ-loop
 returns c = turn-read (rw (c .before .t2 .given .1) at (c .before .before .before .before .before .next-part .ensures))

@@ -10,7 +10,7 @@ sort-of-requires : tie.Need-sort-of-requires
 sort-of-requires c κs = search needs
 
 returns : tie.Need-returns
-returns c = letter-none (c .before .sort-of .ensures) (omega arith)
+returns c = search letter-none
 
 returns-2 : tie.Need-returns-2
 returns-2 c = letter-any (c .before .before .sort-of .ensures) (omega arith) (other-letter _ (λ e. omega arith) (λ e. omega arith) (λ e. omega arith))
@@ -22,7 +22,7 @@ add-result : tie.Need-add-result
 add-result c = search needs
 
 returns-4 : tie.Need-returns-4
-returns-4 c = letter-kind (c .before .before .before .sort-of .ensures) (omega arith) (omega arith) (omega arith)
+returns-4 c = search letter-kind
 
 pub letter-suits-spec : {M : Type 1} → statement M
 letter-suits-spec =

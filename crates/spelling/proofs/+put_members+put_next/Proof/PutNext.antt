@@ -1,6 +1,5 @@
 -- The needs of `put_next`. Assumes nothing.
 use Prim.Native.Nat.{ℕ}
-use mathlib.Core.Path.{_∙_}
 use borrow.Author.Needs.{needs}
 use native.Mathlib.Omega.{arith}
 use Rattle.spelling.proofs.CellLaws.{value-within}
@@ -33,10 +32,10 @@ module _ (t : ℕ) where
   )
 
   mul-cell : lts.Need-mul-cell calls (put-next-at t) put-next.Post
-  mul-cell c = omega (arith, value-within (c .before .before .pre .1 .v) (c .before .before .pre .1 .stands))
+  mul-cell c = omega (arith, value-within)
 
   shared-slice-read-cell : lts.Need-shared-slice-read-cell calls (put-next-at t) put-next.Post
-  shared-slice-read-cell c = value-within (c .before .before .before .pre .1 .v) (c .before .before .before .pre .1 .stands)
+  shared-slice-read-cell c = search value-within
 
   sort-of-requires : lts.Need-sort-of-requires calls (put-next-at t) put-next.Post
   sort-of-requires c κs = search needs
@@ -45,34 +44,45 @@ module _ (t : ℕ) where
   simple-of-requires c κs = search needs
 
   put-simple-requires : lts.Need-put-simple-requires calls (put-next-at t) put-next.Post
-  put-simple-requires c κs = simple-waits (c .before .before .before .sort-of .ensures) (c .simple-of .ensures) (c .before .before .if1 .taken) (c .before .before .before .before .before .before .before .pre .1)
+  put-simple-requires c κs = search simple-waits
 
   add-t16 : lts.Need-add-t16 calls (put-next-at t) put-next.Post
-  add-t16 c = omega (arith, value-within (c .before .before .before .before .before .before .before .before .before .before .pre .1 .v) (c .before .before .before .before .before .before .before .before .before .before .pre .1 .stands))
+  add-t16 c = omega (arith, value-within)
 
   same-length : lts.Need-same-length calls (put-next-at t) put-next.Post
-  same-length c = c .before .before .put-simple .kept .0
+  same-length c = search needs
 
   returns : lts.Need-returns calls (put-next-at t) put-next.Post
-  returns c = wrote-simple (c .before .before .before .before .before .before .sort-of .ensures) (c .before .before .before .simple-of .ensures) (c .before .before .before .before .before .if1 .taken) (c .before .before .put-simple .ensures)
+  returns c = search wrote-simple
 
   put-opening-requires : lts.Need-put-opening-requires calls (put-next-at t) put-next.Post
-  put-opening-requires c κs = opening-room (c .before .before .sort-of .ensures) (c .before .if1 .left) (c .before .before .before .before .before .before .pre .1)
+  put-opening-requires c κs = search opening-room
 
   add-put-members : lts.Need-add-put-members calls (put-next-at t) put-next.Post
-  add-put-members c = omega (arith, value-within (c .before .before .before .before .before .before .before .before .before .before .pre .1 .v) (c .before .before .before .before .before .before .before .before .before .before .pre .1 .stands))
+  add-put-members c = omega (arith, value-within)
 
   member-count-requires : lts.Need-member-count-requires calls (put-next-at t) put-next.Post
   member-count-requires c κs = search needs
 
   put-members-requires : lts.Need-put-members-requires calls (put-next-at t) put-next.Post
-  put-members-requires c κs = (omega (arith, c .before .before .before .before .before .before .before .before .before .before .before .pre .0, value-within (c .before .before .before .before .before .before .before .before .before .before .before .pre .1 .v) (c .before .before .before .before .before .before .before .before .before .before .before .pre .1 .stands)), members-wait (c .before .before .before .before .before .before .before .sort-of .ensures) (c .before .before .before .before .before .before .if1 .left) (c .before .before .before .before .put-opening .ensures) (c .before .before .before .before .put-opening .kept .0) (c .member-count .ensures .0) (c .before .before .before .before .before .before .before .before .before .before .before .pre .1))
+  put-members-requires c κs =
+      let at-put-opening = c .before .before .before .before in
+      let at-if1 = at-put-opening .before .before in
+      let at-sort-of = at-if1 .before in
+      let at-start = at-sort-of .before .before .before .before in
+      (omega (arith, at-start .pre .0, value-within (at-start .pre .1 .v) (at-start .pre .1 .stands)), members-wait (at-sort-of .sort-of .ensures) (at-if1 .if1 .left) (at-put-opening .put-opening .ensures) (at-put-opening .put-opening .kept .0) (c .member-count .ensures .0) (at-start .pre .1))
 
   same-length-2 : lts.Need-same-length-2 calls (put-next-at t) put-next.Post
-  same-length-2 c = c .before .before .put-members .kept .0 ∙ c .before .before .before .before .before .before .before .put-opening .kept .0
+  same-length-2 c = search needs
 
   returns-2 : lts.Need-returns-2 calls (put-next-at t) put-next.Post
-  returns-2 c = wrote-opened (c .before .before .before .before .before .before .before .before .before .before .sort-of .ensures) (c .before .before .before .before .before .before .before .before .before .if1 .left) (c .before .before .before .before .before .before .before .put-opening .ensures) (c .before .before .before .before .before .before .before .put-opening .kept .0) (c .before .before .put-members .ensures) (c .before .before .put-members .kept .0) (c .before .before .before .member-count .ensures .0)
+  returns-2 c =
+      let at-put-members = c .before .before in
+      let at-member-count = at-put-members .before in
+      let at-put-opening = at-member-count .before .before .before .before in
+      let at-if1 = at-put-opening .before .before in
+      let at-sort-of = at-if1 .before in
+      wrote-opened (at-sort-of .sort-of .ensures) (at-if1 .if1 .left) (at-put-opening .put-opening .ensures) (at-put-opening .put-opening .kept .0) (at-put-members .put-members .ensures) (at-put-members .put-members .kept .0) (at-member-count .member-count .ensures .0)
 
   pub closed : {M : Type 1} → lts.Closed calls (put-next-at t) put-next.Post M
   closed = lts.spec calls (put-next-at t) put-next.Post mul-cell shared-slice-read-cell sort-of-requires simple-of-requires put-simple-requires add-t16 same-length returns put-opening-requires add-put-members member-count-requires put-members-requires same-length-2 returns-2

@@ -14,7 +14,7 @@ enum-known-z : tie.Need-enum-known-z
 enum-known-z c = search needs
 
 cell-of-requires : tie.Need-cell-of-requires
-cell-of-requires c κs = integer-sound (c .before .before .before .pre) (c .before .z .given .1)
+cell-of-requires c κs = search integer-sound
 
 returns : tie.Need-returns
 returns c = λ o e. integer-bad o e (c .enum-told .given .1)
@@ -23,7 +23,7 @@ returns-2 : tie.Need-returns-2
 returns-2 c = λ o e. integer-over o e (c .enum-told2 .given .1)
 
 returns-3 : tie.Need-returns-3
-returns-3 c = λ o e. integer-is o e (c .before .before .z .given .1) (c .cell-of .ensures)
+returns-3 c = search integer-is
 
 pub integer-literal-spec : {M : Type 1} → statement M
 integer-literal-spec =

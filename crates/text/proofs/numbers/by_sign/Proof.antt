@@ -8,19 +8,19 @@ add-t5 : tie.Need-add-t5
 add-t5 c = search needs
 
 returns : tie.Need-returns
-returns c = plus-in _ (c .before .if1 .taken) (c .if2 .taken)
+returns c = search plus-in
 
 returns-2 : tie.Need-returns-2
-returns-2 c = plus-out _ (c .before .if1 .taken) (c .if2 .left)
+returns-2 c = search plus-out
 
 returns-3 : tie.Need-returns-3
-returns-3 c = minus-zero _ _ (c .before .if1 .left) (c .if3 .taken)
+returns-3 c = search minus-zero
 
 returns-4 : tie.Need-returns-4
-returns-4 c = minus-in _ _ (c .before .before .if1 .left) (c .before .if3 .left) (c .if4 .taken)
+returns-4 c = search minus-in
 
 returns-5 : tie.Need-returns-5
-returns-5 c = minus-out _ _ (c .before .before .if1 .left) (c .if4 .left)
+returns-5 c = search minus-out
 
 pub by-sign-spec : {M : Type 1} → statement M
 by-sign-spec = tie.close (tie.spec add-t5 returns returns-2 returns-3 returns-4 returns-5)

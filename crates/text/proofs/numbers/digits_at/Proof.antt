@@ -41,7 +41,10 @@ digit-requires : tie.Need-digit-requires Inv-loop μ-loop
 digit-requires c κs = search needs
 
 add-at-most : tie.Need-add-at-most Inv-loop μ-loop
-add-at-most c = omega (arith, c .before .before .before .before .before .before .shared-slice-known .given (c .before .before .before .before .before .loop .i))
+add-at-most c =
+    let at-loop = c .before .before .before .before .before in
+    let at-shared-slice-known = at-loop .before in
+    omega (arith, at-shared-slice-known .shared-slice-known .given (at-loop .loop .i))
 
 at-most-requires : tie.Need-at-most-requires Inv-loop μ-loop
 at-most-requires c κs = search needs

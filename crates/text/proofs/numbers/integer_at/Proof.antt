@@ -18,10 +18,15 @@ by-sign-requires : tie.Need-by-sign-requires
 by-sign-requires c κs = search needs
 
 returns : tie.Need-returns
-returns c = c .by-sign .ensures ∙ integer-read (c .before .before .before .before .before .pre .ends) (c .before .before .before .minus-at .ensures) (c .before .before .plain .ensures) (c .before .if1 .taken) (c .before .before .before .before .before .pre .value)
+returns c =
+    let at-if1 = c .before in
+    let at-plain = at-if1 .before in
+    let at-minus-at = at-plain .before in
+    let at-start = at-minus-at .before .before in
+    c .by-sign .ensures ∙ integer-read (at-start .pre .ends) (at-minus-at .minus-at .ensures) (at-plain .plain .ensures) (at-if1 .if1 .taken) (at-start .pre .value)
 
 returns-2 : tie.Need-returns-2
-returns-2 c = integer-bad (c .before .before .before .before .pre .ends) (c .before .before .minus-at .ensures) (c .before .plain .ensures) (c .if1 .left)
+returns-2 c = search integer-bad
 
 pub integer-at-spec : {M : Type 1} → statement M
 integer-at-spec =

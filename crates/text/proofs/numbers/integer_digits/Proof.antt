@@ -12,10 +12,10 @@ add-from : tie.Need-add-from
 add-from c = omega (arith, minus-room _ (c .before .before .pre) (c .minus-at .ensures))
 
 digits-at-requires : tie.Need-digits-at-requires
-digits-at-requires c κs = minus-room _ (c .before .before .pre) (c .minus-at .ensures)
+digits-at-requires c κs = search minus-room
 
 returns : tie.Need-returns
-returns c = digits-behind (c .before .minus-at .ensures) (c .digits-at .ensures)
+returns c = search digits-behind
 
 pub integer-digits-spec : {M : Type 1} → statement M
 integer-digits-spec = tie.close (tie.spec minus-at-requires add-from digits-at-requires returns)

@@ -8,10 +8,10 @@ shared-slice-read-if2 : tie.Need-shared-slice-read-if2
 shared-slice-read-if2 c = search needs
 
 returns : tie.Need-returns
-returns c = minus-here _ _ (c .before .before .if1 .taken) (c .if2 .taken)
+returns c = search minus-here
 
 returns-2 : tie.Need-returns-2
-returns-2 c = minus-not _ _ (c .before .before .if1 .taken) (c .if2 .left)
+returns-2 c = search minus-not
 
 returns-3 : tie.Need-returns-3
 returns-3 c = minus-past _ _ (c .if1 .left)

@@ -11,10 +11,10 @@ at-most-requires : tie.Need-at-most-requires
 at-most-requires c κs = search needs
 
 returns : tie.Need-returns
-returns c = number-read (c .before .before .before .before .pre .ends) (c .before .before .plain .ensures) (c .before .if1 .taken) (c .before .before .before .before .pre .value) (c .at-most .ensures)
+returns c = search number-read
 
 returns-2 : tie.Need-returns-2
-returns-2 c = number-bad (c .before .before .before .pre .ends) (c .before .plain .ensures) (c .if1 .left)
+returns-2 c = search number-bad
 
 pub number-at-spec : {M : Type 1} → statement M
 number-at-spec = tie.close (tie.spec plain-requires at-most-requires returns returns-2)

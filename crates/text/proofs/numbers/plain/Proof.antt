@@ -5,22 +5,22 @@ use Rattle.text.proofs.numbers.plain.Statement.{statement}
 use Rattle.text.proofs.numbers.plain.Tie as tie
 
 returns : tie.Need-returns
-returns c = plain-none _ _ _ (c .before .pre .1) (c .if1 .taken)
+returns c = search plain-none
 
 add-if2 : tie.Need-add-if2
 add-if2 c = search needs
 
 returns-2 : tie.Need-returns-2
-returns-2 c = plain-one _ _ _ (c .before .before .pre .1) (c .if2 .taken)
+returns-2 c = search plain-one
 
 shared-slice-read-if3 : tie.Need-shared-slice-read-if3
 shared-slice-read-if3 c = search needs
 
 returns-3 : tie.Need-returns-3
-returns-3 c = plain-zero _ _ _ (c .before .before .before .before .pre .1) (c .before .before .before .before .pre .0) (c .before .before .before .if1 .left) (c .before .before .if2 .left) (c .if3 .taken)
+returns-3 c = search plain-zero
 
 returns-4 : tie.Need-returns-4
-returns-4 c = plain-other _ _ _ (c .before .before .before .before .pre .1) (c .before .before .before .before .pre .0) (c .before .before .before .if1 .left) (c .before .before .if2 .left) (c .if3 .left)
+returns-4 c = search plain-other
 
 pub plain-spec : {M : Type 1} → statement M
 plain-spec =

@@ -29,7 +29,7 @@ find-requires : tie.Need-find-requires Inv-loop μ-loop
 find-requires c κs = search needs
 
 add-e : tie.Need-add-e Inv-loop μ-loop
-add-e c = omega (arith, end-within (c .before .before .before .loop .inv .0) (c .before .before .loop-test .taken) (c .find .ensures))
+add-e c = search (end-within, needs)
 
 mul-ends : tie.Need-mul-ends Inv-loop μ-loop
 mul-ends c = search needs
@@ -41,16 +41,16 @@ add-n : tie.Need-add-n Inv-loop μ-loop
 add-n c = search needs
 
 returns : tie.Need-returns Inv-loop μ-loop
-returns c = cut-last (c .before .before .before .before .loop .inv .0) (c .before .before .before .loop-test .taken) (c .before .find .ensures) (c .if1 .taken)
+returns c = search cut-last
 
 add-at : tie.Need-add-at Inv-loop μ-loop
-add-at c = omega (arith, end-within (c .before .before .before .before .loop .inv .0) (c .before .before .before .loop-test .taken) (c .before .find .ensures))
+add-at c = search (end-within, needs)
 
 loop-less : tie.Need-loop-less Inv-loop μ-loop
 loop-less c = search needs
 
 loop-again : tie.Need-loop-again Inv-loop μ-loop
-loop-again c = (cut-next (c .before .before .before .before .loop .inv .0) (c .before .before .before .loop-test .taken) (c .before .find .ensures) (c .if1 .left), search needs)
+loop-again c = search (cut-next, needs)
 
 returns-2 : tie.Need-returns-2 Inv-loop μ-loop
 returns-2 c = cut-full (c .before .loop .inv .0) (omega arith)

@@ -1,5 +1,4 @@
 -- `field` meets its contract. The field lies between the end before it and its own. Assumes nothing.
-use mathlib.Core.Path.{sym}
 use borrow.Author.Needs.{needs}
 use native.Mathlib.Omega.{arith}
 use lib.Seq.{length-take-le}
@@ -14,10 +13,10 @@ array-read-e : tie.Need-array-read-e
 array-read-e c = search needs
 
 slice-aggregate-result : tie.Need-slice-aggregate-result
-slice-aggregate-result c = sym (length-take-le _ _ (field-within (c .before .before .before .pre .0) (c .before .before .before .pre .1) (c .before .before .before .pre .2)))
+slice-aggregate-result c = search (length-take-le, field-within)
 
 returns : tie.Need-returns
-returns c = first-field (c .before .before .before .pre .0) (c .before .before .before .pre .1) (c .before .before .before .pre .2) (c .before .if1 .taken)
+returns c = search first-field
 
 sub-before : tie.Need-sub-before
 sub-before c = search needs
@@ -29,19 +28,30 @@ array-read-before : tie.Need-array-read-before
 array-read-before c = search needs
 
 add-start : tie.Need-add-start
-add-start c = omega (arith, later-field (c .before .before .pre .0) (c .before .before .pre .1) (c .before .before .pre .2) (c .if1 .left) .order, later-field (c .before .before .pre .0) (c .before .before .pre .1) (c .before .before .pre .2) (c .if1 .left) .within)
+add-start c =
+    let at-start = c .before .before in
+    omega (arith, later-field (at-start .pre .0) (at-start .pre .1) (at-start .pre .2) (c .if1 .left) .order, later-field (at-start .pre .0) (at-start .pre .1) (at-start .pre .2) (c .if1 .left) .within)
 
 sub-result : tie.Need-sub-result
-sub-result c = later-field (c .before .before .pre .0) (c .before .before .pre .1) (c .before .before .pre .2) (c .if1 .left) .order
+sub-result c =
+    let at-start = c .before .before in
+    later-field (at-start .pre .0) (at-start .pre .1) (at-start .pre .2) (c .if1 .left) .order
 
 part-result-start : tie.Need-part-result-start
-part-result-start c = later-field (c .before .before .pre .0) (c .before .before .pre .1) (c .before .before .pre .2) (c .if1 .left) .order
+part-result-start c =
+    let at-start = c .before .before in
+    later-field (at-start .pre .0) (at-start .pre .1) (at-start .pre .2) (c .if1 .left) .order
 
 part-result-end : tie.Need-part-result-end
-part-result-end c = later-field (c .before .before .pre .0) (c .before .before .pre .1) (c .before .before .pre .2) (c .if1 .left) .within
+part-result-end c =
+    let at-start = c .before .before in
+    later-field (at-start .pre .0) (at-start .pre .1) (at-start .pre .2) (c .if1 .left) .within
 
 returns-2 : tie.Need-returns-2
-returns-2 c = later-field (c .before .before .before .pre .0) (c .before .before .before .pre .1) (c .before .before .before .pre .2) (c .before .if1 .left) .is
+returns-2 c =
+    let at-if1 = c .before in
+    let at-start = at-if1 .before .before in
+    later-field (at-start .pre .0) (at-start .pre .1) (at-start .pre .2) (at-if1 .if1 .left) .is
 
 pub field-spec : {M : Type 1} → statement M
 field-spec =

@@ -21,7 +21,7 @@ shared-slice-read-if1 : tie.Need-shared-slice-read-if1 Inv-loop μ-loop
 shared-slice-read-if1 c = search needs
 
 returns : tie.Need-returns Inv-loop μ-loop
-returns c = record { is = find-here _ _ _ (c .before .before .before .loop .inv .1) (search needs) (c .if1 .taken); within = search needs }
+returns c = search find-here
 
 add-i : tie.Need-add-i Inv-loop μ-loop
 add-i c = search needs
@@ -30,10 +30,10 @@ loop-less : tie.Need-loop-less Inv-loop μ-loop
 loop-less c = search needs
 
 loop-again : tie.Need-loop-again Inv-loop μ-loop
-loop-again c = (search needs, find-next _ _ _ (c .before .before .before .loop .inv .1) (search needs) (c .if1 .left))
+loop-again c = search (find-next, needs)
 
 returns-2 : tie.Need-returns-2 Inv-loop μ-loop
-returns-2 c = record { is = find-none _ _ _ (c .before .loop .inv .1) (c .loop-test .left); within = search needs }
+returns-2 c = search find-none
 
 pub find-spec : {M : Type 1} → statement M
 find-spec =

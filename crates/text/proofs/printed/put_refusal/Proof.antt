@@ -17,7 +17,7 @@ same-length : tie.Need-same-length
 same-length c = search needs
 
 returns : tie.Need-returns
-returns c = (refusal-line (c .before .before .before .before .before .before .before .before .before .before .args .number) (c .before .before .before .before .before .before .before .before .before .before .args .place) (c .before .before .before .before .before .before .before .before .before .before .args .out .now) (c .before .before .before .before .before .before .before .before .before .before .pre) (c .before .before .before .before .before .before .before .before .before .before .fits .number) (c .before .before .before .before .before .before .before .before .before .before .fits .place) (c .before .before .before .before .before .before .put-bytes .ensures) (c .before .before .put-pair .ensures .0), c .before .before .put-pair .ensures .1)
+returns c = search refusal-line
 
 pub put-refusal-spec : {M : Type 1} → statement M
 put-refusal-spec =

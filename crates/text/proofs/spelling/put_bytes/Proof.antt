@@ -32,13 +32,13 @@ loop-less : tie.Need-loop-less Inv-loop μ-loop
 loop-less c = search needs
 
 loop-again : tie.Need-loop-again Inv-loop μ-loop
-loop-again c = (put-next _ _ _ (c .before .before .before .pre) (c .before .before .loop .inv .0) (c .before .loop-test .taken), search needs)
+loop-again c = search (put-next, needs)
 
 add-result : tie.Need-add-result Inv-loop μ-loop
 add-result c = search needs
 
 same-length : tie.Need-same-length Inv-loop μ-loop
-same-length c = c .before .loop .inv .0 .long
+same-length c = search needs
 
 returns : tie.Need-returns Inv-loop μ-loop
 returns c = put-all _ _ _ (c .before .before .pre) (c .before .loop .inv .0) (omega arith)

@@ -3,7 +3,6 @@ use Prim.Native.Nat.{_-_}
 use mathlib.Core.Path.{_∙_}
 use lib.ListN.{length}
 use borrow.Author.Needs.{needs}
-use native.Mathlib.Omega.{arith}
 use Rattle.text.proofs.FormLaws.{WordsLeft, left-all, word-within, left-found, left-next, left-none}
 use Rattle.text.proofs.words.among.Statement.{statement}
 use Rattle.text.proofs.words.among.Tie as tie
@@ -15,10 +14,10 @@ abbrev μ-loop : tie.MeasureT-loop
 μ-loop f words codes n at₀ k₀ at k = length codes - k
 
 loop-holds : tie.Need-loop-holds Inv-loop μ-loop
-loop-holds c = left-all _ _ _ (c .before .before .before .pre)
+loop-holds c = search left-all
 
 add-e : tie.Need-add-e Inv-loop μ-loop
-add-e c = omega (arith, word-within (c .before .loop .inv) (c .loop-test .taken))
+add-e c = search (word-within, needs)
 
 sub-same : tie.Need-sub-same Inv-loop μ-loop
 sub-same c = search needs
@@ -27,7 +26,7 @@ part-same-start : tie.Need-part-same-start Inv-loop μ-loop
 part-same-start c = search needs
 
 part-same-end : tie.Need-part-same-end Inv-loop μ-loop
-part-same-end c = word-within (c .before .loop .inv) (c .loop-test .taken)
+part-same-end c = search word-within
 
 same-requires : tie.Need-same-requires Inv-loop μ-loop
 same-requires c κs = search needs
@@ -39,10 +38,15 @@ wide-requires : tie.Need-wide-requires Inv-loop μ-loop
 wide-requires c κs = search needs
 
 returns : tie.Need-returns Inv-loop μ-loop
-returns c = c .wide .ensures ∙ left-found (c .before .before .before .before .before .before .loop .inv) (c .before .before .before .same .ensures) (c .before .before .before .before .before .loop-test .taken) (c .before .before .if1 .taken)
+returns c =
+    let at-if1 = c .before .before in
+    let at-same = at-if1 .before in
+    let at-loop-test = at-same .before .before in
+    let at-loop = at-loop-test .before in
+    c .wide .ensures ∙ left-found (at-loop .loop .inv) (at-same .same .ensures) (at-loop-test .loop-test .taken) (at-if1 .if1 .taken)
 
 add-at : tie.Need-add-at Inv-loop μ-loop
-add-at c = omega (arith, word-within (c .before .before .before .before .loop .inv) (c .before .before .before .loop-test .taken))
+add-at c = search (word-within, needs)
 
 add-k : tie.Need-add-k Inv-loop μ-loop
 add-k c = search needs
@@ -51,10 +55,10 @@ loop-less : tie.Need-loop-less Inv-loop μ-loop
 loop-less c = search needs
 
 loop-again : tie.Need-loop-again Inv-loop μ-loop
-loop-again c = left-next (c .before .before .before .before .loop .inv) (c .before .same .ensures) (c .before .before .before .loop-test .taken) (c .if1 .left)
+loop-again c = search left-next
 
 returns-2 : tie.Need-returns-2 Inv-loop μ-loop
-returns-2 c = left-none (c .before .loop .inv) (c .loop-test .left)
+returns-2 c = search left-none
 
 pub among-spec : {M : Type 1} → statement M
 among-spec =

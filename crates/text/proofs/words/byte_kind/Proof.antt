@@ -38,13 +38,13 @@ unfolding byteKind isDigit
 returns-8 c = rw (c .match .keys8)
 
 returns-9 : tie.Need-returns-9
-returns-9 c = kind-digit _ (digit-is _ (c .before .if1 .left) (c .if2 .taken))
+returns-9 c = search (kind-digit, digit-is)
 
 returns-10 : tie.Need-returns-10
-returns-10 c = let r = c .before .match .rest in kind-other _ (below-digits _ (c .if1 .taken)) (r .0 .0 .0 .0 .0 .0 .0 .1) (r .0 .0 .0 .0 .0 .0 .1) (r .0 .0 .0 .0 .0 .1) (r .0 .0 .0 .0 .1) (r .0 .0 .0 .1) (r .0 .0 .1) (r .0 .1) (r .1)
+returns-10 c = search (kind-other, below-digits)
 
 returns-11 : tie.Need-returns-11
-returns-11 c = let r = c .before .before .match .rest in kind-other _ (above-digits _ (c .if2 .left)) (r .0 .0 .0 .0 .0 .0 .0 .1) (r .0 .0 .0 .0 .0 .0 .1) (r .0 .0 .0 .0 .0 .1) (r .0 .0 .0 .0 .1) (r .0 .0 .0 .1) (r .0 .0 .1) (r .0 .1) (r .1)
+returns-11 c = search (kind-other, above-digits)
 
 pub byte-kind-spec : {M : Type 1} → statement M
 byte-kind-spec =

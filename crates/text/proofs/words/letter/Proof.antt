@@ -8,7 +8,7 @@ shared-slice-read-result : tie.Need-shared-slice-read-result
 shared-slice-read-result c = search needs
 
 returns : tie.Need-returns
-returns c = letter-one _ (c .before .if1 .taken)
+returns c = search letter-one
 
 returns-2 : tie.Need-returns-2
 returns-2 c = letter-none _ (c .if1 .left)

@@ -27,7 +27,7 @@ shared-slice-read-if2-2 : tie.Need-shared-slice-read-if2-2 Inv-loop μ-loop
 shared-slice-read-if2-2 c = search needs
 
 returns-2 : tie.Need-returns-2 Inv-loop μ-loop
-returns-2 c = same-not _ _ _ (c .before .before .before .before .before .if1 .left) (c .before .before .before .before .loop .inv .1) (c .before .before .before .loop-test .taken) (c .if2 .taken)
+returns-2 c = search same-not
 
 add-i : tie.Need-add-i Inv-loop μ-loop
 add-i c = search needs
@@ -36,10 +36,10 @@ loop-less : tie.Need-loop-less Inv-loop μ-loop
 loop-less c = search needs
 
 loop-again : tie.Need-loop-again Inv-loop μ-loop
-loop-again c = (search needs, same-next _ _ _ (c .before .before .before .before .before .if1 .left) (c .before .before .before .before .loop .inv .1) (c .before .before .before .loop-test .taken) (c .if2 .left))
+loop-again c = search (same-next, needs)
 
 returns-3 : tie.Need-returns-3 Inv-loop μ-loop
-returns-3 c = same-end _ _ _ (c .before .before .if1 .left) (c .before .loop .inv .1) (c .loop-test .left)
+returns-3 c = search same-end
 
 pub same-spec : {M : Type 1} → statement M
 same-spec =

@@ -28,10 +28,10 @@ loop-less : tie.Need-loop-less Inv-loop μ-loop
 loop-less c = search needs
 
 loop-again : tie.Need-loop-again Inv-loop μ-loop
-loop-again c = (gathers-next (c .before .before .before .loop .inv .0) (c .before .emitted .ensures) (c .with-node .ensures), search needs)
+loop-again c = search (gathers-next, needs)
 
 returns : tie.Need-returns Inv-loop μ-loop
-returns c = gathers-all (c .before .loop .inv .0) (c .before .loop .inv .1) (c .loop-test .left)
+returns c = search gathers-all
 
 pub gather-spec : {M : Type 1} → statement M
 gather-spec =

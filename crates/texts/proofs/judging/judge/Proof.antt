@@ -14,28 +14,42 @@ within-limits-requires : tie.Need-within-limits-requires
 within-limits-requires c κs = search needs
 
 returns-2 : tie.Need-returns-2
-returns-2 c = judge-4 _ _ _ (c .before .before .before .if1 .left) (c .before .before .gather .ensures) (c .before .before .before .before .before .before .before .pre .3) (c .before .within-limits .ensures) (c .if2 .taken)
+returns-2 c = search judge-4
 
 in-order-requires : tie.Need-in-order-requires
 in-order-requires c κs = search needs
 
 returns-3 : tie.Need-returns-3
-returns-3 c = judge-5 _ _ _ (c .before .before .before .before .before .if1 .left) (c .before .before .before .before .gather .ensures) (c .before .before .before .before .before .before .before .before .before .pre .3) (c .before .before .before .within-limits .ensures) (c .before .before .if2 .left) (c .before .in-order .ensures) (c .if3 .taken)
+returns-3 c = search judge-5
 
 returns-4 : tie.Need-returns-4
-returns-4 c = judge-6 _ _ _ (c .before .before .before .before .before .before .before .before .if1 .left) (c .before .before .before .before .before .before .before .gather .ensures) (c .before .before .before .before .before .before .before .before .before .before .before .before .pre .3) (c .before .before .before .before .before .before .within-limits .ensures) (c .before .before .before .before .before .if2 .left) (c .before .before .before .before .in-order .ensures) (c .before .before .before .if3 .left) (c .if4 .taken)
+returns-4 c = search judge-6
 
 returns-5 : tie.Need-returns-5
-returns-5 c = judge-24 _ _ _ (c .before .before .before .before .before .before .before .before .before .before .before .if1 .left) (c .before .before .before .before .before .before .before .before .before .before .gather .ensures) (c .before .before .before .before .before .before .before .before .before .before .before .before .before .before .before .pre .3) (c .before .before .before .before .before .before .before .before .before .within-limits .ensures) (c .before .before .before .before .before .before .before .before .if2 .left) (c .before .before .before .before .before .before .before .in-order .ensures) (c .before .before .before .before .before .before .if3 .left) (c .before .before .before .if4 .left) (c .if5 .taken)
+returns-5 c = search judge-24
 
 place-requires : tie.Need-place-requires
-place-requires c κs = (c .before .before .before .before .before .before .before .before .before .before .before .before .before .before .before .before .pre .0, c .before .before .before .before .before .before .before .before .before .before .before .before .before .before .before .before .pre .1, c .before .before .before .before .before .before .before .before .before .before .before .before .before .before .before .before .pre .2, c .before .before .before .before .before .before .before .before .before .before .before .before .before .before .before .before .pre .3, c .before .before .before .before .before .before .before .before .before .before .before .before .if1 .left, c .before .before .before .before .before .before .before .before .before .before .before .before .before .before .before .before .pre .4 (c .before .before .before .before .before .before .before .before .before .before .before .before .if1 .left))
+place-requires c κs =
+    let at-if1 = c .before .before .before .before .before .before .before .before .before .before .before .before in
+    let at-start = at-if1 .before .before .before .before in
+    (at-start .pre .0, at-start .pre .1, at-start .pre .2, at-start .pre .3, at-if1 .if1 .left, at-start .pre .4 (at-if1 .if1 .left))
 
 same-length : tie.Need-same-length
 same-length c = search needs
 
 returns-6 : tie.Need-returns-6
-returns-6 c = judge-on _ _ _ (c .before .before .before .before .before .before .before .before .before .before .before .before .before .before .before .if1 .left) (c .before .before .before .before .before .before .before .before .before .before .before .before .before .before .gather .ensures) (c .before .before .before .before .before .before .before .before .before .before .before .before .before .before .before .before .before .before .before .pre .3) (c .before .before .before .before .before .before .before .before .before .before .before .before .before .within-limits .ensures) (c .before .before .before .before .before .before .before .before .before .before .before .before .if2 .left) (c .before .before .before .before .before .before .before .before .before .before .before .in-order .ensures) (c .before .before .before .before .before .before .before .before .before .before .if3 .left) (c .before .before .before .before .before .before .before .if4 .left) (c .before .before .before .before .if5 .left) (c .before .before .place .ensures)
+returns-6 c =
+    let at-place = c .before .before in
+    let at-if5 = at-place .before .before in
+    let at-if4 = at-if5 .before .before .before in
+    let at-if3 = at-if4 .before .before .before in
+    let at-in-order = at-if3 .before in
+    let at-if2 = at-in-order .before in
+    let at-within-limits = at-if2 .before in
+    let at-gather = at-within-limits .before in
+    let at-if1 = at-gather .before in
+    let at-start = at-if1 .before .before .before .before in
+    judge-on _ _ _ (at-if1 .if1 .left) (at-gather .gather .ensures) (at-start .pre .3) (at-within-limits .within-limits .ensures) (at-if2 .if2 .left) (at-in-order .in-order .ensures) (at-if3 .if3 .left) (at-if4 .if4 .left) (at-if5 .if5 .left) (at-place .place .ensures)
 
 pub judge-spec : {M : Type 1} → statement M
 judge-spec =

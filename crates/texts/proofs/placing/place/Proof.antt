@@ -13,13 +13,17 @@ abbrev μ-loop : tie.MeasureT-loop
 μ-loop w0 w1₀ w2 nodes k on₀ i₀ w1 on i = nodes - i
 
 loop-holds : tie.Need-loop-holds Inv-loop μ-loop
-loop-holds c = (placing-start _ _ _ _ _ (c .before .before .before .pre .3), search needs)
+loop-holds c = search (placing-start, needs)
 
 emitted-requires : tie.Need-emitted-requires Inv-loop μ-loop
 emitted-requires c κs = search needs
 
 place-node-requires : tie.Need-place-node-requires Inv-loop μ-loop
-place-node-requires c κs = let w = waits (c .before .before .before .loop .i) (c .before .before .before .before .before .before .before .pre .5) (c .before .before .loop-test .taken) (c .emitted .ensures) in (c .before .before .before .before .before .before .before .pre .0, omega (arith, c .before .before .before .loop .inv .0 .kept .size, c .before .before .before .before .before .before .before .pre .1), c .before .before .before .loop .inv .0 .fine, w .0, w .1)
+place-node-requires c κs =
+    let at-loop-test = c .before .before in
+    let at-loop = at-loop-test .before in
+    let at-start = at-loop .before .before .before .before in
+    let w = waits (at-loop .loop .i) (at-start .pre .5) (at-loop-test .loop-test .taken) (c .emitted .ensures) in (at-start .pre .0, omega (arith, at-loop .loop .inv .0 .kept .size, at-start .pre .1), at-loop .loop .inv .0 .fine, w .0, w .1)
 
 enum-known-n : tie.Need-enum-known-n Inv-loop μ-loop
 enum-known-n c = search needs
@@ -28,7 +32,7 @@ same-length : tie.Need-same-length Inv-loop μ-loop
 same-length c = search needs
 
 returns : tie.Need-returns Inv-loop μ-loop
-returns c = placing-stop (c .before .before .before .before .before .before .before .before .before .loop .inv .0) (c .before .before .before .before .before .before .before .before .loop-test .taken) (c .before .before .before .before .before .before .before .before .before .before .before .before .before .pre .4) (c .before .before .before .before .before .before .emitted .ensures) (c .before .before .before .before .before .place-node .ensures) (c .before .n .given .1)
+returns c = search placing-stop
 
 enum-known-next : tie.Need-enum-known-next Inv-loop μ-loop
 enum-known-next c = search needs
@@ -40,7 +44,7 @@ loop-less : tie.Need-loop-less Inv-loop μ-loop
 loop-less c = search needs
 
 loop-again : tie.Need-loop-again Inv-loop μ-loop
-loop-again c = (placing-next (c .before .before .before .before .before .before .before .before .before .loop .inv .0) (c .before .before .before .before .before .before .before .before .loop-test .taken) (c .before .before .before .before .before .before .before .before .before .before .before .before .before .pre .4) (c .before .before .before .before .before .before .emitted .ensures) (c .before .before .before .before .before .place-node .ensures) (c .before .next .given .1), search needs)
+loop-again c = search (placing-next, needs)
 
 with-text-requires : tie.Need-with-text-requires Inv-loop μ-loop
 with-text-requires c κs = search needs
@@ -49,7 +53,7 @@ same-length-2 : tie.Need-same-length-2 Inv-loop μ-loop
 same-length-2 c = search needs
 
 returns-2 : tie.Need-returns-2 Inv-loop μ-loop
-returns-2 c = placing-end (c .before .before .loop .inv .0) (c .before .before .loop .inv .1) (c .before .loop-test .left) (c .with-text .ensures)
+returns-2 c = search placing-end
 
 pub place-spec : {M : Type 1} → statement M
 place-spec =

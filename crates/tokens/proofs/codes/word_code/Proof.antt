@@ -139,7 +139,7 @@ unfolding ofLength rows codes rowsOf bytes
 returns-10 c = word-length _ _ _ _ (c .before .before .before .match .keys10) refl (c .among10 .ensures)
 
 returns-11 : tie.Need-returns-11
-returns-11 c = let r = c .match .rest in no-length _ (c .before .before .pre) (r .0 .0 .0 .0 .0 .0 .0 .0 .0 .1) (r .0 .0 .0 .0 .0 .0 .0 .0 .1) (r .0 .0 .0 .0 .0 .0 .0 .1) (r .0 .0 .0 .0 .0 .0 .1) (r .0 .0 .0 .0 .0 .1) (r .0 .0 .0 .0 .1) (r .0 .0 .0 .1) (r .0 .0 .1) (r .0 .1) (r .1)
+returns-11 c = search no-length
 
 pub word-code-spec : {M : Type 1} → statement M
 word-code-spec =

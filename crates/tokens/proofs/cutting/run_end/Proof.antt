@@ -25,7 +25,11 @@ in-word-requires : tie.Need-in-word-requires Inv-loop μ-loop
 in-word-requires c κs = search needs
 
 returns : tie.Need-returns Inv-loop μ-loop
-returns c = record { is = run-here _ _ (c .before .before .before .before .loop .inv .1) (c .before .before .before .loop-test .taken) (sym (c .before .in-word .ensures) ∙ not-true _ (c .if1 .taken)); within = c .before .before .before .before .loop .inv .0 }
+returns c =
+    let at-in-word = c .before in
+    let at-loop-test = at-in-word .before .before in
+    let at-loop = at-loop-test .before in
+    record { is = run-here _ _ (at-loop .loop .inv .1) (at-loop-test .loop-test .taken) (sym (at-in-word .in-word .ensures) ∙ not-true _ (c .if1 .taken)); within = at-loop .loop .inv .0 }
 
 add-i : tie.Need-add-i Inv-loop μ-loop
 add-i c = search needs
@@ -34,10 +38,14 @@ loop-less : tie.Need-loop-less Inv-loop μ-loop
 loop-less c = search needs
 
 loop-again : tie.Need-loop-again Inv-loop μ-loop
-loop-again c = (search needs, run-next _ _ (c .before .before .before .before .loop .inv .1) (c .before .before .before .loop-test .taken) (sym (c .before .in-word .ensures) ∙ not-false _ (c .if1 .left)))
+loop-again c =
+    let at-in-word = c .before in
+    let at-loop-test = at-in-word .before .before in
+    let at-loop = at-loop-test .before in
+    (search needs, run-next _ _ (at-loop .loop .inv .1) (at-loop-test .loop-test .taken) (sym (at-in-word .in-word .ensures) ∙ not-false _ (c .if1 .left)))
 
 returns-2 : tie.Need-returns-2 Inv-loop μ-loop
-returns-2 c = record { is = run-none _ _ (c .before .loop .inv .1) (c .loop-test .left); within = c .before .loop .inv .0 }
+returns-2 c = search run-none
 
 pub run-end-spec : {M : Type 1} → statement M
 run-end-spec =

@@ -1,8 +1,7 @@
 -- `skip` meets its contract.
 use Prim.Native.Nat.{_≤_, _-_}
-use mathlib.Core.Path.{_≡_, refl, _∙_}
+use mathlib.Core.Path.{_≡_, refl}
 use lib.ListN.{length, drop}
-use native.Mathlib.Omega.{arith}
 use borrow.Author.Needs.{needs}
 use Rattle.sheet.specs.Grammar.Tokens.{tokens}
 use Rattle.tokens.proofs.TokenLaws.{space-next}
@@ -22,7 +21,7 @@ shared-slice-read-if1 : tie.Need-shared-slice-read-if1 Inv-loop μ-loop
 shared-slice-read-if1 c = search needs
 
 returns : tie.Need-returns Inv-loop μ-loop
-returns c = record { from = c .before .before .before .loop .inv .0; within = c .before .before .before .loop .inv .1; same = c .before .before .before .loop .inv .2; stops = λ _. c .if1 .taken }
+returns c = search needs
 
 add-i : tie.Need-add-i Inv-loop μ-loop
 add-i c = search needs
@@ -31,10 +30,10 @@ loop-less : tie.Need-loop-less Inv-loop μ-loop
 loop-less c = search needs
 
 loop-again : tie.Need-loop-again Inv-loop μ-loop
-loop-again c = (search needs, search needs, space-next _ _ (c .before .before .loop-test .taken) (c .if1 .left) ∙ c .before .before .before .loop .inv .2)
+loop-again c = search (space-next, needs)
 
 returns-2 : tie.Need-returns-2 Inv-loop μ-loop
-returns-2 c = record { from = c .before .loop .inv .0; within = c .before .loop .inv .1; same = c .before .loop .inv .2; stops = λ h. absurd (let q = c .loop-test .left in omega arith) }
+returns-2 c = search needs
 
 pub skip-spec : {M : Type 1} → statement M
 skip-spec =

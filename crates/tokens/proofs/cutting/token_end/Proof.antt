@@ -18,7 +18,11 @@ run-end-requires : tie.Need-run-end-requires
 run-end-requires c κs = search needs
 
 returns : tie.Need-returns
-returns c = word-ends _ _ _ (c .before .before .before .before .before .pre .0) (sym (c .before .before .in-word .ensures) ∙ c .before .if1 .taken) (c .run-end .ensures)
+returns c =
+    let at-if1 = c .before in
+    let at-in-word = at-if1 .before in
+    let at-start = at-in-word .before .before .before in
+    word-ends _ _ _ (at-start .pre .0) (sym (at-in-word .in-word .ensures) ∙ at-if1 .if1 .taken) (c .run-end .ensures)
 
 is-arrow-requires : tie.Need-is-arrow-requires
 is-arrow-requires c κs = search needs
@@ -33,7 +37,12 @@ add-result-2 : tie.Need-add-result-2
 add-result-2 c = search needs
 
 returns-3 : tie.Need-returns-3
-returns-3 c = sign-ends _ _ (c .before .before .before .before .before .before .pre .0) (c .before .before .before .before .before .before .pre .1) (sym (c .before .before .before .in-word .ensures) ∙ c .before .before .if1 .left) (sym (c .before .is-arrow .ensures) ∙ c .if2 .left)
+returns-3 c =
+    let at-is-arrow = c .before in
+    let at-if1 = at-is-arrow .before in
+    let at-in-word = at-if1 .before in
+    let at-start = at-in-word .before .before .before in
+    sign-ends _ _ (at-start .pre .0) (at-start .pre .1) (sym (at-in-word .in-word .ensures) ∙ at-if1 .if1 .left) (sym (at-is-arrow .is-arrow .ensures) ∙ c .if2 .left)
 
 pub token-end-spec : {M : Type 1} → statement M
 token-end-spec =

@@ -10,7 +10,7 @@ nothing-requires : tie.Need-nothing-requires
 nothing-requires c κs = search needs
 
 plain-requires : tie.Need-plain-requires
-plain-requires c κs = (itself, c .before .pre)
+plain-requires c κs = search itself
 
 variable-requires : tie.Need-variable-requires
 variable-requires c κs = search needs
@@ -22,10 +22,10 @@ cast-requires : tie.Need-cast-requires
 cast-requires c κs = search needs
 
 plain-requires-2 : tie.Need-plain-requires-2
-plain-requires-2 c κs = (undefTest, c .before .pre)
+plain-requires-2 c κs = search undefTest
 
 plain-requires-3 : tie.Need-plain-requires-3
-plain-requires-3 c κs = (conditional, c .before .pre)
+plain-requires-3 c κs = search conditional
 
 let-in-requires : tie.Need-let-in-requires
 let-in-requires c κs = search needs
@@ -37,16 +37,24 @@ call-requires : tie.Need-call-requires
 call-requires c κs = search needs
 
 plain-requires-4 : tie.Need-plain-requires-4
-plain-requires-4 c κs = (quotient, c .before .pre)
+plain-requires-4 c κs = search quotient
 
 plain-requires-5 : tie.Need-plain-requires-5
-plain-requires-5 c κs = (constant {k = c .before .before .args .code} (c .if1 .taken), c .before .before .pre)
+plain-requires-5 c κs = search constant
 
 plain-requires-6 : tie.Need-plain-requires-6
-plain-requires-6 c κs = (one {k = c .before .before .before .args .code} (above (above (above (above (c .before .if1 .left) (c .before .before .match .rest .0 .0 .0 .0 .0 .0 .0 .0 .0 .0 .1)) (c .before .before .match .rest .0 .0 .0 .0 .0 .0 .0 .0 .0 .1)) (c .before .before .match .rest .0 .0 .0 .0 .0 .0 .0 .0 .1)) (c .before .before .match .rest .0 .0 .0 .0 .0 .0 .0 .1)) (c .if2 .taken), c .before .before .before .pre)
+plain-requires-6 c κs =
+    let at-if1 = c .before in
+    let at-match = at-if1 .before in
+    let at-start = at-match .before in
+    (one {k = at-start .args .code} (above (above (above (above (at-if1 .if1 .left) (at-match .match .rest .0 .0 .0 .0 .0 .0 .0 .0 .0 .0 .1)) (at-match .match .rest .0 .0 .0 .0 .0 .0 .0 .0 .0 .1)) (at-match .match .rest .0 .0 .0 .0 .0 .0 .0 .0 .1)) (at-match .match .rest .0 .0 .0 .0 .0 .0 .0 .1)) (c .if2 .taken), at-start .pre)
 
 plain-requires-7 : tie.Need-plain-requires-7
-plain-requires-7 c κs = (two {k = c .before .before .before .before .args .code} (above (c .before .if2 .left) (c .before .before .before .match .rest .0 .0 .0 .0 .0 .0 .1)) (c .if3 .taken), c .before .before .before .before .pre)
+plain-requires-7 c κs =
+    let at-if2 = c .before in
+    let at-match = at-if2 .before .before in
+    let at-start = at-match .before in
+    (two {k = at-start .args .code} (above (at-if2 .if2 .left) (at-match .match .rest .0 .0 .0 .0 .0 .0 .1)) (c .if3 .taken), at-start .pre)
 
 quantified-requires : tie.Need-quantified-requires
 quantified-requires c κs = search needs
@@ -55,7 +63,11 @@ nothing-requires-3 : tie.Need-nothing-requires-3
 nothing-requires-3 c κs = search needs
 
 attribute-requires : tie.Need-attribute-requires
-attribute-requires c κs = (record { low = above (above (above (c .before .if5 .left) (c .before .before .before .before .before .before .match .rest .0 .0 .0 .0 .0 .1)) (c .before .before .before .before .before .before .match .rest .0 .0 .0 .0 .1)) (c .before .before .before .before .before .before .match .rest .0 .0 .0 .1); high = c .if6 .taken }, c .before .before .before .before .before .before .before .pre)
+attribute-requires c κs =
+    let at-if5 = c .before in
+    let at-match = at-if5 .before .before .before .before .before in
+    let at-start = at-match .before in
+    (record { low = above (above (above (at-if5 .if5 .left) (at-match .match .rest .0 .0 .0 .0 .0 .1)) (at-match .match .rest .0 .0 .0 .0 .1)) (at-match .match .rest .0 .0 .0 .1); high = c .if6 .taken }, at-start .pre)
 
 nothing-requires-4 : tie.Need-nothing-requires-4
 nothing-requires-4 c κs = search needs
@@ -106,13 +118,16 @@ returns-15 : tie.Need-returns-15
 returns-15 c = search needs
 
 returns-16 : tie.Need-returns-16
-returns-16 c = not-built (gap-none _ (c .before .before .if4 .left) (c .before .if5 .taken)) (c .nothing3 .ensures)
+returns-16 c = search (not-built, gap-none)
 
 returns-17 : tie.Need-returns-17
 returns-17 c = search needs
 
 returns-18 : tie.Need-returns-18
-returns-18 c = not-built (over-none _ (above (above (above (c .before .if6 .left) (c .before .before .before .before .before .before .before .match .rest .0 .0 .1)) (c .before .before .before .before .before .before .before .match .rest .0 .1)) (c .before .before .before .before .before .before .before .match .rest .1))) (c .nothing4 .ensures)
+returns-18 c =
+    let at-if6 = c .before in
+    let at-match = at-if6 .before .before .before .before .before .before in
+    not-built (over-none _ (above (above (above (at-if6 .if6 .left) (at-match .match .rest .0 .0 .1)) (at-match .match .rest .0 .1)) (at-match .match .rest .1))) (c .nothing4 .ensures)
 
 pub built-spec : {M : Type 1} → statement M
 built-spec =

@@ -9,13 +9,13 @@ is-call-requires : tie.Need-is-call-requires
 is-call-requires c κs = search needs
 
 returns : tie.Need-returns
-returns c = depth-none _ _ (c .before .is-call .ensures) _ (c .if1 .taken)
+returns c = search depth-none
 
 array-read-root : tie.Need-array-read-root
 array-read-root c = search needs
 
 returns-2 : tie.Need-returns-2
-returns-2 c = depth-far _ _ (c .before .before .is-call .ensures) _ (c .before .if1 .left) (c .if2 .taken)
+returns-2 c = search depth-far
 
 add-h : tie.Need-add-h
 add-h c = search needs
@@ -27,10 +27,18 @@ shared-slice-read-h : tie.Need-shared-slice-read-h
 shared-slice-read-h c = search needs
 
 returns-3 : tie.Need-returns-3
-returns-3 c = depth-is _ _ (c .before .before .before .before .is-call .ensures) _ (c .before .before .before .if1 .left) (c .before .before .if2 .left) (omega arith)
+returns-3 c =
+    let at-if2 = c .before .before in
+    let at-if1 = at-if2 .before in
+    let at-is-call = at-if1 .before in
+    depth-is _ _ (at-is-call .is-call .ensures) _ (at-if1 .if1 .left) (at-if2 .if2 .left) (omega arith)
 
 returns-4 : tie.Need-returns-4
-returns-4 c = depth-is _ _ (c .before .before .before .before .is-call .ensures) _ (c .before .before .before .if1 .left) (c .before .before .if2 .left) (omega arith)
+returns-4 c =
+    let at-if2 = c .before .before in
+    let at-if1 = at-if2 .before in
+    let at-is-call = at-if1 .before in
+    depth-is _ _ (at-is-call .is-call .ensures) _ (at-if1 .if1 .left) (at-if2 .if2 .left) (omega arith)
 
 pub body-depth-spec : {M : Type 1} → statement M
 body-depth-spec =

@@ -8,13 +8,13 @@ is-call-requires : tie.Need-is-call-requires
 is-call-requires c κs = search needs
 
 returns : tie.Need-returns
-returns c = below-none _ _ (c .before .is-call .ensures) _ (c .if1 .taken)
+returns c = search below-none
 
 array-read-result : tie.Need-array-read-result
 array-read-result c = search needs
 
 returns-2 : tie.Need-returns-2
-returns-2 c = below-call _ _ (c .before .is-call .ensures) _ (c .if1 .left)
+returns-2 c = search below-call
 
 pub calls-below-spec : {M : Type 1} → statement M
 calls-below-spec = tie.close (tie.spec is-call-requires returns array-read-result returns-2)

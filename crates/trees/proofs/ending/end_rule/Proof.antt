@@ -5,10 +5,10 @@ use Rattle.trees.proofs.ending.end_rule.Statement.{statement}
 use Rattle.trees.proofs.ending.end_rule.Tie as tie
 
 returns : tie.Need-returns
-returns c = end-none _ (c .if1 .taken) (c .before .before .before .before .pre .2)
+returns c = search end-none
 
 returns-2 : tie.Need-returns-2
-returns-2 c = end-empty _ (c .before .if1 .left) (c .if2 .taken)
+returns-2 c = search end-empty
 
 sub-last : tie.Need-sub-last
 sub-last c = search needs
@@ -20,7 +20,7 @@ all-used-requires : tie.Need-all-used-requires
 all-used-requires c κs = search needs
 
 returns-3 : tie.Need-returns-3
-returns-3 c = end-unused _ (c .before .before .before .if1 .left) (c .before .before .before .before .before .before .before .pre .2) (c .before .before .if2 .left) (c .before .all-used .ensures) (c .if3 .taken)
+returns-3 c = search end-unused
 
 add-if4 : tie.Need-add-if4
 add-if4 c = search needs
@@ -32,7 +32,7 @@ shared-slice-read-if4 : tie.Need-shared-slice-read-if4
 shared-slice-read-if4 c = search needs
 
 returns-4 : tie.Need-returns-4
-returns-4 c = end-deep _ (c .before .before .before .before .before .if1 .left) (c .before .before .before .before .before .before .before .before .before .pre .2) (c .before .before .before .before .if2 .left) (c .before .before .before .all-used .ensures) (c .before .before .if3 .left) (c .if4 .taken)
+returns-4 c = search end-deep
 
 put-down-requires : tie.Need-put-down-requires
 put-down-requires c κs = search needs
@@ -41,7 +41,7 @@ same-length : tie.Need-same-length
 same-length c = search needs
 
 returns-5 : tie.Need-returns-5
-returns-5 c = end-down _ _ (c .before .before .before .before .before .before .before .before .before .if1 .left) (c .before .before .before .before .before .before .before .before .before .before .before .before .before .pre .2) (c .before .before .before .before .before .before .before .before .if2 .left) (c .before .before .before .before .before .before .before .all-used .ensures) (c .before .before .before .before .before .before .if3 .left) (c .before .before .before .before .if4 .left) (c .before .before .put-down .ensures)
+returns-5 c = search end-down
 
 pub end-rule-spec : {M : Type 1} → statement M
 end-rule-spec =

@@ -22,7 +22,7 @@ mul-w0-2 : tie.Need-mul-w0-2
 mul-w0-2 c = search needs
 
 slice-write-w0-2 : tie.Need-slice-write-w0-2
-slice-write-w0-2 c = simp length-set (omega (arith, c .before .before .before .pre .0, c .before .before .before .pre .1 .definitions))
+slice-write-w0-2 c = simp length-set (omega arith)
 
 add-w0-3 : tie.Need-add-w0-3
 add-w0-3 c = search needs
@@ -31,7 +31,7 @@ mul-w0-3 : tie.Need-mul-w0-3
 mul-w0-3 c = search needs
 
 slice-write-w0-3 : tie.Need-slice-write-w0-3
-slice-write-w0-3 c = simp length-set (omega (arith, c .before .before .before .pre .0, c .before .before .before .pre .1 .definitions))
+slice-write-w0-3 c = simp length-set (omega arith)
 
 with-definition-requires : tie.Need-with-definition-requires
 with-definition-requires c κs = search needs
@@ -40,7 +40,7 @@ same-length : tie.Need-same-length
 same-length c = search needs
 
 returns : tie.Need-returns
-returns c = put-definition (c .before .before .before .before .args .st) (c .before .before .before .before .args .w0 .now) (c .before .before .before .before .args .root) (c .before .before .before .before .pre .0) (c .before .before .before .before .pre .1) (c .before .before .before .before .pre .2) (c .before .if1 .taken) (c .with-definition .ensures)
+returns c = search put-definition
 
 add-w0-4 : tie.Need-add-w0-4
 add-w0-4 c = search needs
@@ -58,7 +58,7 @@ mul-w0-5 : tie.Need-mul-w0-5
 mul-w0-5 c = search needs
 
 slice-write-w0-5 : tie.Need-slice-write-w0-5
-slice-write-w0-5 c = simp length-set (omega (arith, c .before .before .before .pre .0, c .before .before .before .pre .1 .rules))
+slice-write-w0-5 c = simp length-set (omega arith)
 
 with-rule-requires : tie.Need-with-rule-requires
 with-rule-requires c κs = search needs
@@ -67,7 +67,7 @@ same-length-2 : tie.Need-same-length-2
 same-length-2 c = search needs
 
 returns-2 : tie.Need-returns-2
-returns-2 c = put-rule (c .before .before .before .before .args .st) (c .before .before .before .before .args .w0 .now) (c .before .before .before .before .args .root) (c .before .before .before .before .pre .0) (c .before .before .before .before .pre .1) (c .before .before .before .before .pre .2) (c .before .if1 .left) (c .with-rule .ensures)
+returns-2 c = search put-rule
 
 pub put-down-spec : {M : Type 1} → statement M
 put-down-spec =

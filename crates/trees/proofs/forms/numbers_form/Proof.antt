@@ -11,13 +11,17 @@ misspelled-requires : tie.Need-misspelled-requires
 misspelled-requires c κs = search needs
 
 returns : tie.Need-returns
-returns c = rw (numbers-bad _ _ (c .before .before .before .before .before .pre .2) (c .before .before .before .before .before .pre .3) (c .before .before .before .exactly .ensures) (c .before .if1 .taken)) (c .misspelled .ensures _)
+returns c =
+    let at-if1 = c .before in
+    let at-exactly = at-if1 .before .before in
+    let at-start = at-exactly .before .before in
+    rw (numbers-bad _ _ (at-start .pre .2) (at-start .pre .3) (at-exactly .exactly .ensures) (at-if1 .if1 .taken)) (c .misspelled .ensures _)
 
 built-requires : tie.Need-built-requires
 built-requires c κs = search needs
 
 returns-2 : tie.Need-returns-2
-returns-2 c = numbers-read _ _ (c .before .before .before .before .before .before .pre .2) (c .before .before .before .before .before .before .pre .3) (c .before .before .before .before .exactly .ensures) (c .before .before .if1 .left) (c .built .ensures)
+returns-2 c = search numbers-read
 
 pub numbers-form-spec : {M : Type 1} → statement M
 numbers-form-spec =

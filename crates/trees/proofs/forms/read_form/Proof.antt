@@ -11,13 +11,13 @@ integer-form-requires : tie.Need-integer-form-requires
 integer-form-requires c κs = search needs
 
 numbers-form-requires : tie.Need-numbers-form-requires
-numbers-form-requires c κs = (c .before .before .pre .0, c .before .before .pre .1, one-of-none, omega arith)
+numbers-form-requires c κs = search (one-of-none, needs)
 
 collection-form-requires : tie.Need-collection-form-requires
 collection-form-requires c κs = search needs
 
 numbers-form-requires-2 : tie.Need-numbers-form-requires-2
-numbers-form-requires-2 c κs = (c .before .before .pre .0, c .before .before .pre .1, one-of-one, omega arith)
+numbers-form-requires-2 c κs = search (one-of-one, needs)
 
 iterate-form-requires : tie.Need-iterate-form-requires
 iterate-form-requires c κs = search needs
@@ -26,28 +26,40 @@ real-form-requires : tie.Need-real-form-requires
 real-form-requires c κs = search needs
 
 numbers-form-requires-3 : tie.Need-numbers-form-requires-3
-numbers-form-requires-3 c κs = (c .before .before .before .pre .0, c .before .before .before .pre .1, of-none _ (c .if1 .taken), omega arith)
+numbers-form-requires-3 c κs = search (of-none, needs)
 
 numbers-form-requires-4 : tie.Need-numbers-form-requires-4
-numbers-form-requires-4 c κs = (c .before .before .before .before .pre .0, c .before .before .before .before .pre .1, of-one _ (above (above (c .before .if1 .left) (c .before .before .match .rest .0 .0 .0 .0 .0 .1)) (c .before .before .match .rest .0 .0 .0 .0 .1)) (c .if2 .taken), omega arith)
+numbers-form-requires-4 c κs =
+    let at-if1 = c .before in
+    let at-match = at-if1 .before in
+    let at-start = at-match .before .before in
+    (at-start .pre .0, at-start .pre .1, of-one _ (above (above (at-if1 .if1 .left) (at-match .match .rest .0 .0 .0 .0 .0 .1)) (at-match .match .rest .0 .0 .0 .0 .1)) (c .if2 .taken), omega arith)
 
 numbers-form-requires-5 : tie.Need-numbers-form-requires-5
-numbers-form-requires-5 c κs = (c .before .before .before .before .before .pre .0, c .before .before .before .before .before .pre .1, of-two _ (c .before .if2 .left) (c .if3 .taken), omega arith)
+numbers-form-requires-5 c κs = search (of-two, needs)
 
 numbers-form-requires-6 : tie.Need-numbers-form-requires-6
-numbers-form-requires-6 c κs = (c .before .before .before .before .before .before .pre .0, c .before .before .before .before .before .before .pre .1, of-quantifier _ (c .before .if3 .left) (c .if4 .taken), omega arith)
+numbers-form-requires-6 c κs = search (of-quantifier, needs)
 
 misspelled-requires : tie.Need-misspelled-requires
 misspelled-requires c κs = search needs
 
 numbers-form-requires-7 : tie.Need-numbers-form-requires-7
-numbers-form-requires-7 c κs = (c .before .before .before .before .before .before .before .before .pre .0, c .before .before .before .before .before .before .before .before .pre .1, of-three _ (above (c .before .if5 .left) (c .before .before .before .before .before .before .match .rest .0 .0 .1)) (c .if6 .taken), omega arith)
+numbers-form-requires-7 c κs =
+    let at-if5 = c .before in
+    let at-match = at-if5 .before .before .before .before .before in
+    let at-start = at-match .before .before in
+    (at-start .pre .0, at-start .pre .1, of-three _ (above (at-if5 .if5 .left) (at-match .match .rest .0 .0 .1)) (c .if6 .taken), omega arith)
 
 numbers-form-requires-8 : tie.Need-numbers-form-requires-8
-numbers-form-requires-8 c κs = (c .before .before .before .before .before .before .before .before .before .pre .0, c .before .before .before .before .before .before .before .before .before .pre .1, of-access _ (c .before .if6 .left) (c .if7 .taken), omega arith)
+numbers-form-requires-8 c κs = search (of-access, needs)
 
 numbers-form-requires-9 : tie.Need-numbers-form-requires-9
-numbers-form-requires-9 c κs = (c .before .before .before .before .before .before .before .before .before .before .pre .0, c .before .before .before .before .before .before .before .before .before .before .pre .1, of-last _ (above (c .before .if7 .left) (c .before .before .before .before .before .before .before .before .match .rest .0 .1)) (c .if8 .taken), omega arith)
+numbers-form-requires-9 c κs =
+    let at-if7 = c .before in
+    let at-match = at-if7 .before .before .before .before .before .before .before in
+    let at-start = at-match .before .before in
+    (at-start .pre .0, at-start .pre .1, of-last _ (above (at-if7 .if7 .left) (at-match .match .rest .0 .1)) (c .if8 .taken), omega arith)
 
 misspelled-requires-2 : tie.Need-misspelled-requires-2
 misspelled-requires-2 c κs = search needs
@@ -83,7 +95,11 @@ returns-10 : tie.Need-returns-10
 returns-10 c = search needs
 
 returns-11 : tie.Need-returns-11
-returns-11 c = rw (gap-code _ _ (above (c .before .before .if4 .left) (c .before .before .before .before .before .before .match .rest .0 .0 .0 .1)) (c .before .if5 .taken)) (c .misspelled .ensures _)
+returns-11 c =
+    let at-if5 = c .before in
+    let at-if4 = at-if5 .before in
+    let at-match = at-if4 .before .before .before .before in
+    rw (gap-code _ _ (above (at-if4 .if4 .left) (at-match .match .rest .0 .0 .0 .1)) (at-if5 .if5 .taken)) (c .misspelled .ensures _)
 
 returns-12 : tie.Need-returns-12
 returns-12 c = search needs

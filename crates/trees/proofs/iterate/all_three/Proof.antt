@@ -7,10 +7,16 @@ returns : tie.Need-returns
 returns c = rw (not-true (c .before .args .a) (c .if1 .taken))
 
 returns-2 : tie.Need-returns-2
-returns-2 c = rw (not-false (c .before .before .args .a) (c .before .if1 .left), not-true (c .before .before .args .b) (c .if2 .taken))
+returns-2 c =
+    let at-if1 = c .before in
+    let at-start = at-if1 .before in
+    rw (not-false (at-start .args .a) (at-if1 .if1 .left), not-true (at-start .args .b) (c .if2 .taken))
 
 returns-3 : tie.Need-returns-3
-returns-3 c = rw (not-false (c .before .before .args .a) (c .before .if1 .left), not-false (c .before .before .args .b) (c .if2 .left))
+returns-3 c =
+    let at-if1 = c .before in
+    let at-start = at-if1 .before in
+    rw (not-false (at-start .args .a) (at-if1 .if1 .left), not-false (at-start .args .b) (c .if2 .left))
 
 pub all-three-spec : {M : Type 1} → statement M
 all-three-spec = tie.close (tie.spec returns returns-2 returns-3)

@@ -1,7 +1,6 @@
 -- `classes_in` meets its contract.
 use Rattle.trees.specs.Iterate.{classesIn}
 use Rattle.trees.proofs.IterateLaws.{classes-less}
-use native.Mathlib.Omega.{arith}
 use mathlib.Core.Path.{sym, ap}
 use borrow.Author.Needs.{needs}
 use Rattle.trees.proofs.iterate.classes_in.Statement.{statement}
@@ -29,7 +28,7 @@ cast-result : tie.Need-cast-result
 cast-result c = search needs
 
 add-result : tie.Need-add-result
-add-result c = omega (arith, classes-less _ _ (c .before .before .before .pre) (c .before .b .given .1))
+add-result c = search (classes-less, needs)
 
 returns : tie.Need-returns
 unfolding classesIn

@@ -10,7 +10,10 @@ misspelled-requires : tie.Need-misspelled-requires
 misspelled-requires c κs = search needs
 
 returns : tie.Need-returns
-returns c = rw (iterate-not _ (rest-not (c .before .before .before .before .pre .0) 6 (omega arith) (c .before .before .before .before .pre .1) (c .before .if1 .taken))) (c .misspelled .ensures _)
+returns c =
+    let at-if1 = c .before in
+    let at-start = at-if1 .before .before .before in
+    rw (iterate-not _ (rest-not (at-start .pre .0) 6 (omega arith) (at-start .pre .1) (at-if1 .if1 .taken))) (c .misspelled .ensures _)
 
 number-fields-requires : tie.Need-number-fields-requires
 number-fields-requires c κs = search needs
@@ -34,13 +37,33 @@ misspelled-requires-2 : tie.Need-misspelled-requires-2
 misspelled-requires-2 c κs = search needs
 
 returns-2 : tie.Need-returns-2
-returns-2 c = iterate-bad (c .before .before .all-three .ensures) (c .before .before .before .before .before .before .before .before .before .before .before .pre .0) (c .before .before .before .before .before .before .before .before .if1 .left) (c .before .before .before .before .before .before .before .number-fields .ensures) (field-type _ (c .before .before .before .before .before .before .field .ensures) (c .before .before .before .before .before .read-type .ensures) (c .before .before .before .before .type-read .ensures)) (c .before .before .before .number-fields2 .ensures) (c .before .if2 .taken) (c .misspelled2 .ensures _)
+returns-2 c =
+    let at-if2 = c .before in
+    let at-all-three = at-if2 .before in
+    let at-number-fields2 = at-all-three .before in
+    let at-type-read = at-number-fields2 .before in
+    let at-read-type = at-type-read .before in
+    let at-field = at-read-type .before in
+    let at-number-fields = at-field .before in
+    let at-if1 = at-number-fields .before in
+    let at-start = at-if1 .before .before .before in
+    iterate-bad (at-all-three .all-three .ensures) (at-start .pre .0) (at-if1 .if1 .left) (at-number-fields .number-fields .ensures) (field-type _ (at-field .field .ensures) (at-read-type .read-type .ensures) (at-type-read .type-read .ensures)) (at-number-fields2 .number-fields2 .ensures) (at-if2 .if2 .taken) (c .misspelled2 .ensures _)
 
 iterated-requires : tie.Need-iterated-requires
 iterated-requires c κs = search needs
 
 returns-3 : tie.Need-returns-3
-returns-3 c = iterate-read (c .before .before .before .before .all-three .ensures) (c .before .before .before .before .before .before .before .before .before .before .before .before .before .pre .0) (c .before .before .before .before .before .before .before .before .before .before .if1 .left) (c .before .before .before .before .before .before .before .before .before .number-fields .ensures) (field-type _ (c .before .before .before .before .before .before .before .before .field .ensures) (c .before .before .before .before .before .before .before .read-type .ensures) (c .before .before .before .before .before .before .type-read .ensures)) (c .before .before .before .before .before .number-fields2 .ensures) (c .before .before .before .if2 .left) (c .iterated .ensures)
+returns-3 c =
+    let at-if2 = c .before .before .before in
+    let at-all-three = at-if2 .before in
+    let at-number-fields2 = at-all-three .before in
+    let at-type-read = at-number-fields2 .before in
+    let at-read-type = at-type-read .before in
+    let at-field = at-read-type .before in
+    let at-number-fields = at-field .before in
+    let at-if1 = at-number-fields .before in
+    let at-start = at-if1 .before .before .before in
+    iterate-read (at-all-three .all-three .ensures) (at-start .pre .0) (at-if1 .if1 .left) (at-number-fields .number-fields .ensures) (field-type _ (at-field .field .ensures) (at-read-type .read-type .ensures) (at-type-read .type-read .ensures)) (at-number-fields2 .number-fields2 .ensures) (at-if2 .if2 .left) (c .iterated .ensures)
 
 pub iterate-form-spec : {M : Type 1} → statement M
 iterate-form-spec =

@@ -41,7 +41,7 @@ array-read-t37 : tie.Need-array-read-t37
 array-read-t37 c = search needs
 
 returns : tie.Need-returns
-returns c = iterate-built _ _ _ _ (both-variables _ _ _ (c .before .before .is-variable .ensures) (c .before .is-variable2 .ensures) (c .all-three .ensures)) (c .before .before .before .pre .2)
+returns c = search (iterate-built, both-variables)
 
 pub iterated-spec : {M : Type 1} → statement M
 iterated-spec =

@@ -16,7 +16,10 @@ misspelled-requires : tie.Need-misspelled-requires
 misspelled-requires c κs = search needs
 
 returns : tie.Need-returns
-returns c = rw (real-not _ (rest-not (c .before .before .before .before .pre .0) 1 (omega arith) (c .before .before .before .before .pre .1) (c .before .if1 .taken))) (c .misspelled .ensures _)
+returns c =
+    let at-if1 = c .before in
+    let at-start = at-if1 .before .before .before in
+    rw (real-not _ (rest-not (at-start .pre .0) 1 (omega arith) (at-start .pre .1) (at-if1 .if1 .taken))) (c .misspelled .ensures _)
 
 field-requires : tie.Need-field-requires
 field-requires c κs = search needs

@@ -8,7 +8,7 @@ returns : tie.Need-returns
 returns c = order-block _ _ _ (c .if1 .taken)
 
 returns-2 : tie.Need-returns-2
-returns-2 c = order-open _ _ _ (c .before .before .if1 .left) (c .if2 .taken)
+returns-2 c = search order-open
 
 returns-3 : tie.Need-returns-3
 returns-3 c = search order-text

@@ -10,22 +10,42 @@ within-limits-requires : tie.Need-within-limits-requires
 within-limits-requires c κs = search needs
 
 returns : tie.Need-returns
-returns c = place-4 _ _ (c .before .before .before .before .before .pre .2) (c .before .within-limits .ensures) (c .if1 .taken)
+returns c = search place-4
 
 in-order-requires : tie.Need-in-order-requires
 in-order-requires c κs = search needs
 
 returns-2 : tie.Need-returns-2
-returns-2 c = place-5 _ _ (c .before .before .before .before .before .before .before .pre .2) (sym (c .before .before .before .within-limits .ensures) ∙ not-false _ (c .before .before .if1 .left)) (c .before .in-order .ensures) (c .if2 .taken)
+returns-2 c =
+    let at-in-order = c .before in
+    let at-if1 = at-in-order .before in
+    let at-within-limits = at-if1 .before in
+    let at-start = at-within-limits .before .before .before .before in
+    place-5 _ _ (at-start .pre .2) (sym (at-within-limits .within-limits .ensures) ∙ not-false _ (at-if1 .if1 .left)) (at-in-order .in-order .ensures) (c .if2 .taken)
 
 returns-3 : tie.Need-returns-3
-returns-3 c = place-6 _ _ (c .before .before .before .before .before .before .before .before .before .before .pre .2) (sym (c .before .before .before .before .before .before .within-limits .ensures) ∙ not-false _ (c .before .before .before .before .before .if1 .left)) (sym (c .before .before .before .before .in-order .ensures) ∙ not-false _ (c .before .before .before .if2 .left)) (c .if3 .taken)
+returns-3 c =
+    let at-if2 = c .before .before .before in
+    let at-in-order = at-if2 .before in
+    let at-if1 = at-in-order .before in
+    let at-within-limits = at-if1 .before in
+    let at-start = at-within-limits .before .before .before .before in
+    place-6 _ _ (at-start .pre .2) (sym (at-within-limits .within-limits .ensures) ∙ not-false _ (at-if1 .if1 .left)) (sym (at-in-order .in-order .ensures) ∙ not-false _ (at-if2 .if2 .left)) (c .if3 .taken)
 
 calls-below-requires : tie.Need-calls-below-requires
 calls-below-requires c κs = search needs
 
 put-node-requires : tie.Need-put-node-requires
-put-node-requires c κs = (c .before .before .before .before .before .before .before .before .before .before .before .before .before .pre .0, c .before .before .before .before .before .before .before .before .before .before .before .before .before .pre .1, c .before .before .before .before .before .before .before .before .before .before .before .before .before .pre .2, c .before .before .before .before .before .before .before .before .before .before .before .before .before .pre .3, c .before .before .before .before .before .before .before .before .before .before .before .before .before .pre .4, record { limits = (sym (c .before .before .before .before .before .before .before .before .before .within-limits .ensures) ∙ not-false _ (c .before .before .before .before .before .before .before .before .if1 .left)); order = (sym (c .before .before .before .before .before .before .before .in-order .ensures) ∙ not-false _ (c .before .before .before .before .before .before .if2 .left)); classes = c .before .before .before .if3 .left; calls = leb-true _ _ (sym (c .before .before .calls-below .ensures) ∙ c .before .if4 .taken) })
+put-node-requires c κs =
+    let at-if4 = c .before in
+    let at-calls-below = at-if4 .before in
+    let at-if3 = at-calls-below .before in
+    let at-if2 = at-if3 .before .before .before in
+    let at-in-order = at-if2 .before in
+    let at-if1 = at-in-order .before in
+    let at-within-limits = at-if1 .before in
+    let at-start = at-within-limits .before .before .before .before in
+    (at-start .pre .0, at-start .pre .1, at-start .pre .2, at-start .pre .3, at-start .pre .4, record { limits = (sym (at-within-limits .within-limits .ensures) ∙ not-false _ (at-if1 .if1 .left)); order = (sym (at-in-order .in-order .ensures) ∙ not-false _ (at-if2 .if2 .left)); classes = at-if3 .if3 .left; calls = leb-true _ _ (sym (at-calls-below .calls-below .ensures) ∙ at-if4 .if4 .taken) })
 
 same-length : tie.Need-same-length
 same-length c = search needs
@@ -34,10 +54,28 @@ returns-4 : tie.Need-returns-4
 returns-4 c = search needs
 
 returns-5 : tie.Need-returns-5
-returns-5 c = place-23 _ _ (c .before .before .before .before .before .before .before .before .before .before .before .before .before .before .pre .2) (sym (c .before .before .before .before .before .before .before .before .before .before .within-limits .ensures) ∙ not-false _ (c .before .before .before .before .before .before .before .before .before .if1 .left)) (sym (c .before .before .before .before .before .before .before .before .in-order .ensures) ∙ not-false _ (c .before .before .before .before .before .before .before .if2 .left)) (c .before .before .before .before .if3 .left) (c .before .before .before .calls-below .ensures) (c .before .before .if4 .left) (c .if5 .taken)
+returns-5 c =
+    let at-if4 = c .before .before in
+    let at-calls-below = at-if4 .before in
+    let at-if3 = at-calls-below .before in
+    let at-if2 = at-if3 .before .before .before in
+    let at-in-order = at-if2 .before in
+    let at-if1 = at-in-order .before in
+    let at-within-limits = at-if1 .before in
+    let at-start = at-within-limits .before .before .before .before in
+    place-23 _ _ (at-start .pre .2) (sym (at-within-limits .within-limits .ensures) ∙ not-false _ (at-if1 .if1 .left)) (sym (at-in-order .in-order .ensures) ∙ not-false _ (at-if2 .if2 .left)) (at-if3 .if3 .left) (at-calls-below .calls-below .ensures) (at-if4 .if4 .left) (c .if5 .taken)
 
 returns-6 : tie.Need-returns-6
-returns-6 c = place-24 _ _ (c .before .before .before .before .before .before .before .before .before .before .before .before .before .before .pre .2) (sym (c .before .before .before .before .before .before .before .before .before .before .within-limits .ensures) ∙ not-false _ (c .before .before .before .before .before .before .before .before .before .if1 .left)) (sym (c .before .before .before .before .before .before .before .before .in-order .ensures) ∙ not-false _ (c .before .before .before .before .before .before .before .if2 .left)) (c .before .before .before .before .if3 .left) (c .before .before .before .calls-below .ensures) (c .before .before .if4 .left) (c .if5 .left)
+returns-6 c =
+    let at-if4 = c .before .before in
+    let at-calls-below = at-if4 .before in
+    let at-if3 = at-calls-below .before in
+    let at-if2 = at-if3 .before .before .before in
+    let at-in-order = at-if2 .before in
+    let at-if1 = at-in-order .before in
+    let at-within-limits = at-if1 .before in
+    let at-start = at-within-limits .before .before .before .before in
+    place-24 _ _ (at-start .pre .2) (sym (at-within-limits .within-limits .ensures) ∙ not-false _ (at-if1 .if1 .left)) (sym (at-in-order .in-order .ensures) ∙ not-false _ (at-if2 .if2 .left)) (at-if3 .if3 .left) (at-calls-below .calls-below .ensures) (at-if4 .if4 .left) (c .if5 .left)
 
 pub place-node-spec : {M : Type 1} → statement M
 place-node-spec =

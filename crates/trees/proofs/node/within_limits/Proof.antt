@@ -8,16 +8,16 @@ returns : tie.Need-returns
 returns c = limits-number _ _ _ (c .if1 .taken)
 
 returns-2 : tie.Need-returns-2
-returns-2 c = limits-form _ _ _ (c .before .before .if1 .left) (c .if2 .taken)
+returns-2 c = search limits-form
 
 operands-within-requires : tie.Need-operands-within-requires
 operands-within-requires c κs = search needs
 
 returns-3 : tie.Need-returns-3
-returns-3 c = limits-operands _ _ _ (c .before .operands-within .ensures) (c .before .before .before .before .if1 .left) (c .before .before .if2 .left) (c .if3 .taken)
+returns-3 c = search limits-operands
 
 returns-4 : tie.Need-returns-4
-returns-4 c = limits-nodes _ _ _ (c .before .before .operands-within .ensures) (c .before .before .before .before .before .if1 .left) (c .before .before .before .if2 .left) (c .before .if3 .left)
+returns-4 c = search limits-nodes
 
 pub within-limits-spec : {M : Type 1} → statement M
 within-limits-spec =

@@ -11,13 +11,13 @@ no-numbers-requires : tie.Need-no-numbers-requires
 no-numbers-requires c κs = search needs
 
 returns : tie.Need-returns
-returns c = exact-not (c .before .before .before .pre .0) _ (c .before .before .before .pre .2) (c .before .if1 .taken) (c .before .before .before .pre .1) (c .no-numbers .ensures)
+returns c = search exact-not
 
 number-fields-requires : tie.Need-number-fields-requires
 number-fields-requires c κs = search needs
 
 returns-2 : tie.Need-returns-2
-returns-2 c = exact-all (c .before .before .before .pre .0) _ (c .before .before .before .pre .2) (c .before .if1 .left) (c .number-fields .ensures)
+returns-2 c = search exact-all
 
 pub exactly-spec : {M : Type 1} → statement M
 exactly-spec =

@@ -1,7 +1,6 @@
 -- `number_fields` meets its contract.
 use Prim.Native.Nat.{_≤_, _-_}
 use mathlib.Core.Path.{_≡_, refl, sym, ap, _∙_}
-use native.Mathlib.Omega.{arith}
 use borrow.Author.Needs.{needs}
 use lib.ListN.{length, length-set}
 use Rattle.sheet.specs.Lines.{aNumber}
@@ -36,7 +35,14 @@ no-numbers-requires : tie.Need-no-numbers-requires Inv-loop μ-loop
 no-numbers-requires c κs = search needs
 
 returns : tie.Need-returns Inv-loop μ-loop
-returns c = read-bad (c .before .before .before .before .before .before .loop .inv .0) (c .before .before .before .before .before .loop-test .taken) (field-count (c .before .before .before .before .before .before .before .before .pre .0) (c .before .before .before .before .before .before .before .before .pre .3)) (sym (c .before .enum-told .given .1) ∙ c .before .before .before .number .ensures ∙ ap (λ x. cutNum (aNumber x)) (c .before .before .before .before .field .ensures)) (c .no-numbers .ensures)
+returns c =
+    let at-enum-told = c .before in
+    let at-number = at-enum-told .before .before in
+    let at-field = at-number .before in
+    let at-loop-test = at-field .before in
+    let at-loop = at-loop-test .before in
+    let at-start = at-loop .before .before in
+    read-bad (at-loop .loop .inv .0) (at-loop-test .loop-test .taken) (field-count (at-start .pre .0) (at-start .pre .3)) (sym (at-enum-told .enum-told .given .1) ∙ at-number .number .ensures ∙ ap (λ x. cutNum (aNumber x)) (at-field .field .ensures)) (c .no-numbers .ensures)
 
 sub-k : tie.Need-sub-k Inv-loop μ-loop
 sub-k c = search needs
@@ -54,10 +60,17 @@ loop-less : tie.Need-loop-less Inv-loop μ-loop
 loop-less c = search needs
 
 loop-again : tie.Need-loop-again Inv-loop μ-loop
-loop-again c = (read-next (c .before .before .before .before .before .before .loop .inv .0) (c .before .before .before .before .before .loop-test .taken) (field-count (c .before .before .before .before .before .before .before .before .pre .0) (c .before .before .before .before .before .before .before .before .pre .3)) (sym (c .before .n .given .1) ∙ c .before .before .before .number .ensures ∙ ap (λ x. cutNum (aNumber x)) (c .before .before .before .before .field .ensures)) (c .before .before .before .before .before .before .before .before .pre .2), search needs, search needs, simp length-set (c .before .before .before .before .before .before .loop .inv .3))
+loop-again c =
+    let at-n = c .before in
+    let at-number = at-n .before .before in
+    let at-field = at-number .before in
+    let at-loop-test = at-field .before in
+    let at-loop = at-loop-test .before in
+    let at-start = at-loop .before .before in
+    (read-next (at-loop .loop .inv .0) (at-loop-test .loop-test .taken) (field-count (at-start .pre .0) (at-start .pre .3)) (sym (at-n .n .given .1) ∙ at-number .number .ensures ∙ ap (λ x. cutNum (aNumber x)) (at-field .field .ensures)) (at-start .pre .2), search needs, search needs, simp length-set (at-loop .loop .inv .3))
 
 returns-2 : tie.Need-returns-2 Inv-loop μ-loop
-returns-2 c = read-all (c .before .loop .inv .0) (omega arith)
+returns-2 c = search read-all
 
 pub number-fields-spec : {M : Type 1} → statement M
 number-fields-spec =

@@ -7,6 +7,7 @@ use mathlib.Core.Path.{_≡_, refl}
 use Prim.Native.Nat.{_≤_, _+_, _-_}
 use native.Mathlib.Omega.{arith}
 use borrow.Author.Needs.{needs}
+use Rattle.memory.specs.Map as memory
 use Rattle.trees.proofs.operands.mark.Statement.{statement}
 use Rattle.trees.proofs.operands.mark.Tie as tie
 
@@ -33,7 +34,7 @@ same-length c = search needs
 
 returns : tie.Need-returns Inv-loop μ-loop
 unfolding marked
-returns c = mark-late (c .before .before .before .before .args .t2) _ _ (c .before .before .before .before .pre .1) (c .before .before .before .before .pre .2) _ _ _ _ (c .before .before .loop .inv .0) (c .before .loop-test .taken) (c .if1 .taken)
+returns c = search mark-late
 
 add-at : tie.Need-add-at Inv-loop μ-loop
 add-at c = search needs
@@ -52,10 +53,14 @@ same-length-2 c = search needs
 
 returns-2 : tie.Need-returns-2 Inv-loop μ-loop
 unfolding marked
-returns-2 c = mark-used (c .before .before .before .before .before .before .args .t2) _ _ (c .before .before .before .before .before .before .pre .1) (c .before .before .before .before .before .before .pre .2) _ _ _ _ (c .before .before .before .before .loop .inv .0) (c .before .before .before .loop-test .taken) (c .before .before .if1 .left) (c .if2 .taken)
+returns-2 c = search mark-used
 
 add-w1 : tie.Need-add-w1 Inv-loop μ-loop
-add-w1 c = omega (arith, c .before .slice-known2 .given (6912 + (c .before .before .before .before .before .before .args .first + getD (c .before .before .before .before .before .before .args .t2) (1 + c .before .before .before .before .loop .i) 0)))
+add-w1 c =
+    let at-slice-known2 = c .before in
+    let at-loop = at-slice-known2 .before .before .before in
+    let at-start = at-loop .before .before in
+    omega (arith, at-slice-known2 .slice-known2 .given (memory.depths + (at-start .args .first + getD (at-start .args .t2) (1 + at-loop .loop .i) 0)))
 
 mul-w1 : tie.Need-mul-w1 Inv-loop μ-loop
 mul-w1 c = search needs
@@ -73,14 +78,20 @@ loop-less : tie.Need-loop-less Inv-loop μ-loop
 loop-less c = search needs
 
 loop-again : tie.Need-loop-again Inv-loop μ-loop
-loop-again c = (mark-next (c .before .before .before .before .before .before .before .args .t2) _ _ (c .before .before .before .before .before .before .before .pre .1) (c .before .before .before .before .before .before .before .pre .2) _ _ _ _ (c .before .before .before .before .before .loop .inv .0) (c .before .before .before .before .loop-test .taken) (c .before .before .before .if1 .left) (c .before .if2 .left) (c .deeper .ensures), search needs, simp length-set (c .before .before .before .before .before .loop .inv .2))
+loop-again c =
+    let at-if2 = c .before in
+    let at-if1 = at-if2 .before .before in
+    let at-loop-test = at-if1 .before in
+    let at-loop = at-loop-test .before in
+    let at-start = at-loop .before .before in
+    (mark-next (at-start .args .t2) _ _ (at-start .pre .1) (at-start .pre .2) _ _ _ _ (at-loop .loop .inv .0) (at-loop-test .loop-test .taken) (at-if1 .if1 .left) (at-if2 .if2 .left) (c .deeper .ensures), search needs, simp length-set (at-loop .loop .inv .2))
 
 same-length-3 : tie.Need-same-length-3 Inv-loop μ-loop
 same-length-3 c = search needs
 
 returns-3 : tie.Need-returns-3 Inv-loop μ-loop
 unfolding marked
-returns-3 c = mark-end (c .before .before .before .args .t2) _ _ (c .before .before .before .pre .1) (c .before .before .before .pre .2) _ _ _ _ (c .before .loop .inv .0) (c .loop-test .left)
+returns-3 c = search mark-end
 
 pub mark-spec : {M : Type 1} → statement M
 mark-spec =

@@ -29,7 +29,7 @@ array-read-if1 : tie.Need-array-read-if1 Inv-loop μ-loop
 array-read-if1 c = search needs
 
 returns : tie.Need-returns Inv-loop μ-loop
-returns c = within-not (c .before .before .before .args .t1) _ _ (c .before .before .before .pre .0) (c .before .before .before .pre .1) (c .before .before .loop .inv .0) (c .before .loop-test .taken) (c .if1 .taken)
+returns c = search within-not
 
 add-i : tie.Need-add-i Inv-loop μ-loop
 add-i c = search needs
@@ -38,10 +38,10 @@ loop-less : tie.Need-loop-less Inv-loop μ-loop
 loop-less c = search needs
 
 loop-again : tie.Need-loop-again Inv-loop μ-loop
-loop-again c = (within-next (c .before .before .before .args .t1) _ _ (c .before .before .before .pre .0) (c .before .before .before .pre .1) (c .before .before .loop .inv .0) (c .before .loop-test .taken) (c .if1 .left), search needs)
+loop-again c = search (within-next, needs)
 
 returns-2 : tie.Need-returns-2 Inv-loop μ-loop
-returns-2 c = within-end (c .before .before .args .t1) _ _ (c .before .before .pre .0) (c .before .before .pre .1) (c .before .loop .inv .0) (c .loop-test .left)
+returns-2 c = search within-end
 
 pub operands-within-spec : {M : Type 1} → statement M
 operands-within-spec =

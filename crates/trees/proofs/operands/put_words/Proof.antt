@@ -29,7 +29,7 @@ mul-w1-2 : tie.Need-mul-w1-2 Inv-loop μ-loop
 mul-w1-2 c = search needs
 
 slice-write-w1 : tie.Need-slice-write-w1 Inv-loop μ-loop
-slice-write-w1 c = omega (arith, c .before .before .loop .inv .0 .kept .size)
+slice-write-w1 c = omega arith
 
 add-k : tie.Need-add-k Inv-loop μ-loop
 add-k c = search needs

@@ -21,10 +21,13 @@ array-read-result-2 : tie.Need-array-read-result-2
 array-read-result-2 c = search needs
 
 add-result : tie.Need-add-result
-add-result c = omega (arith, shift-room (c .before .before .args .t1) (c .before .before .args .count) 0 (c .before .before .args .k) (c .before .before .pre .2) (c .before .if1 .left) (c .if2 .taken))
+add-result c =
+    let at-if1 = c .before in
+    let at-start = at-if1 .before in
+    omega (arith, shift-room (at-start .args .t1) (at-start .args .count) 0 (at-start .args .k) (at-start .pre .2) (at-if1 .if1 .left) (c .if2 .taken))
 
 returns-2 : tie.Need-returns-2
-returns-2 c = shift-operand _ _ _ _ (c .before .if1 .left) (c .if2 .taken)
+returns-2 c = search shift-operand
 
 mul-result-3 : tie.Need-mul-result-3
 mul-result-3 c = search needs
@@ -33,7 +36,7 @@ array-read-result-3 : tie.Need-array-read-result-3
 array-read-result-3 c = search needs
 
 returns-3 : tie.Need-returns-3
-returns-3 c = shift-other _ _ _ _ (c .before .if1 .left) (c .if2 .left)
+returns-3 c = search shift-other
 
 pub shift-spec : {M : Type 1} → statement M
 shift-spec =

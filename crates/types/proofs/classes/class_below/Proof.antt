@@ -20,16 +20,24 @@ parent-requires : tie.Need-parent-requires Inv-loop μ-loop
 parent-requires c κs = search needs
 
 returns : tie.Need-returns Inv-loop μ-loop
-returns c = below-none _ _ _ (c .before .before .loop-test .taken) (sym (c .if1 .taken) ∙ c .before .parent .ensures) ∙ c .before .before .before .loop .inv
+returns c =
+    let at-parent = c .before in
+    let at-loop-test = at-parent .before in
+    let at-loop = at-loop-test .before in
+    below-none _ _ _ (at-loop-test .loop-test .taken) (sym (c .if1 .taken) ∙ at-parent .parent .ensures) ∙ at-loop .loop .inv
 
 sub-x : tie.Need-sub-x Inv-loop μ-loop
 sub-x c = search needs
 
 loop-less : tie.Need-loop-less Inv-loop μ-loop
-loop-less c = parent-falls _ _ _ (c .before .parent .ensures) (c .if1 .left)
+loop-less c = search parent-falls
 
 loop-again : tie.Need-loop-again Inv-loop μ-loop
-loop-again c = below-up _ _ _ _ (c .before .before .loop-test .taken) (c .before .parent .ensures) (c .if1 .left) ∙ c .before .before .before .loop .inv
+loop-again c =
+    let at-parent = c .before in
+    let at-loop-test = at-parent .before in
+    let at-loop = at-loop-test .before in
+    below-up _ _ _ _ (at-loop-test .loop-test .taken) (at-parent .parent .ensures) (c .if1 .left) ∙ at-loop .loop .inv
 
 returns-2 : tie.Need-returns-2 Inv-loop μ-loop
 returns-2 c = below-same _ _ _ (c .loop-test .left) ∙ c .before .loop .inv

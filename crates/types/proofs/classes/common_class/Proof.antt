@@ -34,7 +34,12 @@ parent-requires : tie.Need-parent-requires Inv-loop μ-loop
 parent-requires c κs = search needs
 
 returns-2 : tie.Need-returns-2 Inv-loop μ-loop
-returns-2 c = ap simple (sym (common-none _ _ _ (sym (c .before .before .if1 .left) ∙ c .before .before .before .class-below .ensures) (sym (c .if2 .taken) ∙ c .before .parent .ensures)) ∙ c .before .before .before .before .loop .inv .0)
+returns-2 c =
+    let at-parent = c .before in
+    let at-if1 = at-parent .before in
+    let at-class-below = at-if1 .before in
+    let at-loop = at-class-below .before in
+    ap simple (sym (common-none _ _ _ (sym (at-if1 .if1 .left) ∙ at-class-below .class-below .ensures) (sym (c .if2 .taken) ∙ at-parent .parent .ensures)) ∙ at-loop .loop .inv .0)
 
 sub-x : tie.Need-sub-x Inv-loop μ-loop
 sub-x c = search needs
@@ -43,10 +48,15 @@ cast-x : tie.Need-cast-x Inv-loop μ-loop
 cast-x c = let h = parent-falls _ _ _ (c .before .parent .ensures) (c .if2 .left) in omega arith
 
 loop-less : tie.Need-loop-less Inv-loop μ-loop
-loop-less c = parent-falls _ _ _ (c .before .parent .ensures) (c .if2 .left)
+loop-less c = search parent-falls
 
 loop-again : tie.Need-loop-again Inv-loop μ-loop
-loop-again c = (common-up _ _ _ _ (sym (c .before .before .if1 .left) ∙ c .before .before .before .class-below .ensures) (c .before .parent .ensures) (c .if2 .left) ∙ c .before .before .before .before .loop .inv .0, let h = parent-falls _ _ _ (c .before .parent .ensures) (c .if2 .left) in omega arith)
+loop-again c =
+    let at-parent = c .before in
+    let at-if1 = at-parent .before in
+    let at-class-below = at-if1 .before in
+    let at-loop = at-class-below .before in
+    (common-up _ _ _ _ (sym (at-if1 .if1 .left) ∙ at-class-below .class-below .ensures) (at-parent .parent .ensures) (c .if2 .left) ∙ at-loop .loop .inv .0, let h = parent-falls _ _ _ (at-parent .parent .ensures) (c .if2 .left) in omega arith)
 
 pub common-class-spec : {M : Type 1} → statement M
 common-class-spec =

@@ -18,10 +18,10 @@ shared-slice-read-q : tie.Need-shared-slice-read-q
 shared-slice-read-q c = search needs
 
 returns-2 : tie.Need-returns-2
-returns-2 c = parent-is _ _ _ (c .before .before .before .wide .ensures) (c .if2 .taken)
+returns-2 c = search parent-is
 
 returns-3 : tie.Need-returns-3
-returns-3 c = parent-not _ _ _ (c .before .before .before .wide .ensures) (c .if2 .left)
+returns-3 c = search parent-not
 
 pub parent-spec : {M : Type 1} → statement M
 parent-spec =

@@ -10,7 +10,7 @@ returns-2 : tie.Need-returns-2
 returns-2 c = letter-high _ _ (c .if2 .taken)
 
 returns-3 : tie.Need-returns-3
-returns-3 c = letter-exact _ _ (c .before .if1 .left) (c .if2 .left)
+returns-3 c = search letter-exact
 
 pub letter-below-spec : {M : Type 1} → statement M
 letter-below-spec = tie.close (tie.spec returns returns-2 returns-3)

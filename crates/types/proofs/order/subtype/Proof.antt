@@ -20,7 +20,7 @@ level-requires-3 : tie.Need-level-requires-3
 level-requires-3 c κs = search needs
 
 returns : tie.Need-returns
-returns c = subtype-law _ (c .before .before .before .before .before .before .args .a) (c .before .before .before .before .before .before .args .b) _ _ _ _ _ (c .before .before .before .before .tag .ensures) (c .before .before .before .base-below .ensures) (c .before .before .level .ensures) (c .before .level2 .ensures) (c .level3 .ensures)
+returns c = search subtype-law
 
 pub subtype-spec : {M : Type 1} → statement M
 subtype-spec =

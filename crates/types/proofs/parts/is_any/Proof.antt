@@ -5,13 +5,13 @@ use Rattle.types.proofs.parts.is_any.Statement.{statement}
 use Rattle.types.proofs.parts.is_any.Tie as tie
 
 returns : tie.Need-returns
-returns c = any-on (c .before .before .args .t) (c .if1 .taken)
+returns c = search any-on
 
 tag-requires : tie.Need-tag-requires
 tag-requires c κs = search needs
 
 returns-2 : tie.Need-returns-2
-returns-2 c = any-ends (c .before .before .before .args .t) _ (c .before .if1 .left) (c .tag .ensures)
+returns-2 c = search any-ends
 
 pub is-any-spec : {M : Type 1} → statement M
 is-any-spec = tie.close (tie.spec returns tag-requires returns-2)

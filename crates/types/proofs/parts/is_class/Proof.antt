@@ -7,7 +7,7 @@ use Rattle.types.proofs.parts.is_class.Tie as tie
 
 returns : tie.Need-returns
 unfolding classNumber
-returns c = class-on (c .before .before .args .t) (c .if1 .taken)
+returns c = search class-on
 
 enum-told : tie.Need-enum-told
 enum-told c = search needs
@@ -52,7 +52,11 @@ returns-6 c = class-ends (c .before .before .before .before .args .t) _ (c .befo
 
 returns-7 : tie.Need-returns-7
 unfolding classNumber classOf simpleClass
-returns-7 c = class-ends (c .before .before .before .before .before .args .t) _ (c .before .before .before .if1 .left) (c .before .b .given .1)
+returns-7 c =
+    let at-b = c .before in
+    let at-if1 = at-b .before .before in
+    let at-start = at-if1 .before .before in
+    class-ends (at-start .args .t) _ (at-if1 .if1 .left) (at-b .b .given .1)
 
 pub is-class-spec : {M : Type 1} → statement M
 is-class-spec =

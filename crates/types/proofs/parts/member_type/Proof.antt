@@ -5,13 +5,13 @@ use Rattle.types.proofs.parts.member_type.Statement.{statement}
 use Rattle.types.proofs.parts.member_type.Tie as tie
 
 returns : tie.Need-returns
-returns c = member-ends (c .before .before .args .t) (c .if1 .taken)
+returns c = search member-ends
 
 under-outer-requires : tie.Need-under-outer-requires
 under-outer-requires c κs = search needs
 
 returns-2 : tie.Need-returns-2
-returns-2 c = member-on (c .before .before .before .args .t) _ (c .before .if1 .left) (c .under-outer .ensures)
+returns-2 c = search member-on
 
 pub member-type-spec : {M : Type 1} → statement M
 member-type-spec = tie.close (tie.spec returns under-outer-requires returns-2)

@@ -4,10 +4,10 @@ use Rattle.types.proofs.parts.outer_code.Statement.{statement}
 use Rattle.types.proofs.parts.outer_code.Tie as tie
 
 returns : tie.Need-returns
-returns c = outer-high (c .before .before .args .t) (c .if1 .taken)
+returns c = search outer-high
 
 returns-2 : tie.Need-returns-2
-returns-2 c = outer-low (c .before .before .args .t) (c .if1 .left)
+returns-2 c = search outer-low
 
 pub outer-code-spec : {M : Type 1} → statement M
 outer-code-spec = tie.close (tie.spec returns returns-2)

@@ -35,7 +35,12 @@ class-of-requires : tie.Need-class-of-requires
 class-of-requires c κs = search needs
 
 returns-2 : tie.Need-returns-2
-returns-2 c = class-on _ (c .before .before .before .before .before .before .before .before .args .s .now) (c .class-of .result) (sym (c .before .before .before .if2 .taken) ∙ c .before .before .before .before .closes .ensures) (c .before .number .ensures) (c .class-of .ensures)
+returns-2 c =
+    let at-number = c .before in
+    let at-if2 = at-number .before .before in
+    let at-closes = at-if2 .before in
+    let at-start = at-closes .before .before .before .before in
+    class-on _ (at-start .args .s .now) (c .class-of .result) (sym (at-if2 .if2 .taken) ∙ at-closes .closes .ensures) (at-number .number .ensures) (c .class-of .ensures)
 
 returns-3 : tie.Need-returns-3
 returns-3 c = class-off _ (c .before .before .before .before .before .args .s .now) (sym (c .if2 .left) ∙ c .before .closes .ensures)

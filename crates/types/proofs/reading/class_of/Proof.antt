@@ -23,10 +23,10 @@ unfolding typeField classField
 returns c = ap classField (sym (c .enum-told .given .1))
 
 returns-2 : tie.Need-returns-2
-returns-2 c = small-class _ _ _ (c .before .before .before .n .given .1) (c .before .if1 .taken) (c .plain .ensures)
+returns-2 c = search small-class
 
 returns-3 : tie.Need-returns-3
-returns-3 c = big-class _ _ (c .before .before .n .given .1) (c .if1 .left)
+returns-3 c = search big-class
 
 pub class-of-spec : {M : Type 1} → statement M
 class-of-spec =

@@ -25,7 +25,7 @@ shared-slice-read-if2 : tie.Need-shared-slice-read-if2 Inv-loop μ-loop
 shared-slice-read-if2 c = search needs
 
 returns-2 : tie.Need-returns-2 Inv-loop μ-loop
-returns-2 c = closes-stop _ _ _ (c .before .before .before .before .if1 .left) (c .before .before .before .loop .inv .1) (c .before .before .loop-test .taken) (c .if2 .taken)
+returns-2 c = search closes-stop
 
 add-i : tie.Need-add-i Inv-loop μ-loop
 add-i c = search needs
@@ -34,10 +34,10 @@ loop-less : tie.Need-loop-less Inv-loop μ-loop
 loop-less c = search needs
 
 loop-again : tie.Need-loop-again Inv-loop μ-loop
-loop-again c = (search needs, closes-more _ _ _ (c .before .before .before .before .if1 .left) (c .before .before .before .loop .inv .1) (c .before .before .loop-test .taken) (c .if2 .left))
+loop-again c = search (closes-more, needs)
 
 returns-3 : tie.Need-returns-3 Inv-loop μ-loop
-returns-3 c = closes-end _ _ _ (c .before .before .if1 .left) (c .before .loop .inv .1) (c .loop-test .left)
+returns-3 c = search closes-end
 
 pub closes-spec : {M : Type 1} → statement M
 closes-spec =

@@ -12,10 +12,17 @@ wrap-requires : tie.Need-wrap-requires
 wrap-requires c κs = search needs
 
 returns : tie.Need-returns
-returns c = deeper-wrap _ (c .before .before .before .args .t) _ (c .before .before .before .pre) (omega (arith, c .before .before .depth .ensures, c .before .if1 .taken)) (c .wrap .ensures)
+returns c =
+    let at-if1 = c .before in
+    let at-depth = at-if1 .before in
+    let at-start = at-depth .before in
+    deeper-wrap _ (at-start .args .t) _ (at-start .pre) (omega (arith, at-depth .depth .ensures, at-if1 .if1 .taken)) (c .wrap .ensures)
 
 returns-2 : tie.Need-returns-2
-returns-2 c = deeper-full _ (c .before .before .args .t) (c .before .before .pre) (omega (arith, c .before .depth .ensures, c .if1 .left))
+returns-2 c =
+    let at-depth = c .before in
+    let at-start = at-depth .before in
+    deeper-full _ (at-start .args .t) (at-start .pre) (omega (arith, at-depth .depth .ensures, c .if1 .left))
 
 pub deeper-spec : {M : Type 1} → statement M
 deeper-spec = tie.close (tie.spec depth-requires wrap-requires returns returns-2)

@@ -8,7 +8,7 @@ letter-code-requires : tie.Need-letter-code-requires
 letter-code-requires c κs = search needs
 
 returns : tie.Need-returns
-returns c = lettered-none _ _ (c .before .before .args .g) (c .before .letter-code .ensures) (c .if1 .taken)
+returns c = search lettered-none
 
 enum-told : tie.Need-enum-told
 enum-told c = search needs
@@ -23,13 +23,13 @@ deeper-requires : tie.Need-deeper-requires
 deeper-requires c κs = search needs
 
 returns-2 : tie.Need-returns-2
-returns-2 c = lettered-bad _ _ (c .before .before .before .before .args .g) (c .before .before .before .letter-code .ensures) (c .before .before .if1 .left) (c .enum-told .given .1)
+returns-2 c = search lettered-bad
 
 returns-3 : tie.Need-returns-3
-returns-3 c = lettered-big _ _ (c .before .before .before .before .args .g) (c .before .before .before .letter-code .ensures) (c .before .before .if1 .left) (c .enum-told2 .given .1)
+returns-3 c = search lettered-big
 
 returns-4 : tie.Need-returns-4
-returns-4 c = lettered-is _ _ (c .before .before .before .before .before .before .args .g) (c .before .before .before .before .before .letter-code .ensures) (c .before .before .before .before .if1 .left) _ (c .deeper .result) (c .before .before .g .given .1) (c .deeper .ensures)
+returns-4 c = search lettered-is
 
 pub lettered-spec : {M : Type 1} → statement M
 lettered-spec =

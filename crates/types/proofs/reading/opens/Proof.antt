@@ -22,7 +22,7 @@ shared-slice-read-if1 : tie.Need-shared-slice-read-if1 Inv-loop μ-loop
 shared-slice-read-if1 c = search needs
 
 returns : tie.Need-returns Inv-loop μ-loop
-returns c = record { is = opens-stop _ _ _ (c .before .before .before .loop .inv .0) (c .before .before .before .loop .inv .1) (c .if1 .taken); within = omega arith }
+returns c = search opens-stop
 
 add-i : tie.Need-add-i Inv-loop μ-loop
 add-i c = search needs
@@ -34,10 +34,10 @@ loop-less : tie.Need-loop-less Inv-loop μ-loop
 loop-less c = search needs
 
 loop-again : tie.Need-loop-again Inv-loop μ-loop
-loop-again c = (omega arith, opens-more _ _ _ (c .before .before .before .loop .inv .0) (c .before .before .before .loop .inv .1) (c .before .before .loop-test .taken) (c .if1 .left), omega arith)
+loop-again c = search (opens-more, needs)
 
 returns-2 : tie.Need-returns-2 Inv-loop μ-loop
-returns-2 c = record { is = opens-end _ _ _ (c .before .loop .inv .0) (c .before .loop .inv .1) (c .loop-test .left); within = omega arith }
+returns-2 c = search opens-end
 
 pub opens-spec : {M : Type 1} → statement M
 opens-spec =

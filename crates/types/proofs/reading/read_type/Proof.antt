@@ -1,8 +1,8 @@
 -- `read_type` meets its contract. The loop's invariant: what was read is the type inside the first j letters, before their brackets.
 use borrow.Author.Needs.{needs}
 use native.Mathlib.Omega.{arith}
-use Prim.Native.Nat.{_+_, _-_, _≤_}
-use mathlib.Core.Path.{_≡_, refl}
+use Prim.Native.Nat.{_+_, _≤_}
+use mathlib.Core.Path.{_≡_}
 use lib.ListN.{drop}
 use Rattle.types.specs.Reading.{typeField, held, typeBefore}
 use Rattle.types.proofs.TypeFields.{letter-next, letters-start, letters-end}
@@ -34,7 +34,7 @@ base-before-requires : tie.Need-base-before-requires Inv-loop μ-loop
 base-before-requires c κs = search needs
 
 loop-holds : tie.Need-loop-holds Inv-loop μ-loop
-loop-holds c = (omega arith, letters-start (c .before .before .before .before .args .f .now) _ (c .before .before .opens .ensures) (c .base-before .result) (c .base-before .ensures))
+loop-holds c = search (letters-start, needs)
 
 sub-j : tie.Need-sub-j Inv-loop μ-loop
 sub-j c = search needs
@@ -43,7 +43,7 @@ add-i : tie.Need-add-i Inv-loop μ-loop
 add-i c = search needs
 
 shared-slice-read-lettered : tie.Need-shared-slice-read-lettered Inv-loop μ-loop
-shared-slice-read-lettered c = omega (arith, c .before .before .before .before .before .opens .ensures .within, c .before .before .loop .inv .0, c .before .loop-test .taken)
+shared-slice-read-lettered c = omega arith
 
 lettered-requires : tie.Need-lettered-requires Inv-loop μ-loop
 lettered-requires c κs = search needs
@@ -52,10 +52,10 @@ loop-less : tie.Need-loop-less Inv-loop μ-loop
 loop-less c = search needs
 
 loop-again : tie.Need-loop-again Inv-loop μ-loop
-loop-again c = (omega arith, letter-next (c .before .before .before .before .before .before .before .before .args .f .now) _ (c .before .before .before .before .before .before .opens .ensures) (c .before .before .before .loop .j - 1) (c .before .before .before .loop .j) (c .before .before .before .loop .g) (c .lettered .result) refl (c .before .before .loop-test .taken) (c .before .before .before .loop .inv .0) (c .before .before .before .loop .inv .1) (c .lettered .ensures))
+loop-again c = search (letter-next, needs)
 
 returns : tie.Need-returns Inv-loop μ-loop
-returns c = letters-end (c .before .before .before .before .before .before .args .f .now) _ (c .before .loop .g) (c .loop-test .left) (c .before .loop .inv .1)
+returns c = search letters-end
 
 pub read-type-spec : {M : Type 1} → statement M
 read-type-spec =

@@ -29,10 +29,19 @@ closes-requires : tie.Need-closes-requires
 closes-requires c κs = search needs
 
 returns-2 : tie.Need-returns-2
-returns-2 c = c .closes .ensures ∙ spells-on (c .before .before .before .before .before .before .before .before .args .w .now) _ (c .before .before .before .before .before .before .before .before .args .s .now) (c .before .before .before .before .before .if1 .left) (sym (c .before .before .if2 .taken) ∙ c .before .before .before .same .ensures)
+returns-2 c =
+    let at-if2 = c .before .before in
+    let at-same = at-if2 .before in
+    let at-if1 = at-same .before .before in
+    let at-start = at-if1 .before .before .before in
+    c .closes .ensures ∙ spells-on (at-start .args .w .now) _ (at-start .args .s .now) (at-if1 .if1 .left) (sym (at-if2 .if2 .taken) ∙ at-same .same .ensures)
 
 returns-3 : tie.Need-returns-3
-returns-3 c = spells-off (c .before .before .before .before .before .before .args .w .now) _ (c .before .before .before .before .before .before .args .s .now) (c .before .before .before .if1 .left) (sym (c .if2 .left) ∙ c .before .same .ensures)
+returns-3 c =
+    let at-same = c .before in
+    let at-if1 = at-same .before .before in
+    let at-start = at-if1 .before .before .before in
+    spells-off (at-start .args .w .now) _ (at-start .args .s .now) (at-if1 .if1 .left) (sym (c .if2 .left) ∙ at-same .same .ensures)
 
 pub spells-spec : {M : Type 1} → statement M
 spells-spec =

@@ -29,26 +29,35 @@ mul-if1 : tie.Need-mul-if1 Inv-loop μ-loop
 mul-if1 c = search needs
 
 shared-slice-read-if1 : tie.Need-shared-slice-read-if1 Inv-loop μ-loop
-shared-slice-read-if1 c = omega (arith, c .before .before .before .before .before .pre .0, c .before .before .loop .inv .0)
+shared-slice-read-if1 c = omega arith
 
 mul-if2 : tie.Need-mul-if2 Inv-loop μ-loop
 mul-if2 c = search needs
 
 shared-slice-read-if2 : tie.Need-shared-slice-read-if2 Inv-loop μ-loop
-shared-slice-read-if2 c = omega (arith, c .before .before .before .before .before .before .before .pre .1, c .before .before .before .before .loop .inv .0)
+shared-slice-read-if2 c = omega arith
 
 number-requires : tie.Need-number-requires Inv-loop μ-loop
 number-requires c κs = search needs
 
 returns : tie.Need-returns Inv-loop μ-loop
 unfolding found
-returns c = ap some (c .number .ensures) ∙ declared-here _ _ _ _ _ (positive (c .before .before .before .before .before .loop-test .taken)) (c .before .before .before .if1 .taken) (c .before .if2 .taken) ∙ c .before .before .before .before .before .before .loop .inv .1
+returns c =
+    let at-if2 = c .before in
+    let at-if1 = at-if2 .before .before in
+    let at-loop-test = at-if1 .before .before in
+    let at-loop = at-loop-test .before in
+    ap some (c .number .ensures) ∙ declared-here _ _ _ _ _ (positive (at-loop-test .loop-test .taken)) (at-if1 .if1 .taken) (at-if2 .if2 .taken) ∙ at-loop .loop .inv .1
 
 loop-less : tie.Need-loop-less Inv-loop μ-loop
 loop-less c = omega arith
 
 loop-again : tie.Need-loop-again Inv-loop μ-loop
-loop-again c = (omega arith, declared-name _ _ _ _ _ (positive (c .before .before .before .before .loop-test .taken)) (c .before .before .if1 .taken) (c .if2 .left) ∙ c .before .before .before .before .before .loop .inv .1)
+loop-again c =
+    let at-if1 = c .before .before in
+    let at-loop-test = at-if1 .before .before in
+    let at-loop = at-loop-test .before in
+    (omega arith, declared-name _ _ _ _ _ (positive (at-loop-test .loop-test .taken)) (at-if1 .if1 .taken) (c .if2 .left) ∙ at-loop .loop .inv .1)
 
 loop-less-2 : tie.Need-loop-less-2 Inv-loop μ-loop
 loop-less-2 c = omega arith

@@ -33,16 +33,26 @@ parent-requires c κs = search needs
 
 returns-2 : tie.Need-returns-2 Inv-loop μ-loop
 unfolding found
-returns-2 c = read-none _ _ _ _ _ _ _ (c .before .before .before .before .declared .ensures) (c .before .before .enum-told .given .1) (sym (c .if1 .taken) ∙ c .before .parent .ensures) ∙ c .before .before .before .before .before .loop .inv
+returns-2 c =
+    let at-parent = c .before in
+    let at-enum-told = at-parent .before in
+    let at-declared = at-enum-told .before .before in
+    let at-loop = at-declared .before in
+    read-none _ _ _ _ _ _ _ (at-declared .declared .ensures) (at-enum-told .enum-told .given .1) (sym (c .if1 .taken) ∙ at-parent .parent .ensures) ∙ at-loop .loop .inv
 
 sub-x : tie.Need-sub-x Inv-loop μ-loop
 sub-x c = search needs
 
 loop-less : tie.Need-loop-less Inv-loop μ-loop
-loop-less c = parent-falls _ _ _ (c .before .parent .ensures) (c .if1 .left)
+loop-less c = search parent-falls
 
 loop-again : tie.Need-loop-again Inv-loop μ-loop
-loop-again c = read-up _ _ _ _ _ _ _ (c .before .before .before .before .declared .ensures) _ (c .before .before .enum-told .given .1) (c .before .parent .ensures) (c .if1 .left) ∙ c .before .before .before .before .before .loop .inv
+loop-again c =
+    let at-parent = c .before in
+    let at-enum-told = at-parent .before in
+    let at-declared = at-enum-told .before .before in
+    let at-loop = at-declared .before in
+    read-up _ _ _ _ _ _ _ (at-declared .declared .ensures) _ (at-enum-told .enum-told .given .1) (at-parent .parent .ensures) (c .if1 .left) ∙ at-loop .loop .inv
 
 pub nearest-spec : {M : Type 1} → statement M
 nearest-spec =

@@ -62,7 +62,7 @@ cast-put-number : tie.Need-cast-put-number
 cast-put-number c = search needs
 
 put-number-requires : tie.Need-put-number-requires
-put-number-requires c κs = room-number (c .before .before .before .before .before .known-told .given .0 .1) _ (c .before .before .before .before .before .before .before .before .before .args .out .now) (c .before .before .before .before .before .before .before .before .before .pre) (c .before .before .before .put-byte .ensures)
+put-number-requires c κs = search room-number
 
 same-length : tie.Need-same-length
 same-length c = search needs
@@ -103,7 +103,13 @@ same-length-6 : tie.Need-same-length-6
 same-length-6 c = search needs
 
 returns-6 : tie.Need-returns-6
-returns-6 c = puts-class (c .before .before .before .before .before .before .before .before .known-told .given .0 .1) _ (c .before .before .before .before .before .before .before .before .before .before .before .before .args .out .now) (c .before .before .before .before .before .before .before .before .before .before .before .before .pre) (c .before .before .before .before .before .before .put-byte .ensures) (c .before .before .before .before .before .before .before .before .before .b .given .1) (c .before .before .put-number .ensures)
+returns-6 c =
+    let at-put-number = c .before .before in
+    let at-put-byte = at-put-number .before .before .before .before in
+    let at-known-told = at-put-byte .before .before in
+    let at-b = at-known-told .before in
+    let at-start = at-b .before .before .before in
+    puts-class (at-known-told .known-told .given .0 .1) _ (at-start .args .out .now) (at-start .pre) (at-put-byte .put-byte .ensures) (at-b .b .given .1) (at-put-number .put-number .ensures)
 
 pub put-base-spec : {M : Type 1} → statement M
 put-base-spec =

@@ -1,6 +1,4 @@
 -- `put_brackets` meets its contract.
-use native.Mathlib.Omega.{arith}
-use mathlib.Core.Path.{sym}
 use lib.Seq.{length-take-le}
 use Rattle.types.specs.Written.{brackets}
 use borrow.Author.Needs.{needs}
@@ -11,18 +9,18 @@ array-share-prefix-all : tie.Need-array-share-prefix-all
 array-share-prefix-all c = search needs
 
 slice-aggregate-put-bytes : tie.Need-slice-aggregate-put-bytes
-slice-aggregate-put-bytes c = sym (length-take-le _ _ (omega (arith, c .before .before .before .pre .0)))
+slice-aggregate-put-bytes c = search length-take-le
 
 put-bytes-requires : tie.Need-put-bytes-requires
 unfolding brackets
-put-bytes-requires c κs = c .before .before .before .pre .1
+put-bytes-requires c κs = search needs
 
 same-length : tie.Need-same-length
 same-length c = search needs
 
 returns : tie.Need-returns
 unfolding brackets
-returns c = c .before .before .put-bytes .ensures
+returns c = search needs
 
 pub put-brackets-spec : {M : Type 1} → statement M
 put-brackets-spec =

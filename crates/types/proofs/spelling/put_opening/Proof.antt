@@ -23,7 +23,12 @@ same-length c = search needs
 
 returns : tie.Need-returns
 unfolding opening
-returns c = puts-as (puts-then (c .before .before .before .before .before .before .put-byte .ensures) (c .before .before .put-byte2 .ensures) (omega (arith, c .before .before .before .before .before .before .before .before .before .before .pre))) (ap (λ (l : ℕ). l ∷ 40 ∷ []) (c .before .before .before .before .before .before .before .letter-byte .ensures))
+returns c =
+    let at-put-byte2 = c .before .before in
+    let at-put-byte = at-put-byte2 .before .before .before .before in
+    let at-letter-byte = at-put-byte .before in
+    let at-start = at-letter-byte .before .before .before in
+    puts-as (puts-then (at-put-byte .put-byte .ensures) (at-put-byte2 .put-byte2 .ensures) (omega (arith, at-start .pre))) (ap (λ (l : ℕ). l ∷ 40 ∷ []) (at-letter-byte .letter-byte .ensures))
 
 pub put-opening-spec : {M : Type 1} → statement M
 put-opening-spec =

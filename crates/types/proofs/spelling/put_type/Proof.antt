@@ -10,19 +10,24 @@ depth-requires : tie.Need-depth-requires
 depth-requires c κs = search needs
 
 put-letters-requires : tie.Need-put-letters-requires
-put-letters-requires c κs = room-letters (c .before .before .before .args .t) _ (c .before .before .before .args .out .now) (c .before .before .before .pre)
+put-letters-requires c κs = search room-letters
 
 put-base-requires : tie.Need-put-base-requires
-put-base-requires c κs = room-base (c .before .before .before .before .before .before .before .args .t) _ (c .before .before .before .before .before .before .before .args .out .now) (c .before .before .before .before .before .before .before .pre) (c .before .before .before .put-letters .ensures)
+put-base-requires c κs = search room-base
 
 put-brackets-requires : tie.Need-put-brackets-requires
-put-brackets-requires c κs = (omega (arith, c .before .before .before .before .before .before .before .before .before .depth .ensures, depth-le (c .before .before .before .before .before .before .before .before .before .before .before .args .t)), room-brackets (c .before .before .before .before .before .before .before .before .before .before .before .args .t) _ (c .before .before .before .before .before .before .before .before .before .before .before .args .out .now) (c .before .before .before .before .before .before .before .before .before .before .before .pre) (c .before .before .before .before .before .before .before .put-letters .ensures) (c .before .before .before .put-base .ensures .0) (c .before .before .before .put-base .ensures .1) _)
+put-brackets-requires c κs =
+    let at-put-base = c .before .before .before in
+    let at-put-letters = at-put-base .before .before .before .before in
+    let at-depth = at-put-letters .before .before in
+    let at-start = at-depth .before .before in
+    (omega (arith, at-depth .depth .ensures, depth-le (at-start .args .t)), room-brackets (at-start .args .t) _ (at-start .args .out .now) (at-start .pre) (at-put-letters .put-letters .ensures) (at-put-base .put-base .ensures .0) (at-put-base .put-base .ensures .1) _)
 
 same-length : tie.Need-same-length
 same-length c = search needs
 
 returns : tie.Need-returns
-returns c = puts-type (c .before .before .before .before .before .before .before .before .before .before .before .before .before .before .args .t) _ (c .before .before .before .before .before .before .before .before .before .before .before .before .before .before .args .out .now) (c .before .before .before .before .before .before .before .before .before .before .before .before .before .before .pre) (c .before .before .before .before .before .before .before .before .before .before .put-letters .ensures) (c .before .before .before .before .before .before .put-base .ensures .0) (c .before .before .before .before .before .before .put-base .ensures .1) _ (c .before .before .before .before .before .before .before .before .before .before .before .before .depth .ensures) (c .before .before .put-brackets .ensures)
+returns c = search puts-type
 
 pub put-type-spec : {M : Type 1} → statement M
 put-type-spec =

@@ -39,13 +39,29 @@ add-result-2 : tie.Need-add-result-2
 add-result-2 c = search needs
 
 mul-result-3 : tie.Need-mul-result-3
-mul-result-3 c = omega (arith, tag-le (c .before .before .before .before .before .args .t .base), c .before .before .before .before .tag .ensures, c .before .before .before .class-in .ok)
+mul-result-3 c =
+    let at-class-in = c .before .before .before in
+    let at-tag = at-class-in .before in
+    let at-start = at-tag .before in
+    omega (arith, tag-le (at-start .args .t .base), at-tag .tag .ensures, at-class-in .class-in .ok)
 
 add-result-3 : tie.Need-add-result-3
-add-result-3 c = omega (arith, tag-le (c .before .before .before .before .before .args .t .base), c .before .before .before .before .tag .ensures, c .before .before .before .class-in .ok, c .before .before .three-bits .ensures .small, c .before .three-bits2 .ensures .small, c .three-bits3 .ensures .small)
+add-result-3 c =
+    let at-three-bits2 = c .before in
+    let at-three-bits = at-three-bits2 .before in
+    let at-class-in = at-three-bits .before in
+    let at-tag = at-class-in .before in
+    let at-start = at-tag .before in
+    omega (arith, tag-le (at-start .args .t .base), at-tag .tag .ensures, at-class-in .class-in .ok, at-three-bits .three-bits .ensures .small, at-three-bits2 .three-bits2 .ensures .small, c .three-bits3 .ensures .small)
 
 returns : tie.Need-returns
-returns c = pack-law (c .before .before .before .before .before .args .t) _ _ _ _ (omega (arith, c .before .before .before .class-in .ensures, c .before .before .before .class-in .ok)) (omega (arith, c .before .before .before .before .tag .ensures, c .before .before .before .class-in .ensures)) (c .before .before .three-bits .ensures) (c .before .three-bits2 .ensures) (c .three-bits3 .ensures)
+returns c =
+    let at-three-bits2 = c .before in
+    let at-three-bits = at-three-bits2 .before in
+    let at-class-in = at-three-bits .before in
+    let at-tag = at-class-in .before in
+    let at-start = at-tag .before in
+    pack-law (at-start .args .t) _ _ _ _ (omega (arith, at-class-in .class-in .ensures, at-class-in .class-in .ok)) (omega (arith, at-tag .tag .ensures, at-class-in .class-in .ensures)) (at-three-bits .three-bits .ensures) (at-three-bits2 .three-bits2 .ensures) (c .three-bits3 .ensures)
 
 pub pack-spec : {M : Type 1} → statement M
 pack-spec =

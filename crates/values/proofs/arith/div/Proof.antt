@@ -21,10 +21,10 @@ div-toward : tie.Need-div-toward
 div-toward c = let m = distance-some _ (c .before .before .before .if1 .left) in omega arith
 
 toward-requires : tie.Need-toward-requires
-toward-requires c κs = quotient-small _ _ _ (c .before .distance .ensures) (omega arith)
+toward-requires c κs = search quotient-small
 
 returns-2 : tie.Need-returns-2
-returns-2 c = div-is _ _ (c .before .before .distance .ensures) (c .before .distance2 .ensures) (c .before .before .before .before .if1 .left) (c .before .before .before .alike .ensures) (c .toward .ensures)
+returns-2 c = search div-is
 
 pub div-spec : {M : Type 1} → statement M
 div-spec =

@@ -11,7 +11,7 @@ returns : tie.Need-returns
 returns c = minus-low (c .if1 .taken)
 
 returns-2 : tie.Need-returns-2
-returns-2 c = minus-is (c .before .if1 .left) (c .if2 .taken)
+returns-2 c = search minus-is
 
 returns-3 : tie.Need-returns-3
 returns-3 c = minus-high (c .if2 .left)

@@ -21,7 +21,7 @@ toward-requires : tie.Need-toward-requires
 toward-requires c κs = omega (arith, rest-small _ (c .before .distance .result) _ (c .distance2 .ensures) (omega arith) (c .before .before .if1 .left))
 
 returns-2 : tie.Need-returns-2
-returns-2 c = mod-is _ _ (c .before .before .distance .ensures) (c .before .distance2 .ensures) (c .before .before .before .if1 .left) (c .toward .ensures)
+returns-2 c = search mod-is
 
 pub modulo-spec : {M : Type 1} → statement M
 modulo-spec =

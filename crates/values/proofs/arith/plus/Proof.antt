@@ -11,7 +11,7 @@ returns : tie.Need-returns
 returns c = plus-low (c .if1 .taken)
 
 returns-2 : tie.Need-returns-2
-returns-2 c = plus-is (c .before .if1 .left) (c .if2 .taken)
+returns-2 c = search plus-is
 
 returns-3 : tie.Need-returns-3
 returns-3 c = plus-high (c .if2 .left)

@@ -15,7 +15,7 @@ mul-p : tie.Need-mul-p
 mul-p c = omega (arith, product-small _ _ _ _ (c .before .distance .ensures) (c .distance2 .ensures) (omega arith) (omega arith))
 
 returns : tie.Need-returns
-returns c = times-over _ _ (c .before .before .distance .ensures) (c .before .distance2 .ensures) (c .if1 .taken)
+returns c = search times-over
 
 alike-requires : tie.Need-alike-requires
 alike-requires c κs = search needs
@@ -24,7 +24,7 @@ toward-requires : tie.Need-toward-requires
 toward-requires c κs = search needs
 
 returns-2 : tie.Need-returns-2
-returns-2 c = times-is _ _ (c .before .before .before .before .distance .ensures) (c .before .before .before .distance2 .ensures) (c .before .alike .ensures) (c .toward .ensures)
+returns-2 c = search times-is
 
 pub times-spec : {M : Type 1} → statement M
 times-spec =

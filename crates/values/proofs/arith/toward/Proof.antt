@@ -12,10 +12,10 @@ sub-t8 : tie.Need-sub-t8
 sub-t8 c = search needs
 
 returns : tie.Need-returns
-returns c = above-zero (c .before .if1 .taken) (c .if2 .taken)
+returns c = search above-zero
 
 returns-2 : tie.Need-returns-2
-returns-2 c = above-range (c .before .if1 .taken) (c .if2 .left)
+returns-2 c = search above-range
 
 returns-3 : tie.Need-returns-3
 returns-3 c = below-zero (c .if1 .left) (omega arith)

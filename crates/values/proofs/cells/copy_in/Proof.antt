@@ -42,13 +42,20 @@ loop-less : tie.Need-loop-less Inv-loop μ-loop
 loop-less c = omega arith
 
 loop-again : tie.Need-loop-again Inv-loop μ-loop
-loop-again c = (copy-again _ _ _ _ _ _ _ (c .before .before .before .pre .0) (c .before .before .before .pre .1) (c .before .loop-test .taken) (c .before .before .loop .inv .0), omega arith, simp length-set (c .before .before .loop .inv .2))
+loop-again c =
+    let at-loop-test = c .before in
+    let at-loop = at-loop-test .before in
+    let at-start = at-loop .before in
+    (copy-again _ _ _ _ _ _ _ (at-start .pre .0) (at-start .pre .1) (at-loop-test .loop-test .taken) (at-loop .loop .inv .0), omega arith, simp length-set (at-loop .loop .inv .2))
 
 same-length : tie.Need-same-length Inv-loop μ-loop
-same-length c = c .before .loop .inv .2
+same-length c = cc
 
 returns : tie.Need-returns Inv-loop μ-loop
-returns c = copy-done _ _ _ _ _ _ (c .before .loop .i) (c .before .before .pre .0) (c .before .before .pre .1) (omega arith) (c .before .loop .inv .0)
+returns c =
+    let at-loop = c .before in
+    let at-start = at-loop .before in
+    copy-done _ _ _ _ _ _ (at-loop .loop .i) (at-start .pre .0) (at-start .pre .1) (omega arith) (at-loop .loop .inv .0)
 
 pub copy-in-spec : {M : Type 1} → statement M
 copy-in-spec =

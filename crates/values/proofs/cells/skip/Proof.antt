@@ -19,7 +19,7 @@ sub-if1 : tie.Need-sub-if1 Inv-loop μ-loop
 sub-if1 c = omega arith
 
 returns : tie.Need-returns Inv-loop μ-loop
-returns c = skips-over (c .before .before .loop .inv) (c .if1 .taken)
+returns c = search skips-over
 
 sub-n : tie.Need-sub-n Inv-loop μ-loop
 sub-n c = omega arith

@@ -42,10 +42,14 @@ loop-less : tie.Need-loop-less Inv-loop μ-loop
 loop-less c = omega arith
 
 loop-again : tie.Need-loop-again Inv-loop μ-loop
-loop-again c = (slide-again _ _ _ _ _ _ (c .before .before .before .pre .0 .0) (c .before .before .before .pre .0 .1) (c .before .before .before .pre .1) (c .before .loop-test .taken) (c .before .before .loop .inv .0), omega arith, simp length-set (c .before .before .loop .inv .2))
+loop-again c =
+    let at-loop-test = c .before in
+    let at-loop = at-loop-test .before in
+    let at-start = at-loop .before in
+    (slide-again _ _ _ _ _ _ (at-start .pre .0 .0) (at-start .pre .0 .1) (at-start .pre .1) (at-loop-test .loop-test .taken) (at-loop .loop .inv .0), omega arith, simp length-set (at-loop .loop .inv .2))
 
 same-length : tie.Need-same-length Inv-loop μ-loop
-same-length c = c .before .loop .inv .2
+same-length c = cc
 
 returns : tie.Need-returns Inv-loop μ-loop
 returns c = record {

@@ -16,7 +16,7 @@ loop-holds : tie.Need-loop-holds Inv-loop μ-loop
 loop-holds c = record { left = omega arith; right = omega arith; below = omega arith; below' = omega arith; same = rw (add-zero (c .args .p), add-zero (c .args .q)) }
 
 returns : tie.Need-returns Inv-loop μ-loop
-returns c = compare-ended (c .before .before .loop .inv) (omega arith) (omega arith)
+returns c = search compare-ended
 
 add-a : tie.Need-add-a Inv-loop μ-loop
 add-a c = omega arith
@@ -37,10 +37,10 @@ shared-slice-read-b : tie.Need-shared-slice-read-b Inv-loop μ-loop
 shared-slice-read-b c = omega arith
 
 returns-2 : tie.Need-returns-2 Inv-loop μ-loop
-returns-2 c = compare-less (c .before .before .before .before .before .loop .inv) (omega arith) (omega arith) (c .if2 .taken)
+returns-2 c = search compare-less
 
 returns-3 : tie.Need-returns-3 Inv-loop μ-loop
-returns-3 c = compare-over (c .before .before .before .before .before .before .loop .inv) (omega arith) (omega arith) (c .if3 .taken)
+returns-3 c = search compare-over
 
 add-i : tie.Need-add-i Inv-loop μ-loop
 add-i c = omega arith
@@ -49,13 +49,13 @@ loop-less : tie.Need-loop-less Inv-loop μ-loop
 loop-less c = omega arith
 
 loop-again : tie.Need-loop-again Inv-loop μ-loop
-loop-again c = compare-again (c .before .before .before .before .before .before .loop .inv) (omega arith) (omega arith) (c .before .if2 .left) (c .if3 .left)
+loop-again c = search compare-again
 
 returns-4 : tie.Need-returns-4 Inv-loop μ-loop
-returns-4 c = compare-shorter (c .before .before .loop .inv) (omega arith) (omega arith)
+returns-4 c = search compare-shorter
 
 returns-5 : tie.Need-returns-5 Inv-loop μ-loop
-returns-5 c = compare-alike (c .before .before .loop .inv) (omega arith) (omega arith)
+returns-5 c = search compare-alike
 
 pub compare-spec : {M : Type 1} → statement M
 compare-spec =

@@ -18,22 +18,22 @@ skip-requires : tie.Need-skip-requires Inv-loop μ-loop
 skip-requires c κs = omega arith
 
 sub-equal : tie.Need-sub-equal Inv-loop μ-loop
-sub-equal c = omega (arith, c .skip .ensures .up (c .before .loop-test .taken))
+sub-equal c = omega arith
 
 equal-requires : tie.Need-equal-requires Inv-loop μ-loop
 equal-requires c κs = let u = c .skip .ensures .up (c .before .loop-test .taken) in omega arith
 
 returns : tie.Need-returns Inv-loop μ-loop
-returns c = seek-found (c .before .before .before .before .loop .inv) (c .before .before .before .loop-test .taken) (c .before .before .skip .ensures) (c .before .equal .ensures) (c .if1 .taken)
+returns c = search seek-found
 
 loop-less : tie.Need-loop-less Inv-loop μ-loop
 loop-less c = omega (arith, c .before .before .skip .ensures .up (c .before .before .before .loop-test .taken))
 
 loop-again : tie.Need-loop-again Inv-loop μ-loop
-loop-again c = seek-again (c .before .before .before .before .loop .inv) (c .before .before .before .loop-test .taken) (c .before .before .skip .ensures) (c .before .equal .ensures) (c .if1 .left)
+loop-again c = search seek-again
 
 returns-2 : tie.Need-returns-2 Inv-loop μ-loop
-returns-2 c = seek-end (c .before .loop .inv) (omega arith)
+returns-2 c = search seek-end
 
 pub includes-spec : {M : Type 1} → statement M
 includes-spec =

@@ -41,19 +41,35 @@ module _ (t : ℕ) where
   body-operand-requires c κs = search needs
 
   operand-requires : lts.Need-operand-requires calls (body-at t) body.Post
-  operand-requires c κs = omega (arith, c .before .before .before .before .before .before .before .before .before .before .before .before .before .before .before .before .before, c .before .before .before .before .before .before .before .before .before .before .source-type, c .before .body-operand)
+  operand-requires c κs =
+      let at-body-operand = c .before in
+      let at-source-type = at-body-operand .before .before .before .before .before .before .before .before .before in
+      let at-place = at-source-type .before .before .before .before .before .before .before in
+      omega (arith, at-place, at-source-type .source-type, at-body-operand .body-operand)
 
   same-length-2 : lts.Need-same-length-2 calls (body-at t) body.Post
   same-length-2 c = search needs
 
   returns-2 : lts.Need-returns-2 calls (body-at t) body.Post
-  returns-2 c = body-found _ _ _ _ _ _ _ _ _ (c .before .before .before .before .before .before .before .before .before .before .before .before .before .source-type .ensures .0) (c .before .before .before .before .before .before .before .before .before .source .given .1) (c .before .before .before .before .before .before .before .enters .ensures) _ (c .before .before .before .before .before .before .if1 .taken) (c .before .before .before .before .before .inner-env .ensures) (c .before .before .before .before .body-operand .ensures) (c .before .before .operand .ensures)
+  returns-2 c =
+      let at-operand = c .before .before in
+      let at-body-operand = at-operand .before .before in
+      let at-inner-env = at-body-operand .before in
+      let at-if1 = at-inner-env .before in
+      let at-enters = at-if1 .before in
+      let at-source = at-enters .before .before in
+      let at-source-type = at-source .before .before .before .before in
+      body-found _ _ _ _ _ _ _ _ _ (at-source-type .source-type .ensures .0) (at-source .source .given .1) (at-enters .enters .ensures) _ (at-if1 .if1 .taken) (at-inner-env .inner-env .ensures) (at-body-operand .body-operand .ensures) (at-operand .operand .ensures)
 
   same-length-3 : lts.Need-same-length-3 calls (body-at t) body.Post
   same-length-3 c = search needs
 
   returns-3 : lts.Need-returns-3 calls (body-at t) body.Post
-  returns-3 c = body-passed _ _ _ _ _ _ _ _ _ (c .before .before .before .before .before .before .before .source-type .ensures .0) (c .before .before .before .source .given .1) (c .before .enters .ensures) (c .if1 .left)
+  returns-3 c =
+      let at-enters = c .before in
+      let at-source = at-enters .before .before in
+      let at-source-type = at-source .before .before .before .before in
+      body-passed _ _ _ _ _ _ _ _ _ (at-source-type .source-type .ensures .0) (at-source .source .given .1) (at-enters .enters .ensures) (c .if1 .left)
 
   pub closed : {M : Type 1} → lts.Closed calls (body-at t) body.Post M
   closed = lts.spec calls (body-at t) body.Post source-type-requires enum-known-source enum-told same-length returns enters-requires inner-env-requires body-operand-requires operand-requires same-length-2 returns-2 same-length-3 returns-3

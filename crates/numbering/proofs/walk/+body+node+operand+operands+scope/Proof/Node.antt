@@ -34,7 +34,13 @@ module _ (t : ℕ) where
   same-length c = search needs
 
   returns : lts.Need-returns calls (node-at t) node.Post
-  returns c = (node-found _ _ _ _ _ _ _ _ (c .before .before .before .before .before .before .before .before .before .before .before .before .before .node-word .ensures) (c .before .before .before .before .before .before .before .before .before .before .before .before .operand-count .ensures) (c .before .before .before .before .before .before .before .before .before .before .operands .ensures) (c .before .before .before .before .before .before .scope .ensures) (c .before .before .own .ensures .0), search needs)
+  returns c =
+      let at-own = c .before .before in
+      let at-scope = at-own .before .before .before .before in
+      let at-operands = at-scope .before .before .before .before in
+      let at-operand-count = at-operands .before .before in
+      let at-node-word = at-operand-count .before in
+      (node-found _ _ _ _ _ _ _ _ (at-node-word .node-word .ensures) (at-operand-count .operand-count .ensures) (at-operands .operands .ensures) (at-scope .scope .ensures) (at-own .own .ensures .0), search needs)
 
   pub closed : {M : Type 1} → lts.Closed calls (node-at t) node.Post M
   closed = lts.spec calls (node-at t) node.Post node-word-requires operand-count-requires operands-requires scope-requires own-requires same-length returns

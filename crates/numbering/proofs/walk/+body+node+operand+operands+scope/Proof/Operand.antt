@@ -29,7 +29,12 @@ module _ (t : ℕ) where
   same-length c = search needs
 
   returns-2 : lts.Need-returns-2 calls (operand-at t) operand.Post
-  returns-2 c = operand-found _ _ _ _ _ _ _ _ _ (c .before .before .before .before .before .before .node-word .ensures) (c .before .before .before .before .before .wide .ensures) (c .before .before .before .before .if1 .left) (c .before .before .node .ensures .0)
+  returns-2 c =
+      let at-node = c .before .before in
+      let at-if1 = at-node .before .before in
+      let at-wide = at-if1 .before in
+      let at-node-word = at-wide .before in
+      operand-found _ _ _ _ _ _ _ _ _ (at-node-word .node-word .ensures) (at-wide .wide .ensures) (at-if1 .if1 .left) (at-node .node .ensures .0)
 
   pub closed : {M : Type 1} → lts.Closed calls (operand-at t) operand.Post M
   closed = lts.spec calls (operand-at t) operand.Post node-word-requires wide-requires returns node-requires same-length returns-2

@@ -38,7 +38,7 @@ module _ (t : ℕ) where
   loop-less c = omega arith
 
   loop-again : lts.Need-loop-again calls (operands-at t) operands.Post Inv μ
-  loop-again c = (omega arith, left-next _ _ _ _ _ _ _ (c .before .before .before .before .before .loop .inv .1) (c .before .before .before .before .loop-test .taken) (c .before .before .operand .ensures))
+  loop-again c = search left-next
 
   same-length : lts.Need-same-length calls (operands-at t) operands.Post Inv μ
   same-length c = omega arith

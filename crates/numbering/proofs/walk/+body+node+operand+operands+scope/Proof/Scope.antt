@@ -27,7 +27,11 @@ module _ (t : ℕ) where
   lower-requires c κs = search needs
 
   returns : lts.Need-returns calls (scope-at t) scope.Post
-  returns c = scope-called _ _ _ _ _ _ _ _ _ _ (c .before .before .before .before .before .before .before .before .before .pre .1 .0) (c .before .before .before .if1 .taken) (c .before .wide .ensures) (c .lower .ensures)
+  returns c =
+      let at-wide = c .before in
+      let at-if1 = at-wide .before .before in
+      let at-start = at-if1 .before .before .before .before .before .before in
+      scope-called _ _ _ _ _ _ _ _ _ _ (at-start .pre .1 .0) (at-if1 .if1 .taken) (at-wide .wide .ensures) (c .lower .ensures)
 
   binds-requires : lts.Need-binds-requires calls (scope-at t) scope.Post
   binds-requires c κs = search needs
@@ -39,7 +43,12 @@ module _ (t : ℕ) where
   same-length c = search needs
 
   returns-2 : lts.Need-returns-2 calls (scope-at t) scope.Post
-  returns-2 c = scope-bound _ _ _ _ _ _ _ _ _ (c .before .before .before .before .before .before .if1 .left) (c .before .before .before .before .before .binds .ensures) (c .before .before .before .before .if2 .taken) (c .before .before .body .ensures)
+  returns-2 c =
+      let at-body = c .before .before in
+      let at-if2 = at-body .before .before in
+      let at-binds = at-if2 .before in
+      let at-if1 = at-binds .before in
+      scope-bound _ _ _ _ _ _ _ _ _ (at-if1 .if1 .left) (at-binds .binds .ensures) (at-if2 .if2 .taken) (at-body .body .ensures)
 
   returns-3 : lts.Need-returns-3 calls (scope-at t) scope.Post
   returns-3 c = scope-none _ _ _ _ _ _ _ _ _ (c .before .before .if1 .left) (c .before .binds .ensures) (c .if2 .left)

@@ -1,0 +1,4 @@
+pub mod TypeLines
+pub mod Outcomes
+pub mod Making
+pub mod Editing
