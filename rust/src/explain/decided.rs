@@ -3,7 +3,7 @@
 use super::lines::part;
 use super::runs::{Line, Tree};
 use super::why::Why;
-use crate::tree::Form;
+use crate::tree::{Form, Node};
 use crate::values::Value;
 use crate::wording::shown;
 
@@ -68,7 +68,7 @@ impl Tree<'_> {
 
     fn gather_each(&self, runs: &[usize], depth: usize, found: &mut Vec<Line>) {
         for below in runs {
-            if !is_plain(&self.node(*below).form) {
+            if !is_plain(self.node(*below)) {
                 self.gather(*below, depth, found);
             }
         }
@@ -77,7 +77,7 @@ impl Tree<'_> {
     /// A run in one line, with nothing of what stands below it.
     fn lone_line(&self, at: usize, depth: usize) -> Line {
         let mut below = self.below(at).iter();
-        let hides = below.any(|below| !is_plain(&self.node(*below).form));
+        let hides = below.any(|below| !is_plain(self.node(*below)));
         Line {
             hides,
             ..self.short_line(at, depth)
@@ -111,15 +111,6 @@ impl Tree<'_> {
 
 /// What needs no line of its own: what is written says what it is, or what it is bound to
 /// has been said.
-fn is_plain(form: &Form) -> bool {
-    matches!(
-        form,
-        Form::True
-            | Form::False
-            | Form::Undef
-            | Form::Int(_)
-            | Form::Real(_)
-            | Form::SelfObject
-            | Form::Var(_)
-    )
+fn is_plain(node: &Node) -> bool {
+    node.is_literal() || matches!(node.form, Form::Undef | Form::SelfObject | Form::Var(_))
 }

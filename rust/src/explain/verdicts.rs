@@ -138,6 +138,8 @@ impl<'t> Told<'t> {
         // A loop's turns say nothing of where it was stopped; operands do.
         let below = tree.below(last).iter();
         let operands = below.filter(|below| !stopped(below) && !tree.node(last).is_loop());
+        // What is written as a value says its value.
+        let operands = operands.filter(|below| !tree.node(**below).is_literal());
         for below in operands {
             let line = tree.line(*below, 0, &mut Texts::default());
             out += &format!("  there    {}.\n", line.words);
