@@ -168,6 +168,14 @@ pub struct Node {
 }
 
 impl Node {
+    /// Whether it is written as its value: a truth value or a number.
+    pub fn is_literal(&self) -> bool {
+        matches!(
+            self.form,
+            Form::True | Form::False | Form::Int(_) | Form::Real(_)
+        )
+    }
+
     /// Whether its body may run several times.
     pub fn is_loop(&self) -> bool {
         matches!(

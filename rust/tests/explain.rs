@@ -173,11 +173,10 @@ fn one_verdict_is_traced() {
 #[test]
 fn stops_are_explained() {
     says(
-        "C 0 -|O 0 0|R 0 0|X 2147483647 + 1 = 1",
+        "C 0 -|A 0 0 5 Int|O 0 0|V 0 0 2147483647|R 0 0|X self.a5 + 1 = 1",
         &[
-            "Rule 0 was stopped, over the range (19), after 4 steps, for @0",
-            "  stopped  in `2147483647 + 1`.\n",
-            "  there    `2147483647` is 2147483647.\n",
+            "Rule 0 was stopped, over the range (19), after 5 steps, for @0",
+            "  stopped  in `self.a5 + 1`.\n  there    `self.a5` is 2147483647, by line 4: V 0 0 2147483647.\n  look at",
             "0 undefined, 1 stopped",
         ],
     );

@@ -209,3 +209,11 @@ fn refusals_say_what_can_be_seen() {
     assert_eq!(told.refusal, Some((3, 1)));
     assert!(told.words().contains("the last line has no line feed"));
 }
+
+#[test]
+fn a_number_without_a_sheet_has_no_line() {
+    for number in NUMBERS {
+        let words = refused(b"", number, 0);
+        assert!(!words.contains("  here "), "{words}");
+    }
+}

@@ -3,7 +3,7 @@
 use super::lines::part;
 use super::runs::{Line, Tree};
 use super::why::Why;
-use crate::tree::Form;
+use crate::tree::{Form, Node};
 use crate::values::Value;
 use crate::wording::shown;
 
@@ -27,11 +27,7 @@ impl Tree<'_> {
         if self.node(at).is_loop() {
             return self.gather_turns(at, depth + 1, found);
         }
-        for below in self.deciding(at) {
-            if !is_plain(&self.node(below).form) {
-                self.gather(below, depth + 1, found);
-            }
-        }
+        self.gather_each(&self.deciding(at), depth + 1, found);
     }
 
     /// An undefined run in one line, with where its undefined arose.
@@ -54,18 +50,37 @@ impl Tree<'_> {
         line
     }
 
-    /// Of a loop that one body decided, that body; of another, each turn, and if there are
-    /// many, each in a line alone.
+    /// Of a loop that one body decided, that body; of one without a turn, what it would have
+    /// gone through; of another, each turn, and if there are many, each in a line alone.
     fn gather_turns(&self, at: usize, depth: usize, found: &mut Vec<Line>) {
         let (_, bodies) = self.turns(at);
         match (self.decided_by(at), bodies.last()) {
             (Some(_), Some(last)) => self.gather(*last, depth, found),
+            (_, None) => self.gather_each(self.below(at), depth, found),
             _ if bodies.len() <= FEW => {
                 for body in bodies {
                     self.gather(*body, depth, found);
                 }
             }
-            _ => found.extend(bodies.iter().map(|body| self.short_line(*body, depth))),
+            _ => found.extend(bodies.iter().map(|body| self.lone_line(*body, depth))),
+        }
+    }
+
+    fn gather_each(&self, runs: &[usize], depth: usize, found: &mut Vec<Line>) {
+        for below in runs {
+            if !is_plain(self.node(*below)) {
+                self.gather(*below, depth, found);
+            }
+        }
+    }
+
+    /// A run in one line, with nothing of what stands below it.
+    fn lone_line(&self, at: usize, depth: usize) -> Line {
+        let mut below = self.below(at).iter();
+        let hides = below.any(|below| !is_plain(self.node(*below)));
+        Line {
+            hides,
+            ..self.short_line(at, depth)
         }
     }
 
@@ -96,15 +111,6 @@ impl Tree<'_> {
 
 /// What needs no line of its own: what is written says what it is, or what it is bound to
 /// has been said.
-fn is_plain(form: &Form) -> bool {
-    matches!(
-        form,
-        Form::True
-            | Form::False
-            | Form::Undef
-            | Form::Int(_)
-            | Form::Real(_)
-            | Form::SelfObject
-            | Form::Var(_)
-    )
+fn is_plain(node: &Node) -> bool {
+    node.is_literal() || matches!(node.form, Form::Undef | Form::SelfObject | Form::Var(_))
 }

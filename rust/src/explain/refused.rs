@@ -38,8 +38,11 @@ pub fn refused(text: &[u8], number: u64, place: usize) -> String {
             out += &format!("  part     {part}\n");
         }
     }
-    for hint in hints(&lines, typed.as_ref(), number, place) {
-        out += &format!("  here     {hint}.\n");
+    // A number that is asked for without a sheet has no line.
+    if place > 0 {
+        for hint in hints(&lines, typed.as_ref(), number, place) {
+            out += &format!("  here     {hint}.\n");
+        }
     }
     out += &format!("  look at  {}.\n", advice.look);
     out

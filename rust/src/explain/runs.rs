@@ -29,6 +29,8 @@ pub struct Line {
     pub words: String,
     /// What to look at, if it is a value of the sheet.
     pub look: Option<String>,
+    /// Whether parts below it decided that have no line.
+    pub hides: bool,
 }
 
 impl<'s> Tree<'s> {
@@ -157,6 +159,7 @@ impl<'s> Tree<'s> {
             depth,
             words,
             look,
+            hides: false,
         }
     }
 

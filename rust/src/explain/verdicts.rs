@@ -138,6 +138,8 @@ impl<'t> Told<'t> {
         // A loop's turns say nothing of where it was stopped; operands do.
         let below = tree.below(last).iter();
         let operands = below.filter(|below| !stopped(below) && !tree.node(last).is_loop());
+        // What is written as a value says its value.
+        let operands = operands.filter(|below| !tree.node(**below).is_literal());
         for below in operands {
             let line = tree.line(*below, 0, &mut Texts::default());
             out += &format!("  there    {}.\n", line.words);
@@ -166,7 +168,8 @@ impl<'t> Told<'t> {
         if parts.len() > MOST_PARTS {
             out += &format!("    .. and {} more\n", parts.len() - MOST_PARTS);
         }
-        out + &format!("  look at  {}.\n", values(&parts))
+        let trace = format!("./explain SHEET {} {}", verdict.rule, verdict.object);
+        out + &format!("  look at  {}.\n", values(&parts, &trace))
     }
 
     /// All that ran, a line each.
@@ -189,20 +192,29 @@ impl<'t> Told<'t> {
     }
 }
 
-/// The V lines that parts read, and where they look for one in vain, each once.
-fn values(parts: &[Line]) -> String {
+/// The V lines that parts read, and where they look for one in vain, each once; and the trace
+/// where parts have no line.
+fn values(parts: &[Line], trace: &str) -> String {
     let mut looks: Vec<&str> = Vec::new();
     for look in parts.iter().filter_map(|part| part.look.as_deref()) {
         if !looks.contains(&look) {
             looks.push(look);
         }
     }
-    let first = &looks[..looks.len().min(MOST_VALUES)];
-    match looks.len() {
-        0 => "the rule itself: no value of the sheet stands in the parts above".to_string(),
-        count if count > MOST_VALUES => format!("{}; and the other lines above", first.join("; ")),
-        _ => first.join("; "),
+    let others = looks.len() > MOST_VALUES;
+    looks.truncate(MOST_VALUES);
+    looks.extend(others.then_some("and the other lines above"));
+    let turns = format!("what the turns read, step by step: {trace}");
+    looks.extend(
+        parts
+            .iter()
+            .any(|part| part.hides)
+            .then_some(turns.as_str()),
+    );
+    if looks.is_empty() {
+        return "the rule itself: no value of the sheet stands in the parts above".to_string();
     }
+    looks.join("; ")
 }
 
 /// A part in a line, with its step.
