@@ -5,12 +5,21 @@
 
 pub mod advice;
 mod decided;
+mod fields;
 mod hints;
+mod known;
+mod limits;
 mod lines;
+mod misfit;
+mod operands;
+mod order;
 pub mod page;
 mod refused;
+mod remedies;
 mod runs;
 mod spelling;
+mod texts;
+mod trees;
 mod typed;
 mod verdicts;
 mod why;
