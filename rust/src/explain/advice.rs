@@ -143,7 +143,7 @@ const REFUSALS: [(u64, &str, &str, &str); 25] = [
         "not a sentence",
         "the text of the rule is no sentence",
         "brackets, words that run together, a second comparison, a minus in front; what OCL writes otherwise \
-        stands in docs/SHEETS.md, section 9",
+        stands in `docs/SHEETS.md`, section 9",
     ),
     (
         21,

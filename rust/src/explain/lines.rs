@@ -117,6 +117,12 @@ pub fn shown_bytes(bytes: &[u8]) -> String {
     bytes.iter().map(spell).collect()
 }
 
+/// Words behind the number of the line that they are of.
+pub fn numbered(number: usize, words: &str) -> String {
+    let line = format!("line {number}");
+    format!("  {line:<8} {words}\n")
+}
+
 /// A part of a rule as text, no longer than a quoted line.
 pub fn part(text: &str) -> String {
     cut(text, LONGEST)

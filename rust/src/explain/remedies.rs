@@ -7,7 +7,7 @@ use crate::read::sentences::read_up_to;
 use crate::read::spelling::LAST_VARIABLE;
 
 /// Where all of it stands.
-const PAGE: &str = "docs/SHEETS.md, section 9";
+const PAGE: &str = "`docs/SHEETS.md`, section 9";
 
 const AT_MOST: &str = "`a <= b` is written `not (b < a)`";
 const AT_LEAST: &str = "`a >= b` is written `not (a < b)`";

@@ -5,7 +5,7 @@ mod escape;
 mod parts;
 
 use super::verdicts::{Kind, Verdict};
-use super::{refused, Explained, TOO_LONG};
+use super::{refused, Explained, NO_RULE, TOO_LONG};
 use escape::{bytes, text, words};
 use parts::{class_of, explanations, rules, table};
 
@@ -55,7 +55,14 @@ fn refusal(explained: &Explained, number: u64, place: usize) -> String {
 fn report(explained: &Explained) -> String {
     let counts = counts(explained);
     if explained.verdicts.is_empty() {
-        return format!("{counts}<p>There are no verdicts: no rule has an object.</p>\n");
+        let has_rules = explained
+            .told()
+            .is_some_and(|told| !told.sheet.rules.is_empty());
+        let why = match has_rules {
+            true => "There are no verdicts: no rule has an object.",
+            false => NO_RULE,
+        };
+        return format!("{counts}<p>{why}</p>\n");
     }
     let to_look_at = |kind| matches!(kind, Kind::False | Kind::Undefined | Kind::Stopped);
     [
