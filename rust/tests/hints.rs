@@ -47,7 +47,8 @@ Set{1}->notEmpty() ## `s->notEmpty()` is written `0 < s->size()`
 Set{1}->excludes(1) ## `s->excludes(e)` is written `not s->includes(e)`
 Set{1}->iterate(v1) ## `iterate` is written `iter`
 Set{1}->select(v1 ¦ true) ## section 9, has `select` in other words
-Set{1}->first() ## behind an arrow stand size, asSet
+Set{1}->first() ## section 9, has `first` in other words
+Set{1}->closure(v1 ¦ v1) ## behind an arrow stand size, asSet
 Set{1}.size() ## an arrow comes before `size`: `->size(..)`
 Set{1}->size = 1 ## a bracket comes after `size`
 #0.allInstances->size() ## a bracket comes after `allInstances`

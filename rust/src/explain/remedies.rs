@@ -14,7 +14,7 @@ const AT_LEAST: &str = "`a >= b` is written `not (a < b)`";
 const UNLIKE: &str = "`a <> b` is written `not (a = b)`";
 
 /// OCL's steps behind an arrow that the page has in other words.
-const IN_OTHER_WORDS: [&[u8]; 14] = [
+const IN_OTHER_WORDS: [&[u8]; 20] = [
     b"select",
     b"reject",
     b"sum",
@@ -29,6 +29,12 @@ const IN_OTHER_WORDS: [&[u8]; 14] = [
     b"flatten",
     b"last",
     b"at",
+    b"first",
+    b"any",
+    b"append",
+    b"prepend",
+    b"excluding",
+    b"indexOf",
 ];
 
 /// A text that can't be read on at a token.
