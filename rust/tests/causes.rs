@@ -40,7 +40,10 @@ const CAUSES: [(&str, &[&str]); 10] = [
     ),
     (
         "self.a11 = undef",
-        &["whether something is undefined is asked by `isUndef()`"],
+        &[
+            "it says `undef`, and whether something is undefined is asked by `isUndef()`",
+            "Never true: `self.a11 = undef`, line 23: whether something is undefined is asked",
+        ],
     ),
     (
         "not (self.a11 = self)",
@@ -67,7 +70,6 @@ fn what_may_be_true_is_not_said_to_be_never_true() {
         "self.a10 = Set{}",
         "Set{true} = self.a10",
         "self.a11 = r3ff8000000000000 + 0",
-        "self.a4 = undef",
         "self = self",
     ] {
         let words = explanation(&sheet(&format!("{SHEET}{rule}")));

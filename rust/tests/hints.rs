@@ -3,6 +3,10 @@
 #[path = "common/told.rs"]
 mod told;
 
+use second_evaluator::calls::program;
+use second_evaluator::explain::refused;
+use second_evaluator::generate;
+use second_evaluator::generate::random::Random;
 use told::{explanation, says, sheet};
 
 const CLASSES: &str = "C 0 -|C 1 -|C 2 -|A 0 0 1 Int|A 1 0 8 #1|A 2 0 3 S(#1)|O 0 0|R 0 0|X ";
@@ -167,4 +171,49 @@ fn a_text_that_ends_too_early_has_no_word_to_name() {
         let words = explanation(&sheet(&format!("{CLASSES}{text}")));
         assert_eq!(words.matches("  here ").count(), 1, "{words}");
     }
+}
+
+/// What a slip of the hand puts in the place of a byte.
+const SLIPS: [&str; 24] = [
+    "", " ", "\t", "\n", "0", "9", "99", "-", ">", "<=", "(", ")", "{", ",", ".", "'", "#", "@",
+    "v0", "a300", "X", "≤", "Set{", "->",
+];
+
+/// A sheet with a few slips.
+fn slipped(seed: u64) -> Vec<u8> {
+    let mut random = Random::new(seed);
+    let mut text = match seed % 2 {
+        0 => generate::sheet(seed),
+        _ => generate::sheet_of_texts(seed),
+    };
+    for _ in 0..random.between(1, 2) {
+        let at = random.below(text.len() + 1);
+        let end = (at + random.below(3)).min(text.len());
+        let slip = random.pick(&SLIPS).bytes();
+        text.splice(at..end, slip);
+    }
+    text
+}
+
+/// The refusal of a sheet, if it gets one at a line.
+fn refusal(text: &[u8]) -> Option<(u64, usize)> {
+    let printed = String::from_utf8(program(text)).unwrap();
+    let (number, place) = printed.strip_prefix("! ")?.trim_end().split_once(' ')?;
+    Some((number.parse().unwrap(), place.parse().unwrap()))
+}
+
+#[test]
+fn every_slip_has_its_words() {
+    let mut said = 0;
+    for seed in 0..6_000 {
+        let text = slipped(seed);
+        let Some((number, place)) = refusal(&text).filter(|(_, place)| *place > 0) else {
+            continue;
+        };
+        let words = refused(&text, number, place);
+        assert!(words.contains("  here "), "{seed}: {words}");
+        assert!(!words.contains("``"), "{seed}: {words}");
+        said += 1;
+    }
+    assert!(said > 1_000, "{said}");
 }

@@ -138,6 +138,13 @@ fn nothing_stands_unescaped() {
 }
 
 #[test]
+fn comparisons_that_are_never_true_are_named() {
+    let page = page_of(&sheet("C 0 -|O 0 0|R 0 0|X not (self = 3)"), "unlike");
+    holds_together(&page, "unlike");
+    assert!(page.contains("Never true: `self = 3`, <a href=\"#line-4\">line 4</a>, as"));
+}
+
+#[test]
 fn no_verdicts_and_no_sheet() {
     for (lines, why) in [
         ("C 0 -", "The sheet has no rule"),

@@ -50,7 +50,8 @@ const REFUSALS: [(u64, &str, &str, &str); 25] = [
         5,
         "out of row",
         "lines, numbers or members are out of order, or a name or a variable is there twice",
-        "the line before it: blocks come as C, A, O, V, D, R, and each kind counts from 0 without a gap",
+        "the line before it: blocks come as C, A, O, V, D, R, each kind counts from 0 without a gap, and V lines and \
+        members of Sets and Bags ascend",
     ),
     (
         6,

@@ -41,8 +41,12 @@ fn later_block(lines: &Lines, place: usize, letter: u8) -> Option<usize> {
     })
 }
 
-/// An X line that is not the first below its R line, or an N line below an X line.
+/// An X line that is not the first below its R line, an N line below an X line, or either
+/// before all rules and definitions.
 fn beside_text(lines: &Lines, place: usize) -> Option<String> {
+    if lines.head(place).is_none() {
+        return Some("no R or D line stands before it".to_string());
+    }
     let before = lines.fields(place - 1)[0];
     let fits = match lines.fields(place)[0] {
         b"X" => before == b"R",

@@ -102,9 +102,12 @@ fn spaces(lines: &Lines, place: usize) -> Vec<String> {
 /// The number of fields, or a form that there is not.
 fn count(split: &[&[u8]]) -> Option<String> {
     let Some(fields) = of_line(split) else {
-        let form = split.get(2).filter(|_| split[0] == b"N")?;
-        let form = cut(&shown_bytes(form), 40);
-        return Some(format!("there is no form `{form}`"));
+        // Only an N line has so many forms, and a beginning that no line has is said of.
+        return (split[0] == b"N").then(|| match split.get(2) {
+            Some([]) => "field 3 is empty".to_string(),
+            Some(form) => format!("there is no form `{}`", cut(&shown_bytes(form), 40)),
+            None => "it has no form, which is the third field of an N line".to_string(),
+        });
     };
     let most = fields.len() + 1;
     // Of a collection all members may be left out.

@@ -1,5 +1,5 @@
-//! Comparisons of what is never the same. They are accepted, and a rule that denies one is kept
-//! whatever the values are.
+//! Comparisons that are never true. They are accepted, and a rule that denies one is kept, or
+//! undefined, whatever the values are.
 
 use super::lines::part;
 use super::typed::spelt;
@@ -22,6 +22,13 @@ fn unlike(node: &Node, classes: &Classes) -> Option<String> {
     let [left, right] = node.operands.as_slice() else {
         return None;
     };
+    let named = format!("Never true: `{}`, line {}", part(&shown(node)), node.line);
+    let is_undef = |operand: &&Node| operand.form == Form::Undef;
+    if node.form == Form::Eq && [left, right].iter().any(is_undef) {
+        return Some(format!(
+            "{named}: whether something is undefined is asked by `isUndef()`.\n"
+        ));
+    }
     let (left_type, right_type) = (left.ty.as_ref()?, right.ty.as_ref()?);
     let compared = match node.form {
         Form::Eq => left_type,
@@ -30,9 +37,7 @@ fn unlike(node: &Node, classes: &Classes) -> Option<String> {
     };
     are_apart(compared, right_type, classes).then(|| {
         format!(
-            "Never true: `{}`, line {}, as `{}` is of type {} and `{}` of type {}.\n",
-            part(&shown(node)),
-            node.line,
+            "{named}, as `{}` is of type {} and `{}` of type {}.\n",
             part(&shown(left)),
             spelt(left_type),
             part(&shown(right)),
