@@ -78,7 +78,10 @@ self.a8.oclAsType(#2) ## #1 and #2 are unrelated: neither is above the other
 not self.a1 = 3 ## `self.a1` is of type Int. ## `not` takes Bool.
 Set{1}->iter(v1; v2 : Int = 0 ¦ v1 = v2) ## a start and a body of its type, Int, or below
 self.a8->includes(self) ## `->` takes a collection
-self.a3.a1 ## `.a1` takes an object; of the objects in a collection, `->collect(a1)` does
+self.a3.a1 ## `.a1` takes an object; for a collection of objects write `->collect(a1)`
+#0.a1 < 3 ## behind a class stands `.allInstances()`
+#0 = 3 ## behind a class stands `.allInstances()`
+#0->size() ## behind a class stands `.allInstances()`
 if self.a1 then 1 else 2 endif ## `if` takes a Bool as its condition
 Set{1}->forAll(v1 ¦ v1) ## `->forAll` takes a collection, and a body of type Bool
 ";

@@ -45,7 +45,7 @@ fn takes(typed: &Typed, part: &Node) -> String {
     }
     match &part.form {
         Form::Attr { name, .. } => {
-            format!("`.a{name}` takes an object; of the objects in a collection, `->collect(a{name})` does")
+            format!("`.a{name}` takes an object; for a collection of objects write `->collect(a{name})`")
         }
         Form::Collect { name, .. } => {
             format!("`->collect(a{name})` takes a collection of objects")

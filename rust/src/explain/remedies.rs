@@ -183,7 +183,7 @@ impl Stop<'_> {
                 "only the accumulator of an `iter` has a type"
             }
             b"," if self.goes_on_with(b"in") => "a `let` binds one variable: write two `let`s",
-            b"," if kind(self.before(1)) == "variable" && self.goes_on_with(b"|") => {
+            b"," if self.before(2) == b"(" && matches!(self.before(3), b"forAll" | b"exists") => {
                 "a loop has one variable: write a loop inside a loop"
             }
             b"," if self.goes_on_with(b"}") => {
@@ -219,9 +219,20 @@ impl Stop<'_> {
         Some(said.to_string())
     }
 
+    /// Whether a class is asked for something, and not for its objects.
+    fn is_behind_class(&self) -> bool {
+        match self.before(1) {
+            b"." => kind(self.before(2)) == "class",
+            before => kind(before) == "class" && self.goes_on_with(b"."),
+        }
+    }
+
     /// What may stand behind a full stop or an arrow, and words that there are not.
     fn step(&self) -> Option<String> {
         let here = self.here();
+        if self.is_behind_class() {
+            return Some("behind a class stands `.allInstances()`".to_string());
+        }
         let (word, is_unknown) = (shown(here), kind(here) == "unknown word");
         Some(match self.before(1) {
             _ if here.is_empty() => return None,
