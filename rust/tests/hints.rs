@@ -80,6 +80,18 @@ Set{1}->iter(v1; v2 : Int = 0 ¦ v1 = v2) ## a start and a body of its type, Int
 self.a8->includes(self) ## `->` takes a collection
 self.a3.a1 ## `.a1` takes an object; for a collection of objects write `->collect(a1)`
 #0.a1 < 3 ## behind a class stands `.allInstances()`
+(1 + 2 ## it ends too early, behind `(1 + 2` ## `)` is missing
+Set{1, 2 ## `}` is missing
+if true then 1 ## `else` is missing
+if true then 1 else 2 ## `endif` is missing
+let v1 = 3 ## `in` is missing
+true && true ## both is written `and`
+true ¦¦ true ## one of both is written `or`
+!true ## the other truth value is written `not`
+@0 = self ## no text names an object by its number
+self.oclAsType(Block) ## `oclAsType` takes a class, as `oclAsType(#1)`
+a1 < 3 ## an attribute is asked of an object: `self.a1`
+true AND true ## it is written `and`
 #0 = 3 ## behind a class stands `.allInstances()`
 #0->size() ## behind a class stands `.allInstances()`
 if self.a1 then 1 else 2 endif ## `if` takes a Bool as its condition
@@ -170,7 +182,13 @@ fn a_line_says_what_is_wrong_with_it() {
 
 #[test]
 fn a_text_that_ends_too_early_has_no_word_to_name() {
-    for text in ["(1 + 2", "self.a1 < 3 and", "self.", "Set{1}->"] {
+    for text in [
+        "self.a1 < 3 and",
+        "self.",
+        "Set{1}->",
+        "not",
+        "Set{1}->iter(v1; v2 : S(",
+    ] {
         let words = explanation(&sheet(&format!("{CLASSES}{text}")));
         assert_eq!(words.matches("  here ").count(), 1, "{words}");
     }

@@ -49,7 +49,8 @@ pub fn remedy(tokens: &[&[u8]], at: usize, letter: Option<char>) -> Option<Strin
     if let Some(letter) = letter {
         return outside_ascii(letter).map(str::to_string);
     }
-    stop.bracket()
+    stop.missing()
+        .or_else(|| stop.bracket())
         .or_else(|| stop.of_type())
         .or_else(|| stop.number())
         .or_else(|| stop.sign())
@@ -86,11 +87,25 @@ impl Stop<'_> {
         self.tokens.get(self.at).copied().unwrap_or_default()
     }
 
-    /// Whether the text could be read on with another token in this place.
+    /// Whether the text could be read on with another token in this place. Where a step or a type
+    /// is due, the reader takes any token at first, so that nothing is known.
     fn goes_on_with(&self, token: &[u8]) -> bool {
+        let is_letter = matches!(self.before(2), b"S" | b"Q" | b"B" | b"C");
+        if matches!(self.before(1), b"->" | b":") || is_letter && self.before(1) == b"(" {
+            return false;
+        }
         let before = self.tokens[..self.at].iter().copied();
         let tokens: Vec<&[u8]> = before.chain([token]).collect();
         read_up_to(&tokens) > self.at
+    }
+
+    /// What a text that ends too early has to go on with.
+    fn missing(&self) -> Option<String> {
+        let ends = self.at == self.tokens.len();
+        let closing = [")", "}", "then", "else", "endif", "in"];
+        let mut closing = closing.iter().filter(|_| ends);
+        let missing = closing.find(|token| self.goes_on_with(token.as_bytes()))?;
+        Some(format!("`{missing}` is missing"))
     }
 
     /// A bracket that must follow what stands before.
@@ -132,7 +147,9 @@ impl Stop<'_> {
             (_, b"-", b"-") => {
                 Some("a minus has two sides, as in `0 - 5`, and a text has no comments".to_string())
             }
-            (_, _, b"-") => Some("a minus has two sides: `-5` is written `0 - 5`".to_string()),
+            (_, _, b"-") if self.goes_on_with(b"self") => {
+                Some("a minus has two sides: `-5` is written `0 - 5`".to_string())
+            }
             _ => None,
         }
     }
@@ -145,6 +162,10 @@ impl Stop<'_> {
             (b"<", b">", _) | (_, b"!", b"=") => UNLIKE.to_string(),
             (b"=", b"=", _) => "equal is written with one `=`".to_string(),
             (b"-", b">", _) => "`->` has no space inside".to_string(),
+            (_, b"&", _) => "both is written `and`".to_string(),
+            (_, b"|", b"|") => "one of both is written `or`".to_string(),
+            (_, b"!", _) => "the other truth value is written `not`".to_string(),
+            (_, b"@", _) => "no text names an object by its number".to_string(),
             (_, b">", b"=") => AT_LEAST.to_string(),
             (_, b">", _) => "`a > b` is written `b < a`".to_string(),
             (_, b"'" | b"\"", _) => NO_STRINGS.to_string(),
@@ -166,6 +187,9 @@ impl Stop<'_> {
             (b"forAll", b"(") => "forAll(v1 | ..)",
             (b"exists", b"(") => "exists(v1 | ..)",
             (b"iter", b"(") | (_, b";") => "iter(v1; v2 : T = e | ..)",
+            (b"oclAsType", b"(") => {
+                return Some("`oclAsType` takes a class, as `oclAsType(#1)`".to_string())
+            }
             (b"collect", b"(") => {
                 return Some("`collect` takes an attribute alone, as `collect(a5)`".to_string())
             }
@@ -247,10 +271,24 @@ impl Stop<'_> {
             }
             b"->" => BEHIND_ARROW.to_string(),
             b"." if is_unknown => BEHIND_STOP.to_string(),
+            _ if kind(here) == "attribute" && self.goes_on_with(b"self") => {
+                format!("an attribute is asked of an object: `self.{word}`")
+            }
+            _ if is_unknown && is_fixed(&here.to_ascii_lowercase()) => {
+                format!("it is written `{}`", word.to_ascii_lowercase())
+            }
             _ if is_unknown => format!("no text has the word `{word}`: {NUMBERS}"),
             _ => return None,
         })
     }
+}
+
+/// Whether a word is always written so, and stands for no number.
+fn is_fixed(word: &[u8]) -> bool {
+    matches!(
+        kind(word),
+        "keyword" | "word operator" | "constant" | "self"
+    )
 }
 
 const BEHIND_ARROW: &str = "behind an arrow stand size, asSet, asBag, asSequence, collect, \
