@@ -25,6 +25,7 @@ mod typed;
 mod unlike;
 mod verdicts;
 mod why;
+mod words;
 
 use crate::calls::{accepted, program, undefined_program};
 use crate::model::Sheet;

@@ -6,39 +6,12 @@ use crate::read::kinds::{is_arrow_step, kind};
 use crate::read::sentences::read_up_to;
 use crate::read::spelling::LAST_VARIABLE;
 
-/// Where all of it stands.
-const PAGE: &str = "`docs/SHEETS.md`, section 9";
-
 const AT_MOST: &str = "`a <= b` is written `not (b < a)`";
 const AT_LEAST: &str = "`a >= b` is written `not (a < b)`";
 const UNLIKE: &str = "`a <> b` is written `not (a = b)`";
 
-/// OCL's steps behind an arrow that the page has in other words.
-const IN_OTHER_WORDS: [&[u8]; 20] = [
-    b"select",
-    b"reject",
-    b"sum",
-    b"count",
-    b"one",
-    b"max",
-    b"min",
-    b"includesAll",
-    b"excludesAll",
-    b"isUnique",
-    b"intersection",
-    b"flatten",
-    b"last",
-    b"at",
-    b"first",
-    b"any",
-    b"append",
-    b"prepend",
-    b"excluding",
-    b"indexOf",
-];
-
 /// A text that can't be read on at a token.
-struct Stop<'t> {
+pub(super) struct Stop<'t> {
     tokens: &'t [&'t [u8]],
     at: usize,
 }
@@ -78,18 +51,18 @@ fn outside_ascii(letter: char) -> Option<&'static str> {
 
 impl Stop<'_> {
     /// The token so many places before the stop.
-    fn before(&self, places: usize) -> &[u8] {
+    pub(super) fn before(&self, places: usize) -> &[u8] {
         let place = self.at.checked_sub(places);
         place.map_or(b"", |place| self.tokens[place])
     }
 
-    fn here(&self) -> &[u8] {
+    pub(super) fn here(&self) -> &[u8] {
         self.tokens.get(self.at).copied().unwrap_or_default()
     }
 
     /// Whether the text could be read on with another token in this place. Where a step or a type
     /// is due, the reader takes any token at first, so that nothing is known.
-    fn goes_on_with(&self, token: &[u8]) -> bool {
+    pub(super) fn goes_on_with(&self, token: &[u8]) -> bool {
         let is_letter = matches!(self.before(2), b"S" | b"Q" | b"B" | b"C");
         if matches!(self.before(1), b"->" | b":") || is_letter && self.before(1) == b"(" {
             return false;
@@ -217,83 +190,4 @@ impl Stop<'_> {
         };
         Some(said.to_string())
     }
-
-    /// A word that OCL has.
-    fn word(&self) -> Option<String> {
-        let said = match (self.before(1), self.here()) {
-            (_, b"implies") => "`a implies b` is written `not (a) or b`",
-            (_, b"xor") => "`a xor b` is written `not (a = b)`",
-            (_, b"null" | b"invalid") => "undefined is asked for by `isUndef()`",
-            (b"->", b"isEmpty") => "`s->isEmpty()` is written `s->size() = 0`",
-            (b"->", b"notEmpty") => "`s->notEmpty()` is written `0 < s->size()`",
-            (b"->", b"excludes") => "`s->excludes(e)` is written `not s->includes(e)`",
-            (b"->", b"iterate") => "`iterate` is written `iter`",
-            (b".", b"oclIsUndefined" | b"oclIsInvalid") => "it is written `isUndef()`",
-            (b".", b"oclIsKindOf") => {
-                "`e.oclIsKindOf(K)` is written `not e.oclAsType(K).isUndef()`, where e is defined"
-            }
-            (b"->", word) if IN_OTHER_WORDS.contains(&word) => {
-                return Some(format!("{PAGE}, has `{}` in other words", shown(word)))
-            }
-            (b".", b"oclIsTypeOf" | b"abs" | b"max" | b"min") => {
-                return Some(format!("{PAGE}, has it in other words"))
-            }
-            _ => return None,
-        };
-        Some(said.to_string())
-    }
-
-    /// Whether a class is asked for something, and not for its objects.
-    fn is_behind_class(&self) -> bool {
-        match self.before(1) {
-            b"." => kind(self.before(2)) == "class",
-            before => kind(before) == "class" && self.goes_on_with(b"."),
-        }
-    }
-
-    /// What may stand behind a full stop or an arrow, and words that there are not.
-    fn step(&self) -> Option<String> {
-        let here = self.here();
-        if self.is_behind_class() {
-            return Some("behind a class stands `.allInstances()`".to_string());
-        }
-        let (word, is_unknown) = (shown(here), kind(here) == "unknown word");
-        Some(match self.before(1) {
-            _ if here.is_empty() => return None,
-            b"." if is_arrow_step(here) => {
-                format!("an arrow comes before `{word}`: `->{word}(..)`")
-            }
-            b"->" if kind(here) == "attribute" => {
-                format!("a full stop comes before an attribute: `.{word}`")
-            }
-            b"." if here == b"allInstances" => {
-                "`allInstances` is asked of a class, as in `#1.allInstances()`".to_string()
-            }
-            b"->" => BEHIND_ARROW.to_string(),
-            b"." if is_unknown => BEHIND_STOP.to_string(),
-            _ if kind(here) == "attribute" && self.goes_on_with(b"self") => {
-                format!("an attribute is asked of an object: `self.{word}`")
-            }
-            _ if is_unknown && is_fixed(&here.to_ascii_lowercase()) => {
-                format!("it is written `{}`", word.to_ascii_lowercase())
-            }
-            _ if is_unknown => format!("no text has the word `{word}`: {NUMBERS}"),
-            _ => return None,
-        })
-    }
 }
-
-/// Whether a word is always written so, and stands for no number.
-fn is_fixed(word: &[u8]) -> bool {
-    matches!(
-        kind(word),
-        "keyword" | "word operator" | "constant" | "self"
-    )
-}
-
-const BEHIND_ARROW: &str = "behind an arrow stand size, asSet, asBag, asSequence, collect, \
-    includes, including, union, forAll, exists and iter";
-const BEHIND_STOP: &str = "behind a full stop stand an attribute such as `a1`, isUndef, oclAsType \
-    and a definition such as `d0()`";
-const NUMBERS: &str = "a class is `#` and its number, an attribute `a` and its name, a variable \
-    `v` and its number";
