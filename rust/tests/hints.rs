@@ -7,6 +7,8 @@ use second_evaluator::calls::program;
 use second_evaluator::explain::refused;
 use second_evaluator::generate;
 use second_evaluator::generate::random::Random;
+use std::fs;
+use std::path::Path;
 use told::{explanation, says, sheet};
 
 const CLASSES: &str = "C 0 -|C 1 -|C 2 -|A 0 0 1 Int|A 1 0 8 #1|A 2 0 3 S(#1)|O 0 0|R 0 0|X ";
@@ -191,6 +193,26 @@ fn a_text_that_ends_too_early_has_no_word_to_name() {
     ] {
         let words = explanation(&sheet(&format!("{CLASSES}{text}")));
         assert_eq!(words.matches("  here ").count(), 1, "{words}");
+    }
+}
+
+/// OCL's steps for which ./explain sends to the page.
+const ON_THE_PAGE: &str = "->select ->reject ->sum ->count ->one ->max ->min ->includesAll \
+    ->excludesAll ->isUnique ->intersection ->flatten ->last ->at ->first ->any ->append ->prepend \
+    ->excluding ->indexOf .oclIsTypeOf .abs .max .min";
+
+#[test]
+fn the_page_has_what_it_is_said_to_have() {
+    let path = Path::new(env!("CARGO_MANIFEST_DIR")).join("../docs/SHEETS.md");
+    let page = fs::read_to_string(path).unwrap();
+    let (_, section) = page.split_once("\n## 9. ").unwrap();
+    let (section, _) = section.split_once("\n## 10. ").unwrap();
+    for step in ON_THE_PAGE.split_whitespace() {
+        says(
+            &format!("{CLASSES}self{step}(1)"),
+            &["`docs/SHEETS.md`, section 9, has "],
+        );
+        assert!(section.contains(&format!("{step}(")), "{step}");
     }
 }
 
