@@ -1,11 +1,13 @@
 /*
- * Thread load along a run of stitches, for C and C++: the largest sum of as many neighbouring stitch lengths as the window is
- * wide, and the stitch at which it first begins. Link with libload.a; docs/USING.md says how. docs/LOAD.md says what the numbers mean.
+ * Thread load along a run of stitches, for C99 or later and C++: the largest sum of as many neighbouring stitch lengths as the
+ * window is wide, and the stitch at which it first begins. Link with libload.a; docs/USING.md says how. docs/LOAD.md says what the
+ * numbers mean.
  *
  * A record takes one length at a time, as the machine sews. It is plain data: it may be copied, and each copy goes on by
  * itself. A new one is all zero but for its width:
  *
- *     load_window window = {.width = 8};
+ *     load_window window = {.width = 8};              in C
+ *     load_window window = {}; window.width = 8;      in C++
  *
  * The calls keep nothing, take some hundred bytes of stack, and call nothing but the C library's memset, memcpy and memmove.
  * They may run in several threads at a time, each with a record of its own.
@@ -59,6 +61,13 @@ size_t load_text(const uint8_t *text, size_t text_length, uint8_t output[LOAD_LI
 
 #ifdef __cplusplus
 }
+#endif
+
+/* The library is compiled for 64-bit lengths and for a record of 168 bytes. */
+#if defined(__cplusplus) && __cplusplus >= 201103L
+static_assert(sizeof(size_t) == 8 && sizeof(load_window) == 168, "libload.a is for x86-64");
+#elif defined(__STDC_VERSION__) && __STDC_VERSION__ >= 201112L
+_Static_assert(sizeof(size_t) == 8 && sizeof(load_window) == 168, "libload.a is for x86-64");
 #endif
 
 #endif

@@ -16,13 +16,24 @@ fn link(name: &str) {
     let folder = env::var_os("CHECKER_LIB_DIR").map_or_else(ours, PathBuf::from);
     let library = folder.join(format!("lib{name}.a"));
     let Ok(library) = library.canonicalize() else {
-        panic!(
-            "there is no {}: run `rt staticlib {name}`, or name the library's folder by CHECKER_LIB_DIR",
-            library.display()
-        );
+        let path = library.display();
+        panic!("there is no {path}: {}", advice(name, released));
     };
     let folder = library.parent().expect("a file has a folder");
     println!("cargo:rerun-if-changed={}", library.display());
     println!("cargo:rustc-link-search=native={}", folder.display());
     println!("cargo:rustc-link-lib=static={name}");
+}
+
+// Whoever has a release has no toolchain, so each is told what is at hand.
+fn advice(name: &str, released: bool) -> String {
+    if !released {
+        return format!("run `rt staticlib {name}`, or name the library's folder by CHECKER_LIB_DIR");
+    }
+    let package = env!("CARGO_PKG_NAME");
+    format!(
+        "set CHECKER_LIB_DIR to the library's folder. For an installed release \
+         `pkg-config --variable=libdir {package}` prints it; write it yourself if it has a space, \
+         since pkg-config puts a backslash before it"
+    )
 }

@@ -123,13 +123,17 @@ def check_install(folder):
     with (prefix / "share/doc/ocl-checker/FILES").open("a") as listed:
         listed.write("share/doc/ocl-checker/old\n")
     (prefix / "lib/other").touch()
-    must(folder / "install", "a prefix", within=folder.parent)
+    (folder.parent / "a link").symlink_to(folder / "install")
+    must(folder.parent / "a link", "a prefix", within=folder.parent)
     check("install: over an older one", not (prefix / "share/doc/ocl-checker/old").exists())
     check_installed_elsewhere(folder, into)
     must(folder / "install", "--remove", prefix)
     check("install: removed", [path.name for path in prefix.rglob("*")] == ["lib", "other"])
     check("install: nothing to remove", run(folder / "install", "--remove", prefix).returncode == 1)
-    check("install: no prefix", run(folder / "install").returncode == 2)
+    for what, *words in ("no prefix",), ("a word too late", prefix, "--remove"), ("a word for ./release", "--dirty", prefix), ("no file", "--gate"):
+        ran = run(folder / "install", *words, within=folder.parent)
+        check(f"install: {what}", ran.returncode == 2 and not (folder.parent / "--remove").exists(), ran.stderr.decode())
+    check("install: the usage", must(folder / "install", "--help").startswith("usage: install "))
     (folder / "include/ocl_checker.h").write_text("")
     check("install: a changed file", run(folder / "install", prefix).returncode == 1 and not (prefix / "include").exists())
 
@@ -140,13 +144,43 @@ def check_installed_elsewhere(folder, into):
     check("install: DESTDIR", flags(into / "usr/local", "--modversion", "ocl-checker") == [VERSION])
     first = folder.parent.parent / "first"
     path = f"{first.parent / 'bin'}:{os.environ['PATH']}"
-    must(first / "install", folder.parent / "from the repository", env={**os.environ, "PATH": path})
-    check("install: in the repository", (folder.parent / "from the repository/lib/libchecker.a").is_file())
+    prefix = folder.parent / "from the repository"
+    must(first / "install", prefix, env={**os.environ, "PATH": path})
+    check("install: in the repository", (prefix / "lib/libchecker.a").is_file())
+    pages = prefix / "share/doc/ocl-checker"
+    ran = build_rust(pages, "load", folder.parent)
+    check("rust/load, installed: how to find the library", b"`pkg-config --variable=libdir thread-load`" in ran.stderr, ran.stderr.decode()[-600:])
+    ran = build_rust(pages, "load", folder.parent, CHECKER_LIB_DIR=str(prefix / "lib"))
+    check("rust/load, installed", ran.returncode == 0, ran.stderr.decode()[-600:])
+
+
+# ---- for Rust, and what the pages show
+
+
+def without_folder(into, **more):
+    """Where cargo runs as a user has it: no network, what is built below `into`, and no folder named."""
+    plain = {name: value for name, value in os.environ.items() if name != "CHECKER_LIB_DIR"}
+    return {**plain, "CARGO_NET_OFFLINE": "true", "CARGO_TARGET_DIR": str(into / "rust"), **more}
+
+
+def build_rust(folder, crate, into, **more):
+    return run("cargo", "build", "--quiet", "--manifest-path", folder / "rust" / crate / "Cargo.toml", env=without_folder(into, **more))
 
 
 def check_rust(folder):
     for crate in ("checker", "load"):
-        words = ["--offline", "--quiet", "--manifest-path", folder / "rust" / crate / "Cargo.toml", "--target-dir", folder.parent / "rust"]
-        without = {name: value for name, value in os.environ.items() if name != "CHECKER_LIB_DIR"}
-        ran = run("cargo", "build", *words, env=without)
+        ran = build_rust(folder, crate, folder.parent)
         check(f"rust/{crate} of the archive", ran.returncode == 0, ran.stderr.decode()[-600:])
+
+
+def check_shown(folder):
+    """The commands of the pages for an unpacked release, each block as it is printed. Each ends with the report of the cap."""
+    home = folder.parent / "home"
+    home.mkdir()
+    for page, start, more in (
+        ("USING", "export PKG_CONFIG_PATH=$PWD", {}), ("USING", "cargo run ", {}), ("RELEASE", './install "$HOME/', {"HOME": str(home)}),
+    ):
+        block = re.search(rf"^    {re.escape(start)}.*\n(?:    .*\n)*", (folder / f"docs/{page}.md").read_text(), re.M)
+        ran = run("sh", "-e", "-c", block[0] if block else "false", within=folder, env=without_folder(folder.parent, **more))
+        right = ran.returncode == 0 and ran.stdout.endswith((folder / "examples/cap.report").read_bytes())
+        check(f"docs/{page}.md: {start}", right, ran.stderr.decode()[-600:])

@@ -138,11 +138,21 @@ fn nothing_stands_unescaped() {
 }
 
 #[test]
+fn comparisons_that_are_never_true_are_named() {
+    let page = page_of(&sheet("C 0 -|O 0 0|R 0 0|X not (self = 3)"), "unlike");
+    holds_together(&page, "unlike");
+    assert!(page.contains("Never true: `self = 3`, <a href=\"#line-4\">line 4</a>, as"));
+}
+
+#[test]
 fn no_verdicts_and_no_sheet() {
-    for lines in ["C 0 -", "C 0 -|R 0 0|X true"] {
+    for (lines, why) in [
+        ("C 0 -", "The sheet has no rule"),
+        ("C 0 -|R 0 0|X true", "There are no verdicts"),
+    ] {
         let page = page_of(&sheet(lines), "none");
         holds_together(&page, lines);
-        assert!(page.contains("There are no verdicts"), "{lines}");
+        assert!(page.contains(why), "{lines}");
     }
     holds_together(&page_of(b"", "empty"), "empty");
 }

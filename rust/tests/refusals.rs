@@ -10,7 +10,7 @@ use second_evaluator::harness::vectors::board_vectors;
 use second_evaluator::load;
 use std::fs;
 use std::path::Path;
-use told::{printed, says, sheet};
+use told::{explanation, printed, says, sheet};
 
 #[test]
 fn every_number_has_words() {
@@ -30,11 +30,6 @@ fn every_number_has_words() {
 fn refusal(number: u64) -> Vec<u8> {
     let folder = Path::new(env!("CARGO_MANIFEST_DIR")).join("../examples/refusals");
     fs::read(folder.join(format!("{number:02}.sheet"))).unwrap()
-}
-
-/// What is explained of a sheet.
-fn explanation(text: &[u8]) -> String {
-    explained(text, &printed(text)).unwrap().words()
 }
 
 /// A call with so many words lent.

@@ -19,7 +19,7 @@ use reader::SheetRead;
 use tables::Counts;
 
 // How an edit ended, as an answer.
-fn edit_answer(e: Edited) -> Answer
+fn edit_ended(e: Edited) -> Answer
     ensures { λ a. ⌜ ((v : Verdict) → SaysEdit e v → a ≡ answerOf v) ⌝ }
 {
     match e {
@@ -41,11 +41,11 @@ fn edit_on(
     requires { ⌜ Lent (now w0) (now w1) (now w2) (now out) × (leastBoard ≤ length (now words)) × KnownTyped st (now w0) (now w1) (now w2) ⌝ }
     ensures { λ a. ⌜ EditsOn (now (edit .entry)) st (now (w0 .entry)) (now (w0 .exit)) (now (w1 .entry)) (now (w2 .entry)) (now (w2 .exit)) (now (words .entry)) (now (words .exit)) (now (out .entry)) (now (out .exit)) a ⌝ }
 {
-    edit_answer(edit_board(edit, w0, st, w1, w2, words, out))
+    edit_ended(edit_board(edit, w0, st, w1, w2, words, out))
 }
 
 // The answer for the text and the edit, whatever the words held before; they are not wiped yet.
-pub fn edit_text(
+pub fn edit_answer(
     text: &[u8],
     edit: &[u8],
     w0: &mut [u64],

@@ -11,6 +11,7 @@ ghost use Rattle.outcomes.specs.Tables.{IsA};
 ghost use Rattle.rules.specs.Accepted.{KnownTyped};
 ghost use Rattle.opening.specs.Parts.{Leaves, GivesFor};
 ghost use Rattle.answering.specs.Outcomes.{Fitting, GivesEnded};
+use memory::words::wide;
 use opening::Answer;
 use opening::no_output;
 use opening::open_text;
@@ -22,7 +23,6 @@ use rules::evaluated::evaluate_numbered;
 use spelling::put_value;
 use tables::Counts;
 use text::spelling::put_byte;
-use types::classes::wide;
 
 // How an evaluation ended, as an answer: a value, which lies in w2 from 1 on, or `u` is put into out.
 fn put_outcome(e: Ended, w2: &[u64], out: &mut [u8]) -> Answer

@@ -6,15 +6,15 @@ ghost use Rattle.rules.specs.Accepted.{KnownTyped};
 ghost use Rattle.opening.specs.Parts.{Leaves, GivesFor};
 ghost use Rattle.answering.specs.TypeLines.{Waiting, profiled};
 use super::read::put_types;
+use memory::words::wide;
 use numbering::whole::lowest_outside;
 use opening::Answer;
 use opening::no_output;
 use opening::open_text;
 use opening::written;
 use reader::SheetRead;
-use rules::typed::node_line;
+use rules::typed::line_of;
 use tables::Counts;
-use types::classes::wide;
 
 // The types of the accepted sheet in the words, put into out; or 22 at the lowest line outside the profile.
 fn profile_on(w0: &[u64], st: Counts, w1: &mut [u64], w2: &mut [u64], out: &mut [u8]) -> Answer
@@ -23,7 +23,7 @@ fn profile_on(w0: &[u64], st: Counts, w1: &mut [u64], w2: &mut [u64], out: &mut 
 {
     let p = lowest_outside(w0, st, w1, w2);
     if p < memory::NODES {
-        return no_output(22, node_line(w1, p as u64));
+        return no_output(22, line_of(w1, p as u64));
     }
     written(put_types(w2, wide(st.rules), out), 0)
 }

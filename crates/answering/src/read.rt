@@ -6,13 +6,13 @@ ghost use Rattle.sheet.specs.Calls.{answer as answerWith, onAccepted, typeLines
 ghost use Rattle.sheet.specs.Soundness.{Lent};
 ghost use Rattle.opening.specs.Parts.{Leaves};
 ghost use Rattle.answering.specs.TypeLines.{Waiting, PutsTypes};
+use memory::words::wide;
 use opening::Answer;
 use opening::no_output;
 use opening::open_text;
 use opening::written;
 use reader::SheetRead;
 use text::spelling::put_byte;
-use types::classes::wide;
 use types::spelling::put_type;
 use types::word::unpack;
 

@@ -4,11 +4,11 @@ use mathlib.Core.Logic.{_≢_}
 use mathlib.Core.Bool.{Bool, true, false, _&&_}
 use mathlib.Core.Option.{Option, none, some}
 use mathlib.Core.List.{[]}
-use Prim.Native.Nat.{ℕ}
+use Prim.Native.Nat.{ℕ, _≤_}
 use native.Mathlib.Omega.{arith}
 use lib.ListN.{length}
-use lib.Dec.{T, ltb}
-use Rattle.laws.proofs.Tests.{by-if}
+use lib.Dec.{T, eqb, ltb, leb, leb→le, eqb→eq}
+use Rattle.laws.proofs.Tests.{and-r, or-e, by-if}
 use Rattle.ocl.specs.Types.{class}
 use Rattle.ocl.specs.Values.{Value}
 use Rattle.ocl.specs.Model.{isA}
@@ -18,10 +18,11 @@ use Rattle.sheet.specs.Limits.{withinLimits}
 use Rattle.sheet.specs.Refusals.{inOrder, partsKnown, callsSmaller, callsKnown, suits, treeHolds}
 use Rattle.sheet.specs.Reading.{Step, taken, refuse, must, stepLine, sheetIn}
 use Rattle.sheet.specs.Calls.{Verdict, refusalAt, refusal}
+use Rattle.sheet.proofs.NeverStuck.{Low, fitting-low, accepted-low}
 use Rattle.board.specs.Edits.{Edit, readEdit, edited, withSlots, judgedValue, judged, hasRoom}
 use Rattle.board.specs.Board.{Board, allVerdicts, after}
-use Rattle.board.specs.Calls.{shortBoard, onJudged, answered, editOn}
-use Rattle.board.specs.Laws.{editNumber, EditEnds, short-lent, refused-edit, too-long, answered-edit, EditNumbers}
+use Rattle.board.specs.Calls.{shortBoard, makeCall, onJudged, answered, editOn, editCall}
+use Rattle.board.specs.Laws.{editNumber, EditEnds, short-lent, refused-edit, too-long, answered-edit, EditNumbers, NeverStuckBoards}
 use Rattle.board.proofs.Board.{made-accepted}
 use Rattle.board.proofs.Runs.{edit-call}
 
@@ -70,3 +71,23 @@ pub edit-ends : EditNumbers
 edit-ends text w0 w1 w2 words out e b line v0 v1 v2 lent room =
     subst EditEnds (sym (edit-call text (made-accepted text w0 w1 w2 words out e) b line v0 v1 v2 lent room))
     (by-if EditEnds (shortBoard v0 v1 v2 lent room) (refusal 1) (editOn (length room) (sheetIn text) b (readEdit line)) (λ t. short-lent) (λ t. ends-on (length room) (sheetIn text) b (readEdit line)))
+
+-- ---- 100 is no number of these calls
+
+low-number : (n : ℕ) → T (editNumber n) → n ≤ 24
+unfolding editNumber
+low-number n t = or-e (leb 3 n && leb n 7) (eqb n 21) t (λ u. let l = leb→le n 7 (and-r (leb 3 n) (leb n 7) u) in omega arith) (λ u. let e = eqb→eq n 21 u in omega arith)
+
+low-end : {v : Verdict} → EditEnds v → Low v
+unfolding refusal refusalAt
+low-end short-lent = omega arith
+low-end (refused-edit n t) = low-number n t
+low-end too-long = omega arith
+low-end (answered-edit n b) = omega arith
+
+pub never-stuck-boards : NeverStuckBoards
+unfolding makeCall editCall refusal refusalAt
+never-stuck-boards text w0 w1 w2 words out = record {
+  make-number = by-if Low (shortBoard w0 w1 w2 words out) _ _ (λ t. omega arith) (λ t. accepted-low text _ (λ s ts. fitting-low (length out) _));
+  edit-number = λ b line. by-if Low (shortBoard w0 w1 w2 words out) _ _ (λ t. omega arith) (λ t. accepted-low text _ (λ s ts. low-end (ends-on (length out) s b (readEdit line))));
+}

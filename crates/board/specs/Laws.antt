@@ -89,6 +89,14 @@ EditNumbers =
     (text : Bytes) (w0 w1 w2 words : List ℕ) (out : Bytes) → makeCall text w0 w1 w2 words out .number ≡ 0
     → (b : Board) (line : Bytes) (v0 v1 v2 lent : List ℕ) (room : Bytes) → EditEnds (editCall text b line v0 v1 v2 lent room)
 
+-- what stands for stuck, 100, is no number of these two calls either, whatever the text, the board and the line
+pub record NeverStuckBoard (text : Bytes) (w0 w1 w2 words : List ℕ) (out : Bytes) : Type 0 where
+  pub make-number : makeCall text w0 w1 w2 words out .number ≤ 24
+  pub edit-number : (b : Board) (line : Bytes) → editCall text b line w0 w1 w2 words out .number ≤ 24
+
+abbrev pub NeverStuckBoards : Type 0
+NeverStuckBoards = (text : Bytes) (w0 w1 w2 words : List ℕ) (out : Bytes) → NeverStuckBoard text w0 w1 w2 words out
+
 -- ---- the same of texts: one that differs from the board's only in V lines, and whose V lines say the board's slots
 
 pub record OtherIs (b : Board) (other : Bytes) (t : Sheet) : Type 0 where

@@ -9,8 +9,8 @@ ghost use Rattle.sheet.specs.Sizes.{leastWords, mostRules};
 ghost use Rattle.board.specs.Calls.{leastBoard};
 ghost use Rattle.tables.specs.Layout.{Fine};
 ghost use Rattle.board_words.specs.Layout.{padded, wordOr, StoresBoard};
+use memory::words::wide;
 use tables::Counts;
-use types::classes::wide;
 
 // Word i of a table of n words, or 0 behind it.
 fn word_or(table: &[u64], n: usize, i: usize) -> u64

@@ -7,6 +7,7 @@ use native.Mathlib.Omega.{arith}
 use borrow.Author.Tests.{ltb-false}
 use lib.ListN.{length}
 use lib.Dec.{ltb}
+use Rattle.laws.proofs.Tests.{or-outer, or-middle, or-none}
 use Rattle.sheet.specs.Text.{Bytes}
 use Rattle.sheet.specs.Calls.{refusalAt, refusal, shortWords, shortOutput}
 use Rattle.sheet.specs.Report.{fitting}
@@ -28,27 +29,10 @@ use Rattle.answering.specs.Editing.{LeavesEdit}
 
 -- ---- lengths
 
-or-three : (a b c : Bool) → (a || c) ≡ true → true ≡ (a || b || c)
-or-three true b c h = refl
-or-three false true c h = refl
-or-three false false c h = sym h
-
-or-middle : (a b c : Bool) → (a || c) ≡ false → b ≡ (a || b || c)
-or-middle true b c h = absurd (let z : _≡_ {A = ℕ} 0 1 = cc in omega arith)
-or-middle false true c h = refl
-or-middle false false true h = absurd (let z : _≡_ {A = ℕ} 0 1 = cc in omega arith)
-or-middle false false false h = refl
-
-none-short : (a b c : Bool) → (a || b || c) ≡ false → ((a || c) ≡ false) × (b ≡ false)
-none-short true b c h = absurd (let z : _≡_ {A = ℕ} 0 1 = cc in omega arith)
-none-short false true c h = absurd (let z : _≡_ {A = ℕ} 0 1 = cc in omega arith)
-none-short false false true h = absurd (let z : _≡_ {A = ℕ} 0 1 = cc in omega arith)
-none-short false false false h = (refl, refl)
-
 module _ (w0 w1 w2 words : List ℕ) (out : Bytes) where
   pub short-some : {b : Bool} → b ≡ (shortWords w0 w1 w2 || shortOutput out) → b ≡ true → true ≡ shortBoard w0 w1 w2 words out
   unfolding shortBoard
-  short-some e h = or-three (shortWords w0 w1 w2) (ltb (length words) 8192) (shortOutput out) (sym e ∙ h)
+  short-some e h = or-outer (shortWords w0 w1 w2) (ltb (length words) 8192) (shortOutput out) (sym e ∙ h)
 
   pub short-words : {b : Bool} → b ≡ (shortWords w0 w1 w2 || shortOutput out) → b ≡ false → ltb (length words) 8192 ≡ shortBoard w0 w1 w2 words out
   unfolding shortBoard
@@ -57,7 +41,7 @@ module _ (w0 w1 w2 words : List ℕ) (out : Bytes) where
 pub board-lent : (w0 w1 w2 words : List ℕ) (out : Bytes) {b : Bool} → b ≡ shortBoard w0 w1 w2 words out → b ≡ false → Lent w0 w1 w2 out × (8192 ≤ length words)
 unfolding shortBoard
 board-lent w0 w1 w2 words out e h =
-    let z = none-short (shortWords w0 w1 w2) (ltb (length words) 8192) (shortOutput out) (sym e ∙ h) in
+    let z = or-none (shortWords w0 w1 w2) (ltb (length words) 8192) (shortOutput out) (sym e ∙ h) in
     (all-lent {w0 = w0} {w1 = w1} {w2 = w2} {out = out} refl (z .0), ltb-false (length words) 8192 (z .1))
 
 -- ---- the call that makes a board

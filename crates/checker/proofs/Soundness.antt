@@ -58,6 +58,9 @@ never-stuck-of-call text w0 w1 w2 out a v0 v1 v2 after =
     record {
       read = λ z. subst⁻¹ (λ (b : Answer). b .number ≤ 24) (z .is) (n .read-number);
       evaluated = λ r o z. subst⁻¹ (λ (b : Answer). b .number ≤ 24) (z .is) (n .evaluate-number r o);
+      profiled = λ z. subst⁻¹ (λ (b : Answer). b .number ≤ 24) (z .is) (n .profile-number);
       reported = λ z. subst⁻¹ (λ (b : Answer). b .number ≤ 24) (z .is) (n .report-number);
+      seen = λ z. subst⁻¹ (λ (b : Answer). b .number ≤ 24) (z .is) (n .rows-number);
+      traced = λ z. subst⁻¹ (λ (b : Answer). b .number ≤ 24) (z .is) (n .origin-number);
       report-bytes = λ z b c e. n .report-bytes b c (sym (written (reportCall text w0 w1 w2 out) z) ∙ e);
     }

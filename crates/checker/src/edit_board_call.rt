@@ -2,7 +2,7 @@
 ghost use Rattle.board_words.proofs.Found.{layout};
 ghost use Rattle.checker.specs.Boards.{AnswersEdit};
 use super::make_board_call::short_board;
-use answering::edit::edit_text;
+use answering::edit::edit_answer;
 use opening::Answer;
 use opening::no_output;
 use opening::wipe_all;
@@ -25,7 +25,7 @@ pub extern "C" fn ocl_edit_board(
     if short_board(w0, w1, w2, words, out) {
         return no_output(1, 0);
     }
-    let a = edit_text(text, edit, w0, w1, w2, words, out);
+    let a = edit_answer(text, edit, w0, w1, w2, words, out);
     wipe_all(w0, w1, w2);
     a
 }

@@ -23,7 +23,7 @@ use Rattle.text.specs.declared.numbers.Num.the-variants as num
 use Rattle.text.proofs.NumberLaws.{num-bad}
 use Rattle.text.proofs.PartLaws.{counted-exact}
 use Rattle.tables.specs.declared.Counts.{Counts}
-use Rattle.tables.specs.declared.Step.the-variants.{Next, Stop}
+use Rattle.tables.specs.declared.Step.the-variants.{Next, Refused}
 use Rattle.tables.specs.Layout.{parentCode, Holds, Fine}
 use Rattle.tables.proofs.Tables.{kept-set}
 use Rattle.tables.proofs.Entries.{definitions-same, tab-more-of, holds-kept, spare-parent, open-kept}
@@ -79,11 +79,11 @@ module _ {line : Bytes} {f : Fields} (so : Lettered "C" line f) where
 
 -- numbers over their limits
 module _ (st : Counts) (k : ℕ) (w0 w1 : List ℕ) (n : ℕ) (p : Option ℕ) {m : ℕ} (cut : m ≡ min n 1000000) where
-  pub class-over : 64 ≤ m → TookSpelled st k (classLine n p) (Stop 4) w0 w1 w0 w1
+  pub class-over : 64 ≤ m → TookSpelled st k (classLine n p) (Refused 4) w0 w1 w0 w1
   unfolding withinLimits isClass
   class-over h = stopped st k w0 w1 _ 4 (λ s _. over-limits s k _ (rw (le-ltb n 64 (omega arith))))
 
-  pub class-over-parent : m < 64 → parentWithin p ≡ false → TookSpelled st k (classLine n p) (Stop 4) w0 w1 w0 w1
+  pub class-over-parent : m < 64 → parentWithin p ≡ false → TookSpelled st k (classLine n p) (Refused 4) w0 w1 w0 w1
   unfolding withinLimits isClass
   class-over-parent l h = stopped st k w0 w1 _ 4 (λ s _. over-limits s k _ (rw (lt-ltb n 64 (omega arith), h)))
 
@@ -148,12 +148,12 @@ module _ (st : Counts) (k : ℕ) (w0 w1 : List ℕ) (n q : ℕ) (low : n < 64) (
   unfolding withinLimits isClass
   within s = rw (lt-ltb n 64 low, code-within q high)
 
-  pub class-block : 0 < st .block → TookSpelled st k (classLine n (parentOf q)) (Stop 5) w0 w1 w0 w1
+  pub class-block : 0 < st .block → TookSpelled st k (classLine n (parentOf q)) (Refused 5) w0 w1 w0 w1
   unfolding blockOf
   class-block = past-block st k w0 w1 (classLine n (parentOf q)) within
 
   module _ (in-block : st .block ≤ 0) where
-    pub class-gap : (n ≡ st .classes → ⊥) → TookSpelled st k (classLine n (parentOf q)) (Stop 5) w0 w1 w0 w1
+    pub class-gap : (n ≡ st .classes → ⊥) → TookSpelled st k (classLine n (parentOf q)) (Refused 5) w0 w1 w0 w1
     unfolding blockOf numbered
     class-gap o =
         misnumbered st k w0 w1 (classLine n (parentOf q)) within in-block (λ s h. ne-eqb n (length (s .parents)) (λ e. o (e ∙ sym (h .counted .classes))))
@@ -167,7 +167,7 @@ module _ (st : Counts) (k : ℕ) (w0 w1 : List ℕ) (n q : ℕ) (low : n < 64) (
       unfolding blockOf
       in-order s h = order-by-number st k w0 w1 (classLine n (parentOf q)) within in-block s (h .counted) ∙ its-number s h
 
-      pub class-unknown : n < q → TookSpelled st k (classLine n (parentOf q)) (Stop 6) w0 w1 w0 w1
+      pub class-unknown : n < q → TookSpelled st k (classLine n (parentOf q)) (Refused 6) w0 w1 w0 w1
       unfolding blockOf partsKnown
       class-unknown u = unknown st k w0 w1 (classLine n (parentOf q)) within in-block its-number (λ s h. code-not-smaller n q u)
 

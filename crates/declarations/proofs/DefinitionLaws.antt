@@ -16,7 +16,7 @@ use Rattle.sheet.specs.Limits.{isClass, isDefinition, classBelow, typeWithin, w
 use Rattle.sheet.specs.Refusals.{blockOf, numbered, partsKnown, callsSmaller, callsKnown, suits, treeHolds}
 use Rattle.types.specs.Word.{typeIn}
 use Rattle.tables.specs.declared.Counts.{Counts}
-use Rattle.tables.specs.declared.Step.the-variants.{Next, Stop}
+use Rattle.tables.specs.declared.Step.the-variants.{Next, Refused}
 use Rattle.tables.specs.Layout.{openCode, HoldsCurrent, opened, Holds, Fine}
 use Rattle.tables.proofs.Tables.{kept-refl}
 use Rattle.tables.proofs.Entries.{tables-same, definitions-same}
@@ -81,16 +81,16 @@ definition-held st k n c p t w0 w1 s packed h = record {
 
 -- ---- the limits
 
-pub definition-over-type : (st : Counts) (k : ℕ) (w0 w1 : List ℕ) (n c : ℕ) (t : Ty) → typeWithin t ≡ false → TookSpelled st k (definitionLine n c t) (Stop 4) w0 w1 w0 w1
+pub definition-over-type : (st : Counts) (k : ℕ) (w0 w1 : List ℕ) (n c : ℕ) (t : Ty) → typeWithin t ≡ false → TookSpelled st k (definitionLine n c t) (Refused 4) w0 w1 w0 w1
 unfolding withinLimits
 definition-over-type st k w0 w1 n c t h = stopped st k w0 w1 _ 4 (λ s _. over-limits s k _ (rw (h, and-false)))
 
 module _ {st : Counts} {n c : ℕ} {t : Ty} where
-  pub definition-big : 32 ≤ n → TookDefinition st n c t (Stop 4)
+  pub definition-big : 32 ≤ n → TookDefinition st n c t (Refused 4)
   unfolding withinLimits isDefinition
   definition-big h = record { is = λ w0 w1 k i j p q. stopped st k w0 w1 _ 4 (λ s _. over-limits s k _ (rw (le-ltb i 32 (omega arith)))) }
 
-  pub definition-class-big : 64 ≤ c → TookDefinition st n c t (Stop 4)
+  pub definition-class-big : 64 ≤ c → TookDefinition st n c t (Refused 4)
   unfolding withinLimits isClass
   definition-class-big h = record { is = λ w0 w1 k i j p q. stopped st k w0 w1 _ 4 (λ s _. over-limits s k _ (rw (le-ltb j 64 (omega arith), and-false))) }
 
@@ -108,12 +108,12 @@ module _ {st : Counts} {n c : ℕ} (t : Ty) (fine : Fine st) (typed : typeWithin
   unfolding withinLimits isDefinition isClass
   within s = rw (lt-ltb n 32 low, lt-ltb c 64 class, typed)
 
-  pub definition-block : 4 < st .block → TookDefinition st n c t (Stop 5)
+  pub definition-block : 4 < st .block → TookDefinition st n c t (Refused 5)
   unfolding blockOf
   definition-block b = exactly (λ w0 w1 k. past-block st k w0 w1 (definitionLine n c t) within b)
 
   module _ (in-block : st .block ≤ 4) where
-    pub definition-gap : (n ≡ st .definitions → ⊥) → TookDefinition st n c t (Stop 5)
+    pub definition-gap : (n ≡ st .definitions → ⊥) → TookDefinition st n c t (Refused 5)
     unfolding blockOf numbered
     definition-gap o = exactly (λ w0 w1 k. misnumbered st k w0 w1 (definitionLine n c t) within in-block (λ s h. ne-eqb n (length (s .definitions)) (λ e. o (e ∙ sym (h .counted .definitions)))))
 
@@ -122,13 +122,13 @@ module _ {st : Counts} {n c : ℕ} (t : Ty) (fine : Fine st) (typed : typeWithin
       unfolding numbered
       its-number w0 w1 s h = eq-eqb n (length (s .definitions)) (is-next ∙ h .counted .definitions)
 
-      pub definition-unknown : st .classes ≤ c → TookDefinition st n c t (Stop 6)
+      pub definition-unknown : st .classes ≤ c → TookDefinition st n c t (Refused 6)
       unfolding blockOf partsKnown
       definition-unknown u =
           exactly (λ w0 w1 k. unknown st k w0 w1 (definitionLine n c t) within in-block (its-number w0 w1) (λ s h. rw (le-ltb c (length (s .parents)) (omega (arith, h .counted .classes)))))
 
       module _ (known : c < st .classes) {b : Bool} (told : b ≡ classBelow (st .classes) t) where
-        pub definition-unknown-type : not b ≡ true → TookDefinition st n c t (Stop 6)
+        pub definition-unknown-type : not b ≡ true → TookDefinition st n c t (Refused 6)
         unfolding blockOf partsKnown
         definition-unknown-type u =
             exactly (λ w0 w1 k. unknown st k w0 w1 (definitionLine n c t) within in-block (its-number w0 w1)

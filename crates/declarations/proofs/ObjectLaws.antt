@@ -16,7 +16,7 @@ use Rattle.sheet.specs.Sheet.{Sheet, added}
 use Rattle.sheet.specs.Limits.{isClass, withinLimits}
 use Rattle.sheet.specs.Refusals.{blockOf, numbered, inOrder, partsKnown, callsSmaller, callsKnown, suits, treeHolds}
 use Rattle.tables.specs.declared.Counts.{Counts}
-use Rattle.tables.specs.declared.Step.the-variants.{Next, Stop}
+use Rattle.tables.specs.declared.Step.the-variants.{Next, Refused}
 use Rattle.tables.specs.Layout.{Holds, Fine}
 use Rattle.tables.proofs.Tables.{kept-set}
 use Rattle.tables.proofs.Entries.{definitions-same, tab-next, holds-kept, spare-object, open-kept}
@@ -88,12 +88,12 @@ module _ (st : Counts) (k : ℕ) (w0 w1 : List ℕ) (n c : ℕ) (low : n < 96) (
   unfolding withinLimits isClass
   within s = rw (lt-ltb n 96 low, lt-ltb c 64 class)
 
-  pub object-block : 2 < st .block → TookSpelled st k (objectLine n c) (Stop 5) w0 w1 w0 w1
+  pub object-block : 2 < st .block → TookSpelled st k (objectLine n c) (Refused 5) w0 w1 w0 w1
   unfolding blockOf
   object-block = past-block st k w0 w1 (objectLine n c) within
 
   module _ (in-block : st .block ≤ 2) where
-    pub object-gap : (n ≡ st .objects → ⊥) → TookSpelled st k (objectLine n c) (Stop 5) w0 w1 w0 w1
+    pub object-gap : (n ≡ st .objects → ⊥) → TookSpelled st k (objectLine n c) (Refused 5) w0 w1 w0 w1
     unfolding blockOf numbered
     object-gap o = misnumbered st k w0 w1 (objectLine n c) within in-block (λ s h. ne-eqb n (length (s .objects)) (λ e. o (e ∙ sym (h .counted .objects))))
 
@@ -106,7 +106,7 @@ module _ (st : Counts) (k : ℕ) (w0 w1 : List ℕ) (n c : ℕ) (low : n < 96) (
       unfolding blockOf
       in-order s h = order-by-number st k w0 w1 (objectLine n c) within in-block s (h .counted) ∙ its-number s h
 
-      pub object-unknown : st .classes ≤ c → TookSpelled st k (objectLine n c) (Stop 6) w0 w1 w0 w1
+      pub object-unknown : st .classes ≤ c → TookSpelled st k (objectLine n c) (Refused 6) w0 w1 w0 w1
       unfolding blockOf partsKnown
       object-unknown u =
           unknown st k w0 w1 (objectLine n c) within in-block its-number (λ s h. le-ltb c (length (s .parents)) (omega (arith, h .counted .classes)))

@@ -28,13 +28,13 @@ use Rattle.tables.specs.Layout.{Took}
 use Rattle.tables.proofs.Steps.{over-limits}
 use Rattle.declarations.specs.Taken.{TookSpelled}
 use Rattle.declarations.specs.Fields.{twoNumbers, pairOf}
-use Rattle.declarations.specs.declared.pairs.Pair.the-variants.{Stop, Are}
+use Rattle.declarations.specs.declared.pairs.Pair.the-variants.{Refused, Are}
 use Rattle.declarations.proofs.TakenLaws.{stopped, unspelled, spelled}
 
 -- ---- the returns of `pair`
 
 module _ {line : Bytes} {f : Fields} (limit : ℕ) (cut : Cut line f) where
-  pub pair-count : (f .count ≡ 3 → ⊥) → Stop 3 ≡ pairOf limit (twoNumbers (drop 1 (fieldsOf line)))
+  pub pair-count : (f .count ≡ 3 → ⊥) → Refused 3 ≡ pairOf limit (twoNumbers (drop 1 (fieldsOf line)))
   unfolding pairOf twoNumbers
   pair-count h =
       rw (takes-more {B = ℕ × ℕ} aNumber (λ n. next aNumber (λ c. done (n, c))) 1 (λ n. takes-more _ _ 0 (λ c. takes-none (n, c))) (drop 1 (fieldsOf line))
@@ -44,7 +44,7 @@ module _ {line : Bytes} {f : Fields} (limit : ℕ) (cut : Cut line f) where
     long : length (fieldsOf line) ≡ 3
     long = counted-exact cut (omega arith) ∙ three
 
-    pub pair-number : {x : Bytes} → x ≡ getD (fieldsOf line) 1 [] → num.Bad ≡ cutNum (aNumber x) → Stop 3 ≡ pairOf limit (twoNumbers (drop 1 (fieldsOf line)))
+    pub pair-number : {x : Bytes} → x ≡ getD (fieldsOf line) 1 [] → num.Bad ≡ cutNum (aNumber x) → Refused 3 ≡ pairOf limit (twoNumbers (drop 1 (fieldsOf line)))
     unfolding pairOf twoNumbers
     pair-number {x} e h = rw (field-bad {B = ℕ × ℕ} aNumber (λ n. next aNumber (λ c. done (n, c))) (fieldsOf line) 1 (omega (arith, long)) (rw (← e) (num-bad (aNumber x) h)))
 
@@ -53,7 +53,7 @@ module _ {line : Bytes} {f : Fields} (limit : ℕ) (cut : Cut line f) where
       unfolding twoNumbers
       first = field-some aNumber _ (fieldsOf line) 1 (omega (arith, long)) (rw (← at1) (num-some (aNumber x) number))
 
-      pub pair-class : num.Bad ≡ cutNum (aNumber y) → Stop 3 ≡ pairOf limit (twoNumbers (drop 1 (fieldsOf line)))
+      pub pair-class : num.Bad ≡ cutNum (aNumber y) → Refused 3 ≡ pairOf limit (twoNumbers (drop 1 (fieldsOf line)))
       unfolding pairOf
       pair-class h = rw (first ∙ field-bad {B = ℕ × ℕ} aNumber (λ c. done (the (aNumber x), c)) (fieldsOf line) 2 (omega (arith, long)) (rw (← at2) (num-bad (aNumber y) h)))
 
@@ -70,12 +70,12 @@ module _ {line : Bytes} {f : Fields} (limit : ℕ) (cut : Cut line f) where
         cut2 : c ≡ min (the (aNumber y)) 1000000
         cut2 = num-cut (aNumber y) class
 
-        pub pair-over : limit ≤ n → Stop 4 ≡ pairOf limit (twoNumbers (drop 1 (fieldsOf line)))
+        pub pair-over : limit ≤ n → Refused 4 ≡ pairOf limit (twoNumbers (drop 1 (fieldsOf line)))
         unfolding pairOf
         pair-over h = rw (both, le-ltb (the (aNumber x)) limit (omega (arith, cut1)))
 
         module _ (low : n < limit) where
-          pub pair-over-class : 64 ≤ c → Stop 4 ≡ pairOf limit (twoNumbers (drop 1 (fieldsOf line)))
+          pub pair-over-class : 64 ≤ c → Refused 4 ≡ pairOf limit (twoNumbers (drop 1 (fieldsOf line)))
           unfolding pairOf isClass
           pair-over-class h = rw (both, lt-ltb (the (aNumber x)) limit (omega (arith, cut1)), le-ltb (the (aNumber y)) 64 (omega (arith, cut2)))
 
@@ -129,7 +129,7 @@ unfolding pairOf isClass
 pair-within limit none h = absurd (let z : _≡_ {A = ℕ} 0 1 = cc in omega arith)
 pair-within {n} {c} limit (some p) h = go (ltb (p .0) limit) refl (ltb (p .1) 64) refl h
   where
-    go : (a : Bool) → a ≡ ltb (p .0) limit → (b : Bool) → b ≡ ltb (p .1) 64 → Are n c ≡ (if a && b then Are (p .0) (p .1) else Stop 4) → Within limit (some p) n c
+    go : (a : Bool) → a ≡ ltb (p .0) limit → (b : Bool) → b ≡ ltb (p .1) 64 → Are n c ≡ (if a && b then Are (p .0) (p .1) else Refused 4) → Within limit (some p) n c
     go true d true e q =
         let i : n ≡ p .0 = cc in
         let j : c ≡ p .1 = cc in
@@ -142,18 +142,18 @@ module _ (st : Counts) (k : ℕ) (w0 w1 : List ℕ) (line : Bytes) (o : Option (
     (reads : lineOf (fieldsOf line) ≡ mapSome (λ p. to (p .0) (p .1)) o)
     (plain : (n c : ℕ) (test : Bytes → Bool) → onText (to n c) test ≡ true)
     (limits : (s : Sheet) (n c : ℕ) → withinLimits s (to n c) ≡ (ltb n limit && isClass c)) where
-  pub pair-stopped : {n : ℕ} → Stop n ≡ pairOf limit o → Took st k line (code.Stop n) w0 w1 w0 w1
+  pub pair-stopped : {n : ℕ} → Refused n ≡ pairOf limit o → Took st k line (code.Refused n) w0 w1 w0 w1
   unfolding pairOf mapSome
   pair-stopped {n} h = go o reads h
     where
       by-limits : (p : ℕ × ℕ) (b : Bool) → b ≡ (ltb (p .0) limit && isClass (p .1)) → lineOf (fieldsOf line) ≡ some (to (p .0) (p .1))
-          → Stop n ≡ (if b then Are (p .0) (p .1) else Stop 4) → Took st k line (code.Stop n) w0 w1 w0 w1
+          → Refused n ≡ (if b then Are (p .0) (p .1) else Refused 4) → Took st k line (code.Refused n) w0 w1 w0 w1
       by-limits p true e r h = absurd (let z : _≡_ {A = ℕ} 0 1 = cc in omega arith)
       by-limits p false e r h =
           let four : n ≡ 4 = cc in
           rw four (spelled line (plain (p .0) (p .1)) r (stopped st k w0 w1 _ 4 (λ s q. over-limits s k _ (limits s (p .0) (p .1) ∙ sym e))))
 
-      go : (o : Option (ℕ × ℕ)) → lineOf (fieldsOf line) ≡ mapSome (λ p. to (p .0) (p .1)) o → Stop n ≡ pairOf limit o → Took st k line (code.Stop n) w0 w1 w0 w1
+      go : (o : Option (ℕ × ℕ)) → lineOf (fieldsOf line) ≡ mapSome (λ p. to (p .0) (p .1)) o → Refused n ≡ pairOf limit o → Took st k line (code.Refused n) w0 w1 w0 w1
       go none r h = let three : n ≡ 3 = cc in rw three (unspelled st k w0 w1 line r)
       go (some p) r h = by-limits p (ltb (p .0) limit && isClass (p .1)) refl r h
 

@@ -20,7 +20,7 @@ use Rattle.sheet.specs.Limits.{isClass, classBelow, typeWithin, withinLimits}
 use Rattle.sheet.specs.Refusals.{declares, blockOf, numbered, inOrder, partsKnown, callsSmaller, callsKnown, suits, treeHolds}
 use Rattle.types.specs.Word.{typeIn}
 use Rattle.tables.specs.declared.Counts.{Counts}
-use Rattle.tables.specs.declared.Step.the-variants.{Next, Stop}
+use Rattle.tables.specs.declared.Step.the-variants.{Next, Refused}
 use Rattle.tables.specs.Layout.{tab, Holds, Fine, Kept}
 use Rattle.tables.proofs.Tables.{kept-set, kept-then}
 use Rattle.tables.proofs.Entries.{definitions-same, tab-more-of, tab-more-by, holds-kept, spare-owner, spare-name, spare-type, open-kept}
@@ -53,14 +53,14 @@ are-low n c name h = go (ltb n 64) refl (ltb c 64) refl (ltb name 256) refl h
 module _ (st : Counts) (k : ℕ) (w0 w1 : List ℕ) (n c name : ℕ) (t : Ty) where
   -- by the numbers as they are read
   pub row-over : {m d e : ℕ} → m ≡ min n 1000000 → d ≡ min c 1000000 → e ≡ min name 1000000 → allLow m d e ≡ false
-      → TookSpelled st k (rowLine n c name t) (Stop 4) w0 w1 w0 w1
+      → TookSpelled st k (rowLine n c name t) (Refused 4) w0 w1 w0 w1
   unfolding withinLimits isClass
   row-over p q r h =
       stopped st k w0 w1 _ 4 (λ s _.
       over-limits s k _
       (rw (rw (p, q, r, cut-lt n 1000000 64 (omega arith), cut-lt c 1000000 64 (omega arith), cut-lt name 1000000 256 (omega arith)) at h)))
 
-  pub row-over-type : typeWithin t ≡ false → TookSpelled st k (rowLine n c name t) (Stop 4) w0 w1 w0 w1
+  pub row-over-type : typeWithin t ≡ false → TookSpelled st k (rowLine n c name t) (Refused 4) w0 w1 w0 w1
   unfolding withinLimits
   row-over-type h = stopped st k w0 w1 _ 4 (λ s _. over-limits s k _ (rw (h, and-false)))
 
@@ -152,12 +152,12 @@ module _ (st : Counts) (k : ℕ) (w0 w1 : List ℕ) (n c name : ℕ) (t : Ty) (l
   unfolding withinLimits
   within s = rw (low, typed)
 
-  pub row-block : 1 < st .block → TookSpelled st k (rowLine n c name t) (Stop 5) w0 w1 w0 w1
+  pub row-block : 1 < st .block → TookSpelled st k (rowLine n c name t) (Refused 5) w0 w1 w0 w1
   unfolding blockOf
   row-block = past-block st k w0 w1 (rowLine n c name t) within
 
   module _ (in-block : st .block ≤ 1) where
-    pub row-gap : (n ≡ st .rows → ⊥) → TookSpelled st k (rowLine n c name t) (Stop 5) w0 w1 w0 w1
+    pub row-gap : (n ≡ st .rows → ⊥) → TookSpelled st k (rowLine n c name t) (Refused 5) w0 w1 w0 w1
     unfolding blockOf numbered
     row-gap o =
         misnumbered st k w0 w1 (rowLine n c name t) within in-block (λ s h. rw (ne-eqb n (length (s .rows)) (λ e. o (e ∙ sym (h .counted .rows)))))
@@ -173,7 +173,7 @@ module _ (st : Counts) (k : ℕ) (w0 w1 : List ℕ) (n c name : ℕ) (t : Ty) (l
       unfolding numbered
       its-number s h = rw (eq-eqb n (length (s .rows)) (is-next ∙ h .counted .rows), by-rows s h)
 
-      pub row-twice : d ≡ true → TookSpelled st k (rowLine n c name t) (Stop 5) w0 w1 w0 w1
+      pub row-twice : d ≡ true → TookSpelled st k (rowLine n c name t) (Refused 5) w0 w1 w0 w1
       unfolding blockOf
       row-twice y = misnumbered st k w0 w1 (rowLine n c name t) within in-block (λ s h. its-number s h ∙ ap not y)
 
@@ -185,13 +185,13 @@ module _ (st : Counts) (k : ℕ) (w0 w1 : List ℕ) (n c name : ℕ) (t : Ty) (l
         unfolding blockOf
         in-order s h = order-by-number st k w0 w1 (rowLine n c name t) within in-block s (h .counted) ∙ new-number s h
 
-        pub row-unknown : st .classes ≤ c → TookSpelled st k (rowLine n c name t) (Stop 6) w0 w1 w0 w1
+        pub row-unknown : st .classes ≤ c → TookSpelled st k (rowLine n c name t) (Refused 6) w0 w1 w0 w1
         unfolding blockOf partsKnown
         row-unknown u =
             unknown st k w0 w1 (rowLine n c name t) within in-block new-number (λ s h. rw (le-ltb c (length (s .parents)) (omega (arith, h .counted .classes))))
 
         module _ (known : c < st .classes) {b : Bool} (told : b ≡ classBelow (st .classes) t) where
-          pub row-unknown-type : b ≡ false → TookSpelled st k (rowLine n c name t) (Stop 6) w0 w1 w0 w1
+          pub row-unknown-type : b ≡ false → TookSpelled st k (rowLine n c name t) (Refused 6) w0 w1 w0 w1
           unfolding blockOf partsKnown
           row-unknown-type u =
               unknown st k w0 w1 (rowLine n c name t) within in-block new-number

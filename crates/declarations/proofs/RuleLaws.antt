@@ -15,7 +15,7 @@ use Rattle.sheet.specs.Sheet.{Sheet, added}
 use Rattle.sheet.specs.Limits.{isClass, withinLimits}
 use Rattle.sheet.specs.Refusals.{blockOf, numbered, inOrder, partsKnown, callsSmaller, callsKnown, suits, treeHolds}
 use Rattle.tables.specs.declared.Counts.{Counts}
-use Rattle.tables.specs.declared.Step.the-variants.{Next, Stop}
+use Rattle.tables.specs.declared.Step.the-variants.{Next, Refused}
 use Rattle.tables.specs.Layout.{openCode, HoldsCurrent, opened, Holds, Fine}
 use Rattle.tables.proofs.Tables.{kept-refl}
 use Rattle.tables.proofs.Entries.{definitions-same, tables-same}
@@ -85,12 +85,12 @@ module _ (st : Counts) (k : ℕ) (w0 w1 : List ℕ) (n c : ℕ) (low : n < 64) (
   unfolding isClass
   within s = rule-limits s n c ∙ rw (lt-ltb n 64 low, lt-ltb c 64 class)
 
-  pub rule-block : 5 < st .block → TookSpelled st k (ruleLine n c) (Stop 5) w0 w1 w0 w1
+  pub rule-block : 5 < st .block → TookSpelled st k (ruleLine n c) (Refused 5) w0 w1 w0 w1
   unfolding blockOf
   rule-block = past-block st k w0 w1 (ruleLine n c) within
 
   module _ (in-block : st .block ≤ 5) where
-    pub rule-gap : (n ≡ st .rules → ⊥) → TookSpelled st k (ruleLine n c) (Stop 5) w0 w1 w0 w1
+    pub rule-gap : (n ≡ st .rules → ⊥) → TookSpelled st k (ruleLine n c) (Refused 5) w0 w1 w0 w1
     unfolding blockOf numbered
     rule-gap o = misnumbered st k w0 w1 (ruleLine n c) within in-block (λ s h. ne-eqb n (length (s .rules)) (λ e. o (e ∙ sym (h .counted .rules))))
 
@@ -103,7 +103,7 @@ module _ (st : Counts) (k : ℕ) (w0 w1 : List ℕ) (n c : ℕ) (low : n < 64) (
       unfolding blockOf
       in-order s h = order-by-number st k w0 w1 (ruleLine n c) within in-block s (h .counted) ∙ its-number s h
 
-      pub rule-unknown : st .classes ≤ c → TookSpelled st k (ruleLine n c) (Stop 6) w0 w1 w0 w1
+      pub rule-unknown : st .classes ≤ c → TookSpelled st k (ruleLine n c) (Refused 6) w0 w1 w0 w1
       unfolding blockOf partsKnown
       rule-unknown u =
           unknown st k w0 w1 (ruleLine n c) within in-block its-number (λ s h. le-ltb c (length (s .parents)) (omega (arith, h .counted .classes)))

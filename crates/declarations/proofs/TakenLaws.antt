@@ -16,23 +16,23 @@ use Rattle.sheet.specs.Refusals.{blockOf, numbered, inOrder, partsKnown}
 use Rattle.sheet.specs.Reading.{taken, refuse, stepLine}
 use Rattle.tables.specs.declared.Counts.{Counts}
 use Rattle.tables.specs.declared.Step.{Step}
-use Rattle.tables.specs.declared.Step.the-variants.{Next, Stop}
-use Rattle.tables.specs.Layout.{Counted, Holds, Fine, Kept, moved-next, moved-stop, Took}
+use Rattle.tables.specs.declared.Step.the-variants.{Next, Refused}
+use Rattle.tables.specs.Layout.{Counted, Holds, Fine, Kept, moved-next, moved-refused, Took}
 use Rattle.tables.proofs.Tables.{kept-refl}
 use Rattle.tables.proofs.Steps.{step-bad, step-line, out-of-order, unknown-part}
 use Rattle.declarations.specs.Taken.{TookSpelled}
 
 module _ (st : Counts) (k : ℕ) (w0 w1 : List ℕ) where
-  pub stopped : (l : Line) (n : ℕ) → ((s : Sheet) → Holds st w0 w1 s → stepLine s k l ≡ refuse n) → TookSpelled st k l (Stop n) w0 w1 w0 w1
-  stopped l n all = record { is = λ s h. rw (all s h) moved-stop; kept0 = kept-refl w0; kept1 = kept-refl w1 }
+  pub stopped : (l : Line) (n : ℕ) → ((s : Sheet) → Holds st w0 w1 s → stepLine s k l ≡ refuse n) → TookSpelled st k l (Refused n) w0 w1 w0 w1
+  stopped l n all = record { is = λ s h. rw (all s h) moved-refused; kept0 = kept-refl w0; kept1 = kept-refl w1 }
 
   pub passed : (l : Line) (su : Counts) (v0 : List ℕ) → Kept w0 v0 → Fine su
       → ((s : Sheet) → Holds st w0 w1 s → (stepLine s k l ≡ taken (added s k l)) × Holds su v0 w1 (added s k l)) → TookSpelled st k l (Next su) w0 w1 v0 w1
   passed l su v0 kept fine all =
       record { is = λ s h. rw (all s h .0) (moved-next {st = su} fine (all s h .1)); kept0 = kept; kept1 = kept-refl w1 }
 
-  pub unspelled : (line : Bytes) → lineOf (fieldsOf line) ≡ none → Took st k line (Stop 3) w0 w1 w0 w1
-  unspelled line h = record { is = λ s _. rw (step-bad s k (fieldsOf line) h) moved-stop; kept0 = kept-refl w0; kept1 = kept-refl w1 }
+  pub unspelled : (line : Bytes) → lineOf (fieldsOf line) ≡ none → Took st k line (Refused 3) w0 w1 w0 w1
+  unspelled line h = record { is = λ s _. rw (step-bad s k (fieldsOf line) h) moved-refused; kept0 = kept-refl w0; kept1 = kept-refl w1 }
 
 -- ---- lines that have no text
 
@@ -62,7 +62,7 @@ spelled {k = k} line plain h t = record { is = λ s q. rw (step-line s k (fields
 
 -- a line within its limits: 5 by its block or its number, 6
 module _ (st : Counts) (k : ℕ) (w0 w1 : List ℕ) (l : Line) (within : (s : Sheet) → withinLimits s l ≡ true) where
-  pub past-block : blockOf l < st .block → TookSpelled st k l (Stop 5) w0 w1 w0 w1
+  pub past-block : blockOf l < st .block → TookSpelled st k l (Refused 5) w0 w1 w0 w1
   unfolding inOrder
   past-block b = stopped st k w0 w1 l 5 (λ s h. out-of-order s k l (within s) (rw (lt-leb (s .block) (blockOf l) (omega (arith, h .counted .block)))))
 
@@ -71,9 +71,9 @@ module _ (st : Counts) (k : ℕ) (w0 w1 : List ℕ) (l : Line) (within : (s : Sh
     unfolding inOrder
     order-by-number s h = rw (le-leb (s .block) (blockOf l) (omega (arith, h .block)))
 
-    pub misnumbered : ((s : Sheet) → Holds st w0 w1 s → numbered s l ≡ false) → TookSpelled st k l (Stop 5) w0 w1 w0 w1
+    pub misnumbered : ((s : Sheet) → Holds st w0 w1 s → numbered s l ≡ false) → TookSpelled st k l (Refused 5) w0 w1 w0 w1
     misnumbered wrong = stopped st k w0 w1 l 5 (λ s h. out-of-order s k l (within s) (order-by-number s (h .counted) ∙ wrong s h))
 
     pub unknown : ((s : Sheet) → Holds st w0 w1 s → numbered s l ≡ true) → ((s : Sheet) → Holds st w0 w1 s → partsKnown s l ≡ false)
-        → TookSpelled st k l (Stop 6) w0 w1 w0 w1
+        → TookSpelled st k l (Refused 6) w0 w1 w0 w1
     unknown right off = stopped st k w0 w1 l 6 (λ s h. unknown-part s k l (within s) (order-by-number s (h .counted) ∙ right s h) (off s h))

@@ -11,7 +11,7 @@ use Rattle.sheet.specs.Limits.{isClass}
 use Rattle.text.specs.declared.numbers.Num.{Num}
 use Rattle.text.specs.declared.numbers.Num.the-variants as num
 use Rattle.declarations.specs.declared.pairs.Pair.{Pair}
-use Rattle.declarations.specs.declared.pairs.Pair.the-variants.{Stop, Are}
+use Rattle.declarations.specs.declared.pairs.Pair.the-variants.{Refused, Are}
 
 -- ---- `n c`
 
@@ -20,8 +20,8 @@ twoNumbers = next aNumber (λ n. next aNumber (λ c. done (n, c)))
 
 -- a number below a limit and a class, or the refusal of what is badly spelled or over its limit
 unfoldable pub pairOf : ℕ → Option (ℕ × ℕ) → Pair
-pairOf limit none = Stop 3
-pairOf limit (some p) = if ltb (p .0) limit && isClass (p .1) then Are (p .0) (p .1) else Stop 4
+pairOf limit none = Refused 3
+pairOf limit (some p) = if ltb (p .0) limit && isClass (p .1) then Are (p .0) (p .1) else Refused 4
 
 -- ---- a parent
 

@@ -9,6 +9,7 @@ ghost use Rattle.types.specs.Flat.{parentOf};
 ghost use Rattle.tables.specs.Layout.{Fine, Took};
 ghost use Rattle.declarations.specs.Fields.{parentNum};
 ghost use Rattle.declarations.specs.Taken.{Lettered, TookSpelled};
+use memory::lines;
 use tables::Counts;
 use tables::Step;
 use text::numbers::Num;
@@ -23,19 +24,19 @@ pub fn class_line(line: &[u8], f: Fields, w0: &mut [u64], st: Counts) -> Step
     ensures { λ r. ⌜ ((w1 : List ℕ) (k : ℕ) → Took st k (now (line .entry)) r (now (w0 .entry)) w1 (now (w0 .exit)) w1) ⌝ }
 {
     if f.count != 3 {
-        return Step::Stop(3);
+        return Step::Refused(3);
     }
     let Num::Is(n) = number(field(line, f, 1)) else {
-        return Step::Stop(3);
+        return Step::Refused(3);
     };
     let Num::Is(p) = parent(field(line, f, 2)) else {
-        return Step::Stop(3);
+        return Step::Refused(3);
     };
     if memory::MOST_CLASSES <= n {
-        return Step::Stop(4);
+        return Step::Refused(4);
     }
     if memory::MOST_CLASSES < p {
-        return Step::Stop(4);
+        return Step::Refused(4);
     }
     put_class(w0, st, n, p)
 }
@@ -58,14 +59,14 @@ fn put_class(w0: &mut [u64], st: Counts, n: u64, p: u64) -> Step
     requires { ⌜ (leastWords ≤ length (now w0)) × Fine st × (n < mostClasses) × (p ≤ mostClasses) ⌝ }
     ensures { λ r. ⌜ ((w1 : List ℕ) (k : ℕ) → TookSpelled st k (classLine n (parentOf p)) r (now (w0 .entry)) w1 (now (w0 .exit)) w1) ⌝ }
 {
-    if 0 < st.block {
-        return Step::Stop(5);
+    if lines::CLASSES < st.block {
+        return Step::Refused(5);
     }
     if n != st.classes {
-        return Step::Stop(5);
+        return Step::Refused(5);
     }
     if n < p {
-        return Step::Stop(6);
+        return Step::Refused(6);
     }
     let i = n as usize;
     w0[i] = p;

@@ -8,6 +8,7 @@ ghost use Rattle.types.specs.Flat.{tyOf};
 ghost use Rattle.tables.specs.Layout.{Fine, Took};
 ghost use Rattle.declarations.specs.Taken.{Lettered, TookDefinition};
 use super::rows::class_known;
+use memory::lines;
 use tables::Counts;
 use tables::Step;
 use text::numbers::Num;
@@ -25,17 +26,17 @@ pub fn definition_line(line: &[u8], f: Fields, st: Counts) -> Step
     ensures { λ r. ⌜ ((w0 w1 : List ℕ) (k : ℕ) → Took st k (now (line .entry)) r w0 w1 w0 w1) ⌝ }
 {
     if f.count != 4 {
-        return Step::Stop(3);
+        return Step::Refused(3);
     }
     let Num::Is(n) = number(field(line, f, 1)) else {
-        return Step::Stop(3);
+        return Step::Refused(3);
     };
     let Num::Is(c) = number(field(line, f, 2)) else {
-        return Step::Stop(3);
+        return Step::Refused(3);
     };
     match read_type(field(line, f, 3)) {
-        GotType::Bad => Step::Stop(3),
-        GotType::Big => Step::Stop(4),
+        GotType::Bad => Step::Refused(3),
+        GotType::Big => Step::Refused(4),
         GotType::Is(t) => open_definition(st, n, c, t),
     }
 }
@@ -46,26 +47,26 @@ fn open_definition(st: Counts, n: u64, c: u64, t: FlatType) -> Step
     ensures { λ r. ⌜ TookDefinition st n c (tyOf t) r ⌝ }
 {
     if memory::MOST_DEFINITIONS <= n {
-        return Step::Stop(4);
+        return Step::Refused(4);
     }
     if memory::MOST_CLASSES <= c {
-        return Step::Stop(4);
+        return Step::Refused(4);
     }
-    if 4 < st.block {
-        return Step::Stop(5);
+    if lines::DEFINITIONS < st.block {
+        return Step::Refused(5);
     }
     if n != st.definitions {
-        return Step::Stop(5);
+        return Step::Refused(5);
     }
     if st.classes <= c {
-        return Step::Stop(6);
+        return Step::Refused(6);
     }
     if !class_known(t, st.classes) {
-        return Step::Stop(6);
+        return Step::Refused(6);
     }
     let mut next = st;
-    next.block = 4;
-    next.open = 2;
+    next.block = lines::DEFINITIONS;
+    next.open = lines::DEFINITION_OPEN;
     next.context = c;
     next.result = pack(t);
     next.first = st.nodes;

@@ -8,6 +8,7 @@ ghost use Rattle.tables.specs.Layout.{Fine, Took};
 ghost use Rattle.declarations.specs.Taken.{Lettered, TookSpelled};
 use super::pairs::Pair;
 use super::pairs::read_pair;
+use memory::lines;
 use tables::Counts;
 use tables::Step;
 use text::parts::Fields;
@@ -18,7 +19,7 @@ pub fn object_line(line: &[u8], f: Fields, w0: &mut [u64], st: Counts) -> Step
     ensures { λ r. ⌜ ((w1 : List ℕ) (k : ℕ) → Took st k (now (line .entry)) r (now (w0 .entry)) w1 (now (w0 .exit)) w1) ⌝ }
 {
     match read_pair(line, f, memory::MOST_OBJECTS) {
-        Pair::Stop(n) => Step::Stop(n),
+        Pair::Refused(n) => Step::Refused(n),
         Pair::Are(n, c) => put_object(w0, st, n, c),
     }
 }
@@ -28,19 +29,19 @@ fn put_object(w0: &mut [u64], st: Counts, n: u64, c: u64) -> Step
     requires { ⌜ (leastWords ≤ length (now w0)) × Fine st × (n < mostObjects) × (c < mostClasses) ⌝ }
     ensures { λ r. ⌜ ((w1 : List ℕ) (k : ℕ) → TookSpelled st k (objectLine n c) r (now (w0 .entry)) w1 (now (w0 .exit)) w1) ⌝ }
 {
-    if 2 < st.block {
-        return Step::Stop(5);
+    if lines::OBJECTS < st.block {
+        return Step::Refused(5);
     }
     if n != st.objects {
-        return Step::Stop(5);
+        return Step::Refused(5);
     }
     if st.classes <= c {
-        return Step::Stop(6);
+        return Step::Refused(6);
     }
     let i = memory::OBJECTS + n as usize;
     w0[i] = c;
     let mut next = st;
-    next.block = 2;
+    next.block = lines::OBJECTS;
     next.objects = n + 1;
     Step::Next(next)
 }

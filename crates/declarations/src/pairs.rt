@@ -12,7 +12,7 @@ use text::parts::field;
 
 // Both numbers within their limits, or a refusal's number.
 pub enum Pair {
-    Stop(u64),
+    Refused(u64),
     Are(u64, u64),
 }
 
@@ -22,19 +22,19 @@ pub fn read_pair(line: &[u8], f: Fields, limit: u64) -> Pair
     ensures { λ r. ⌜ r ≡ pairOf limit (twoNumbers (drop 1 (fieldsOf (now (line .entry))))) ⌝ }
 {
     if f.count != 3 {
-        return Pair::Stop(3);
+        return Pair::Refused(3);
     }
     let Num::Is(n) = number(field(line, f, 1)) else {
-        return Pair::Stop(3);
+        return Pair::Refused(3);
     };
     let Num::Is(c) = number(field(line, f, 2)) else {
-        return Pair::Stop(3);
+        return Pair::Refused(3);
     };
     if limit <= n {
-        return Pair::Stop(4);
+        return Pair::Refused(4);
     }
     if memory::MOST_CLASSES <= c {
-        return Pair::Stop(4);
+        return Pair::Refused(4);
     }
     Pair::Are(n, c)
 }

@@ -13,6 +13,7 @@ ghost use Rattle.types.specs.Flat.{tyOf};
 ghost use Rattle.tables.specs.Layout.{tab, Fine, Took};
 ghost use Rattle.declarations.specs.Fields.{namedIn};
 ghost use Rattle.declarations.specs.Taken.{Lettered, TookSpelled};
+use memory::lines;
 use tables::Counts;
 use tables::Step;
 use text::numbers::Num;
@@ -32,24 +33,24 @@ pub fn row_line(line: &[u8], f: Fields, w0: &mut [u64], st: Counts) -> Step
     ensures { λ r. ⌜ ((w1 : List ℕ) (k : ℕ) → Took st k (now (line .entry)) r (now (w0 .entry)) w1 (now (w0 .exit)) w1) ⌝ }
 {
     if f.count != 5 {
-        return Step::Stop(3);
+        return Step::Refused(3);
     }
     let Num::Is(n) = number(field(line, f, 1)) else {
-        return Step::Stop(3);
+        return Step::Refused(3);
     };
     let Num::Is(c) = number(field(line, f, 2)) else {
-        return Step::Stop(3);
+        return Step::Refused(3);
     };
     let Num::Is(name) = number(field(line, f, 3)) else {
-        return Step::Stop(3);
+        return Step::Refused(3);
     };
     match read_type(field(line, f, 4)) {
-        GotType::Bad => Step::Stop(3),
-        GotType::Big => Step::Stop(4),
+        GotType::Bad => Step::Refused(3),
+        GotType::Big => Step::Refused(4),
         GotType::Is(t) => if numbers_within(n, c, name) {
             put_row(w0, st, n, c, name, t)
         } else {
-            Step::Stop(4)
+            Step::Refused(4)
         },
     }
 }
@@ -72,27 +73,27 @@ fn put_row(w0: &mut [u64], st: Counts, n: u64, c: u64, name: u64, t: FlatType) -
     requires { ⌜ (leastWords ≤ length (now w0)) × Fine st × ((ltb n mostRows && isClass c && ltb name mostNames) ≡ true) × (typeWithin (tyOf t) ≡ true) ⌝ }
     ensures { λ r. ⌜ ((w1 : List ℕ) (k : ℕ) → TookSpelled st k (rowLine n c name (tyOf t)) r (now (w0 .entry)) w1 (now (w0 .exit)) w1) ⌝ }
 {
-    if 1 < st.block {
-        return Step::Stop(5);
+    if lines::ROWS < st.block {
+        return Step::Refused(5);
     }
     if n != st.rows {
-        return Step::Stop(5);
+        return Step::Refused(5);
     }
     let i = n as usize;
     if declares(w0, i, c, name) {
-        return Step::Stop(5);
+        return Step::Refused(5);
     }
     if st.classes <= c {
-        return Step::Stop(6);
+        return Step::Refused(6);
     }
     if !class_known(t, st.classes) {
-        return Step::Stop(6);
+        return Step::Refused(6);
     }
     w0[memory::OWNERS + i] = c;
     w0[memory::NAMES + i] = name;
     w0[memory::TYPES + i] = pack(t);
     let mut next = st;
-    next.block = 1;
+    next.block = lines::ROWS;
     next.rows = n + 1;
     Step::Next(next)
 }

@@ -7,6 +7,7 @@ ghost use Rattle.tables.specs.Layout.{Fine, Took};
 ghost use Rattle.declarations.specs.Taken.{Lettered, TookSpelled};
 use super::pairs::Pair;
 use super::pairs::read_pair;
+use memory::lines;
 use tables::Counts;
 use tables::Step;
 use text::parts::Fields;
@@ -17,7 +18,7 @@ pub fn rule_line(line: &[u8], f: Fields, st: Counts) -> Step
     ensures { λ r. ⌜ ((w0 w1 : List ℕ) (k : ℕ) → Took st k (now (line .entry)) r w0 w1 w0 w1) ⌝ }
 {
     match read_pair(line, f, memory::MOST_RULES) {
-        Pair::Stop(n) => Step::Stop(n),
+        Pair::Refused(n) => Step::Refused(n),
         Pair::Are(n, c) => open_rule(st, n, c),
     }
 }
@@ -27,18 +28,18 @@ fn open_rule(st: Counts, n: u64, c: u64) -> Step
     requires { ⌜ Fine st × (n < mostRules) × (c < mostClasses) ⌝ }
     ensures { λ r. ⌜ ((w0 w1 : List ℕ) (k : ℕ) → TookSpelled st k (ruleLine n c) r w0 w1 w0 w1) ⌝ }
 {
-    if 5 < st.block {
-        return Step::Stop(5);
+    if lines::RULES < st.block {
+        return Step::Refused(5);
     }
     if n != st.rules {
-        return Step::Stop(5);
+        return Step::Refused(5);
     }
     if st.classes <= c {
-        return Step::Stop(6);
+        return Step::Refused(6);
     }
     let mut next = st;
-    next.block = 5;
-    next.open = 1;
+    next.block = lines::RULES;
+    next.open = lines::RULE_OPEN;
     next.context = c;
     next.first = st.nodes;
     Step::Next(next)

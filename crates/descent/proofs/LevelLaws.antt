@@ -19,7 +19,7 @@ use Rattle.phrases.specs.Forms.{twoWords}
 use Rattle.phrases.specs.Contracts.{Further, SignAs, sign-none, sign-one, StandsAsTwo}
 use Rattle.phrases.specs.declared.Sign.{Sign}
 use Rattle.phrases.specs.declared.Sign.the-variants as sign
-use Rattle.trees.specs.Fields.{cut}
+use Rattle.shapes.specs.Fields.{cut}
 use Rattle.importer.specs.Leaves.{NegationsAre, negated}
 use Rattle.importer.specs.declared.leaves.Negations.{Negations}
 use Rattle.importer.specs.Descent.{Room, FoundOne, FoundAt, found-none, found-one}

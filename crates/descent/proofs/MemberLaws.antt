@@ -22,10 +22,10 @@ use Rattle.tokens.specs.Contracts.{onward, Ahead}
 use Rattle.phrases.specs.Contracts.{AfterIs, after-none, after-one}
 use Rattle.phrases.specs.declared.After.{After}
 use Rattle.phrases.specs.declared.After.the-variants as after
-use Rattle.trees.specs.Fields.{cut, four}
-use Rattle.trees.specs.Forms.{StandsFor}
-use Rattle.trees.specs.Built.{Assembles}
-use Rattle.trees.specs.declared.Parsed.{Parsed}
+use Rattle.shapes.specs.Fields.{cut, four}
+use Rattle.shapes.specs.Forms.{StandsFor}
+use Rattle.shapes.specs.Built.{Assembles}
+use Rattle.shapes.specs.declared.Parsed.{Parsed}
 use Rattle.emission.specs.Nodes.{HoldsNodes, Emitted}
 use Rattle.importer.specs.Descent.{Room, FoundOne, FoundAt}
 use Rattle.importer.specs.Steps.{BegunAt, begun-none, begun-one}

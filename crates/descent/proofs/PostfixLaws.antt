@@ -17,10 +17,10 @@ use Rattle.tables.proofs.Tables.{kept-then}
 use Rattle.tokens.specs.declared.Token.{Token}
 use Rattle.tokens.specs.Contracts.{onward}
 use Rattle.phrases.specs.Contracts.{Further, StandsAs, StandsAsTwo, StepAs, step-ends, step-broken, step-plain, step-argument, step-iteration}
-use Rattle.phrases.specs.declared.Step.{Step}
-use Rattle.phrases.specs.declared.Step.the-variants as step
-use Rattle.trees.specs.Fields.{cut}
-use Rattle.trees.specs.Iterate.{Held}
+use Rattle.phrases.specs.declared.Postfix.{Postfix}
+use Rattle.phrases.specs.declared.Postfix.the-variants as step
+use Rattle.shapes.specs.Fields.{cut}
+use Rattle.shapes.specs.Iterate.{Held}
 use Rattle.importer.specs.Descent.{FoundAt, found-none, found-one}
 use Rattle.importer.specs.Steps.{Stepped, StepAt, step-none, step-one}
 use Rattle.importer.specs.Puts.{PutNode}
@@ -44,7 +44,7 @@ module _ {k : ℕ} {s : Bytes} {d : ℕ} {r : Found} {w : List ℕ} {r′ : Foun
         go (found-one {u = u} y) (breaks a b) = found-none (steps.steps-start (onward s t) (y .tree) (onward s u) none (y .answers) (a (y .tree))) (kept-then (y .wrote .kept) b)
 
     module _ {u : Token} {m : ℕ} (e : r′ ≡ Is u m) where
-      module _ {q : Step} (h : StepAs s u (stepOf (onward s u)) q) where
+      module _ {q : Postfix} (h : StepAs s u (stepOf (onward s u)) q) where
         pub steps-end : q ≡ step.Ends → FoundAt postfix k s t n d v (Is u m) w′
         steps-end i = go x (rw e at g) (rw i at h)
           where
@@ -62,7 +62,7 @@ module _ {k : ℕ} {s : Bytes} {d : ℕ} {r : Found} {w : List ℕ} {r′ : Foun
 
   -- ---- a turn
 
-  module _ {u : Token} {m : ℕ} (e : r′ ≡ Is u m) {q : Step} (h : StepAs s u (stepOf (onward s u)) q) where
+  module _ {u : Token} {m : ℕ} (e : r′ ≡ Is u m) {q : Postfix} (h : StepAs s u (stepOf (onward s u)) q) where
     pub plain-further : {code x : ℕ} {u′ : Token} → q ≡ step.Plain code x u′ → Further s u u′
     plain-further {code} {x} {u′} i = go (rw i at h)
       where

@@ -14,7 +14,7 @@ ghost use Rattle.nodes.specs.Nodes.{assembleCode};
 ghost use Rattle.tokens.specs.Contracts.{onward};
 ghost use Rattle.tokens.specs.Signs as sign;
 ghost use Rattle.phrases.specs.Contracts.{StandsAsTwo};
-ghost use Rattle.trees.specs.Iterate.{Held};
+ghost use Rattle.shapes.specs.Iterate.{Held};
 ghost use Rattle.importer.specs.Descent.{Room, FoundAt, ClosedAt};
 ghost use Rattle.importer.specs.Steps.{BegunAt, StepAt};
 use super::whole;
@@ -27,12 +27,12 @@ use importer::puts::put_iteration;
 use importer::puts::put_one;
 use importer::puts::put_two;
 use phrases::After;
-use phrases::Step;
+use phrases::Postfix;
 use phrases::steps::step;
 use phrases::words::after;
+use shapes::built::assembled;
 use tokens::Token;
 use tokens::signs;
-use trees::built::assembled;
 use types::GotType;
 
 // A primary and its steps.
@@ -47,24 +47,24 @@ pub fn postfix(s: &[u8], t: Token, w2: &mut [u64], n: usize, d: usize, k: u64) -
         };
         let what = step(s, u);
         match what {
-            Step::Ends => {
+            Postfix::Ends => {
                 return Found::Is { next: u, nodes: m };
             }
-            Step::Broken => {
+            Postfix::Broken => {
                 return Found::No;
             }
-            Step::Plain { code, x, next } => {
+            Postfix::Plain { code, x, next } => {
                 put_one(w2, code, x, m, k);
                 found = Found::Is { next, nodes: m + 1 };
             }
-            Step::Argument {
+            Postfix::Argument {
                 code,
                 variable,
                 next,
             } => {
                 found = argument(s, next, w2, m, d, k, code, variable);
             }
-            Step::Iteration { i, j, of, next } => {
+            Postfix::Iteration { i, j, of, next } => {
                 found = iteration(s, next, w2, m, d, k, i, j, of);
             }
         }

@@ -16,10 +16,10 @@ use Rattle.ocl.specs.Forms.{undef}
 use Rattle.sheet.specs.Lines.{Shape, leaf}
 use Rattle.nodes.specs.Nodes.{word, shapeWords}
 use Rattle.tables.proofs.Tables.{kept-refl}
-use Rattle.trees.specs.Calls.{calledBy, byNumber}
-use Rattle.trees.specs.Forms.{operandsAt, StandsFor}
+use Rattle.shapes.specs.Calls.{calledBy, byNumber}
+use Rattle.shapes.specs.Forms.{operandsAt, StandsFor}
 use Rattle.trees.specs.Operands.{shifted, WroteWords}
-use Rattle.trees.specs.declared.Parsed.{Parsed}
+use Rattle.shapes.specs.declared.Parsed.{Parsed}
 use Rattle.trees.proofs.ShapeLaws.{shape-line}
 use Rattle.emission.specs.Nodes.{packed, parsedIn, NodeIs, HoldsNodes, Emitted}
 

@@ -13,8 +13,8 @@ use Rattle.sheet.specs.Sizes.{mostClasses, mostNodes}
 use Rattle.sheet.specs.Lines.{Shape, leaf}
 use Rattle.nodes.specs.Nodes.{word}
 use Rattle.tables.specs.Layout.{Kept}
-use Rattle.trees.specs.Forms.{StandsFor}
-use Rattle.trees.specs.declared.Parsed.{Parsed}
+use Rattle.shapes.specs.Forms.{StandsFor}
+use Rattle.shapes.specs.declared.Parsed.{Parsed}
 
 -- whether it is within its limits, whether two variables differ, how many operands it has, and how many classes there must be
 unfoldable pub packed : Parsed → ℕ

@@ -6,7 +6,7 @@ ghost use lib.ListN.{length};
 ghost use Rattle.laws.specs.Choice.{if_then_else_};
 ghost use Rattle.sheet.specs.Sizes.{leastWords, mostNodes, mostClasses};
 ghost use Rattle.emission.specs.Nodes.{packed as packedOf, parsedIn, Emitted};
-use trees::Parsed;
+use shapes::Parsed;
 use trees::operands::put_words;
 
 // n where the test holds, else 0.

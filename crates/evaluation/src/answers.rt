@@ -1,7 +1,7 @@
 // Answers that say where undefined arose: made from an operation's answer, packed into one word, and with the place left out again.
 use crate::Traced;
+use memory::words::wide;
 use outcomes::Ended;
-use types::classes::wide;
 ghost use mathlib.Core.Path.{_≡_};
 ghost use Prim.Native.Nat.{_≤_, _<_};
 ghost use Rattle.ocl.specs.Evaluation.{mostSteps};

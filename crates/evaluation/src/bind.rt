@@ -3,11 +3,11 @@ use crate::Traced;
 use crate::answers::earlier;
 use crate::walk::below;
 use memory::codes::FOR_ALL;
+use memory::words::wide;
 use nodes::node_word;
 use outcomes::answers::truth;
 use outcomes::lookup::is_object;
 use tables::Counts;
-use types::classes::wide;
 use values::Simple;
 use values::cells::SET;
 use values::cells::push;
@@ -30,7 +30,7 @@ pub fn let_in(
     st: Counts,
     nodes: &[u64],
     n: usize,
-    env: &[usize; 16],
+    env: &[usize; memory::VARIABLES],
     stack: &mut [u64],
     sp: usize,
     left: usize,
@@ -40,7 +40,7 @@ pub fn let_in(
     requires { ⌜ (levels (operandTree (now nodes) n 1) ≤ left) × (levels (operandTree (now nodes) n 2) ≤ left) ⌝ }
     ensures { λ r. ⌜ EvalsT (ReadsWorld st (now (tables .entry)) (now (nodes .entry))) (letNode (now (nodes .entry)) n) (now (env .entry)) sp steps (now (stack .entry)) (now (stack .exit)) r ⌝ }
 {
-    let i = wide(node_word(nodes, n, 3) % 16);
+    let i = wide(node_word(nodes, n, 3) % memory::VARIABLE_NUMBERS);
     let bound = below(tables, st, nodes, n, 1, env, stack, sp, left, steps);
     let Traced::Value { len: la, steps: sa } = bound else {
         return bound;
@@ -62,7 +62,7 @@ pub fn call(
     st: Counts,
     nodes: &[u64],
     n: usize,
-    env: &[usize; 16],
+    env: &[usize; memory::VARIABLES],
     stack: &mut [u64],
     sp: usize,
     left: usize,
@@ -76,10 +76,10 @@ pub fn call(
     let Traced::Value { len: la, steps: sa } = first else {
         return first;
     };
-    let c = node_word(nodes, n, 3) % 256;
+    let c = node_word(nodes, n, 3) % memory::CLASS_NUMBERS;
     if is_object(tables, st, c, stack[sp]) {
         let top = sp + la;
-        let mut inner = [0usize; 16];
+        let mut inner = [0usize; memory::VARIABLES];
         inner[0] = sp + 1;
         let body = below(tables, st, nodes, n, 2, &inner, stack, top, left, sa);
         let Traced::Value { len: lb, steps: sb } = body else {
@@ -100,7 +100,7 @@ pub fn quantified(
     n: usize,
     form: u64,
     i: usize,
-    env: &[usize; 16],
+    env: &[usize; memory::VARIABLES],
     stack: &mut [u64],
     sp: usize,
     left: usize,
@@ -130,7 +130,7 @@ fn seek(
     n: usize,
     form: u64,
     i: usize,
-    env: &[usize; 16],
+    env: &[usize; memory::VARIABLES],
     stack: &mut [u64],
     sp: usize,
     la: usize,
@@ -186,7 +186,7 @@ pub fn iter(
     st: Counts,
     nodes: &[u64],
     n: usize,
-    env: &[usize; 16],
+    env: &[usize; memory::VARIABLES],
     stack: &mut [u64],
     sp: usize,
     left: usize,
@@ -207,8 +207,8 @@ pub fn iter(
     let Traced::Value { len: lb, steps: sb } = second else {
         return second;
     };
-    let i = wide(node_word(nodes, n, 4) % 16);
-    let j = wide(node_word(nodes, n, 5) % 16);
+    let i = wide(node_word(nodes, n, 4) % memory::VARIABLE_NUMBERS);
+    let j = wide(node_word(nodes, n, 5) % memory::VARIABLE_NUMBERS);
     fold(tables, st, nodes, n, i, j, env, stack, sp, la, lb, left, sb)
 }
 
@@ -220,7 +220,7 @@ fn fold(
     n: usize,
     i: usize,
     j: usize,
-    env: &[usize; 16],
+    env: &[usize; memory::VARIABLES],
     stack: &mut [u64],
     sp: usize,
     la: usize,

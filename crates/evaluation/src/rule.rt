@@ -30,7 +30,7 @@ pub fn trace_rule(
     ensures { λ r. ⌜ TracesRule (ReadsWorld st (now (tables .entry)) (now (nodes .entry))) (treeAt (now (nodes .entry)) root) object (now (stack .exit)) r ⌝ }
 {
     push(stack, 0, Simple::Object { number: object });
-    let mut env = [0usize; 16];
+    let mut env = [0usize; memory::VARIABLES];
     env[0] = 1;
     unpack(word(tables, st, nodes, root, &env, stack, 1, LEVELS, 0))
 }

@@ -13,6 +13,7 @@ use crate::bind::quantified;
 use crate::lazy::conditional;
 use crate::lazy::connective;
 use memory::codes;
+use memory::words::wide;
 use nodes::node_word;
 use operations::apply::binary_apply;
 use operations::apply::left_fits;
@@ -21,7 +22,6 @@ use operations::operand::of_undefined;
 use operations::operand::of_value;
 use outcomes::answers::formed;
 use tables::Counts;
-use types::classes::wide;
 use values::collections::assemble;
 ghost use Prim.Native.Nat.{_+_, _≤_, _<_};
 ghost use lib.ListN.{length};
@@ -42,7 +42,7 @@ pub fn below(
     nodes: &[u64],
     n: usize,
     k: usize,
-    env: &[usize; 16],
+    env: &[usize; memory::VARIABLES],
     stack: &mut [u64],
     sp: usize,
     left: usize,
@@ -74,7 +74,7 @@ pub fn word(
     st: Counts,
     nodes: &[u64],
     n: usize,
-    env: &[usize; 16],
+    env: &[usize; memory::VARIABLES],
     stack: &mut [u64],
     sp: usize,
     left: usize,
@@ -93,7 +93,7 @@ fn node(
     st: Counts,
     nodes: &[u64],
     n: usize,
-    env: &[usize; 16],
+    env: &[usize; memory::VARIABLES],
     stack: &mut [u64],
     sp: usize,
     left: usize,
@@ -127,7 +127,7 @@ fn node(
         ),
         codes::AND..=codes::OR => connective(tables, st, nodes, n, form, env, stack, sp, deeper, s),
         codes::FOR_ALL..=codes::EXISTS => {
-            let i = wide(node_word(nodes, n, 3) % 16);
+            let i = wide(node_word(nodes, n, 3) % memory::VARIABLE_NUMBERS);
             quantified(tables, st, nodes, n, form, i, env, stack, sp, deeper, s)
         }
         codes::SET..=codes::BAG => coll(tables, st, nodes, n, form, env, stack, sp, deeper, s),
@@ -149,7 +149,7 @@ fn unary(
     nodes: &[u64],
     n: usize,
     form: u64,
-    env: &[usize; 16],
+    env: &[usize; memory::VARIABLES],
     stack: &mut [u64],
     sp: usize,
     left: usize,
@@ -178,7 +178,7 @@ fn binary(
     nodes: &[u64],
     n: usize,
     form: u64,
-    env: &[usize; 16],
+    env: &[usize; memory::VARIABLES],
     stack: &mut [u64],
     sp: usize,
     left: usize,
@@ -212,7 +212,7 @@ fn coll(
     nodes: &[u64],
     n: usize,
     form: u64,
-    env: &[usize; 16],
+    env: &[usize; memory::VARIABLES],
     stack: &mut [u64],
     sp: usize,
     left: usize,

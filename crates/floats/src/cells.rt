@@ -1,6 +1,7 @@
 // A number as one word (reals/specs/Words.antt): words are in the order of their numbers.
 use crate::Number;
 use crate::Whole;
+use crate::numbers::INFINITE;
 use crate::numbers::RANGE;
 use crate::numbers::SIGN;
 use crate::numbers::ZERO;
@@ -13,10 +14,10 @@ ghost use Rattle.laws.specs.Integers.{storedEnd};
 ghost use Rattle.reals.specs.Words.{cell, numberIn};
 ghost use Rattle.floats.specs.Contracts.{Sound, NumberOf, CellOf, IntegerIn, IntegerCell};
 
-// The words of numbers lie between these two.
-pub const BELOW: u64 = 4_503_599_627_370_496;
+// The words of numbers lie between these two, which the infinities would have.
+pub const BELOW: u64 = SIGN - INFINITE;
 
-pub const ABOVE: u64 = 18_442_240_474_082_181_120;
+pub const ABOVE: u64 = SIGN + INFINITE;
 
 // The number with this word; 0 for a word that is no number's.
 pub fn number_of(word: u64) -> Number

@@ -110,7 +110,16 @@ fn settle(x: f64) -> Computed
     Computed::Is { number: hold(x) }
 }
 
-// The operation with the number op, always as Reals: 0 plus, 1 minus, 2 times, 3 over.
+// The operations, by their numbers.
+const PLUS: u64 = 0;
+
+const MINUS: u64 = 1;
+
+const TIMES: u64 = 2;
+
+pub const OVER: u64 = 3;
+
+// The operation with the number op, always as Reals.
 pub fn calculate(op: u64, a: Number, b: Number) -> Computed
     requires { ⌜ Sound a × Sound b ⌝ }
     ensures { λ r. ⌜ Calculates (operationOf op) a b r ⌝ }
@@ -118,9 +127,9 @@ pub fn calculate(op: u64, a: Number, b: Number) -> Computed
     let x = float_of(a);
     let y = float_of(b);
     match op {
-        0 => settle(x + y),
-        1 => settle(x - y),
-        2 => settle(x * y),
+        PLUS => settle(x + y),
+        MINUS => settle(x - y),
+        TIMES => settle(x * y),
         _ => {
             if y == 0.0 {
                 Computed::Undef

@@ -13,6 +13,11 @@ ghost use Rattle.reals.specs.Digits.{hexByte, hexDigit};
 ghost use Rattle.reals.specs.Spelling.{finiteReal};
 ghost use Rattle.floats.specs.Contracts.{digitOr, spelledOf, ReadsReal, Spells};
 
+// How many digits the bits of a Real have, and how many bytes it takes with its letter.
+const DIGITS: usize = 16;
+
+pub const REAL_BYTES: usize = 1 + DIGITS;
+
 // The digit that a byte is; 16 where it is none.
 fn digit_of(c: u8) -> u64
     ensures { λ r. ⌜ r ≡ digitOr (hexDigit c) ⌝ }
@@ -62,7 +67,7 @@ fn real_of(bits: u64) -> Spelled
 pub fn read_real(text: &[u8]) -> Spelled
     ensures { λ r. ⌜ ReadsReal (now (text .entry)) r ⌝ }
 {
-    if text.len() != 17 {
+    if text.len() != REAL_BYTES {
         return Spelled::Bad;
     }
     if text[0] != b'r' {
@@ -70,7 +75,7 @@ pub fn read_real(text: &[u8]) -> Spelled
     }
     let mut bits: u64 = 0;
     let mut i: usize = 1;
-    while i < 17 {
+    while i < REAL_BYTES {
         let d = digit_of(text[i]);
         if d == 16 {
             return Spelled::Bad;
@@ -82,13 +87,13 @@ pub fn read_real(text: &[u8]) -> Spelled
 }
 
 // How a Real is spelled: from the last digit to the first.
-pub fn spell_real(x: f64) -> [u8; 17]
+pub fn spell_real(x: f64) -> [u8; REAL_BYTES]
     requires { ⌜ T (finite x) ⌝ }
     ensures { λ r. ⌜ Spells x r ⌝ }
 {
-    let mut text = [b'r'; 17];
+    let mut text = [b'r'; REAL_BYTES];
     let mut rest = f64::to_bits(x);
-    let mut k: usize = 16;
+    let mut k = DIGITS;
     while 0 < k {
         text[k] = byte_of(rest & 15);
         rest = rest >> 4;

@@ -20,11 +20,11 @@ use Rattle.phrases.specs.Forms.{otherStart}
 use Rattle.phrases.specs.Contracts.{OpeningAs, opening-none, opening-all, opening-bracket, opening-condition, opening-empty, opening-members}
 use Rattle.phrases.specs.declared.Opening.{Opening}
 use Rattle.phrases.specs.declared.Opening.the-variants as opening
-use Rattle.trees.specs.Forms.{Spelled, spelled, misspelled, FormRead}
+use Rattle.shapes.specs.Forms.{Spelled, spelled, misspelled, FormRead}
 use Rattle.text.specs.Words.{formCodes}
 use Rattle.text.specs.Forms.{withCode, fieldsBy}
-use Rattle.trees.specs.Built.{countOf, formWith, Builds, Assembles}
-use Rattle.trees.specs.declared.Parsed.{Parsed}
+use Rattle.shapes.specs.Built.{countOf, formWith, Builds, Assembles}
+use Rattle.shapes.specs.declared.Parsed.{Parsed}
 use Rattle.emission.specs.Nodes.{Emitted}
 use Rattle.importer.specs.Leaves.{leafOf}
 use Rattle.importer.specs.Descent.{Wrote}

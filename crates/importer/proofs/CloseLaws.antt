@@ -11,12 +11,12 @@ use Rattle.sheet.specs.Grammar.Trees.{letIn, Tree, two, count, root, twoShape, 
 use Rattle.sheet.proofs.TextNodes.{root-last}
 use Rattle.tables.specs.Layout.{Kept}
 use Rattle.tables.proofs.Tables.{kept-refl, kept-then}
-use Rattle.trees.specs.Fields.{cut}
-use Rattle.trees.specs.Forms.{StandsFor}
+use Rattle.shapes.specs.Fields.{cut}
+use Rattle.shapes.specs.Forms.{StandsFor}
 use Rattle.text.specs.Words.{formCodes}
 use Rattle.text.specs.Forms.{withCode, fieldsBy}
-use Rattle.trees.specs.Built.{countOf, formWith, Builds}
-use Rattle.trees.specs.declared.Parsed.{Parsed}
+use Rattle.shapes.specs.Built.{countOf, formWith, Builds}
+use Rattle.shapes.specs.declared.Parsed.{Parsed}
 use Rattle.emission.specs.Nodes.{HoldsNodes, Emitted}
 use Rattle.importer.specs.Lets.{SameLets, Frame, value, body, counted, valueNodes, LetsLie, value-lies, body-lies, Open, endedIn, leftOpen, LetsClosed}
 use Rattle.importer.proofs.LetLaws.{lastRoot, lastVariable, lets-refl, lets-then, lets-behind, lets-kept, open-size}

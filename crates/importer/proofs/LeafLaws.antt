@@ -30,12 +30,12 @@ use Rattle.tokens.specs.Codes.{codes, orCode, codeOf, headCode}
 use Rattle.tokens.specs.Contracts.{part, onward, Ahead}
 use Rattle.tokens.specs.declared.Token.{Token}
 use Rattle.tokens.proofs.CodeLaws.{named-told, byCode, coded, allCoded}
-use Rattle.trees.specs.Fields.{cut}
-use Rattle.trees.specs.Forms.{StandsFor, spelled, FormRead}
+use Rattle.shapes.specs.Fields.{cut}
+use Rattle.shapes.specs.Forms.{StandsFor, spelled, FormRead}
 use Rattle.text.specs.Words.{formCodes}
 use Rattle.text.specs.Forms.{withCode, fieldsBy}
-use Rattle.trees.specs.Built.{countOf, formWith, Whole, Builds}
-use Rattle.trees.specs.declared.Parsed.{Parsed}
+use Rattle.shapes.specs.Built.{countOf, formWith, Whole, Builds}
+use Rattle.shapes.specs.declared.Parsed.{Parsed}
 use Rattle.importer.specs.Leaves.{leafOf}
 
 pub form-read : {k : ℕ} {x : Shape} {p : Parsed} → Whole p → StandsFor k x p → FormRead k (some x) p

@@ -9,12 +9,12 @@ use Rattle.sheet.specs.Lines.{Shape, forms}
 use Rattle.sheet.specs.Grammar.Trees.{unary, Tree, count, root, oneShape, shapes}
 use Rattle.sheet.proofs.TextNodes.{root-last, shapes-size}
 use Rattle.tables.proofs.Tables.{kept-refl, kept-then}
-use Rattle.trees.specs.Fields.{cut}
-use Rattle.trees.specs.Forms.{StandsFor}
+use Rattle.shapes.specs.Fields.{cut}
+use Rattle.shapes.specs.Forms.{StandsFor}
 use Rattle.text.specs.Words.{formCodes}
 use Rattle.text.specs.Forms.{withCode, fieldsBy}
-use Rattle.trees.specs.Built.{countOf, formWith, Builds}
-use Rattle.trees.specs.declared.Parsed.{Parsed}
+use Rattle.shapes.specs.Built.{countOf, formWith, Builds}
+use Rattle.shapes.specs.declared.Parsed.{Parsed}
 use Rattle.emission.specs.Nodes.{HoldsNodes, KeptBehind, Emitted}
 use Rattle.importer.specs.Leaves.{negated}
 use Rattle.importer.specs.Steps.{Negates}

@@ -14,14 +14,14 @@ use Rattle.types.specs.declared.GotType.{GotType}
 use Rattle.nodes.specs.Nodes.{unaryWords, accessCode, binaryCode, arithCode, divisionCode, connectiveCode, quantifierCode}
 use Rattle.phrases.specs.Forms.{oneWords, twoWords}
 use Rattle.phrases.specs.Contracts.{StandsAs, StandsAsTwo}
-use Rattle.trees.specs.Fields.{cut}
-use Rattle.trees.specs.Forms.{StandsFor}
+use Rattle.shapes.specs.Fields.{cut}
+use Rattle.shapes.specs.Forms.{StandsFor}
 use Rattle.text.specs.Words.{formCodes}
 use Rattle.text.specs.Forms.{withCode, fieldsBy}
-use Rattle.trees.specs.Built.{countOf, formWith, numbersOf, shapeIn, Builds, Iterates}
-use Rattle.trees.specs.Iterate.{HoldsType, TypeSpelled, a-type, TypeTold}
-use Rattle.trees.specs.declared.Parsed.{Parsed}
-use Rattle.trees.specs.declared.iterate.TypeRead.{TypeRead}
+use Rattle.shapes.specs.Built.{countOf, formWith, numbersOf, shapeIn, Builds, Iterates}
+use Rattle.shapes.specs.Iterate.{HoldsType, TypeSpelled, a-type, TypeTold}
+use Rattle.shapes.specs.declared.Parsed.{Parsed}
+use Rattle.shapes.specs.declared.iterate.TypeRead.{TypeRead}
 use Rattle.tokens.specs.declared.Token.{Token}
 use Rattle.emission.specs.Nodes.{Emitted}
 use Rattle.importer.specs.Puts.{PutNode, Behind, behind-one, Joins, joins-none, joins-one}

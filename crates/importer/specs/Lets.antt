@@ -19,7 +19,7 @@ use Rattle.tokens.specs.declared.Token.{Token}
 use Rattle.tokens.specs.Codes.{afterCode}
 use Rattle.tokens.specs.Contracts.{onward}
 use Rattle.phrases.specs.Contracts.{Further}
-use Rattle.trees.specs.Fields.{cut}
+use Rattle.shapes.specs.Fields.{cut}
 use Rattle.emission.specs.Nodes.{HoldsNodes}
 use Rattle.importer.specs.declared.lets.Closed.{Closed}
 use Rattle.importer.specs.declared.lets.Head.{Head}

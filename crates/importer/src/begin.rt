@@ -9,10 +9,10 @@ use emission::emit;
 use memory::codes::ALL;
 use phrases::Opening;
 use phrases::openings::opening;
+use shapes::built::assembled;
+use shapes::built::built;
 use tokens::Token;
 use tokens::next_token;
-use trees::built::assembled;
-use trees::built::built;
 
 // No primary; one of a single node, which is put down; or an expression, a condition or members come next.
 pub enum Begun {

@@ -10,13 +10,17 @@ ghost use Rattle.sheet.specs.Lines.{leaf as leafShape};
 ghost use Rattle.sheet.specs.Grammar.Words.{variableWord};
 ghost use Rattle.tokens.specs.Contracts.{part, onward, Ahead};
 ghost use Rattle.tokens.specs.Signs as sign;
-ghost use Rattle.trees.specs.Forms.{FormRead};
+ghost use Rattle.shapes.specs.Forms.{FormRead};
 ghost use Rattle.importer.specs.Leaves.{leafOf, NegationsAre};
 ghost use Rattle.importer.specs.Steps.{Negates};
 use emission::emit;
 use memory::codes;
 use phrases::After;
 use phrases::words::after;
+use shapes::Parsed;
+use shapes::built::built;
+use shapes::forms::misspelled;
+use shapes::literals::number_form;
 use text::literals::integer_literal;
 use text::literals::real_literal;
 use text::numbers::Num;
@@ -24,10 +28,6 @@ use text::numbers::integer;
 use tokens::Token;
 use tokens::label;
 use tokens::signs;
-use trees::Parsed;
-use trees::built::built;
-use trees::forms::misspelled;
-use trees::literals::number_form;
 
 // `v1`
 fn variable(s: &[u8], t: Token, k: u64) -> Parsed

@@ -10,8 +10,8 @@ use phrases::After;
 use phrases::Labelled;
 use phrases::words::after;
 use phrases::words::binding;
+use shapes::built::built;
 use tokens::Token;
-use trees::built::built;
 
 // Opens one `let` more, whose value is still to be read.
 fn open_let(w2: &mut [u64], lets: usize, variable: u64)

@@ -8,15 +8,15 @@ ghost use Rattle.sheet.specs.Sizes.{leastWords};
 ghost use Rattle.sheet.specs.Grammar.Trees.{One, Two, conditional, iterate, oneShape, twoShape, threeShape};
 ghost use Rattle.types.specs.Reading.{typeField, held};
 ghost use Rattle.phrases.specs.Contracts.{StandsAs, StandsAsTwo};
-ghost use Rattle.trees.specs.Fields.{cut};
-ghost use Rattle.trees.specs.Iterate.{Held};
+ghost use Rattle.shapes.specs.Fields.{cut};
+ghost use Rattle.shapes.specs.Iterate.{Held};
 ghost use Rattle.importer.specs.Puts.{PutNode, Behind, Joins};
 use super::Found;
 use emission::emit;
 use memory::codes;
-use trees::built::built;
-use trees::iterate::iterated;
-use trees::iterate::type_read;
+use shapes::built::built;
+use shapes::iterate::iterated;
+use shapes::iterate::type_read;
 use types::GotType;
 
 // Puts down a form with one operand, and the class, attribute or definition x that it may hold.

@@ -19,8 +19,8 @@ use Rattle.ocl.specs.Marks.{Mark, ofRow, ofRows, rowMarked, kindMarked}
 use Rattle.types.specs.declared.FlatType.{FlatType}
 use Rattle.types.specs.declared.ClassNumber.{ClassNumber}
 use Rattle.types.specs.declared.ClassNumber.the-variants as number
-use Rattle.types.specs.declared.Found.{Found}
-use Rattle.types.specs.declared.Found.the-variants as f
+use Rattle.types.specs.declared.RowFound.{RowFound}
+use Rattle.types.specs.declared.RowFound.the-variants as f
 use Rattle.types.specs.Flat.{letterOf, tyOf}
 use Rattle.types.specs.Parts.{outerCode, memberType, simpleClass, classOf, classNumber}
 use Rattle.types.specs.Rows.{rowReadIn, found}
@@ -68,7 +68,7 @@ ownersIn tables = take 64 (drop 64 tables)
 abbrev namesIn : List ℕ → List ℕ
 namesIn tables = take 64 (drop 128 tables)
 
-pub row-small : (ps owners names : List ℕ) (rows c name : ℕ) (x : Found) {i : ℕ} → found x ≡ rowReadIn ps owners names rows c name → x ≡ f.At i → i < rows
+pub row-small : (ps owners names : List ℕ) (rows c name : ℕ) (x : RowFound) {i : ℕ} → found x ≡ rowReadIn ps owners names rows c name → x ≡ f.At i → i < rows
 unfolding found
 row-small ps owners names rows c name x {i} h q = row-below ps owners names rows c name i (sym h ∙ ap found q)
 
@@ -86,7 +86,7 @@ module _ {ps tables : List ℕ} {rows : ℕ} (m : Schema) (to : ReadsRows ps tab
       let k : i < m .rowCount = omega (arith, to .count) in
       ap (λ (r : Row). r .type) (to .classes .row i k) ∙ ap typeIn (getD-take 64 (drop 192 tables) i 0 s ∙ getD-drop 192 tables i 0)
 
-  module _ (n name c : ℕ) (mark : ℕ → Mark) (y : Found) (h : found y ≡ rowReadIn ps (ownersIn tables) (namesIn tables) rows c name) where
+  module _ (n name c : ℕ) (mark : ℕ → Mark) (y : RowFound) (h : found y ≡ rowReadIn ps (ownersIn tables) (namesIn tables) rows c name) where
     row-is : rowType m n mark typed (rowRead m c name) ≡ rowType m n mark typed (found y)
     row-is = ap (rowType m n mark typed) (row-read-law m ps (ownersIn tables) (namesIn tables) rows read-tables c name ∙ sym h)
 

@@ -14,10 +14,12 @@ ghost use Rattle.judgements.specs.Replies.{Tells, ReadsRows};
 ghost use Rattle.judgements.specs.Single.{collectCode};
 use super::Reply;
 use super::forms::wrapped;
+use memory::words::wide;
 use types::ClassNumber;
 use types::FlatType;
-use types::Found;
-use types::classes::wide;
+use types::RowFound;
+use types::letters::BAG;
+use types::letters::SEQUENCE;
 use types::parts::is_class;
 use types::parts::member_type;
 use types::parts::outer_code;
@@ -40,7 +42,7 @@ fn row_type(
 {
     let owners = &tables[memory::OWNERS..memory::NAMES];
     let names = &tables[memory::NAMES..memory::TYPES];
-    let Found::At(i) = row_read(parents, owners, names, rows, c, name) else {
+    let RowFound::At(i) = row_read(parents, owners, names, rows, c, name) else {
         return Reply::No(12, n as u64);
     };
     marks[n] = more + i;
@@ -67,11 +69,14 @@ pub fn attribute_type(
     row_type(parents, tables, rows, n, name, c, 0, marks)
 }
 
-// The code of the letter that `collect` gives: a Sequence (3) gives a Sequence, any other collection a Bag (4).
+// A Bag's code, the last one, as a word.
+const LAST: u64 = BAG as u64;
+
+// The letter that `collect` gives: a Sequence gives a Sequence, any other collection a Bag.
 fn collect_code(code: u8) -> u8
     ensures { λ r. ⌜ r ≡ collectCode code ⌝ }
 {
-    if code == 3 { 3 } else { 4 }
+    if code == SEQUENCE { SEQUENCE } else { BAG }
 }
 
 // `collect`: of a collection whose member type is a class, else 11; the kind around the row's type, unless that is over three deep
@@ -103,7 +108,7 @@ pub fn collect_type(
         n,
         name,
         c,
-        memory::MARK_SEQUENCE * (4 - kind as u64),
+        memory::MARK_SEQUENCE * (LAST - kind as u64),
         marks,
     );
     let Reply::Is(u) = found else {

@@ -39,8 +39,8 @@ pub fn start_env(context: u8) -> TypeEnv
     ensures { λ r. ⌜ envOf r ≡ start (Class context) ⌝ }
 {
     let none = TypeEnv {
-        types: [plain(Base::Void); 16],
-        bound: [false; 16],
+        types: [plain(Base::Void); memory::VARIABLES],
+        bound: [false; memory::VARIABLES],
     };
     bind(none, 0, plain(Base::Class(context)))
 }

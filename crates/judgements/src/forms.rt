@@ -19,13 +19,14 @@ use super::environment::bound;
 use floats::Number;
 use floats::cells::number_of;
 use memory::codes;
+use memory::words::wide;
 use nodes::node_word;
 use types::Base;
 use types::ClassNumber;
 use types::FlatType;
 use types::Joined;
 use types::classes::class_below;
-use types::classes::wide;
+use types::letters;
 use types::order::join;
 use types::order::subtype;
 use types::parts::depth;
@@ -151,8 +152,12 @@ pub fn leaf_type(nodes: &[u64], form: u64, n: usize, env: TypeEnv) -> Reply
         codes::UNDEF => Reply::Is(plain(Base::Void)),
         codes::NUMBER => Reply::Is(number_type(node_word(nodes, n, 1))),
         codes::SELF => bound(n as u64, 0, env),
-        codes::VAR => bound(n as u64, wide(node_word(nodes, n, 1)) % 16, env),
-        _ => Reply::Is(set_of_class((node_word(nodes, n, 1) % 256) as u8)),
+        codes::VAR => bound(
+            n as u64,
+            wide(node_word(nodes, n, 1)) % memory::VARIABLES,
+            env,
+        ),
+        _ => Reply::Is(set_of_class((node_word(nodes, n, 1) % memory::CLASS_NUMBERS) as u8)),
     }
 }
 
@@ -211,8 +216,8 @@ pub fn call_type(parents: &[u64], n: u64, c: u64, t: FlatType, u: FlatType) -> R
     Reply::No(11, n)
 }
 
-// By how much the codes of `asSet`, `asSequence` and `asBag` are above those of the letters S, Q and B, which are 2 to 4.
-const TO_LETTERS: u64 = codes::TO_SET - 2;
+// By how much the codes of `asSet`, `asSequence` and `asBag` are above those of their letters.
+const CONVERSIONS: u64 = codes::TO_SET - letters::SET as u64;
 
 // Node n, whose one strict operand has type t.
 pub fn unary_type(parents: &[u64], nodes: &[u64], form: u64, n: usize, t: FlatType) -> Reply
@@ -222,8 +227,13 @@ pub fn unary_type(parents: &[u64], nodes: &[u64], form: u64, n: usize, t: FlatTy
     match form {
         codes::NEGATION => condition(parents, n as u64, t),
         codes::SIZE_OF => size_type(n as u64, t),
-        codes::TO_SET..=codes::TO_BAG => converted(n as u64, (form - TO_LETTERS) as u8, t),
-        _ => cast_type(parents, n as u64, (node_word(nodes, n, 2) % 256) as u8, t),
+        codes::TO_SET..=codes::TO_BAG => converted(n as u64, (form - CONVERSIONS) as u8, t),
+        _ => cast_type(
+            parents,
+            n as u64,
+            (node_word(nodes, n, 2) % memory::CLASS_NUMBERS) as u8,
+            t,
+        ),
     }
 }
 
@@ -244,7 +254,7 @@ pub fn including_type(parents: &[u64], n: u64, t: FlatType, u: FlatType) -> Repl
     ensures { λ r. ⌜ ((m : Schema) → m .parent ≡ parentsIn (now (parents .entry)) → meaning r ≡ includingType m n (tyOf t) (tyOf u)) ⌝ }
 {
     let code = outer_code(t);
-    if code <= 1 {
+    if code <= letters::COLLECTION {
         return Reply::No(11, n);
     }
     around_common(n, code, join(parents, member_type(t), u))
@@ -255,7 +265,7 @@ pub fn union_type(parents: &[u64], n: u64, t: FlatType, u: FlatType) -> Reply
     ensures { λ r. ⌜ ((m : Schema) → m .parent ≡ parentsIn (now (parents .entry)) → meaning r ≡ unionType m n (tyOf t) (tyOf u)) ⌝ }
 {
     let code = outer_code(t);
-    if code <= 1 {
+    if code <= letters::COLLECTION {
         return Reply::No(11, n);
     }
     if outer_code(u) != code {

@@ -12,8 +12,8 @@ use types::FlatType;
 // The types of the sixteen variables, of which `self` is variable 0, and which of them are bound. It is small, since each call of
 // the recursion holds one by value.
 pub struct TypeEnv {
-    pub types: [FlatType; 16],
-    pub bound: [bool; 16],
+    pub types: [FlatType; memory::VARIABLES],
+    pub bound: [bool; memory::VARIABLES],
 }
 
 // A type; or a refusal's number and the number of its node.

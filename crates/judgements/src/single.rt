@@ -44,7 +44,7 @@ pub fn single_type(
         CALL => call_type(
             parents,
             n as u64,
-            node_word(nodes, n, 3) % 256,
+            node_word(nodes, n, 3) % memory::CLASS_NUMBERS,
             unpack(node_word(nodes, n, 4)),
             t,
         ),

@@ -26,6 +26,22 @@ pub or-false : (a b : Bool) → a || b ≡ false → (a ≡ false) × (b ≡ fal
 or-false true b e = absurd (true≢false e)
 or-false false b e = (refl, e)
 
+-- of three tests: the outer two tell all three, or leave it to the one between them
+pub or-outer : (a b c : Bool) → (a || c) ≡ true → true ≡ (a || b || c)
+or-outer true b c e = refl
+or-outer false true c e = refl
+or-outer false false c e = sym e
+
+pub or-middle : (a b c : Bool) → (a || c) ≡ false → b ≡ (a || b || c)
+or-middle true b c e = absurd (true≢false e)
+or-middle false true c e = refl
+or-middle false false c e = sym e
+
+pub or-none : (a b c : Bool) → (a || b || c) ≡ false → ((a || c) ≡ false) × (b ≡ false)
+or-none true b c e = absurd (true≢false e)
+or-none false true c e = absurd (true≢false e)
+or-none false false c e = (e, refl)
+
 pub or-l : (a b : Bool) → T a → T (a || b)
 or-l true b p = tt
 or-l false b p = absurd p

@@ -4,8 +4,10 @@ ghost use Rattle.sheet.specs.Text.{Bytes};
 ghost use Rattle.sheet.specs.Lines.{aNumber};
 ghost use Rattle.text.specs.Numbers.{cutNum};
 ghost use Rattle.load.specs.Reader.{firstByte, withDigit, withByte, lineOf, isEmpty};
+use memory::lines::DIGIT;
+use memory::words::at_most;
+use text::numbers::NUMBER_CUT;
 use text::numbers::Num;
-use text::numbers::at_most;
 use text::numbers::digit;
 use text::words::byte_kind;
 
@@ -21,7 +23,7 @@ pub enum Line {
 fn first_byte(b: u8) -> Line
     ensures { λ r. ⌜ r ≡ firstByte b ⌝ }
 {
-    if byte_kind(b) != 7 {
+    if byte_kind(b) != DIGIT {
         return Line::Bad;
     }
     Line::Number(digit(b))
@@ -34,10 +36,10 @@ fn with_digit(n: u64, b: u8) -> Line
     if n == 0 {
         return Line::Bad;
     }
-    if byte_kind(b) != 7 {
+    if byte_kind(b) != DIGIT {
         return Line::Bad;
     }
-    Line::Number(at_most(n, 1000000) * 10 + digit(b))
+    Line::Number(at_most(n, NUMBER_CUT) * 10 + digit(b))
 }
 
 // The line after one byte more.
@@ -56,7 +58,7 @@ pub fn value(line: Line) -> Num
     ensures { λ r. ⌜ ((l : Bytes) → line ≡ lineOf l → r ≡ cutNum (aNumber l)) ⌝ }
 {
     match line {
-        Line::Number(n) => Num::Is(at_most(n, 1000000)),
+        Line::Number(n) => Num::Is(at_most(n, NUMBER_CUT)),
         Line::Empty => Num::Bad,
         Line::Bad => Num::Bad,
     }

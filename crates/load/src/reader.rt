@@ -11,14 +11,17 @@ use crate::line::Line;
 use crate::line::is_empty;
 use crate::line::value;
 use crate::line::with_byte;
+use crate::window::LONGEST;
+use crate::window::MOST_LENGTHS;
 use crate::window::Tally;
+use crate::window::WIDEST;
 use crate::window::Window;
 use crate::window::empty_window;
 use crate::window::slide;
 use crate::window::tally_of;
 use crate::window::with_ring;
+use memory::words::at_most;
 use text::numbers::Num;
-use text::numbers::at_most;
 use text::printed::put_pair;
 use text::printed::put_refusal;
 
@@ -82,14 +85,14 @@ fn line_number(t: Tally) -> u64
     if t.width == 0 {
         return 1;
     }
-    at_most(t.count, 1000000) + 2
+    at_most(t.count, MOST_LENGTHS) + 2
 }
 
 // The state after the first line, which gives the window: 1 to 64, else 4.
 fn first_line(t: Tally, n: u64) -> State
     ensures { λ r. ⌜ FirstLine n (readerWith r emptyRing) ⌝ }
 {
-    if n == 0 || 64 < n {
+    if n == 0 || WIDEST < n {
         return after_line(4, 1, t);
     }
     let fresh = Tally {
@@ -102,11 +105,14 @@ fn first_line(t: Tally, n: u64) -> State
     after_line(0, 0, fresh)
 }
 
+// The longest length, as a line's number.
+const MOST: u64 = LONGEST as u64;
+
 // The state after a length: 0 to 1,000, and no more than 1,000,000 of them, else 4.
 fn length_line(t: Tally, recent: &mut [u16; 64], n: u64) -> State
     ensures { λ r. ⌜ LengthLine (withRing t (now (recent .entry))) n (readerWith r (now (recent .exit))) ⌝ }
 {
-    if 1000 < n {
+    if MOST < n {
         return after_line(4, line_number(t), t);
     }
     let slid = slide(t, recent, n as u16);

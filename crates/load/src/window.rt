@@ -5,6 +5,15 @@ ghost use Prim.Native.Nat.{ℕ, _≤_};
 ghost use Rattle.load.specs.Record.{Fresh, oldestIn, bestKept, Takes, Pushes};
 ghost use Rattle.load.specs.Tally.{withRing};
 
+// The longest length that is taken, the most lengths, the widest window, and the most that one can sum up to.
+pub const LONGEST: u16 = 1000;
+
+pub const MOST_LENGTHS: u64 = 1_000_000;
+
+pub const WIDEST: u64 = 64;
+
+const MOST_SUM: u64 = WIDEST * LONGEST as u64;
+
 // `recent` is a ring of the last 64 lengths, `sum` the sum of the last `width`; `largest` is the largest sum of a run and
 // `first` the number, from 1, of that run's first length, or 0 while there is no run.
 #[repr(C)]
@@ -39,7 +48,7 @@ pub struct Slid {
     pub tally: Tally,
 }
 
-fn wide(x: u16) -> u64
+fn word_of(x: u16) -> u64
     ensures { λ r. ⌜ r ≡ x ⌝ }
 {
     x as u64
@@ -54,8 +63,8 @@ fn oldest(t: Tally, recent: &[u16; 64]) -> u64
     if count < width {
         return 0;
     }
-    let at = ((count - width) % 64) as usize;
-    wide(recent[at])
+    let at = ((count - width) % WIDEST) as usize;
+    word_of(recent[at])
 }
 
 // A tally whose window sum is new: the run that ends here is kept where it is better than the best before it.
@@ -77,7 +86,7 @@ fn with_best(t: Tally) -> Tally
     next
 }
 
-// One length more. None above 1,000 is taken, and none behind 1,000,000 others. The other tests fail only where no list of
+// One length more, if it is not too long and not one too many. The other tests fail only where no list of
 // lengths leads to the record.
 pub fn slide(t: Tally, recent: &mut [u16; 64], length: u16) -> Slid
     ensures { λ r. ⌜ Pushes (withRing t (now (recent .entry))) length (r .taken) (withRing (r .tally) (now (recent .exit))) ⌝ }
@@ -85,16 +94,16 @@ pub fn slide(t: Tally, recent: &mut [u16; 64], length: u16) -> Slid
     let old = oldest(t, recent);
     let sum = t.sum;
     let count = t.count;
-    if 1000 < length || 1000000 <= count || 64000 < sum || sum < old {
+    if LONGEST < length || MOST_LENGTHS <= count || MOST_SUM < sum || sum < old {
         return Slid {
             taken: false,
             tally: t,
         };
     }
-    let at = (count % 64) as usize;
+    let at = (count % WIDEST) as usize;
     recent[at] = length;
     let mut next = t;
-    next.sum = sum - old + wide(length);
+    next.sum = sum - old + word_of(length);
     next.count = count + 1;
     Slid {
         taken: true,

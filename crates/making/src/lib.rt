@@ -10,11 +10,11 @@ ghost use Rattle.rules.specs.Accepted.{KnownTyped};
 ghost use Rattle.report.specs.Passes.{RoomForAll};
 ghost use Rattle.making.specs.Made.{EndsOfRules, MakesBoard};
 use board_words::store_board;
+use memory::words::wide;
 use report::Reported;
 use report::passes::object_lines;
 use report::report_sheet;
 use tables::Counts;
-use types::classes::wide;
 
 // Puts into `ends` where the lines of each rule end. They are counted once more, each formed in the bytes of `line`.
 fn rule_ends(w0: &[u64], st: Counts, w1: &[u64], w2: &mut [u64], line: &mut [u8], ends: &mut [u64])

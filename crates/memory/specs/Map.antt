@@ -74,6 +74,13 @@ markSequence = 64
 abbrev pub markReals : ℕ
 markReals = 128
 
+-- variables have numbers below the first of these and classes below the second; in a node's word, whatever lies there is taken so
+abbrev pub variableNumbers : ℕ
+variableNumbers = 16
+
+abbrev pub classNumbers : ℕ
+classNumbers = 256
+
 -- a place is one word: its node, and this many times its step
 abbrev pub placeStep : ℕ
 placeStep = 1024

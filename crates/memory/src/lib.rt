@@ -1,8 +1,11 @@
 // Numbers that several crates share, each under one name: how many of each thing a sheet may have and how much is lent (document 01, The
-// sheet and Calls), where each table lies in what is lent, and in codes.rt the code of each form. docs/ARCHITECTURE.md (Memory) draws
-// the tables; definitions have the same names in specs/ and in sheet/specs/Sizes.antt, and tests/memory compares them. It depends on nothing.
+// sheet and Calls), where each table lies in what is lent, and what forms, lines and blocks are told by. docs/ARCHITECTURE.md (Memory)
+// draws the tables; definitions have the same names in specs/ and in sheet/specs/Sizes.antt, and tests/memory compares them. It depends on
+// nothing.
 
 pub mod codes; // a form's code
+pub mod lines; // what a line begins with, its block, and what is open
+pub mod words; // words as numbers of places, and the larger and the smaller of two
 
 // ---- how many of each a sheet may have
 
@@ -94,6 +97,14 @@ pub const DEPTHS: usize = MARKS + NODES;
 pub const MARK_SEQUENCE: u64 = MOST_ROWS;
 
 pub const MARK_REALS: u64 = 2 * MOST_ROWS;
+
+// variables have numbers below the first of these and classes below the second; in a node's word, whatever lies there is taken so
+pub const VARIABLE_NUMBERS: u64 = 16;
+
+pub const CLASS_NUMBERS: u64 = 256;
+
+// an environment has a place for each variable
+pub const VARIABLES: usize = VARIABLE_NUMBERS as usize;
 
 // a place is one word: its node, and this many times its step
 pub const PLACE_STEP: u64 = 1024;

@@ -5,8 +5,8 @@ ghost use lib.ListN.{length, getD};
 ghost use Rattle.sheet.specs.Sizes.{mostRules};
 ghost use Rattle.rows.specs.Bits.{bit};
 ghost use Rattle.moves.specs.Joined.{startIn, stayingSize, Told};
-use rows::seen::has_row;
-use types::classes::wide;
+use memory::words::wide;
+use rows::seen::has_bit;
 
 // Where piece r begins: where the piece before it ends.
 pub fn start_of(ends: &[u64], r: usize) -> usize
@@ -32,7 +32,7 @@ pub fn staying_size(ends: &[u64], r: usize, new: u64) -> usize
     requires { ⌜ (r < mostRules) × (r < length (now ends)) × (startIn (now ends) r ≤ getD (now ends) r 0) ⌝ }
     ensures { λ n. ⌜ n ≡ stayingSize (now (ends .entry)) (bit new) r ⌝ }
 {
-    if has_row(new, r as u64) {
+    if has_bit(new, r as u64) {
         return 0;
     }
     piece_size(ends, r)

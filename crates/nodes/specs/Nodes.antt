@@ -21,11 +21,11 @@ word t n k = getD t (memory.nodeWords * n + k) 0
 
 -- a variable's number, which an accepted sheet has below 16
 abbrev pub variable : ℕ → ℕ
-variable w = w % 16
+variable w = w % memory.variableNumbers
 
 -- a class's number, a byte, which an accepted sheet has below 64
 abbrev pub classIn : ℕ → ℕ
-classIn w = w % 256
+classIn w = w % memory.classNumbers
 
 -- ---- a form by its code k and its words w
 

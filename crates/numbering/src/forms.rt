@@ -18,6 +18,7 @@ use judgements::environment::bind;
 use memory::codes;
 use nodes::node_word;
 use types::FlatType;
+use types::letters::SEQUENCE;
 use types::parts::member_type;
 use types::parts::outer_code;
 use types::word::unpack;
@@ -57,7 +58,7 @@ fn on_sequence(
     let Reply::Is(t) = source else {
         return false;
     };
-    outer_code(t) == 3
+    outer_code(t) == SEQUENCE
 }
 
 // Whether the type of a form's first operand decides: that of `including`, `union` and `collect` does.

@@ -20,8 +20,8 @@ use super::operand_count;
 use judgements::Reply;
 use judgements::TypeEnv;
 use memory::codes;
+use memory::words::wide;
 use nodes::node_word;
-use types::classes::wide;
 
 // Looks at the operands of node n, at its body, and at the node itself.
 pub fn node(

@@ -9,9 +9,9 @@ use super::NONE;
 use super::walk::node;
 use judgements::environment::start_env;
 use memory::codes::CALL;
+use memory::words::wide;
 use nodes::node_word;
 use tables::Counts;
-use types::classes::wide;
 
 // The tree at root, where nothing is bound but `self`, which has the context class.
 fn root_outside(
@@ -66,7 +66,7 @@ fn called_outside(
     if n <= a {
         return NONE;
     }
-    let context = (node_word(nodes, n, 3) % 256) as u8;
+    let context = (node_word(nodes, n, 3) % memory::CLASS_NUMBERS) as u8;
     root_outside(w0, classes, rows, w1, w2, a, context, NONE)
 }
 

@@ -27,8 +27,8 @@ use Rattle.values.specs.Cells.{bias, head, Fits, fits-bool, fits-num}
 use Rattle.values.specs.Contracts.{means-bool, SortOf, IntegerTest}
 use Rattle.values.specs.Integers.{numOf, Calculates, Divides, arithOf}
 use Rattle.values.specs.declared.Simple.the-variants as simple
-use Rattle.values.specs.declared.Computed.{Computed}
-use Rattle.values.specs.declared.Computed.the-variants as num-in
+use Rattle.values.specs.declared.IntegerResult.{IntegerResult}
+use Rattle.values.specs.declared.IntegerResult.the-variants as num-in
 use Rattle.values.proofs.Heads.{shape, bias-small}
 use Rattle.nodes.specs.Marks.{Marked, scaleIn}
 use Rattle.outcomes.specs.declared.Ended.{Ended}
@@ -49,14 +49,14 @@ data Held : Value → Type 0 where
   held-num : {x : Number} → T (kept x) → Held (num x)
 
 module _ {sp s : ℕ} {B : List ℕ} where
-  calculated-by : {c : Computed} {A : List ℕ} {r : Ended} → SmallAnswer r → ((x : Result) → Results Ranged x → c ≡ numOf x → Ran (resulting x s) sp B A r) → Calculated c sp s B A r
+  calculated-by : {c : IntegerResult} {A : List ℕ} {r : Ended} → SmallAnswer r → ((x : Result) → Results Ranged x → c ≡ numOf x → Ran (resulting x s) sp B A r) → Calculated c sp s B A r
   calculated-by m g = record {
     small = m;
     arith = λ o x y e. g (arithmetic o x y) (arithmetic-all Ranged (λ z h. ranged-int h) o x y) e;
     divide = λ o x y e. g (division o x y) (division-all Ranged (λ z h. ranged-int h) o x y) e;
   }
 
-  pub calculated-is : {x : Computed} {n c : ℕ} {A : List ℕ} {r : Ended} → x ≡ num-in.Is n → IntegerCell (n % 4294967296) c → GivesCell c sp s B A r → Calculated x sp s B A r
+  pub calculated-is : {x : IntegerResult} {n c : ℕ} {A : List ℕ} {r : Ended} → x ≡ num-in.Is n → IntegerCell (n % 4294967296) c → GivesCell c sp s B A r → Calculated x sp s B A r
   unfolding numOf kept head sort
   calculated-is {n = n} {A = A} {r = r} q C G = rw q (calculated-by (G .small) by)
     where
@@ -68,7 +68,7 @@ module _ {sp s : ℕ} {B : List ℕ} where
       by noResult h e = absurd (let z : _≡_ {A = ℕ} 0 1 = cc in omega arith)
       by overRange h e = absurd (let z : _≡_ {A = ℕ} 0 1 = cc in omega arith)
 
-  pub calculated-undefined : {x : Computed} → x ≡ num-in.Undef → Calculated x sp s B B (ended.Undef s)
+  pub calculated-undefined : {x : IntegerResult} → x ≡ num-in.Undef → Calculated x sp s B B (ended.Undef s)
   unfolding numOf
   calculated-undefined q = rw q (calculated-by tt by)
     where
@@ -77,7 +77,7 @@ module _ {sp s : ℕ} {B : List ℕ} where
       by noResult h e = ran-undefined
       by overRange h e = absurd (let z : _≡_ {A = ℕ} 0 1 = cc in omega arith)
 
-  pub calculated-over : {x : Computed} → x ≡ num-in.Over → Calculated x sp s B B (ended.Stop 19 s)
+  pub calculated-over : {x : IntegerResult} → x ≡ num-in.Over → Calculated x sp s B B (ended.Stop 19 s)
   unfolding numOf
   calculated-over q = rw q (calculated-by tt by)
     where
@@ -134,7 +134,7 @@ module _ {sp la lb s : ℕ} {B : List ℕ} where
   ints-right f J q = record { small = tt; ran = λ m M v w l k. rw (no-ints v w (λ x y. resulting (f x y) s) (no-int k J q)) ran-stuck }
 
   module _ {t u : Whole} {p q : ℕ} (I : IntegerIn (getD B sp 0) t) (e : t ≡ whole.Is p) (J : IntegerIn (getD B (sp + la) 0) u) (f : u ≡ whole.Is q) where
-    pub arith-done : {o : Arith} {c : Computed} {A : List ℕ} {r : Ended} → Calculates o p q c → Calculated c sp s B A r → OfTwo AnyMark (ofIntegers (arithmetic o)) sp la lb s B A r
+    pub arith-done : {o : Arith} {c : IntegerResult} {A : List ℕ} {r : Ended} → Calculates o p q c → Calculated c sp s B A r → OfTwo AnyMark (ofIntegers (arithmetic o)) sp la lb s B A r
     unfolding ofIntegers
     arith-done {o} C G = record {
       small = G .small;
@@ -143,7 +143,7 @@ module _ {sp la lb s : ℕ} {B : List ℕ} where
           rw (i .is, j .is) (G .arith o (i .z) (j .z) (C .is (i .z) (j .z) (i .ranged) (j .ranged) (i .biased) (j .biased)));
     }
 
-    pub divide-done : {o : Division} {c : Computed} {A : List ℕ} {r : Ended} → Divides o p q c → Calculated c sp s B A r → OfTwo AnyMark (ofIntegers (division o)) sp la lb s B A r
+    pub divide-done : {o : Division} {c : IntegerResult} {A : List ℕ} {r : Ended} → Divides o p q c → Calculated c sp s B A r → OfTwo AnyMark (ofIntegers (division o)) sp la lb s B A r
     unfolding ofIntegers
     divide-done {o} C G = record {
       small = G .small;

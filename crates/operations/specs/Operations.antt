@@ -15,7 +15,7 @@ use Rattle.floats.specs.Contracts.{computedOf}
 use Rattle.floats.specs.declared.Computed.{Computed as Settling}
 use Rattle.values.specs.Cells.{head, Fits}
 use Rattle.values.specs.Integers.{numOf}
-use Rattle.values.specs.declared.Computed.{Computed}
+use Rattle.values.specs.declared.IntegerResult.{IntegerResult}
 use Rattle.nodes.specs.Nodes.{unaryOf, binaryOf}
 use Rattle.nodes.specs.Marks.{Marked, scaleIn}
 use Rattle.outcomes.specs.declared.Ended.{Ended}
@@ -47,7 +47,7 @@ unfoldable pub ofNumbers : Operation → Mark → Value → Value → ℕ → Ou
 ofNumbers o k v w n = onNum v (λ x. onNum w (λ y. resulting (calculated o x y) n))
 
 -- what arithmetic on Integers came to, as an answer
-pub record Calculated (c : Computed) (sp s : ℕ) (B A : List ℕ) (r : Ended) : Type 0 where
+pub record Calculated (c : IntegerResult) (sp s : ℕ) (B A : List ℕ) (r : Ended) : Type 0 where
   pub small : SmallAnswer r
   pub arith : (o : Arith) (x y : ℤ) → c ≡ numOf (arithmetic o x y) → Ran (resulting (arithmetic o x y) s) sp B A r
   pub divide : (o : Division) (x y : ℤ) → c ≡ numOf (division o x y) → Ran (resulting (division o x y) s) sp B A r

@@ -2,6 +2,7 @@
 use crate::integers::arithmetic;
 use crate::integers::division;
 use crate::widened::operation;
+use floats::numbers::OVER;
 use floats::numbers::ZERO;
 use memory::codes;
 use outcomes::Ended;
@@ -132,7 +133,7 @@ pub fn unary_apply(
         codes::NEGATION => negate(stack, sp, len, steps),
         codes::SIZE_OF => member_total(stack, sp, len, steps),
         codes::TO_SET..=codes::TO_BAG => change(form - codes::TO_SET, stack, sp, len, steps),
-        _ => cast(tables, st, c % 256, stack, sp, len, steps),
+        _ => cast(tables, st, c % memory::CLASS_NUMBERS, stack, sp, len, steps),
     }
 }
 
@@ -278,7 +279,7 @@ pub fn binary_apply(
         codes::DIV..=codes::MODULO => division(form - codes::DIV, stack, sp, la, lb, steps),
         codes::INCLUDES => contains(stack, sp, la, lb, steps),
         codes::INCLUDING => including(stack, sp, la, lb, steps),
-        codes::OVER => operation(3, stack, sp, la, lb, steps),
+        codes::OVER => operation(OVER, stack, sp, la, lb, steps),
         _ => united(stack, sp, la, lb, steps),
     }
 }

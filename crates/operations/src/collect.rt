@@ -1,4 +1,5 @@
 // `collect`: the values of a row for the members of a collection. Document 02, F-4.
+use memory::words::larger;
 use outcomes::Ended;
 use outcomes::Place;
 use outcomes::answers::formed;
@@ -12,7 +13,7 @@ use values::cells::skip;
 use values::cells::sort_of;
 use values::collections::assemble;
 ghost use mathlib.Core.Path.{_≡_};
-ghost use Prim.Native.Nat.{_+_, _≤_, _<_, max};
+ghost use Prim.Native.Nat.{_+_, _≤_, _<_};
 ghost use lib.ListN.{length};
 ghost use Rattle.ocl.specs.Forms.{ofMembers};
 ghost use Rattle.ocl.specs.Types.{kindCode};
@@ -40,12 +41,6 @@ fn standing(tables: &[u64], st: Counts, i: u64, cell: u64) -> u64
     } else {
         2
     }
-}
-
-fn larger(a: u64, b: u64) -> u64
-    ensures { λ r. ⌜ r ≡ max a b ⌝ }
-{
-    if a < b { b } else { a }
 }
 
 // How the members from `from` to end stand to row i: as the one that stands worst.

@@ -5,7 +5,7 @@ use floats::cells::integer_in;
 use floats::numbers::END;
 use outcomes::Ended;
 use outcomes::answers::put_cell;
-use values::Computed;
+use values::IntegerResult;
 use values::arith::calculate;
 use values::arith::divide;
 ghost use Prim.Native.Nat.{_+_, _≤_, _<_};
@@ -15,14 +15,14 @@ ghost use Rattle.values.specs.Integers.{arithOf, divisionOf};
 ghost use Rattle.operations.specs.Operations.{AnyMark, OfTwo, ofIntegers, Calculated};
 
 // What arithmetic came to, as an answer: a result goes to sp, and over the range is stop 19.
-fn calculated(c: Computed, stack: &mut [u64], sp: usize, steps: u64) -> Ended
+fn calculated(c: IntegerResult, stack: &mut [u64], sp: usize, steps: u64) -> Ended
     requires { ⌜ sp < length (now stack) ⌝ }
     ensures { λ r. ⌜ Calculated c sp steps (now (stack .entry)) (now (stack .exit)) r ⌝ }
 {
     match c {
-        Computed::Is { n } => put_cell(stack, sp, integer_cell(n % END), steps),
-        Computed::Undef => Ended::Undef { steps },
-        Computed::Over => Ended::Stop { number: 19, steps },
+        IntegerResult::Is { n } => put_cell(stack, sp, integer_cell(n % END), steps),
+        IntegerResult::Undef => Ended::Undef { steps },
+        IntegerResult::Over => Ended::Stop { number: 19, steps },
     }
 }
 

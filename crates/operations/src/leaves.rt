@@ -1,13 +1,13 @@
 // The forms without operands: `true` and `false`, `undef`, numbers, `self`, variables, and all objects of a class.
 use floats::cells::word_in;
 use memory::codes;
+use memory::words::wide;
 use outcomes::Ended;
 use outcomes::answers::formed;
 use outcomes::answers::put;
 use outcomes::answers::put_cell;
 use outcomes::lookup::is_a;
 use tables::Counts;
-use types::classes::wide;
 use values::Formed;
 use values::Simple;
 use values::cells::empty_of;
@@ -22,7 +22,13 @@ ghost use Rattle.outcomes.specs.Tables.{Bounds, WithObject, Instances};
 ghost use Rattle.operations.specs.Runs.{Variable, Evals, ModelIn, leafFor};
 
 // Copies the value of variable i to sp.
-pub fn variable(i: usize, env: &[usize; 16], stack: &mut [u64], sp: usize, steps: u64) -> Ended
+pub fn variable(
+    i: usize,
+    env: &[usize; memory::VARIABLES],
+    stack: &mut [u64],
+    sp: usize,
+    steps: u64,
+) -> Ended
     requires { ⌜ (i < 16) × (sp + largest ≤ length (now stack)) ⌝ }
     ensures { λ r. ⌜ Variable i (now (env .entry)) sp steps (now (stack .entry)) (now (stack .exit)) r ⌝ }
 {
@@ -83,7 +89,7 @@ pub fn leaf(
     st: Counts,
     form: u64,
     word: u64,
-    env: &[usize; 16],
+    env: &[usize; memory::VARIABLES],
     stack: &mut [u64],
     sp: usize,
     steps: u64,
@@ -97,7 +103,10 @@ pub fn leaf(
         codes::UNDEF => Ended::Undef { steps },
         codes::NUMBER => put_cell(stack, sp, word_in(word), steps),
         codes::SELF => variable(0, env, stack, sp, steps),
-        codes::VAR => variable(wide(word % 16), env, stack, sp, steps),
-        _ => formed(instances(tables, st, word % 256, stack, sp), steps),
+        codes::VAR => variable(wide(word % memory::VARIABLE_NUMBERS), env, stack, sp, steps),
+        _ => formed(
+            instances(tables, st, word % memory::CLASS_NUMBERS, stack, sp),
+            steps,
+        ),
     }
 }

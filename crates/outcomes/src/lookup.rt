@@ -2,9 +2,9 @@
 use crate::Ended;
 use crate::Place;
 use crate::answers::formed;
+use memory::words::wide;
 use tables::Counts;
 use types::classes::class_below;
-use types::classes::wide;
 use values::cells::OBJECT;
 use values::cells::payload_of;
 use values::cells::push_cells;

@@ -26,8 +26,8 @@ use Rattle.tokens.proofs.CodeLaws.{byCode, coded, allCoded, named-told, allTo, 
 use Rattle.tokens.proofs.WordCodes.{after-close, is-iter, is-collect}
 use Rattle.phrases.specs.Forms.{oneWords, twoWords, callKind}
 use Rattle.phrases.specs.Contracts.{StandsAs, StepAs, step-broken, step-argument}
-use Rattle.phrases.specs.declared.Step.{Step}
-use Rattle.phrases.specs.declared.Step.the-variants as step
+use Rattle.phrases.specs.declared.Postfix.{Postfix}
+use Rattle.phrases.specs.declared.Postfix.the-variants as step
 use Rattle.phrases.proofs.RowLaws.{fits, Row, row, off-row, on-row, alone, is-alone, oneAlone, twoAlone}
 use Rattle.phrases.proofs.StepLaws.{step-later, step-same}
 
@@ -123,10 +123,10 @@ module _ (s : Bytes) (t : Token) {k r : ℕ} (e : r ≡ callKind k) (b : Token) 
   iterate-is : {j : ℕ} → r ≡ j → eqb (codeOf w) 35 ≡ eqb j 5
   iterate-is d = same-is _ _ (every-code (λ i. same (eqb i 35) (eqb (callKind i) 5)) iterates w) ∙ ap (λ (i : ℕ). eqb i 5) (kind d)
 
-  told : {n : Next} {a : Step} → orBroken (callBy (codeOf w) (onward s t)) ≡ n → StepAs s b n a → StepAs s b (orBroken (callStep w (onward s t))) a
+  told : {n : Next} {a : Postfix} → orBroken (callBy (codeOf w) (onward s t)) ≡ n → StepAs s b n a → StepAs s b (orBroken (callStep w (onward s t))) a
   told q h = step-same (ap orBroken (call-told w (onward s t)) ∙ q) h
 
-  pub plain-answer : {a : Step} → r ≡ 1 → ((f : One) → StandsAs f k 0 → StepAs s t (orBroken (mapSome (plain f) (afterCode 41 (onward s t)))) a) → StepAs s b (orBroken (callStep w (onward s t))) a
+  pub plain-answer : {a : Postfix} → r ≡ 1 → ((f : One) → StandsAs f k 0 → StepAs s t (orBroken (mapSome (plain f) (afterCode 41 (onward s t)))) a) → StepAs s b (orBroken (callStep w (onward s t))) a
   unfolding callBy orElse onSome mapSome oneAlone
   plain-answer {a} d h = go (on-row plains callKind oneAlone 1 plains-fit w (kind d))
     where
@@ -146,7 +146,7 @@ module _ (s : Bytes) (t : Token) {k r : ℕ} (e : r ≡ callKind k) (b : Token) 
           let x = is-alone (twoWords f) k (rw (← c) q) in
           told (rw (no-plain d (λ z. omega arith), p)) (step-argument {u = t} f refl (record { code = rw x; number = rw x }) (record { ahead = h; from = l }))
 
-  pub quantifier-answer : {a : Step} → r ≡ 3 → ((q : Quantifier) → quantifierCode q ≡ k → StepAs s t (orBroken (quantifiedStep (quantified q) (onward s t))) a) → StepAs s b (orBroken (callStep w (onward s t))) a
+  pub quantifier-answer : {a : Postfix} → r ≡ 3 → ((q : Quantifier) → quantifierCode q ≡ k → StepAs s t (orBroken (quantifiedStep (quantified q) (onward s t))) a) → StepAs s b (orBroken (callStep w (onward s t))) a
   unfolding callBy orElse onSome mapSome quantifies
   quantifier-answer {a} d h = go (on-row quantifying callKind quantifies 3 quantifiers-fit w (kind d))
     where
@@ -160,10 +160,10 @@ module _ (s : Bytes) (t : Token) {k r : ℕ} (e : r ≡ callKind k) (b : Token) 
     unfolding callBy orElse onSome mapSome
     late = rw (no-plain d x, no-argument d y, no-quantifier d z, iterate-is d, collect-is d)
 
-  pub collect-answer : {a : Step} → r ≡ 4 → StepAs s t (orBroken (collectStep (onward s t))) a → StepAs s b (orBroken (callStep w (onward s t))) a
+  pub collect-answer : {a : Postfix} → r ≡ 4 → StepAs s t (orBroken (collectStep (onward s t))) a → StepAs s b (orBroken (callStep w (onward s t))) a
   collect-answer {a} d h = told (ap orBroken (late d (λ z. omega arith) (λ z. omega arith) (λ z. omega arith))) (step-later {t = t} (omega arith) h)
 
-  pub iterate-answer : {a : Step} → r ≡ 5 → StepAs s t (orBroken (iterateStep (onward s t))) a → StepAs s b (orBroken (callStep w (onward s t))) a
+  pub iterate-answer : {a : Postfix} → r ≡ 5 → StepAs s t (orBroken (iterateStep (onward s t))) a → StepAs s b (orBroken (callStep w (onward s t))) a
   iterate-answer {a} d h = told (ap orBroken (late d (λ z. omega arith) (λ z. omega arith) (λ z. omega arith))) (step-later {t = t} (omega arith) h)
 
   pub broken-answer : r ≢ 1 → r ≢ 2 → r ≢ 3 → r ≢ 4 → r ≢ 5 → StepAs s b (orBroken (callStep w (onward s t))) step.Broken

@@ -26,8 +26,8 @@ use Rattle.phrases.specs.declared.After.{After}
 use Rattle.phrases.specs.declared.After.the-variants as after
 use Rattle.phrases.specs.declared.Labelled.{Labelled}
 use Rattle.phrases.specs.declared.Labelled.the-variants as label
-use Rattle.phrases.specs.declared.Step.{Step}
-use Rattle.phrases.specs.declared.Step.the-variants as step
+use Rattle.phrases.specs.declared.Postfix.{Postfix}
+use Rattle.phrases.specs.declared.Postfix.the-variants as step
 use Rattle.phrases.proofs.WordLaws as words
 use Rattle.phrases.proofs.StepLaws.{step-later}
 
@@ -60,7 +60,7 @@ module _ {s : Bytes} {t : Token} {r : Labelled} (h : LabelledAs s t (taking (lab
       go (labelled-one n e p g) = step-plain {u = u} (attribute ofObject n) (rw (dot-seen (onward s t), e)) (record { code = refl; number = p }) g
 
   module _ (d : r ≡ label.No) {q : Labelled} (g : LabelledAs s t (taking (labelled 100) (onward s t)) q) where
-    pub dot-definition : {x : ℕ} {u : Token} {a : Step} → q ≡ label.Is x u
+    pub dot-definition : {x : ℕ} {u : Token} {a : Postfix} → q ≡ label.Is x u
         → ((f : One) → StandsAs f 36 x → StepAs s u (orBroken (mapSome (plain f) (afterCall (onward s u)))) a) → StepAs s t (orBroken (dotStep (onward s t))) a
     unfolding dotSeen oneWords
     dot-definition {x} {u} {a} e k = go (rw e at g)
@@ -78,7 +78,7 @@ module _ {s : Bytes} {t : Token} {r : Labelled} (h : LabelledAs s t (taking (lab
         no-end : {k : ℕ} → k < 65 → t .code ≡ k → t .code ≢ 65
         no-end l c z = omega arith
 
-        pub dot-undef : {b : Step} → t .code ≡ 30 → ((f : One) → StandsAs f 30 0 → StepAs s u (orBroken (mapSome (plain f) (afterCall (onward s u)))) b) → StepAs s t (orBroken (dotStep (onward s t))) b
+        pub dot-undef : {b : Postfix} → t .code ≡ 30 → ((f : One) → StandsAs f 30 0 → StepAs s u (orBroken (mapSome (plain f) (afterCall (onward s u)))) b) → StepAs s t (orBroken (dotStep (onward s t))) b
         unfolding dotSeen oneWords
         dot-undef c k =
             let z = no-end {k = 30} (omega arith) c in
@@ -86,7 +86,7 @@ module _ {s : Bytes} {t : Token} {r : Labelled} (h : LabelledAs s t (taking (lab
             step-later {t = u} (omega arith)
             (rw (seen, words.front a z m, eq-eqb _ 30 (sym (words.coded a z) ∙ c)) (k isUndef (record { code = refl; number = refl })))
 
-        pub dot-cast : {b : Step} → t .code ≡ 12 → StepAs s u (orBroken (castStep (onward s u))) b → StepAs s t (orBroken (dotStep (onward s t))) b
+        pub dot-cast : {b : Postfix} → t .code ≡ 12 → StepAs s u (orBroken (castStep (onward s u))) b → StepAs s t (orBroken (dotStep (onward s t))) b
         unfolding dotSeen
         dot-cast c k =
             let z = no-end {k = 12} (omega arith) c in
@@ -117,7 +117,7 @@ module _ {s : Bytes} {t : Token} (h : Ahead s t) where
     unfolding arrowStep onSome orBroken
     arrow-unopened d = step-broken (rw (words.front h n m, after-bracket (onward s u), words.gone g d))
 
-    pub arrow-call : {v : Token} {a : Step} → q ≡ after.At v
+    pub arrow-call : {v : Token} {a : Postfix} → q ≡ after.At v
         → ((b : Token) (w : Bytes) → b .start < v .start → codeOf w ≡ t .code → StepAs s b (orBroken (callStep w (onward s v))) a) → StepAs s t (orBroken (arrowStep (onward s t))) a
     unfolding arrowStep onSome
     arrow-call {v} d k =
@@ -138,7 +138,7 @@ module _ {s : Bytes} {t : Token} (h : Ahead s t) where
           let c = words.coded h n in
           rw (h .one n .1, is-dot (part s (t .start) (t .end)), is-arrow (part s (t .start) (t .end)), ne-eqb _ 48 (λ v. x (c ∙ v)), ne-eqb _ 49 (λ v. y (c ∙ v)))
 
-  module _ {u : Token} (m : NextIs s (t .end) u) {a : Step} where
+  module _ {u : Token} (m : NextIs s (t .end) u) {a : Postfix} where
     pub a-dot : t .code ≡ 48 → StepAs s u (orBroken (dotStep (onward s u))) a → StepAs s t (stepOf (onward s t)) a
     unfolding stepOf
     a-dot c k =

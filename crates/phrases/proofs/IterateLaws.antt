@@ -23,7 +23,7 @@ use Rattle.phrases.specs.declared.Labelled.{Labelled}
 use Rattle.phrases.specs.declared.Labelled.the-variants as label
 use Rattle.phrases.specs.declared.TypeFound.{TypeFound}
 use Rattle.phrases.specs.declared.TypeFound.the-variants as type
-use Rattle.phrases.specs.declared.Step.the-variants as step
+use Rattle.phrases.specs.declared.Postfix.the-variants as step
 use Rattle.phrases.proofs.WordLaws.{farther, gone, came, came-further, unlabelled}
 use Rattle.phrases.proofs.TypeLaws.{untyped}
 

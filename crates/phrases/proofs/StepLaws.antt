@@ -21,20 +21,20 @@ use Rattle.phrases.specs.declared.After.{After}
 use Rattle.phrases.specs.declared.After.the-variants as after
 use Rattle.phrases.specs.declared.Labelled.{Labelled}
 use Rattle.phrases.specs.declared.Labelled.the-variants as label
-use Rattle.phrases.specs.declared.Step.{Step}
-use Rattle.phrases.specs.declared.Step.the-variants as step
+use Rattle.phrases.specs.declared.Postfix.{Postfix}
+use Rattle.phrases.specs.declared.Postfix.the-variants as step
 use Rattle.phrases.proofs.WordLaws.{later, gone, came, came-further, unlabelled, before-mapped}
 
 -- ---- a step that begins earlier, and one that is told otherwise
 
-pub step-later : {s : Bytes} {a t : Token} {n : Next} {r : Step} → a .start ≤ t .start → StepAs s t n r → StepAs s a n r
+pub step-later : {s : Bytes} {a t : Token} {n : Next} {r : Postfix} → a .start ≤ t .start → StepAs s t n r → StepAs s a n r
 step-later l (step-ends e) = step-ends e
 step-later l (step-broken e) = step-broken e
 step-later l (step-plain f e c g) = step-plain f e c (later l g)
 step-later l (step-argument f e c g) = step-argument f e c (later l g)
 step-later l (step-iteration i j a e c d g h) = step-iteration i j a e c d g (later l h)
 
-pub step-same : {s : Bytes} {t : Token} {n m : Next} {r : Step} → n ≡ m → StepAs s t m r → StepAs s t n r
+pub step-same : {s : Bytes} {t : Token} {n m : Next} {r : Postfix} → n ≡ m → StepAs s t m r → StepAs s t n r
 step-same d h = rw d h
 
 -- ---- `closing` and `empty_call`
@@ -53,7 +53,7 @@ module _ {s : Bytes} {t : Token} {q : After} (h : AfterIs s t 40 q) (f : One) wh
   unfolding afterCall onSome mapSome orBroken
   unopened d = step-broken (rw (after-bracket (onward s t), gone h d))
 
-  pub opened : {u : Token} {r : Step} → q ≡ after.At u → StepAs s u (orBroken (mapSome (plain f) (afterCode 41 (onward s u)))) r
+  pub opened : {u : Token} {r : Postfix} → q ≡ after.At u → StepAs s u (orBroken (mapSome (plain f) (afterCode 41 (onward s u)))) r
       → StepAs s t (orBroken (mapSome (plain f) (afterCall (onward s t)))) r
   unfolding afterCall onSome
   opened {u} d g =

@@ -26,8 +26,8 @@ use Rattle.phrases.specs.declared.Sign.{Sign}
 use Rattle.phrases.specs.declared.Sign.the-variants as sign
 use Rattle.phrases.specs.declared.TypeFound.{TypeFound}
 use Rattle.phrases.specs.declared.TypeFound.the-variants as type
-use Rattle.phrases.specs.declared.Step.{Step}
-use Rattle.phrases.specs.declared.Step.the-variants as step
+use Rattle.phrases.specs.declared.Postfix.{Postfix}
+use Rattle.phrases.specs.declared.Postfix.the-variants as step
 use Rattle.phrases.specs.declared.Opening.{Opening}
 use Rattle.phrases.specs.declared.Opening.the-variants as opening
 
@@ -72,7 +72,7 @@ pub record StandsAsTwo (f : Two) (k x : ℕ) : Type 0 where
   pub number : x ≡ cut (twoWords f .1)
 
 -- a postfix step
-pub data StepAs (s : Bytes) (t : Token) (n : Next) : Step → Type 0 where
+pub data StepAs (s : Bytes) (t : Token) (n : Next) : Postfix → Type 0 where
   step-ends : n ≡ Next.ends → StepAs s t n step.Ends
   step-broken : n ≡ Next.broken → StepAs s t n step.Broken
   step-plain : {k x : ℕ} {u : Token} (f : One)

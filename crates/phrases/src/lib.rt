@@ -35,7 +35,7 @@ pub enum TypeFound {
 
 // A postfix step: none, one that breaks off, one that is done, or operands come next: one, or two with `|` between them. `x` is the class,
 // attribute or definition of its form, 0 where there is none.
-pub enum Step {
+pub enum Postfix {
     Ends,
     Broken,
     Plain {

@@ -14,7 +14,7 @@ ghost use Rattle.phrases.specs.Forms.{castStep, callKind};
 ghost use Rattle.phrases.specs.Contracts.{StepAs, StandsAs};
 use super::After;
 use super::Labelled;
-use super::Step;
+use super::Postfix;
 use super::TypeFound;
 use super::typed::type_in;
 use super::words::after;
@@ -26,43 +26,43 @@ use tokens::next_token;
 use tokens::signs;
 
 // `)`, and the step is done.
-fn closing(s: &[u8], t: Token, code: u64, x: u64) -> Step
+fn closing(s: &[u8], t: Token, code: u64, x: u64) -> Postfix
     requires { ⌜ Ahead (now s) t ⌝ }
     ensures { λ r. ⌜ ((f : One) → StandsAs f code x → StepAs (now (s .entry)) t (orBroken (mapSome (plain f) (afterCode sign.closeBracket (onward (now (s .entry)) t)))) r) ⌝ }
 {
     let closed = after(s, t, signs::CLOSE_BRACKET);
     let After::At(next) = closed else {
-        return Step::Broken;
+        return Postfix::Broken;
     };
-    Step::Plain { code, x, next }
+    Postfix::Plain { code, x, next }
 }
 
 // `()`, and the step is done.
-fn empty_call(s: &[u8], t: Token, code: u64, x: u64) -> Step
+fn empty_call(s: &[u8], t: Token, code: u64, x: u64) -> Postfix
     requires { ⌜ Ahead (now s) t ⌝ }
     ensures { λ r. ⌜ ((f : One) → StandsAs f code x → StepAs (now (s .entry)) t (orBroken (mapSome (plain f) (afterCall (onward (now (s .entry)) t)))) r) ⌝ }
 {
     let opened = after(s, t, signs::OPEN_BRACKET);
     let After::At(u) = opened else {
-        return Step::Broken;
+        return Postfix::Broken;
     };
     closing(s, u, code, x)
 }
 
 // `(#1)`, after `oclAsType`.
-fn cast_step(s: &[u8], t: Token) -> Step
+fn cast_step(s: &[u8], t: Token) -> Postfix
     requires { ⌜ Ahead (now s) t ⌝ }
     ensures { λ r. ⌜ StepAs (now (s .entry)) t (orBroken (castStep (onward (now (s .entry)) t))) r ⌝ }
 {
     let opened = after(s, t, signs::OPEN_BRACKET);
     let After::At(u) = opened else {
-        return Step::Broken;
+        return Postfix::Broken;
     };
     let class = labelled_before(s, u, b'#', signs::CLOSE_BRACKET);
     let Labelled::Is { n, next } = class else {
-        return Step::Broken;
+        return Postfix::Broken;
     };
-    Step::Plain {
+    Postfix::Plain {
         code: codes::CAST_TO,
         x: n,
         next,
@@ -70,13 +70,13 @@ fn cast_step(s: &[u8], t: Token) -> Step
 }
 
 // After `.`.
-fn dot_step(s: &[u8], t: Token) -> Step
+fn dot_step(s: &[u8], t: Token) -> Postfix
     requires { ⌜ Ahead (now s) t ⌝ }
     ensures { λ r. ⌜ StepAs (now (s .entry)) t (orBroken (dotStep (onward (now (s .entry)) t))) r ⌝ }
 {
     let attribute = labelled_at(s, t, b'a');
     if let Labelled::Is { n, next } = attribute {
-        return Step::Plain {
+        return Postfix::Plain {
             code: codes::OF_OBJECT,
             x: n,
             next,
@@ -91,20 +91,20 @@ fn dot_step(s: &[u8], t: Token) -> Step
     match code {
         codes::IS_UNDEF => empty_call(s, next_token(s, e), codes::IS_UNDEF, 0),
         codes::CAST_TO => cast_step(s, next_token(s, e)),
-        _ => Step::Broken,
+        _ => Postfix::Broken,
     }
 }
 
 // `v1 |`
-fn quantified_step(s: &[u8], t: Token, code: u64) -> Step
+fn quantified_step(s: &[u8], t: Token, code: u64) -> Postfix
     requires { ⌜ Ahead (now s) t ⌝ }
     ensures { λ r. ⌜ ((q : Quantifier) → quantifierCode q ≡ code → StepAs (now (s .entry)) t (orBroken (quantifiedStep (quantified q) (onward (now (s .entry)) t))) r) ⌝ }
 {
     let variable = labelled_before(s, t, b'v', signs::BAR);
     let Labelled::Is { n, next } = variable else {
-        return Step::Broken;
+        return Postfix::Broken;
     };
-    Step::Argument {
+    Postfix::Argument {
         code,
         variable: n,
         next,
@@ -112,15 +112,15 @@ fn quantified_step(s: &[u8], t: Token, code: u64) -> Step
 }
 
 // `a5)`
-fn collect_step(s: &[u8], t: Token) -> Step
+fn collect_step(s: &[u8], t: Token) -> Postfix
     requires { ⌜ Ahead (now s) t ⌝ }
     ensures { λ r. ⌜ StepAs (now (s .entry)) t (orBroken (collectStep (onward (now (s .entry)) t))) r ⌝ }
 {
     let attribute = labelled_before(s, t, b'a', signs::CLOSE_BRACKET);
     let Labelled::Is { n, next } = attribute else {
-        return Step::Broken;
+        return Postfix::Broken;
     };
-    Step::Plain {
+    Postfix::Plain {
         code: codes::OF_MEMBERS,
         x: n,
         next,
@@ -128,27 +128,27 @@ fn collect_step(s: &[u8], t: Token) -> Step
 }
 
 // `v1; v2 : T =`
-fn iterate_step(s: &[u8], t: Token) -> Step
+fn iterate_step(s: &[u8], t: Token) -> Postfix
     requires { ⌜ Ahead (now s) t ⌝ }
     ensures { λ r. ⌜ StepAs (now (s .entry)) t (orBroken (iterateStep (onward (now (s .entry)) t))) r ⌝ }
 {
     let member = labelled_before(s, t, b'v', signs::SEMICOLON);
     let Labelled::Is { n: i, next: u } = member else {
-        return Step::Broken;
+        return Postfix::Broken;
     };
     let result = labelled_before(s, u, b'v', signs::COLON);
     let Labelled::Is { n: j, next: v } = result else {
-        return Step::Broken;
+        return Postfix::Broken;
     };
     let typed = type_in(s, v);
     let TypeFound::Is { of, next: w } = typed else {
-        return Step::Broken;
+        return Postfix::Broken;
     };
     let equals = after(s, w, codes::EQUAL);
     let After::At(next) = equals else {
-        return Step::Broken;
+        return Postfix::Broken;
     };
-    Step::Iteration { i, j, of, next }
+    Postfix::Iteration { i, j, of, next }
 }
 
 // What stands in the brackets of a form by its word's code: 1 nothing, 2 an operand, 3 a variable and a body, 4 an attribute, 5 the
@@ -181,13 +181,13 @@ fn call_kind(code: u64) -> u64
 }
 
 // The step by the code of its form's word; t is the token after the bracket.
-fn call_step(s: &[u8], t: Token, code: u64) -> Step
+fn call_step(s: &[u8], t: Token, code: u64) -> Postfix
     requires { ⌜ Ahead (now s) t ⌝ }
     ensures { λ r. ⌜ ((b : Token) (w : Bytes) → b .start < t .start → codeOf w ≡ code → StepAs (now (s .entry)) b (orBroken (callStep w (onward (now (s .entry)) t))) r) ⌝ }
 {
     match call_kind(code) {
         1 => closing(s, t, code, 0),
-        2 => Step::Argument {
+        2 => Postfix::Argument {
             code,
             variable: 0,
             next: t,
@@ -195,28 +195,28 @@ fn call_step(s: &[u8], t: Token, code: u64) -> Step
         3 => quantified_step(s, t, code),
         4 => collect_step(s, t),
         5 => iterate_step(s, t),
-        _ => Step::Broken,
+        _ => Postfix::Broken,
     }
 }
 
 // After `->`.
-fn arrow_step(s: &[u8], t: Token) -> Step
+fn arrow_step(s: &[u8], t: Token) -> Postfix
     requires { ⌜ Ahead (now s) t ⌝ }
     ensures { λ r. ⌜ StepAs (now (s .entry)) t (orBroken (arrowStep (onward (now (s .entry)) t))) r ⌝ }
 {
     if t.code == signs::END {
-        return Step::Broken;
+        return Postfix::Broken;
     }
     let e = t.end;
     let opened = after(s, next_token(s, e), signs::OPEN_BRACKET);
     let After::At(u) = opened else {
-        return Step::Broken;
+        return Postfix::Broken;
     };
     call_step(s, u, t.code)
 }
 
 // A postfix step, if one begins here.
-pub fn step(s: &[u8], t: Token) -> Step
+pub fn step(s: &[u8], t: Token) -> Postfix
     requires { ⌜ Ahead (now s) t ⌝ }
     ensures { λ r. ⌜ StepAs (now (s .entry)) t (stepOf (onward (now (s .entry)) t)) r ⌝ }
 {
@@ -225,6 +225,6 @@ pub fn step(s: &[u8], t: Token) -> Step
     match code {
         signs::DOT => dot_step(s, next_token(s, e)),
         signs::ARROW => arrow_step(s, next_token(s, e)),
-        _ => Step::Ends,
+        _ => Postfix::Ends,
     }
 }

@@ -23,7 +23,7 @@ use Rattle.text.proofs.WordLaws.{is-class-line, is-row-line, is-object-line, is
 use Rattle.tables.specs.declared.Counts.{Counts}
 use Rattle.tables.specs.declared.Step.{Step as CodeStep}
 use Rattle.tables.specs.declared.Step.the-variants as code
-use Rattle.tables.specs.Layout.{openCode, Holds, HoldsOpen, closed, opened, Fine, Moved, moved-next, moved-stop, Took}
+use Rattle.tables.specs.Layout.{openCode, Holds, HoldsOpen, closed, opened, Fine, Moved, moved-next, moved-refused, Took}
 use Rattle.tables.proofs.Tables.{kept-refl, kept-then}
 use Rattle.slots.specs.Slots.{TookSlot}
 use Rattle.texts.specs.Judging.{TookText}
@@ -116,7 +116,7 @@ by-node w2 t = record { took = t; kept2 = kept-refl w2 }
 at-line : {v0 v1 : List ℕ} {r : CodeStep} {x : Step} (k : ℕ) (f : Sheet → Reading) → Moved v0 v1 r x → GoodStep x → GoesOn v0 v1 f (placedAt r k) (onStep x k f)
 unfolding onStep
 at-line k f (moved-next g h) (good-step t) = goes-on g h t
-at-line k f moved-stop no-step = refuses
+at-line k f moved-refused no-step = refuses
 
 pub ended-fine : {v0 w1 : List ℕ} {r : CodeStep} {o : Option Sheet} (st : Counts) → EndMoved v0 w1 r o → r ≡ code.Next st → Fine st
 ended-fine st (ended {st = su} g h) e = let z : su ≡ st = cc in subst Fine z g
@@ -149,11 +149,11 @@ module _ (st : Counts) (k : ℕ) (line : Bytes) where
     kept2 = t .kept2;
   }
 
-  end-stop : {v0 w1 : List ℕ} {n : ℕ} {o : Option Sheet} (f g : Sheet → Reading) → EndMoved v0 w1 (code.Stop n) o → GoesOn v0 w1 f (line-code.Refused n k) (onEnd o k g)
+  end-stop : {v0 w1 : List ℕ} {n : ℕ} {o : Option Sheet} (f g : Sheet → Reading) → EndMoved v0 w1 (code.Refused n) o → GoesOn v0 w1 f (line-code.Refused n k) (onEnd o k g)
   unfolding onEnd
   end-stop f g EndMoved.refused = refuses
 
-  pub stop-whole : {n : ℕ} {w0 w1 v0 : List ℕ} (w2 : List ℕ) → inBody (fieldsOf line) ≡ false → RuleEnded st (code.Stop n) w0 w1 v0 → TookWhole st k line (line-code.Refused n k) w0 w1 w2 v0 w1 w2
+  pub stop-whole : {n : ℕ} {w0 w1 v0 : List ℕ} (w2 : List ℕ) → inBody (fieldsOf line) ≡ false → RuleEnded st (code.Refused n) w0 w1 v0 → TookWhole st k line (line-code.Refused n k) w0 w1 w2 v0 w1 w2
   unfolding closing
   stop-whole {w1 = w1} w2 e t = record { is = λ s h m f. rw e (end-stop f _ (t .is s h)); kept0 = t .kept; kept1 = kept-refl w1; kept2 = kept-refl w2 }
 
@@ -189,11 +189,11 @@ module _ (st : Counts) (k : ℕ) (part : Bytes) where
   pub body-last : {w0 w1 : List ℕ} → inBody (fieldsOf part) ≡ true → TookLast st k part (sheet.Refused 3 (k + 1)) w0 w1 w0 w1
   body-last {w0} {w1} e = record { is = λ s h. rw (body-part s k part e, ← add-one k) a-refusal; kept0 = kept-refl w0; kept1 = kept-refl w1 }
 
-  last-stop : {v0 w1 : List ℕ} {n : ℕ} {o : Option Sheet} (g : Sheet → Reading) → EndMoved v0 w1 (code.Stop n) o → EndsAs v0 w1 (sheet.Refused n k) (onEnd o k g)
+  last-stop : {v0 w1 : List ℕ} {n : ℕ} {o : Option Sheet} (g : Sheet → Reading) → EndMoved v0 w1 (code.Refused n) o → EndsAs v0 w1 (sheet.Refused n k) (onEnd o k g)
   unfolding onEnd
   last-stop g EndMoved.refused = a-refusal
 
-  pub stop-last : {n : ℕ} {w0 w1 v0 : List ℕ} → inBody (fieldsOf part) ≡ false → RuleEnded st (code.Stop n) w0 w1 v0 → TookLast st k part (sheet.Refused n k) w0 w1 v0 w1
+  pub stop-last : {n : ℕ} {w0 w1 v0 : List ℕ} → inBody (fieldsOf part) ≡ false → RuleEnded st (code.Refused n) w0 w1 v0 → TookLast st k part (sheet.Refused n k) w0 w1 v0 w1
   unfolding readLines closing
   stop-last {w1 = w1} e t = record { is = λ s h. rw e (last-stop (readLast k part) (t .is s h)); kept0 = t .kept; kept1 = kept-refl w1 }
 

@@ -4,6 +4,7 @@ use mathlib.Core.Bool.{Bool, _||_}
 use mathlib.Core.List.{List, [], _∷_}
 use Prim.Native.Nat.{ℕ, suc}
 use lib.Dec.{eqb}
+use Rattle.memory.specs.Lines as lines
 use Rattle.sheet.specs.Text.{Bytes, linesOf, fieldsOf}
 use Rattle.sheet.specs.Sheet.{Sheet, empty}
 use Rattle.sheet.proofs.Good.{Good}
@@ -26,12 +27,12 @@ pub record HeldSheet (st : Counts) (w0 w1 : List ℕ) : Type 0 where
 
 -- the kinds of `N` and `X`
 unfoldable pub bodyKind : ℕ → Bool
-bodyKind k = eqb k 6 || eqb k 9
+bodyKind k = eqb k lines.nodeLine || eqb k lines.textLine
 
 -- a step with its line, where it refuses
 abbrev pub placedAt : CodeStep → ℕ → LineRead
 placedAt (step-code.Next st) k = line-code.Next st
-placedAt (step-code.Stop n) k = line-code.Refused n k
+placedAt (step-code.Refused n) k = line-code.Refused n k
 
 -- a line: it goes on with f, or refuses
 pub data GoesOn (v0 v1 : List ℕ) (f : Sheet → Reading) : LineRead → Reading → Type 0 where

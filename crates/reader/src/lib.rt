@@ -17,6 +17,7 @@ use declarations::definitions::definition_line;
 use declarations::objects::object_line;
 use declarations::rows::row_line;
 use declarations::rules::rule_line;
+use memory::lines;
 use slots::line::value_line;
 use tables::Counts;
 use tables::Step;
@@ -42,14 +43,14 @@ pub enum SheetRead {
     Refused(u64, u64),
 }
 
-// Whether a line of this kind (`byte_kind`) belongs to the open definition or rule: an N line (6) or an X line (9).
+// Whether a line of this kind (`byte_kind`) belongs to the open definition or rule: an N line or an X line.
 fn in_body(kind: u64) -> bool
     ensures { λ r. ⌜ r ≡ bodyKind kind ⌝ }
 {
-    if kind == 6 {
+    if kind == lines::NODE_LINE {
         return true;
     }
-    kind == 9
+    kind == lines::TEXT_LINE
 }
 
 // Takes line k, which belongs to the open definition or rule.
@@ -66,25 +67,25 @@ fn body_line(
     requires { ⌜ Cut (now line) f × (kind ≡ byteKind (onlyByte (getD (fieldsOf (now line)) 0 []))) × (bodyKind kind ≡ true) × (leastWords ≤ length (now w0)) × (leastWords ≤ length (now w1)) × (leastWords ≤ length (now w2)) × Fine st ⌝ }
     ensures { λ r. ⌜ TookText st k (now (line .entry)) r (now (w0 .entry)) (now (w1 .entry)) (now (w2 .entry)) (now (w1 .exit)) (now (w2 .exit)) ⌝ }
 {
-    if kind == 6 {
+    if kind == lines::NODE_LINE {
         return node_line(line, f, w0, w1, st, k);
     }
     text_line(line, f, w0, w1, w2, st, k)
 }
 
-// Takes any other line, by its kind: C, A, O, V and R lines are 1 to 5, D lines 8.
+// Takes any other line, by its kind.
 fn other_line(kind: u64, line: &[u8], f: Fields, w0: &mut [u64], st: Counts) -> Step
     requires { ⌜ Cut (now line) f × (kind ≡ byteKind (onlyByte (getD (fieldsOf (now line)) 0 []))) × (bodyKind kind ≡ false) × (leastWords ≤ length (now w0)) × Fine st ⌝ }
     ensures { λ r. ⌜ ((w1 : List ℕ) (k : ℕ) → TookLine st k (now (line .entry)) r (now (w0 .entry)) w1 (now (w0 .exit)) w1) ⌝ }
 {
     match kind {
-        1 => class_line(line, f, w0, st),
-        2 => row_line(line, f, w0, st),
-        3 => object_line(line, f, w0, st),
-        4 => value_line(line, f, w0, st),
-        5 => rule_line(line, f, st),
-        8 => definition_line(line, f, st),
-        _ => Step::Stop(3),
+        lines::CLASS_LINE => class_line(line, f, w0, st),
+        lines::ROW_LINE => row_line(line, f, w0, st),
+        lines::OBJECT_LINE => object_line(line, f, w0, st),
+        lines::VALUE_LINE => value_line(line, f, w0, st),
+        lines::RULE_LINE => rule_line(line, f, st),
+        lines::DEFINITION_LINE => definition_line(line, f, st),
+        _ => Step::Refused(3),
     }
 }
 
@@ -94,7 +95,7 @@ fn placed(s: Step, k: u64) -> LineRead
 {
     match s {
         Step::Next(st) => LineRead::Next(st),
-        Step::Stop(n) => LineRead::Refused(n, k),
+        Step::Refused(n) => LineRead::Refused(n, k),
     }
 }
 
@@ -117,7 +118,7 @@ fn line_read(
         return placed(step, k + 1);
     }
     match end_rule(w0, w1, st) {
-        Step::Stop(n) => LineRead::Refused(n, k),
+        Step::Refused(n) => LineRead::Refused(n, k),
         Step::Next(next) => placed(other_line(kind, line, f, w0, next), k + 1),
     }
 }
@@ -133,7 +134,7 @@ fn last_read(part: &[u8], w0: &mut [u64], w1: &[u64], st: Counts, k: u64) -> She
         return SheetRead::Refused(3, k + 1);
     }
     match end_rule(w0, w1, st) {
-        Step::Stop(n) => SheetRead::Refused(n, k),
+        Step::Refused(n) => SheetRead::Refused(n, k),
         Step::Next(next) => {
             if part.len() == 0 {
                 SheetRead::Sheet(next)

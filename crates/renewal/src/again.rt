@@ -8,6 +8,9 @@ use crate::fresh::fresh_line;
 use tables::Counts;
 use text::spelling::put_bytes;
 
+// Room for a line, and for one behind it that is only counted.
+const ROOM: usize = 2 * memory::LEAST_OUTPUT;
+
 // Puts the line for object o, which is formed in bytes of its own.
 fn again_line(
     w0: &[u64],
@@ -23,7 +26,7 @@ fn again_line(
     requires { ⌜ RoomAgain (lineFor r o) st (now w0) (now w1) r at (length (now out)) ⌝ }
     ensures { λ n. ⌜ PutsAgain (lineFor r o) st (now (w0 .entry)) (now (w1 .entry)) r at (now (w2 .entry)) (now (w2 .exit)) (now (out .entry)) (now (out .exit)) n ⌝ }
 {
-    let mut line = [0u8; 5120];
+    let mut line = [0u8; ROOM];
     let none = Sums { bytes: 0, steps: 0 };
     let sums = fresh_line(w0, st, w1, w2, r, o, &mut line, none);
     let size = sums.bytes;

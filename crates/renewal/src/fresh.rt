@@ -7,13 +7,13 @@ ghost use Rattle.ocl.specs.Evaluation.{mostSteps};
 ghost use Rattle.sheet.specs.Sizes.{leastOutput, leastWords, mostRules};
 ghost use Rattle.rows.specs.Bits.{bit};
 ghost use Rattle.renewal.specs.Fresh.{KnownAccepted, SomeRule, lineFor, allLines, objectStep, allSteps, AddsFresh, toldLines, toldSteps, FreshAll};
+use memory::words::wide;
 use outcomes::lookup::is_a;
 use report::lines::put_line;
 use report::lines::steps_of;
-use rows::seen::has_row;
+use rows::seen::has_bit;
 use rules::evaluated::evaluate_numbered;
 use tables::Counts;
-use types::classes::wide;
 
 // The bytes and the steps so far.
 pub struct Sums {
@@ -97,7 +97,7 @@ fn told_lines(
     requires { ⌜ (leastOutput ≤ length (now buf)) × (was .bytes ≤ 14247936) × (was .steps ≤ 6144000000) ⌝ }
     ensures { λ n. ⌜ AddsFresh (toldLines (bit touched) r) (toldSteps (bit touched) r) 222624 96000000 st (now (w0 .entry)) (now (w1 .entry)) r was (now (w2 .entry)) (now (w2 .exit)) (now (buf .entry)) (now (buf .exit)) n ⌝ }
 {
-    if has_row(touched, r as u64) {
+    if has_bit(touched, r as u64) {
         return fresh_lines(w0, st, w1, w2, r, buf, was);
     }
     was

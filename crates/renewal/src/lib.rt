@@ -13,6 +13,7 @@ ghost use Rattle.moves.specs.Joined.{Standing};
 ghost use Rattle.renewal.specs.Fresh.{KnownAccepted};
 ghost use Rattle.renewal.specs.Renewed.{RenewsTouched, Renews};
 use fresh::fresh_rules;
+use memory::words::wide;
 use moves::ends::can_stand;
 use moves::ends::start_of;
 use moves::placed::place;
@@ -20,7 +21,6 @@ use rows::seen::see_rows;
 use spread::rearrange;
 use tables::Counts;
 use touched::touched_rules;
-use types::classes::wide;
 
 // How renewing ends: with so many bytes and steps; with verdicts that are longer than their bytes; or on a board that no call has made.
 pub enum Renewal {
@@ -29,8 +29,11 @@ pub enum Renewal {
     Foreign,
 }
 
+// How many bytes the buffer has: for fresh lines and, behind them, for one line that is only counted.
+const FRESH_BYTES: usize = 16_384 + memory::LEAST_OUTPUT;
+
 // Evaluates the rules that the word names again and puts all verdicts where they belong. Nothing is written before it is known that all
-// fit. The buffer holds 16,384 bytes of fresh lines and, behind them, one line that is only counted.
+// fit.
 fn renew_touched(
     w0: &[u64],
     st: Counts,
@@ -45,7 +48,7 @@ fn renew_touched(
     requires { ⌜ (mostRules ≤ length (now ends)) × (mostRules ≤ length (now placed)) × Standing (now ends) (now out) (st .rules) ⌝ }
     ensures { λ r. ⌜ RenewsTouched st (now (w0 .entry)) (now (w1 .entry)) (now (w2 .entry)) (now (w2 .exit)) touched (now (ends .entry)) (now (out .entry)) (now (out .exit)) (now (placed .entry)) (now (placed .exit)) r ⌝ }
 {
-    let mut buf = [0u8; 18944];
+    let mut buf = [0u8; FRESH_BYTES];
     let mut fresh = [0u64; memory::MOST_RULES as usize];
     let rules = wide(st.rules);
     let sums = fresh_rules(w0, st, w1, w2, touched, &mut buf, &mut fresh);

@@ -5,14 +5,14 @@ ghost use Rattle.sheet.specs.Sizes.{leastOutput, leastWords, mostRules};
 ghost use Rattle.moves.specs.Joined.{Standing};
 ghost use Rattle.renewal.specs.Spread.{FreshFits, PutsFresh, SomePlacing, PutsRule, SpreadsRules, Rearranges};
 use crate::again::again_lines;
+use memory::words::wide;
 use moves::ends::piece_size;
 use moves::ends::start_of;
 use moves::gathered::gather;
 use moves::shifted::shift_right;
-use rows::seen::has_row;
+use rows::seen::has_bit;
 use tables::Counts;
 use text::spelling::put_bytes;
-use types::classes::wide;
 
 // Puts the fresh lines of rule r at a place: from the buffer if it holds them, else the rule is evaluated once more.
 fn put_fresh(
@@ -57,7 +57,7 @@ fn put_rule(
     ensures { λ _. ⌜ PutsRule st (now (w0 .entry)) (now (w1 .entry)) touched (now (fresh .entry)) (now (buf .entry)) (now (placed .entry)) r (now (w2 .entry)) (now (w2 .exit)) (now (out .entry)) (now (out .exit)) ⌝ }
 {
     let at = start_of(placed, r);
-    if has_row(touched, r as u64) {
+    if has_bit(touched, r as u64) {
         put_fresh(w0, st, w1, w2, fresh, buf, r, at, out);
         return;
     }

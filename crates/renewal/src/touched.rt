@@ -4,9 +4,9 @@ ghost use lib.ListN.{length};
 ghost use Rattle.sheet.specs.Sizes.{leastWords, mostRules, mostRows};
 ghost use Rattle.rows.specs.Lines.{Rooted};
 ghost use Rattle.renewal.specs.Touched.{TellsTouched, SetsBit};
-use rows::seen::has_row;
+use memory::words::wide;
+use rows::seen::has_bit;
 use tables::Counts;
-use types::classes::wide;
 
 // The word with bit i set, if `on` says so.
 fn with_bit(word: u64, i: u64, on: bool) -> u64
@@ -29,7 +29,7 @@ pub fn touched_rules(w0: &[u64], st: Counts, w2: &[u64], row: u64) -> u64
     let mut r: usize = 0;
     while r < rules {
         let root = wide(w0[memory::ROOTS + r]);
-        let sees = has_row(w2[root], row);
+        let sees = has_bit(w2[root], row);
         touched = with_bit(touched, r as u64, sees);
         r += 1;
     }

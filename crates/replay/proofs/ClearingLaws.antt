@@ -105,24 +105,24 @@ module _ {line : Bytes} {f : Fields} (cut : Cut line f) where
 -- ---- clearing, by its numbers
 
 module _ {st : Counts} {o a : ℕ} {w0 w1 : List ℕ} where
-  pub clear-object : 96 ≤ o → ClearingAs st o a w0 w1 (code.Stop 4)
+  pub clear-object : 96 ≤ o → ClearingAs st o a w0 w1 (code.Refused 4)
   unfolding judgedValue must
   clear-object h = record { is = λ s p q g e f. not-cleared {n = 4} (rw (le-ltb p 96 (omega arith))) }
 
   module _ (object : o < 96) where
-    pub clear-row : 64 ≤ a → ClearingAs st o a w0 w1 (code.Stop 4)
+    pub clear-row : 64 ≤ a → ClearingAs st o a w0 w1 (code.Refused 4)
     unfolding judgedValue must
     clear-row h = record { is = λ s p q g e f. not-cleared {n = 4} (rw (lt-ltb p 96 (omega arith), le-ltb q 64 (omega arith))) }
 
     module _ (row : a < 64) where
-      pub clear-no-object : st .objects ≤ o → ClearingAs st o a w0 w1 (code.Stop 6)
+      pub clear-no-object : st .objects ≤ o → ClearingAs st o a w0 w1 (code.Refused 6)
       unfolding judgedValue must
       clear-no-object h = record {
         is = λ s p q g e f. not-cleared {n = 6} (rw (lt-ltb p 96 (omega arith), lt-ltb q 64 (omega arith), le-ltb p (length (s .objects)) (let c = g .counted .objects in omega arith)));
       }
 
       module _ (known : o < st .objects) where
-        pub clear-no-row : st .rows ≤ a → ClearingAs st o a w0 w1 (code.Stop 6)
+        pub clear-no-row : st .rows ≤ a → ClearingAs st o a w0 w1 (code.Refused 6)
         unfolding judgedValue must
         clear-no-row h = record {
           is = λ s p q g e f. not-cleared {n = 6} (rw (
@@ -138,7 +138,7 @@ module _ {st : Counts} {o a : ℕ} {w0 w1 : List ℕ} where
           owner : (s : Sheet) → Holds st w0 w1 s → b ≡ isA (modelOf s) o (class (modelOf s .row a .owner))
           owner s h = its-object room fine p q e ob there h
 
-          pub clear-unsuited : b ≡ false → ClearingAs st o a w0 w1 (code.Stop 7)
+          pub clear-unsuited : b ≡ false → ClearingAs st o a w0 w1 (code.Refused 7)
           unfolding judgedValue must
           clear-unsuited z = record {
             is = λ s x y g k l.
@@ -168,6 +168,6 @@ module _ {st : Counts} {o a : ℕ} {w0 w1 : List ℕ} where
                 )));
           }
 
-pub clearing-unread : {line : Bytes} {st : Counts} {w0 w1 : List ℕ} → editOf (fieldsOf line) ≡ none → Judges line st (code.Stop 3) w0 w1 w0
+pub clearing-unread : {line : Bytes} {st : Counts} {w0 w1 : List ℕ} → editOf (fieldsOf line) ≡ none → Judges line st (code.Refused 3) w0 w1 w0
 unfolding judgedEdit
 clearing-unread {line} {st} {w0} {w1} e = record { is = λ s h. judged-stop (ap (judgedEdit s) e); kept = kept-refl w0 }

@@ -1,12 +1,11 @@
--- A slot's cells taken from words: the answers of `copy_cells` and `take_cells`. Assumes nothing.
+-- A slot's cells taken from words: the answers of `take_cells`. Assumes nothing.
 use mathlib.Core.Path.{_≡_, refl, sym, ap, _∙_}
 use mathlib.Core.Bool.{Bool, true, false, _&&_, true≢false}
 use mathlib.Core.List.{List, _++_}
 use Prim.Native.Nat.{ℕ, _+_, _-_, _/_, _%_, _<_, _≤_}
 use native.Mathlib.Omega.{arith}
-use native.Mathlib.Numerals.{add-one}
-use lib.ListN.{length, getD, take, drop, set}
-use lib.Seq.{slice, paste, paste-suc, take-paste, drop-paste, take-length, drop-drop, drop-at, length-take-le}
+use lib.ListN.{length, take, drop}
+use lib.Seq.{slice, paste, take-paste, drop-paste, take-length, drop-drop, drop-at, length-take-le}
 use lib.Dec.{T, ltb, leb, leb→le}
 use Rattle.laws.proofs.Tests.{and-r, test-fails}
 use Rattle.laws.proofs.Slices.{trim}
@@ -20,7 +19,7 @@ use Rattle.values.proofs.Encoding.{size-law}
 use Rattle.tables.specs.declared.Counts.{Counts}
 use Rattle.tables.specs.declared.Step.{Step as CodeStep}
 use Rattle.tables.specs.declared.Step.the-variants as code
-use Rattle.tables.specs.Layout.{slotKey, Holds, Fine, moved-stop}
+use Rattle.tables.specs.Layout.{slotKey, Holds, Fine, moved-refused}
 use Rattle.tables.proofs.Tables.{kept-refl, kept-then}
 use Rattle.tables.proofs.Steps.{over-limits}
 use Rattle.slots.specs.Slots.{SlotTook}
@@ -32,17 +31,17 @@ use Rattle.replay.proofs.TakingLaws.{stop-next}
 -- ---- a slot's cells
 
 module _ {cells : List ℕ} {key : ℕ} {st : Counts} (w0 w1 : List ℕ) {b : Bool} (value : IsValue cells b) where
-  pub no-cells : b ≡ false → CellsTook cells key st (code.Stop 4) w0 w1 w0
+  pub no-cells : b ≡ false → CellsTook cells key st (code.Refused 4) w0 w1 w0
   no-cells z = record {
     is = λ s x h m k l f w e. absurd (true≢false (sym (value .is (x .value) f w e) ∙ z));
     found = λ e. stop-next e;
     kept = kept-refl w0;
   }
 
-  pub no-room : (fine : Fine st) → 2048 - st .cells < length cells → CellsTook cells key st (code.Stop 4) w0 w1 w0
+  pub no-room : (fine : Fine st) → 2048 - st .cells < length cells → CellsTook cells key st (code.Refused 4) w0 w1 w0
   unfolding withinLimits
   no-room fine h = record {
-    is = λ s x g m k l f w e. rw (over-limits s 1 (lineFor x) (test-fails (withinLimits s (lineFor x)) (λ t. full s x g e t))) moved-stop;
+    is = λ s x g m k l f w e. rw (over-limits s 1 (lineFor x) (test-fails (withinLimits s (lineFor x)) (λ t. full s x g e t))) moved-refused;
     found = λ e. stop-next e;
     kept = kept-refl w0;
   }
@@ -87,11 +86,3 @@ module _ {cells : List ℕ} {key : ℕ} {st : Counts} (w0 w1 : List ℕ) {b : Bo
       found = λ e. value .found yes;
       kept = kept-then (kept-behind v0 w0 front back refl same long fine) (took .kept0);
     }
-
--- ---- cells copied one by one
-
-pub paste-more : (S : List ℕ) {T : List ℕ} (t : List ℕ) (to i : ℕ) → T ≡ paste S to t i → to + i < length S → i < length t → set T (to + i) (getD t i 0) ≡ paste S to t (i + 1)
-paste-more S t to i e h l = rw (e, add-one i) (paste-suc S to t i 0 h l)
-
-pub paste-done : (S : List ℕ) {T : List ℕ} (t : List ℕ) (to i : ℕ) → T ≡ paste S to t i → length t ≤ i → i ≤ length t → T ≡ paste S to t (length t)
-paste-done S t to i e h l = e ∙ ap (λ (k : ℕ). paste S to t k) (let z : i ≡ length t = omega arith in z)

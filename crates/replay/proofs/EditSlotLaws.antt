@@ -48,10 +48,10 @@ on-refused s b room none e = ap (λ (n : ℕ). refusalAt n 1) (ap step-number e)
 on-refused s b room (some x) e = rw e
 
 module _ {line : Bytes} {words : List ℕ} {st : Counts} {w0 w1 v0 : List ℕ} where
-  pub edit-refused : {n : ℕ} → Judges line st (judged-code.Stop n) w0 w1 v0 → EditTook line words st (code.Refused n) w0 w1 v0
+  pub edit-refused : {n : ℕ} → Judges line st (judged-code.Refused n) w0 w1 v0 → EditTook line words st (code.Refused n) w0 w1 v0
   edit-refused {n} h = record { is = λ s ts a. by s ts (h .is s (a .lies .holds)); kept = h .kept }
     where
-      by : (s : Sheet) (ts : List Ty) → JudgedAs line st s v0 w1 (judged-code.Stop n) → ReplayedAs (editOf (fieldsOf line)) words s ts v0 w1 (code.Refused n)
+      by : (s : Sheet) (ts : List Ty) → JudgedAs line st s v0 w1 (judged-code.Refused n) → ReplayedAs (editOf (fieldsOf line)) words s ts v0 w1 (code.Refused n)
       by s ts (judged-stop e) = refused (λ b l room. on-refused s b room (editOf (fieldsOf line)) e)
 
 -- ---- an edit that is made
@@ -102,7 +102,7 @@ on-room : (s : Sheet) (b : Board) (room : ℕ) (e : Edit) {t : Sheet} → judged
 unfolding editOn onJudged
 on-room s b room e j h = rw (j, h)
 
-comes-stopped : {w0 w1 : List ℕ} {m : ℕ} {y : Step} {t : Sheet} → Comes w0 w1 (step-code.Stop m) y → y ≡ taken t → ⊥
+comes-stopped : {w0 w1 : List ℕ} {m : ℕ} {y : Step} {t : Sheet} → Comes w0 w1 (step-code.Refused m) y → y ≡ taken t → ⊥
 comes-stopped comes-stop e = not-taken e
 
 record Came (v0 w1 : List ℕ) (su : Counts) (y : Step) : Type 0 where
@@ -120,7 +120,7 @@ module _ {line : Bytes} {words : List ℕ} {st : Counts} {w0 v0 x0 : List ℕ} {
       → Parted words key xs ys → Comes x0 w1 r (takeSlots (withSlots s 3 []) (xs ++ slotFor (k .edit .object) (k .edit .row) (k .edit .value) ++ ys))
   went e w1 h s k xs ys p = h .is (withSlots s 3 []) (k .edit) xs ys (rw e (k .holds)) (empty-rows s) (k .is) p
 
-  pub edit-full : {su : Counts} {m : ℕ} {r : CodeStep} → su ≡ emptyCounts st → r ≡ step-code.Stop m → ((w1 : List ℕ) → Replaying line key words su r v0 w1 x0)
+  pub edit-full : {su : Counts} {m : ℕ} {r : CodeStep} → su ≡ emptyCounts st → r ≡ step-code.Refused m → ((w1 : List ℕ) → Replaying line key words su r v0 w1 x0)
       → (w1 : List ℕ) → EditTook line words st (code.Refused 21) w0 w1 x0
   unfolding edited
   edit-full {su} {m} {r} e i h w1 = record { is = λ s ts a. by s ts (keyed (judges w1 .is s (a .lies .holds))); kept = kept-then (judges w1 .kept) (h w1 .kept) }

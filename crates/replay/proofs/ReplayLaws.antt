@@ -17,7 +17,7 @@ use Rattle.board.proofs.AsLines.{taken-same, not-taken}
 use Rattle.tables.specs.declared.Counts.{Counts}
 use Rattle.tables.specs.declared.Step.{Step as CodeStep}
 use Rattle.tables.specs.declared.Step.the-variants as step-code
-use Rattle.tables.specs.Layout.{Holds, Moved, moved-next, moved-stop}
+use Rattle.tables.specs.Layout.{Holds, Moved, moved-next, moved-refused}
 use Rattle.tables.proofs.Tables.{kept-refl, kept-then}
 use Rattle.slots.specs.Slots.{SmallRows}
 use Rattle.rules.specs.Accepted.{Accepted}
@@ -58,9 +58,9 @@ then-refused s xs ys e = take-append xs ys s ∙ ap (λ y. onTaken y (λ t. take
 
 comes : {w0 w1 : List ℕ} {r : CodeStep} {y : Step} → Moved w0 w1 r y → Comes w0 w1 r y
 comes (moved-next f h) = comes-next f h
-comes moved-stop = comes-stop
+comes moved-refused = comes-stop
 
-comes-refused : {w0 w1 : List ℕ} {m n : ℕ} {y : Step} → y ≡ refuse n → Comes w0 w1 (step-code.Stop m) y
+comes-refused : {w0 w1 : List ℕ} {m n : ℕ} {y : Step} → y ≡ refuse n → Comes w0 w1 (step-code.Refused m) y
 comes-refused e = rw e comes-stop
 
 -- ---- a sheet lies there
@@ -91,7 +91,7 @@ lying-own {st = st} {su} {w0} {v0} y l took e =
 
 -- ---- `replay`
 
-pub replay-many : {line : Bytes} {key : ℕ} {words : List ℕ} {st : Counts} {w0 : List ℕ} {n : ℕ} → n ≡ getD words 0 0 → 1024 < n → (w1 : List ℕ) → Replaying line key words st (step-code.Stop 4) w0 w1 w0
+pub replay-many : {line : Bytes} {key : ℕ} {words : List ℕ} {st : Counts} {w0 : List ℕ} {n : ℕ} → n ≡ getD words 0 0 → 1024 < n → (w1 : List ℕ) → Replaying line key words st (step-code.Refused 4) w0 w1 w0
 replay-many {w0 = w0} e h w1 = record { is = λ s x xs ys g m q p. absurd (let f = p .few in omega arith); found = λ q. stop-next q; kept = kept-refl w0 }
 
 same-place : {words : List ℕ} {key n p : ℕ} {xs ys : List Slot} → n ≡ getD words 0 0 → FirstFrom words n key p → Parted words key xs ys → SlotsAt words n p 0 xs
@@ -104,7 +104,7 @@ same-after {words} {key} {n} {p} {q} {xs} {ys} count first e h =
 
 module _ {line : Bytes} {key : ℕ} {words : List ℕ} {st : Counts} {w0 : List ℕ} {n p : ℕ} (count : n ≡ getD words 0 0) (few : n ≤ 1024) (first : FirstFrom words n key p) where
   module _ {u0 : List ℕ} {r1 : CodeStep} (took1 : (w1 : List ℕ) → SlotsReplayed words n 0 p st r1 w0 w1 u0) where
-    pub replay-first : {k : ℕ} → r1 ≡ step-code.Stop k → (w1 : List ℕ) → Replaying line key words st (step-code.Stop 4) w0 w1 u0
+    pub replay-first : {k : ℕ} → r1 ≡ step-code.Refused k → (w1 : List ℕ) → Replaying line key words st (step-code.Refused 4) w0 w1 u0
     replay-first {k} e w1 = record {
       is = λ s x xs ys g m q h.
           let z = stopped (subst (λ c. Moved u0 w1 c (takeSlots s xs)) e (took1 w1 .is s xs g m (same-place count first h))) in
@@ -117,7 +117,7 @@ module _ {line : Bytes} {key : ℕ} {words : List ℕ} {st : Counts} {w0 : List 
       one : (w1 : List ℕ) (s : Sheet) (xs : List Slot) → Holds st w0 w1 s → SmallRows s → SlotsAt words n p 0 xs → Onward u0 w1 a (takeSlots s xs)
       one w1 s xs g m h = onward (subst (λ c. Moved u0 w1 c (takeSlots s xs)) next1 (took1 w1 .is s xs g m h))
 
-      pub replay-own : {k : ℕ} → r2 ≡ step-code.Stop k → (w1 : List ℕ) → Replaying line key words st (step-code.Stop 4) w0 w1 v0
+      pub replay-own : {k : ℕ} → r2 ≡ step-code.Refused k → (w1 : List ℕ) → Replaying line key words st (step-code.Refused 4) w0 w1 v0
       replay-own {k} e w1 = record {
         is = λ s x xs ys g m q h.
             let y = one w1 s xs g m (same-place count first h) in

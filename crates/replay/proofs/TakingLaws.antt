@@ -24,12 +24,12 @@ use Rattle.board.proofs.AsLines.{taken-same}
 use Rattle.tables.specs.declared.Counts.{Counts}
 use Rattle.tables.specs.declared.Step.{Step as CodeStep}
 use Rattle.tables.specs.declared.Step.the-variants as code
-use Rattle.tables.specs.Layout.{slotKey, Holds, Fine, Kept, Moved, moved-next, moved-stop}
+use Rattle.tables.specs.Layout.{slotKey, Holds, Fine, Kept, Moved, moved-next, moved-refused}
 use Rattle.tables.proofs.Tables.{kept-refl, kept-then}
 use Rattle.slots.specs.Slots.{SmallRows}
 use Rattle.replay.specs.Slots.{Lying, endIn, SlotAt, SlotsAt, none-left, one-more, FirstFrom, afterIn, CellsTook, SlotReplayed, SlotsReplayed, mostKeys}
 
-pub stop-next : {A : Type 0} {n : ℕ} {su : Counts} → code.Stop n ≡ code.Next su → A
+pub stop-next : {A : Type 0} {n : ℕ} {su : Counts} → code.Refused n ≡ code.Next su → A
 stop-next e = absurd (let z : _≡_ {A = ℕ} 0 1 = cc in omega arith)
 
 -- ---- `end_of`, `slots_before` and `slot_after`
@@ -79,16 +79,16 @@ part-is words n j from to start end room up long =
     ∙ ap (λ (i : ℕ). slice (memory.cells + i) (memory.cells + to) words) start ∙ ap (λ (i : ℕ). slice (memory.cells + getD words (memory.starts + j) 0) (memory.cells + i) words) end
 
 module _ (words : List ℕ) (n j : ℕ) {st : Counts} {w0 w1 : List ℕ} where
-  none-there : ((x : Slot) → SlotAt words n j x → ⊥) → SlotReplayed words n j st (code.Stop 4) w0 w1 w0
+  none-there : ((x : Slot) → SlotAt words n j x → ⊥) → SlotReplayed words n j st (code.Refused 4) w0 w1 w0
   none-there h = record { is = λ s x g m a. absurd (h x a); found = λ e. stop-next e; kept = kept-refl w0 }
 
-  pub high-key : mostKeys ≤ getD words (memory.keys + j) 0 → SlotReplayed words n j st (code.Stop 4) w0 w1 w0
+  pub high-key : mostKeys ≤ getD words (memory.keys + j) 0 → SlotReplayed words n j st (code.Refused 4) w0 w1 w0
   high-key h = none-there (λ x a. let k = a .key in let l = a .low in omega arith)
 
-  pub high-end : {to : ℕ} → to ≡ endIn words n j → 2048 < to → SlotReplayed words n j st (code.Stop 4) w0 w1 w0
+  pub high-end : {to : ℕ} → to ≡ endIn words n j → 2048 < to → SlotReplayed words n j st (code.Refused 4) w0 w1 w0
   high-end e h = none-there (λ x a. let l = a .room in omega arith)
 
-  pub no-cell : {from to : ℕ} → from ≡ getD words (memory.starts + j) 0 → to ≡ endIn words n j → to ≤ from → SlotReplayed words n j st (code.Stop 4) w0 w1 w0
+  pub no-cell : {from to : ℕ} → from ≡ getD words (memory.starts + j) 0 → to ≡ endIn words n j → to ≤ from → SlotReplayed words n j st (code.Refused 4) w0 w1 w0
   no-cell f e h = none-there (λ x a. let l = a .up in omega arith)
 
   module _ {from to : ℕ} (start : from ≡ getD words (memory.starts + j) 0) (end : to ≡ endIn words n j) (low : getD words (memory.keys + j) 0 < mostKeys) (room : to ≤ 2048) (up : from < to) (long : 8192 ≤ length words) where
@@ -125,8 +125,8 @@ pub record Onward (v0 w1 : List ℕ) (st : Counts) (y : Step) : Type 0 where
 pub onward : {v0 w1 : List ℕ} {st : Counts} {y : Step} → Moved v0 w1 (code.Next st) y → Onward v0 w1 st y
 onward (moved-next {s = t} f g) = record { sheet = t; is = refl; fine = f; holds = g }
 
-pub stopped : {v0 w1 : List ℕ} {n : ℕ} {y : Step} → Moved v0 w1 (code.Stop n) y → y ≡ refuse n
-stopped moved-stop = refl
+pub stopped : {v0 w1 : List ℕ} {n : ℕ} {y : Step} → Moved v0 w1 (code.Refused n) y → y ≡ refuse n
+stopped moved-refused = refl
 
 -- ---- the slots from one number to another
 
@@ -187,7 +187,7 @@ module _ {words : List ℕ} {n from to : ℕ} {st : Counts} {u0 : List ℕ} {su 
       by s xs x = rw (x .same ∙ ap (takeSlots (x .sheet)) (none (x .at))) (moved-next (t .lying .fine) (x .holds))
 
   module _ (more : j < to) {r : CodeStep} {v0 : List ℕ} (took : (w1 : List ℕ) → SlotReplayed words n j su r w0 w1 v0) where
-    pub taking-stop : {k : ℕ} → r ≡ code.Stop k → (w1 : List ℕ) → SlotsReplayed words n from to st (code.Stop k) u0 w1 v0
+    pub taking-stop : {k : ℕ} → r ≡ code.Refused k → (w1 : List ℕ) → SlotsReplayed words n from to st (code.Refused k) u0 w1 v0
     unfolding takeSlots onTaken
     taking-stop {k} e w1 = record {
       is = λ s xs g m a. by s xs (t .going w1 s xs g m a);
@@ -195,11 +195,11 @@ module _ {words : List ℕ} {n from to : ℕ} {st : Counts} {u0 : List ℕ} {su 
       kept = kept-then (t .kept) (took w1 .kept);
     }
       where
-        by : (s : Sheet) (xs : List Slot) → Left words n to j su w0 w1 s xs → Moved v0 w1 (code.Stop k) (takeSlots s xs)
+        by : (s : Sheet) (xs : List Slot) → Left words n to j su w0 w1 s xs → Moved v0 w1 (code.Refused k) (takeSlots s xs)
         by s xs x =
             let h = head-of more (x .at) in
             let q = stopped (subst (λ c. Moved v0 w1 c (stepLine (x .sheet) 1 (lineFor (h .first)))) e (took w1 .is (x .sheet) (h .first) (x .holds) (x .small) (h .here))) in
-            rw (x .same ∙ ap (takeSlots (x .sheet)) (h .are) ∙ ap (λ y. onTaken y (λ u. takeSlots u (h .rest))) q) moved-stop
+            rw (x .same ∙ ap (takeSlots (x .sheet)) (h .are) ∙ ap (λ y. onTaken y (λ u. takeSlots u (h .rest))) q) moved-refused
 
     module _ {next : Counts} (e : r ≡ code.Next next) where
       step : (w1 : List ℕ) (u : Sheet) (x : Slot) → Holds su w0 w1 u → SmallRows u → SlotAt words n j x → Onward v0 w1 next (stepLine u 1 (lineFor x))

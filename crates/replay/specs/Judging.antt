@@ -6,6 +6,7 @@ use mathlib.Core.List.{List, []}
 use Prim.Native.Nat.{ℕ, _+_, _*_, _<_, min}
 use lib.ListN.{length, getD}
 use lib.Dec.{eqb}
+use Rattle.memory.specs.Lines as lines
 use Rattle.sheet.specs.Sizes.{mostRows, mostObjects}
 use Rattle.sheet.specs.Text.{Bytes, bytes, fieldsOf}
 use Rattle.sheet.specs.Lines.{is}
@@ -23,7 +24,7 @@ use Rattle.replay.specs.declared.judging.Judged.the-variants as code
 -- the counts of the sheet without its values
 abbrev pub emptyCounts : Counts → Counts
 emptyCounts st = record {
-  block = 3;
+  block = lines.values;
   classes = st .classes;
   rows = st .rows;
   objects = st .objects;
@@ -32,7 +33,7 @@ emptyCounts st = record {
   nodes = st .nodes;
   definitions = st .definitions;
   rules = st .rules;
-  «open» = 0;
+  «open» = lines.nothingOpen;
   context = st .context;
   result = st .result;
   first = st .first;
@@ -45,7 +46,7 @@ clearsLine fs = eqb (length fs) 4 && is (getD fs 3 []) (bytes "-")
 -- row a cleared for object o
 pub data ClearedAs (s : Sheet) (o a : ℕ) : Judged → Type 0 where
   cleared : o < mostObjects → a < mostRows → judgedValue s o a none ≡ taken s → ClearedAs s o a (code.Key (o * mostRows + a))
-  not-cleared : {n : ℕ} → judgedValue s o a none ≡ refuse n → ClearedAs s o a (code.Stop n)
+  not-cleared : {n : ℕ} → judgedValue s o a none ≡ refuse n → ClearedAs s o a (code.Refused n)
 
 -- the code has o' and a' as o and a, a million at most
 pub record ClearingAs (st : Counts) (o a : ℕ) (w0 w1 : List ℕ) (r : Judged) : Type 0 where
@@ -58,7 +59,7 @@ judgedEdit s (some e) = judged s e
 
 -- refused; or its key, with the sheet without values in the words
 pub data JudgedAs (line : Bytes) (st : Counts) (s : Sheet) (v0 w1 : List ℕ) : Judged → Type 0 where
-  judged-stop : {n : ℕ} → judgedEdit s (editOf (fieldsOf line)) ≡ refuse n → JudgedAs line st s v0 w1 (code.Stop n)
+  judged-stop : {n : ℕ} → judgedEdit s (editOf (fieldsOf line)) ≡ refuse n → JudgedAs line st s v0 w1 (code.Refused n)
   judged-key : (e : Edit) (t : Sheet) → editOf (fieldsOf line) ≡ some e → judged s e ≡ taken t → e .row < mostRows
       → Holds (emptyCounts st) v0 w1 (withSlots s 3 []) → JudgedAs line st s v0 w1 (code.Key (e .object * mostRows + e .row))
 

@@ -5,6 +5,7 @@ use mathlib.Core.Option.{Option, some}
 use mathlib.Core.List.{List, _++_}
 use Prim.Native.Nat.{ℕ, _≤_, _<_}
 use lib.ListN.{getD}
+use Rattle.memory.specs.Lines as lines
 use Rattle.ocl.specs.Types.{Ty}
 use Rattle.sheet.specs.Sizes.{mostRows, mostValues}
 use Rattle.sheet.specs.Text.{Bytes, fieldsOf}
@@ -29,7 +30,7 @@ use Rattle.replay.specs.declared.Replayed.the-variants as code
 -- the counts of a sheet that has been read to its last block
 abbrev pub lastCounts : Counts → Counts
 lastCounts st = record {
-  block = 5;
+  block = lines.rules;
   classes = st .classes;
   rows = st .rows;
   objects = st .objects;
@@ -60,7 +61,7 @@ pub record Spelled (line : Bytes) : Type 0 where
 -- a step of the code and a step of the definition; which number refuses does not matter, since it becomes 21
 pub data Comes (w0 w1 : List ℕ) : CodeStep → Step → Type 0 where
   comes-next : {st : Counts} {s : Sheet} → Fine st → Holds st w0 w1 s → Comes w0 w1 (step-code.Next st) (taken s)
-  comes-stop : {m n : ℕ} → Comes w0 w1 (step-code.Stop m) (refuse n)
+  comes-stop : {m n : ℕ} → Comes w0 w1 (step-code.Refused m) (refuse n)
 
 pub record Replaying (line : Bytes) (key : ℕ) (words : List ℕ) (st : Counts) (r : CodeStep) (w0 w1 v0 : List ℕ) : Type 0 where
   pub is : (s : Sheet) (e : Edit) (xs ys : List Slot) → Holds st w0 w1 s → SmallRows s → editOf (fieldsOf line) ≡ some e → Parted words key xs ys

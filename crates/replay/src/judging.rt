@@ -11,6 +11,8 @@ ghost use Rattle.text.specs.Parts.{Cut};
 ghost use Rattle.tables.specs.Layout.{Fine};
 ghost use Rattle.replay.specs.Slots.{Lying};
 ghost use Rattle.replay.specs.Judging.{emptyCounts, clearsLine, ClearingAs, Judges, OwnTook};
+use memory::lines;
+use memory::words::wide;
 use slots::line::value_line;
 use slots::suits::object_suits;
 use tables::Counts;
@@ -19,12 +21,11 @@ use text::numbers::Num;
 use text::numbers::number;
 use text::parts::Fields;
 use text::parts::field;
-use types::classes::wide;
 
 // The key of the edited slot; or a refusal's number.
 pub enum Judged {
     Key(u64),
-    Stop(u64),
+    Refused(u64),
 }
 
 // The counts of the sheet without its values, where V lines may come.
@@ -32,10 +33,10 @@ pub fn emptied(st: Counts) -> Counts
     ensures { λ r. ⌜ r ≡ emptyCounts st ⌝ }
 {
     let mut r = st;
-    r.block = 3;
+    r.block = lines::VALUES;
     r.slots = 0;
     r.cells = 0;
-    r.open = 0;
+    r.open = lines::NOTHING_OPEN;
     r
 }
 
@@ -60,16 +61,16 @@ fn judge_cleared(w0: &[u64], st: Counts, o: u64, a: u64) -> Judged
     ensures { λ r. ⌜ ((w1 : List ℕ) → ClearingAs st o a (now (w0 .entry)) w1 r) ⌝ }
 {
     if memory::MOST_OBJECTS <= o {
-        return Judged::Stop(4);
+        return Judged::Refused(4);
     }
     if memory::MOST_ROWS <= a {
-        return Judged::Stop(4);
+        return Judged::Refused(4);
     }
     if st.objects <= o {
-        return Judged::Stop(6);
+        return Judged::Refused(6);
     }
     if st.rows <= a {
-        return Judged::Stop(6);
+        return Judged::Refused(6);
     }
     let classes = wide(st.classes);
     let objects_end = memory::OBJECTS + wide(st.objects);
@@ -80,7 +81,7 @@ fn judge_cleared(w0: &[u64], st: Counts, o: u64, a: u64) -> Judged
         o,
         w0[memory::OWNERS + i],
     ) {
-        return Judged::Stop(7);
+        return Judged::Refused(7);
     }
     Judged::Key(o * memory::MOST_ROWS + a)
 }
@@ -91,10 +92,10 @@ fn judge_clearing(line: &[u8], f: Fields, w0: &[u64], st: Counts) -> Judged
     ensures { λ r. ⌜ ((w1 : List ℕ) → Judges (now (line .entry)) st r (now (w0 .entry)) w1 (now (w0 .entry))) ⌝ }
 {
     let Num::Is(o) = number(field(line, f, 1)) else {
-        return Judged::Stop(3);
+        return Judged::Refused(3);
     };
     let Num::Is(a) = number(field(line, f, 2)) else {
-        return Judged::Stop(3);
+        return Judged::Refused(3);
     };
     judge_cleared(w0, st, o, a)
 }
@@ -105,7 +106,7 @@ fn judge_value(line: &[u8], f: Fields, w0: &mut [u64], st: Counts) -> Judged
     ensures { λ r. ⌜ ((w1 : List ℕ) → Judges (now (line .entry)) st r (now (w0 .entry)) w1 (now (w0 .exit))) ⌝ }
 {
     match value_line(line, f, w0, emptied(st)) {
-        Step::Stop(n) => Judged::Stop(n),
+        Step::Refused(n) => Judged::Refused(n),
         Step::Next(_) => Judged::Key(w0[memory::KEYS]),
     }
 }

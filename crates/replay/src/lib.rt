@@ -20,6 +20,8 @@ use crate::judging::own_slot;
 use crate::taking::slot_after;
 use crate::taking::slots_before;
 use crate::taking::take_slots;
+use memory::lines;
+use memory::words::wide;
 use tables::Counts;
 use tables::Step;
 use text::parts::Fields;
@@ -28,7 +30,6 @@ use text::parts::field;
 use text::parts::find;
 use text::words::byte_kind;
 use text::words::letter;
-use types::classes::wide;
 
 pub mod judging; // an edit's line by itself
 pub mod taking; // the slots in a board's words
@@ -45,7 +46,7 @@ fn finished(st: Counts) -> Counts
     ensures { λ r. ⌜ r ≡ lastCounts st ⌝ }
 {
     let mut r = st;
-    r.block = 5;
+    r.block = lines::RULES;
     r
 }
 
@@ -59,14 +60,14 @@ fn replay(own: &[u8], f: Fields, key: u64, words: &[u64], w0: &mut [u64], st: Co
 {
     let n = wide(words[0]);
     if MOST_SLOTS < n {
-        return Step::Stop(4);
+        return Step::Refused(4);
     }
     let p = slots_before(words, n, key);
     let Step::Next(a) = take_slots(words, n, 0, p, w0, st) else {
-        return Step::Stop(4);
+        return Step::Refused(4);
     };
     let Step::Next(b) = own_slot(own, f, w0, a) else {
-        return Step::Stop(4);
+        return Step::Refused(4);
     };
     take_slots(words, n, slot_after(words, n, p, key), n, w0, b)
 }
@@ -77,10 +78,10 @@ fn edit_slots(own: &[u8], f: Fields, words: &[u64], w0: &mut [u64], st: Counts) 
     ensures { λ r. ⌜ ((w1 : List ℕ) → EditTook (now (own .entry)) (now (words .entry)) st r (now (w0 .entry)) w1 (now (w0 .exit))) ⌝ }
 {
     match judge(own, f, w0, st) {
-        Judged::Stop(n) => Replayed::Refused(n),
+        Judged::Refused(n) => Replayed::Refused(n),
         Judged::Key(key) => {
             match replay(own, f, key, words, w0, emptied(st)) {
-                Step::Stop(_) => Replayed::Refused(21),
+                Step::Refused(_) => Replayed::Refused(21),
                 Step::Next(su) => Replayed::Is(finished(su), key % memory::MOST_ROWS),
             }
         }
@@ -93,7 +94,7 @@ fn edit_line(own: &[u8], words: &[u64], w0: &mut [u64], st: Counts) -> Replayed
     ensures { λ r. ⌜ ((w1 : List ℕ) → EditTook (now (own .entry)) (now (words .entry)) st r (now (w0 .entry)) w1 (now (w0 .exit))) ⌝ }
 {
     let f = cut(own);
-    if byte_kind(letter(field(own, f, 0))) != 4 {
+    if byte_kind(letter(field(own, f, 0))) != lines::VALUE_LINE {
         return Replayed::Refused(3);
     }
     edit_slots(own, f, words, w0, st)

@@ -3,15 +3,15 @@ ghost use mathlib.Core.Path.{_≡_};
 ghost use mathlib.Core.List.{List};
 ghost use Prim.Native.Nat.{ℕ, _+_, _<_, _≤_};
 ghost use lib.ListN.{length};
-ghost use lib.Seq.{paste};
 ghost use Rattle.sheet.specs.Sizes.{leastWords, mostValues};
 ghost use Rattle.board.specs.Calls.{leastBoard};
 ghost use Rattle.replay.specs.Slots.{endIn, afterIn, FirstFrom, Lying, CellsTook, SlotReplayed, SlotsReplayed, mostKeys};
 use crate::value::is_value;
+use memory::words::wide;
 use slots::line::put_slot;
 use tables::Counts;
 use tables::Step;
-use types::classes::wide;
+use values::cells::copy_cells;
 
 // Keys are below this.
 const MOST_KEYS: u64 = memory::MOST_OBJECTS * memory::MOST_ROWS;
@@ -29,29 +29,17 @@ fn end_of(words: &[u64], n: usize, j: usize) -> u64
     words[memory::STARTS + (j + 1)]
 }
 
-// Copies the cells to `at`.
-fn copy_cells(w0: &mut [u64], at: usize, cells: &[u64])
-    requires { ⌜ at + length (now cells) ≤ length (now w0) ⌝ }
-    ensures { λ _. ⌜ now (w0 .exit) ≡ paste (now (w0 .entry)) at (now (cells .entry)) (length (now (cells .entry))) ⌝ }
-{
-    let mut i: usize = 0;
-    while i < cells.len() {
-        w0[at + i] = cells[i];
-        i += 1;
-    }
-}
-
 // Takes the slot with this key and these cells.
 fn take_cells(cells: &[u64], key: u64, w0: &mut [u64], st: Counts) -> Step
     requires { ⌜ (leastWords ≤ length (now w0)) × Lying st (now w0) × (0 < length (now cells)) × (key < mostKeys) ⌝ }
     ensures { λ r. ⌜ ((w1 : List ℕ) → CellsTook (now (cells .entry)) key st r (now (w0 .entry)) w1 (now (w0 .exit))) ⌝ }
 {
     if !is_value(cells) {
-        return Step::Stop(4);
+        return Step::Refused(4);
     }
     let used = wide(st.cells);
     if MOST_CELLS - used < cells.len() {
-        return Step::Stop(4);
+        return Step::Refused(4);
     }
     copy_cells(w0, memory::CELLS + used, cells);
     put_slot(
@@ -70,15 +58,15 @@ fn take_slot(words: &[u64], n: usize, j: usize, w0: &mut [u64], st: Counts) -> S
 {
     let key = words[memory::KEYS + j];
     if MOST_KEYS <= key {
-        return Step::Stop(4);
+        return Step::Refused(4);
     }
     let from = wide(words[memory::STARTS + j]);
     let to = wide(end_of(words, n, j));
     if MOST_CELLS < to {
-        return Step::Stop(4);
+        return Step::Refused(4);
     }
     if to <= from {
-        return Step::Stop(4);
+        return Step::Refused(4);
     }
     let a = memory::CELLS + from;
     let e = memory::CELLS + to;
@@ -101,8 +89,8 @@ pub fn take_slots(
     let mut j = from;
     while j < to {
         match take_slot(words, n, j, w0, su) {
-            Step::Stop(k) => {
-                return Step::Stop(k);
+            Step::Refused(k) => {
+                return Step::Refused(k);
             }
             Step::Next(next) => {
                 su = next;

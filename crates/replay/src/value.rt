@@ -1,12 +1,16 @@
 // Whether words are the cells of a value within its limits: the words of a board may hold anything.
 ghost use Rattle.replay.specs.Values.{SimpleCell, EndsAt, IsValue};
 use floats::cells::word_in;
+use slots::reader::DEEPEST;
 use values::cells::COLLECTIONS;
 use values::cells::LARGEST;
 use values::cells::NUMBERS;
 use values::cells::OBJECTS;
 use values::cells::TOP;
 use values::cells::member_count;
+
+// How deep collections may stand in one another.
+const DEEP: u64 = DEEPEST as u64;
 
 // Whether the cell is that of a truth value, of a number or of one of 96 objects.
 fn simple_cell(cell: u64) -> bool
@@ -62,7 +66,7 @@ pub fn is_value(cells: &[u64]) -> bool
     if LARGEST < cells.len() {
         return false;
     }
-    let end = value_end(cells, 0, 3);
+    let end = value_end(cells, 0, DEEP);
     if end == 0 {
         return false;
     }

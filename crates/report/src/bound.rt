@@ -8,39 +8,47 @@ ghost use Rattle.types.specs.Flat.{tyOf};
 ghost use Rattle.outcomes.specs.Tables.{Bounds};
 ghost use Rattle.rules.specs.Width.{width as widthOf};
 ghost use Rattle.report.specs.Bound.{CountsObjects, lineWidth, BoundsLines, BoundsAll};
+use floats::spelling::REAL_BYTES;
+use memory::words::wide;
 use outcomes::lookup::is_a;
 use tables::Counts;
 use types::Base;
 use types::FlatType;
-use types::classes::wide;
 use types::word::unpack;
 
-// How many bytes a value of the type, or a stop, can take in a line: one of size 128 at most 2,304 (rules/specs/Width.antt).
+// A value of size 128 takes at most so many bytes (rules/specs/Width.antt).
+const MOST_WIDTH: usize = 2304;
+// What a line has beside its outcome, and all of a line that says where undefined came from.
+const BESIDE_OUTCOME: usize = 15;
+
+const ORIGIN_WIDTH: usize = 20;
+
+// How many bytes a value of the type, or a stop, can take in a line.
 fn width(t: FlatType) -> usize
     ensures { λ n. ⌜ n ≡ widthOf (tyOf t) ⌝ }
 {
     if t.outer != 0 {
-        return 2304;
+        return MOST_WIDTH;
     }
     let b = t.base;
     match b {
         Base::Void => 3,
         Base::Bool => 3,
         Base::Int => 11,
-        Base::Real => 17,
-        Base::Any => 2304,
+        Base::Real => REAL_BYTES,
+        Base::Any => MOST_WIDTH,
         Base::Class(_) => 3,
     }
 }
 
-// How many bytes a line can take, for a rule of the type: 15 beside the value; or 20 where it says where undefined came from.
+// How many bytes a line can take, for a rule of the type.
 fn line_width(t: FlatType, origins: bool) -> usize
     ensures { λ n. ⌜ n ≡ lineWidth origins (tyOf t) ⌝ }
 {
     if origins {
-        return 20;
+        return ORIGIN_WIDTH;
     }
-    15 + width(t)
+    BESIDE_OUTCOME + width(t)
 }
 
 // How many objects are of class c or below.

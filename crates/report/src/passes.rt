@@ -7,11 +7,11 @@ ghost use Rattle.sheet.specs.Sizes.{leastWords};
 ghost use Rattle.report.specs.Passes.{RoomForLine, PutsVerdict, objectLine, allObjects, lineBound, allBound, RoomFor, AddsLines, RoomForAll, AddsAll};
 use crate::lines::put_line;
 use crate::origins::put_origin;
+use memory::words::wide;
 use outcomes::lookup::is_a;
 use rules::evaluated::evaluate_numbered;
 use rules::evaluated::trace_numbered;
 use tables::Counts;
-use types::classes::wide;
 
 // Puts the line of rule r for object o, which is of the rule's class or below.
 fn put_verdict(

@@ -5,14 +5,14 @@ ghost use lib.ListN.{length};
 ghost use Rattle.memory.specs.Map as memory;
 ghost use Rattle.sheet.specs.Sizes.{leastWords, mostNodes};
 ghost use Rattle.nodes.specs.Nodes.{word};
-use rules::typed::node_line;
+use rules::typed::line_of;
 
 // The line of the node at which undefined arose.
 pub fn place_line(w1: &[u64], place: u64) -> u64
     requires { ⌜ (place % memory.placeStep < mostNodes) × (leastWords ≤ length (now w1)) ⌝ }
     ensures { λ k. ⌜ k ≡ word (now (w1 .entry)) (place % memory.placeStep) 7 ⌝ }
 {
-    node_line(w1, place % memory::PLACE_STEP)
+    line_of(w1, place % memory::PLACE_STEP)
 }
 
 // The step at which that node began.

@@ -3,18 +3,18 @@ ghost use Prim.Native.Nat.{_+_, _<_, _≤_};
 ghost use lib.ListN.{length};
 ghost use Rattle.sheet.specs.Sizes.{leastWords, mostRows, mostRules};
 ghost use Rattle.rows.specs.Lines.{PutsRows, rowField, fieldsOf, lineOf, Rooted, PutsLines};
-use crate::seen::has_row;
+use crate::seen::has_bit;
+use memory::words::wide;
 use tables::Counts;
 use text::spelling::put_byte;
 use text::spelling::put_number;
-use types::classes::wide;
 
 // Puts row i, if it is seen.
 fn put_row(out: &mut [u8], at: usize, seen: u64, i: u64) -> usize
     requires { ⌜ (i < mostRows) × (at + 3 ≤ length (now out)) ⌝ }
     ensures { λ r. ⌜ PutsRows (rowField i) 3 seen at (now (out .entry)) (now (out .exit)) r ⌝ }
 {
-    if has_row(seen, i) {
+    if has_bit(seen, i) {
         let digits = put_byte(out, at, b' ');
         return put_number(out, digits, i);
     }

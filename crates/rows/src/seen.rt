@@ -11,8 +11,8 @@ ghost use Rattle.nodes.specs.Nodes.{word};
 ghost use Rattle.rows.specs.Bits.{bit};
 ghost use Rattle.rows.specs.Seen.{Parts, SeesOperand, SeesOwn, SeesNode, SeesAll};
 use memory::codes;
+use memory::words::wide;
 use nodes::node_word;
-use types::classes::wide;
 
 // How many members `coll` has; more than four, which no accepted sheet has, count as none.
 pub fn member_count(nodes: &[u64], n: usize) -> usize
@@ -99,7 +99,7 @@ pub fn see_rows(w1: &[u64], w2: &mut [u64])
 }
 
 // Whether row i is among the rows of a word.
-pub fn has_row(seen: u64, i: u64) -> bool
+pub fn has_bit(seen: u64, i: u64) -> bool
     requires { ⌜ i < mostRows ⌝ }
     ensures { λ r. ⌜ r ≡ bit seen i ⌝ }
 {

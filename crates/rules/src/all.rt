@@ -7,11 +7,11 @@ ghost use Rattle.sheet.specs.Sizes.{leastWords};
 ghost use Rattle.rules.specs.Accepted.{Known};
 ghost use Rattle.rules.specs.All.{clearedMarks, DefinesAll, TypesAll, KeepsMarks, Accepts};
 use crate::typed::define_numbered;
-use crate::typed::node_line;
+use crate::typed::line_of;
 use crate::typed::type_numbered;
 use judgements::Reply;
+use memory::words::wide;
 use tables::Counts;
-use types::classes::wide;
 use types::word::pack;
 
 // How typing definitions or rules ends: each has its type; or the first refusal and its line.
@@ -42,7 +42,7 @@ fn type_definitions(w0: &[u64], st: Counts, w1: &[u64], w2: &mut [u64]) -> Rules
     let mut d: usize = 0;
     while d < definitions {
         if let Reply::No(number, p) = define_numbered(w0, st, w1, w2, d) {
-            return RulesTyped::No(number, node_line(w1, p));
+            return RulesTyped::No(number, line_of(w1, p));
         }
         d += 1;
     }
@@ -60,7 +60,7 @@ fn type_all(w0: &[u64], st: Counts, w1: &[u64], w2: &mut [u64]) -> RulesTyped
     while r < rules {
         match type_numbered(w0, st, w1, w2, r) {
             Reply::No(number, p) => {
-                return RulesTyped::No(number, node_line(w1, p));
+                return RulesTyped::No(number, line_of(w1, p));
             }
             Reply::Is(t) => {
                 w2[memory::RULE_TYPES + r] = pack(t);

@@ -8,9 +8,9 @@ ghost use Rattle.rules.specs.Numbered.{EvaluatesNumbered, TracesNumbered
 use evaluation::Traced;
 use evaluation::answers::untraced;
 use evaluation::rule::trace_rule;
+use memory::words::wide;
 use outcomes::Ended;
 use tables::Counts;
-use types::classes::wide;
 
 // Rule r for object o: a value's cells lie in w2 from 1 on. Undefined comes with its place, the node at which it arose and the step at
 // which that node began, as one word.

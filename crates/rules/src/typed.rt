@@ -7,9 +7,9 @@ ghost use Rattle.nodes.specs.Nodes.{word};
 ghost use Rattle.rules.specs.Accepted.{Known};
 ghost use Rattle.rules.specs.Numbered.{TypesNumbered, DefinesNumbered};
 use judgements::Reply;
+use memory::words::wide;
 use nodes::node_word;
 use tables::Counts;
-use types::classes::wide;
 use typing::rules::type_definition;
 use typing::rules::type_rule;
 
@@ -41,7 +41,7 @@ pub fn define_numbered(w0: &[u64], st: Counts, w1: &[u64], w2: &mut [u64], d: us
 }
 
 // The line of node p.
-pub fn node_line(w1: &[u64], p: u64) -> u64
+pub fn line_of(w1: &[u64], p: u64) -> u64
     requires { ⌜ (p < mostNodes) × (leastWords ≤ length (now w1)) ⌝ }
     ensures { λ k. ⌜ k ≡ word (now (w1 .entry)) p 7 ⌝ }
 {

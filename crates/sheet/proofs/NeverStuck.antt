@@ -26,6 +26,8 @@ use Rattle.sheet.specs.Reading.{Reading, accepted, rejected, readText}
 use Rattle.sheet.specs.Calls.{Verdict, answer, refusalAt, refusal, shortWords, shortOutput, onSheet, typingOf, onType, onTypes, onDefinitions, onAccepted, typeLines, readCall, onRule, onObject, outcomeOf, ended, evaluateOn, evaluateCall}
 use Rattle.sheet.specs.Report.{spellOutcome, reportLine, objectLines, ruleLines, fitting, reportOf, reportCall, printed, program}
 use Rattle.sheet.specs.Profile.{firstOutside, onProfile, profileOf, profileCall}
+use Rattle.sheet.specs.Rows.{rowsInto, rowsCall}
+use Rattle.sheet.specs.Origin.{originsOf, originCall}
 use Rattle.sheet.specs.Laws.{ReadRefusal, over-length, at-line, AllTyped, none-typed, one-typed, Defined}
 use Rattle.sheet.specs.Soundness.{NeverStuckLaw}
 use Rattle.sheet.proofs.Listed.{listed-within, read-refusals}
@@ -144,7 +146,7 @@ module _ (P : Verdict → Type 0) (p : (n k : ℕ) → n ≤ 24 → P (refusalAt
   on-object m none o c v h = p 14 0 (omega arith)
   on-object m (some d) o c v h = by-if P (isA m o (class c)) v (refusal 15) h (λ t. p 15 0 (omega arith))
 
-abbrev Low : Verdict → Type 0
+abbrev pub Low : Verdict → Type 0
 Low v = v .number ≤ 24
 
 low : (n k : ℕ) → n ≤ 24 → Low (refusalAt n k)
@@ -192,8 +194,16 @@ clean-printed v h =
     by-if Clean (eqb (v .number) 0) (v .output) _ (λ t. h .clean)
     (λ t. clean-space clean-end next clean-number (v .number) next space next clean-number (v .place) next feed)
 
+-- calls that write lines of an accepted sheet, or refuse them as too long
+pub fitting-low : (room : ℕ) (b : Bytes) → Low (fitting room b)
+unfolding fitting answer refusal refusalAt
+fitting-low room b = by-if Low (ltb room (length b)) _ _ (λ t. omega arith) (λ t. omega arith)
+
+pub accepted-low : (text : Bytes) (f : Sheet → List Ty → Verdict) → ((s : Sheet) (ts : List Ty) → Low (f s ts)) → Low (onAccepted text f)
+accepted-low text f h = on-text Low low text f (λ s ts k. h s ts)
+
 pub never-stuck : NeverStuckLaw
-unfolding readCall evaluateCall profileCall profileOf reportCall program bytes
+unfolding readCall evaluateCall profileCall profileOf reportCall rowsCall rowsInto originCall originsOf program bytes
 never-stuck text w0 w1 w2 out =
     let short = shortWords w0 w1 w2 || shortOutput out in
     let reported = lent-by Listed short _ (listed 1 0 (omega arith)) (report-listed text (length out)) in
@@ -202,6 +212,8 @@ never-stuck text w0 w1 w2 out =
       evaluate-number = λ r o. lent-by Low short _ (low 1 0 (omega arith)) (on-text Low low text _ (λ s ts h. evaluate-low s h r o));
       profile-number = lent-by Low short _ (low 1 0 (omega arith)) (on-text Low low text _ (λ s ts h. low-profile (firstOutside s) _ (low-answer (typeLines ts))));
       report-number = reported .number;
+      rows-number = lent-by Low short _ (low 1 0 (omega arith)) (accepted-low text _ (λ s ts. fitting-low (length out) _));
+      origin-number = lent-by Low short _ (low 1 0 (omega arith)) (accepted-low text _ (λ s ts. fitting-low (length out) _));
       report-bytes = λ a b. clean-free a b (reported .clean);
       program-bytes = λ a b. clean-free a b (clean-printed (reportOf text 65536) (report-listed text 65536));
     }

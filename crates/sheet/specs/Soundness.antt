@@ -22,6 +22,8 @@ use Rattle.sheet.specs.Reading.{sheetIn}
 use Rattle.sheet.specs.Calls.{Verdict, readCall, outcomeOf, evaluateCall}
 use Rattle.sheet.specs.Report.{reportCall, program}
 use Rattle.sheet.specs.Profile.{profileCall}
+use Rattle.sheet.specs.Rows.{rowsCall}
+use Rattle.sheet.specs.Origin.{originCall}
 
 -- every lent slice (document 01's word for the words and the output that a caller hands over) is at its minimum or above
 pub record Lent (w0 w1 w2 : List ℕ) (out : Bytes) : Type 0 where
@@ -80,6 +82,8 @@ pub record NeverStuck (text : Bytes) (w0 w1 w2 : List ℕ) (out : Bytes) : Type 
   pub evaluate-number : (r o : ℕ) → evaluateCall text r o w0 w1 w2 out .number ≤ 24
   pub profile-number : profileCall text w0 w1 w2 out .number ≤ 24
   pub report-number : reportCall text w0 w1 w2 out .number ≤ 24
+  pub rows-number : rowsCall text w0 w1 w2 out .number ≤ 24
+  pub origin-number : originCall text w0 w1 w2 out .number ≤ 24
   pub report-bytes : (a b : Bytes) → reportCall text w0 w1 w2 out .output ≢ a ++ (bytes "!100" ++ b)
   pub program-bytes : (a b : Bytes) → program text ≢ a ++ (bytes "!100" ++ b)
 

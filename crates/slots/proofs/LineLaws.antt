@@ -32,7 +32,7 @@ use Rattle.nodes.specs.Nodes.{treeAt}
 use Rattle.tables.specs.declared.Counts.{Counts}
 use Rattle.tables.specs.declared.Step.{Step}
 use Rattle.tables.specs.declared.Step.the-variants as code
-use Rattle.tables.specs.Layout.{tab, Holds, Fine, Kept, moved-stop}
+use Rattle.tables.specs.Layout.{tab, Holds, Fine, Kept, moved-refused}
 use Rattle.tables.proofs.Tables.{kept-refl, kept-then}
 use Rattle.tables.proofs.Steps.{step-bad, step-line, over-limits}
 use Rattle.tables.proofs.LineFields.{word-is, takes-none, takes-more, field-bad, field-some, fields-done, the, num-some, num-cut}
@@ -183,11 +183,11 @@ read-sizes {st} {f} {n} {i} {A} {B} count same room fine got = go (got .is)
         (omega (arith, some-cells v, size-law v), omega (arith, wide A n (omega arith) (omega arith)))
 
 module _ {st : Counts} {k : ℕ} {line : Bytes} (w1 : List ℕ) where
-  pub unspelled : {w0 v0 : List ℕ} → Kept w0 v0 → lineOf (fieldsOf line) ≡ none → TookSlot st k line (code.Stop 3) w0 w1 v0 w1
-  unspelled kept h = record { is = λ s g m. rw (step-bad s k (fieldsOf line) h) moved-stop; kept0 = kept; kept1 = kept-refl w1 }
+  pub unspelled : {w0 v0 : List ℕ} → Kept w0 v0 → lineOf (fieldsOf line) ≡ none → TookSlot st k line (code.Refused 3) w0 w1 v0 w1
+  unspelled kept h = record { is = λ s g m. rw (step-bad s k (fieldsOf line) h) moved-refused; kept0 = kept; kept1 = kept-refl w1 }
 
   module _ (o a : ℕ) {f : Bytes} {n : ℕ} {A B : List ℕ} (spelled : (v : Value) → readValue f ≡ some v → lineOf (fieldsOf line) ≡ some (valueLine o a v)) (count : n ≡ st .cells) (same : length A ≡ length B) (room : 8192 ≤ length B) (fine : Fine st) where
-    pub line-over : ReadInto f n B A read.Over → TookSlot st k line (code.Stop 4) B w1 A w1
+    pub line-over : ReadInto f n B A read.Over → TookSlot st k line (code.Refused 4) B w1 A w1
     unfolding withinLimits mayBe
     line-over got = go (got .is)
       where
@@ -206,9 +206,9 @@ module _ {st : Counts} {k : ℕ} {line : Bytes} (w1 : List ℕ) where
         never s v h m =
             test-fails (withinLimits s (valueLine o a v)) (λ t. clash (sym m ∙ sure s v h t))
 
-        go : ReadIs f (slice (memory.cells + n) memory.cellsEnd A) read.Over → TookSlot st k line (code.Stop 4) B w1 A w1
+        go : ReadIs f (slice (memory.cells + n) memory.cellsEnd A) read.Over → TookSlot st k line (code.Refused 4) B w1 A w1
         go (read-over v e m) = record {
-          is = λ s h q. rw (step-line s k (fieldsOf line) (value-plain o a v) (spelled v e), over-limits s k (valueLine o a v) (never s v h m)) moved-stop;
+          is = λ s h q. rw (step-line s k (fieldsOf line) (value-plain o a v) (spelled v e), over-limits s k (valueLine o a v) (never s v h m)) moved-refused;
           kept0 = kept-read got count same room fine;
           kept1 = kept-refl w1;
         }

@@ -30,7 +30,7 @@ use Rattle.text.specs.declared.literals.Literal.{Literal}
 use Rattle.text.specs.declared.literals.Literal.the-variants as word
 use Rattle.text.specs.declared.numbers.Num.{Num}
 use Rattle.text.specs.declared.numbers.Num.the-variants as number
-use Rattle.text.specs.declared.numbers.Whole.{Whole}
+use Rattle.text.specs.declared.numbers.Int.{Int}
 use Rattle.text.proofs.NumberLaws.{number-from, end-from, num-bad, num-is}
 use Rattle.text.proofs.IntegerLaws.{integer-from}
 use Rattle.values.specs.Cells.{bit, head}
@@ -97,7 +97,7 @@ reached {f} {at} {e} to h =
     let g : 0 < length (digits (drop (at + minusAt (drop at f)) f)) = rw q at d in
     record { up = omega (arith, to .digits .is); within = to .digits .within }
 
-pub whole-part : {f : Bytes} {at e : ℕ} {z : Whole} {l : Literal} {r : Part} → IntegerEnd f at e → z ≡ wholeOf (leadingInteger (drop at f))
+pub whole-part : {f : Bytes} {at e : ℕ} {z : Int} {l : Literal} {r : Part} → IntegerEnd f at e → z ≡ wholeOf (leadingInteger (drop at f))
     → ((o : Option ℤ) → z ≡ wholeOf o → l ≡ literalOf (mapSome int o)) → r ≡ partOf l e → NumberIs integerParser int f at r
 whole-part {f} {at} to read got is = number-told (leadingInteger (drop at f)) (integer-from to) (λ z h. reached to h) (got _ read) is
 

@@ -21,8 +21,8 @@ use Rattle.sheet.specs.Refusals.{objectBelow, inOrder, partsKnown, callsSmaller
 use Rattle.sheet.proofs.SlotSizes.{size-more}
 use Rattle.values.specs.Cells.{enc}
 use Rattle.tables.specs.declared.Counts.{Counts}
-use Rattle.tables.specs.declared.Step.the-variants.{Next, Stop}
-use Rattle.tables.specs.Layout.{tab, slotKey, startsFrom, cellsOf, Holds, Fine, Kept, moved-next, moved-stop}
+use Rattle.tables.specs.declared.Step.the-variants.{Next, Refused}
+use Rattle.tables.specs.Layout.{tab, slotKey, startsFrom, cellsOf, Holds, Fine, Kept, moved-next, moved-refused}
 use Rattle.tables.proofs.Tables.{kept-refl, kept-set, kept-then}
 use Rattle.tables.proofs.Entries.{definitions-same, holds-kept, spare-key, spare-start, tab-next, tab-more-of, open-kept}
 use Rattle.tables.proofs.Steps.{over-limits, out-of-order, unknown-part, not-suited, steps-on}
@@ -139,27 +139,27 @@ unfolding partsKnown
 known-row st {s = s} o a v g e = let l = ltb-true a (length (s .rows)) (second (ltb o (length (s .objects))) _ (everyPart (objectBelow (length (s .objects))) v) e) in let z = g .counted .rows in omega arith
 
 module _ (st : Counts) (k : ℕ) {o a n : ℕ} (w0 w1 : List ℕ) where
-  pub slot-big-object : 96 ≤ o → SlotTook st k o a n (Stop 4) w0 w1 w0
+  pub slot-big-object : 96 ≤ o → SlotTook st k o a n (Refused 4) w0 w1 w0
   unfolding withinLimits
   slot-big-object h = record {
-    is = λ s p q v g m at e w eo ea. rw (over-limits s k (valueLine p q v) (rw (le-ltb p 96 (omega arith)))) moved-stop;
+    is = λ s p q v g m at e w eo ea. rw (over-limits s k (valueLine p q v) (rw (le-ltb p 96 (omega arith)))) moved-refused;
     kept0 = kept-refl w0;
   }
 
   module _ (object : o < 96) where
-    pub slot-big-row : 64 ≤ a → SlotTook st k o a n (Stop 4) w0 w1 w0
+    pub slot-big-row : 64 ≤ a → SlotTook st k o a n (Refused 4) w0 w1 w0
     unfolding withinLimits
     slot-big-row h = record {
-      is = λ s p q v g m at e w eo ea. rw (over-limits s k (valueLine p q v) (rw (lt-ltb p 96 (omega arith), le-ltb q 64 (omega arith)))) moved-stop;
+      is = λ s p q v g m at e w eo ea. rw (over-limits s k (valueLine p q v) (rw (lt-ltb p 96 (omega arith), le-ltb q 64 (omega arith)))) moved-refused;
       kept0 = kept-refl w0;
     }
 
     module _ (row : a < 64) where
-      pub slot-full : 1024 ≤ st .slots → SlotTook st k o a n (Stop 4) w0 w1 w0
+      pub slot-full : 1024 ≤ st .slots → SlotTook st k o a n (Refused 4) w0 w1 w0
       unfolding withinLimits
       slot-full h = record {
         is = λ s p q v g m at e w eo ea.
-            rw (over-limits s k (valueLine p q v) (rw (lt-ltb p 96 (omega arith), lt-ltb q 64 (omega arith), w, le-ltb (length (s .slots)) 1024 (let z = g .counted .slots in omega arith)))) moved-stop;
+            rw (over-limits s k (valueLine p q v) (rw (lt-ltb p 96 (omega arith), lt-ltb q 64 (omega arith), w, le-ltb (length (s .slots)) 1024 (let z = g .counted .slots in omega arith)))) moved-refused;
         kept0 = kept-refl w0;
       }
 
@@ -170,18 +170,18 @@ module _ (st : Counts) (k : ℕ) {o a n : ℕ} (w0 w1 : List ℕ) where
             rw (lt-ltb o 96 object, lt-ltb a 64 row, w, lt-ltb (length (s .slots)) 1024 (let z = g .counted .slots in omega arith), le-leb (totalSize (s .slots) + size v) 2048 (let z = g .counted .cells in omega arith))
 
         module _ {b : Bool} (order : SlotAnswer inOrder st w0 o a n b) where
-          pub slot-disorder : b ≡ false → SlotTook st k o a n (Stop 5) w0 w1 w0
+          pub slot-disorder : b ≡ false → SlotTook st k o a n (Refused 5) w0 w1 w0
           slot-disorder z = record {
             is = λ s p q v g m at e w eo ea.
-                rw (same-number eo object, same-row ea row) (rw (out-of-order s k (valueLine o a v) (within s v g e w) (sym (order .is w1 s v g m at) ∙ z)) moved-stop);
+                rw (same-number eo object, same-row ea row) (rw (out-of-order s k (valueLine o a v) (within s v g e w) (sym (order .is w1 s v g m at) ∙ z)) moved-refused);
             kept0 = kept-refl w0;
           }
 
           module _ (sorted : b ≡ true) {c : Bool} (known : SlotAnswer partsKnown st w0 o a n c) where
-            pub slot-unknown : c ≡ false → SlotTook st k o a n (Stop 6) w0 w1 w0
+            pub slot-unknown : c ≡ false → SlotTook st k o a n (Refused 6) w0 w1 w0
             slot-unknown z = record {
               is = λ s p q v g m at e w eo ea.
-                  rw (same-number eo object, same-row ea row) (rw (unknown-part s k (valueLine o a v) (within s v g e w) (sym (order .is w1 s v g m at) ∙ sorted) (sym (known .is w1 s v g m at) ∙ z)) moved-stop);
+                  rw (same-number eo object, same-row ea row) (rw (unknown-part s k (valueLine o a v) (within s v g e w) (sym (order .is w1 s v g m at) ∙ sorted) (sym (known .is w1 s v g m at) ∙ z)) moved-refused);
               kept0 = kept-refl w0;
             }
 
@@ -189,11 +189,11 @@ module _ (st : Counts) (k : ℕ) {o a n : ℕ} (w0 w1 : List ℕ) where
               a-row : {s : Sheet} (v : Value) → Holds st w0 w1 s → SmallRows s → ValueAt st w0 n v → a < st .rows
               a-row {s} v g m at = known-row st o a v g (sym (known .is w1 s v g m at) ∙ there)
 
-              pub slot-unsuited : d ≡ false → SlotTook st k o a n (Stop 7) w0 w1 w0
+              pub slot-unsuited : d ≡ false → SlotTook st k o a n (Refused 7) w0 w1 w0
               unfolding callsSmaller callsKnown
               slot-unsuited z = record {
                 is = λ s p q v g m at e w eo ea.
-                    rw (same-number eo object, same-row ea row) (rw (not-suited s k (valueLine o a v) refl refl (within s v g e w) (sym (order .is w1 s v g m at) ∙ sorted) (sym (known .is w1 s v g m at) ∙ there) (sym (suit (a-row v g m at) .is w1 s v g m at) ∙ z)) moved-stop);
+                    rw (same-number eo object, same-row ea row) (rw (not-suited s k (valueLine o a v) refl refl (within s v g e w) (sym (order .is w1 s v g m at) ∙ sorted) (sym (known .is w1 s v g m at) ∙ there) (sym (suit (a-row v g m at) .is w1 s v g m at) ∙ z)) moved-refused);
                 kept0 = kept-refl w0;
               }
 

@@ -9,6 +9,7 @@ use lib.Seq.{slice}
 use lib.Dec.{ltb}
 use Rattle.laws.specs.Lists.{Each}
 use Rattle.memory.specs.Map as memory
+use Rattle.memory.specs.Lines as lines
 use Rattle.ocl.specs.Values.{Value, size}
 use Rattle.sheet.specs.Sizes.{mostRows}
 use Rattle.sheet.specs.Text.{Bytes, fieldsOf}
@@ -50,7 +51,7 @@ pub record SlotAnswer (test : Sheet → Line → Bool) (st : Counts) (w0 : List 
 -- one slot more, of n cells
 abbrev pub slotCounts : Counts → ℕ → Counts
 slotCounts st n = record {
-  block = 3;
+  block = lines.values;
   classes = st .classes;
   rows = st .rows;
   objects = st .objects;

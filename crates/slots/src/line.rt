@@ -19,13 +19,15 @@ use crate::reader::Read;
 use crate::reader::read_value;
 use crate::suits::belongs;
 use crate::suits::object_suits;
+use memory::lines;
+use memory::words::long;
+use memory::words::wide;
 use tables::Counts;
 use tables::Step;
 use text::numbers::Num;
 use text::numbers::number;
 use text::parts::Fields;
 use text::parts::field;
-use types::classes::wide;
 use types::word::unpack;
 
 // Reads the value of a field into the cells behind the first n.
@@ -53,7 +55,7 @@ fn slot_in_order(w0: &[u64], st: Counts, o: u64, a: u64, size: usize) -> bool
     requires { ⌜ (leastWords ≤ length (now w0)) × Fine st × (o < mostObjects) × (a < mostRows) × (st .cells + size ≤ mostCells) ⌝ }
     ensures { λ r. ⌜ SlotAnswer inOrder st (now (w0 .entry)) o a size r ⌝ }
 {
-    if 3 < st.block {
+    if lines::VALUES < st.block {
         return false;
     }
     if !after_last(w0, wide(st.slots), o * memory::MOST_ROWS + a) {
@@ -108,16 +110,10 @@ fn store_slot(w0: &mut [u64], st: Counts, key: u64, size: u64) -> Counts
     w0[memory::KEYS + n] = key;
     w0[memory::STARTS + n] = st.cells;
     let mut next = st;
-    next.block = 3;
+    next.block = lines::VALUES;
     next.slots = st.slots + 1;
     next.cells = st.cells + size;
     next
-}
-
-fn long(n: usize) -> u64
-    ensures { λ r. ⌜ r ≡ n ⌝ }
-{
-    n as u64
 }
 
 // Puts the slot, or refuses it with 4 to 7. Its value of `size` cells is written already, and within its limits.
@@ -126,22 +122,22 @@ pub fn put_slot(w0: &mut [u64], st: Counts, o: u64, a: u64, size: usize) -> Step
     ensures { λ r. ⌜ ((w1 : List ℕ) (k : ℕ) → SlotTook st k o a size r (now (w0 .entry)) w1 (now (w0 .exit))) ⌝ }
 {
     if memory::MOST_OBJECTS <= o {
-        return Step::Stop(4);
+        return Step::Refused(4);
     }
     if memory::MOST_ROWS <= a {
-        return Step::Stop(4);
+        return Step::Refused(4);
     }
     if memory::MOST_VALUES <= st.slots {
-        return Step::Stop(4);
+        return Step::Refused(4);
     }
     if !slot_in_order(w0, st, o, a, size) {
-        return Step::Stop(5);
+        return Step::Refused(5);
     }
     if !slot_known(w0, st, o, a, size) {
-        return Step::Stop(6);
+        return Step::Refused(6);
     }
     if !slot_suits(w0, st, o, a, size) {
-        return Step::Stop(7);
+        return Step::Refused(7);
     }
     Step::Next(store_slot(w0, st, o * memory::MOST_ROWS + a, long(size)))
 }
@@ -152,18 +148,18 @@ pub fn value_line(line: &[u8], f: Fields, w0: &mut [u64], st: Counts) -> Step
     ensures { λ r. ⌜ ((w1 : List ℕ) (k : ℕ) → TookSlot st k (now (line .entry)) r (now (w0 .entry)) w1 (now (w0 .exit)) w1) ⌝ }
 {
     if f.count != 4 {
-        return Step::Stop(3);
+        return Step::Refused(3);
     }
     let Num::Is(o) = number(field(line, f, 1)) else {
-        return Step::Stop(3);
+        return Step::Refused(3);
     };
     let Num::Is(a) = number(field(line, f, 2)) else {
-        return Step::Stop(3);
+        return Step::Refused(3);
     };
     let read = read_into(field(line, f, 3), w0, wide(st.cells));
     match read {
-        Read::Bad => Step::Stop(3),
-        Read::Over => Step::Stop(4),
+        Read::Bad => Step::Refused(3),
+        Read::Over => Step::Refused(4),
         Read::Is { size } => put_slot(w0, st, o, a, size),
     }
 }

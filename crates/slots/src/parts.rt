@@ -5,6 +5,7 @@ ghost use lib.ListN.{length};
 ghost use Rattle.reals.specs.Reals.{int, real};
 ghost use Rattle.sheet.specs.Text.{integerParser, realParser};
 ghost use Rattle.slots.specs.Parts.{PartIs, ObjectIs, NumberIs, OpensIs, partOf};
+use floats::spelling::REAL_BYTES;
 use text::literals::Literal;
 use text::literals::integer_literal;
 use text::literals::real_literal;
@@ -15,9 +16,6 @@ use text::numbers::integer_digits;
 use text::numbers::number_at;
 use values::cells::OBJECTS;
 use values::cells::empty_of;
-
-// A Real is its letter and sixteen digits.
-const REAL: usize = 17;
 
 // A part with its cell and the place after it; Wide is a number outside its limits.
 pub enum Part {
@@ -77,10 +75,10 @@ fn real_at(f: &[u8], at: usize) -> Part
     requires { ⌜ at ≤ length (now f) ⌝ }
     ensures { λ r. ⌜ NumberIs realParser real (now (f .entry)) at r ⌝ }
 {
-    if f.len() - at < REAL {
+    if f.len() - at < REAL_BYTES {
         return Part::Bad;
     }
-    let end = at + REAL;
+    let end = at + REAL_BYTES;
     number_part(real_literal(&f[at..end]), end)
 }
 

@@ -14,7 +14,7 @@ use values::cells::LARGEST;
 // The size that stands for every value over a limit.
 const OVER: usize = LARGEST + 1;
 // The most open collections of a value.
-const DEEPEST: usize = 3;
+pub const DEEPEST: usize = 3;
 
 // How many collections are open, and how many cells are written. Once the value is over a limit, the latter is more than any
 // value may have, and no cell is written any more. The outermost open collection has the first cell; where the second and

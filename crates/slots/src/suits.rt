@@ -2,13 +2,15 @@
 ghost use Prim.Native.Nat.{_<_, _≤_};
 ghost use lib.ListN.{length};
 ghost use Rattle.slots.specs.Suits.{ObjectSuits, ObjectIn, BaseSuits, LetterSuits, BelongsAt};
+use memory::words::wide;
 use types::Base;
 use types::FlatType;
 use types::classes::class_below;
-use types::classes::wide;
+use types::letters;
 use types::order::class_in;
 use types::order::tag;
 use types::order::under_outer;
+use values::cells::SET;
 use values::cells::is_integer;
 use values::cells::payload_of;
 use values::cells::skip;
@@ -68,13 +70,13 @@ fn letter_suits(letter: u8, cell: u64) -> bool
     ensures { λ r. ⌜ LetterSuits letter cell r ⌝ }
 {
     let sort = sort_of(cell);
-    if sort < 3 {
+    if sort < SET {
         return false;
     }
-    if letter < 2 {
+    if letter < letters::SET {
         return true;
     }
-    if 4 < letter {
+    if letters::BAG < letter {
         return true;
     }
     sort == letter as u64 + 1

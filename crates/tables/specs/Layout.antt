@@ -8,6 +8,7 @@ use Prim.Native.Nat.{ℕ, zero, suc, _+_, _*_, _/_, _≤_, _<_}
 use lib.ListN.{length, getD, take, drop}
 use Rattle.laws.specs.Lists.{member, concat, Each}
 use Rattle.memory.specs.Map as memory
+use Rattle.memory.specs.Lines as lines
 use Rattle.ocl.specs.Laws.{Small}
 use Rattle.ocl.specs.Values.{size}
 use Rattle.ocl.specs.Model.{Row}
@@ -88,11 +89,11 @@ pub record HoldsDefinitions (w0 w1 : List ℕ) (s : Sheet) : Type 0 where
   pub roots : Each (λ n. n < length (s .lines)) (tab memory.definitionRoots (length (s .definitions)) w0)
   pub depths : Each (λ n. getD w1 (memory.depths + n) 0 / 2 ≡ levels (treeAt w1 n)) (tab memory.definitionRoots (length (s .definitions)) w0)
 
--- 1 for a rule, 3 for one whose nodes an X line has given, 2 for a definition, which has a type
+-- what is open: a rule, one whose nodes an X line has given, or a definition, which has a type
 unfoldable pub openCode : Option Ty → Bool → ℕ
-openCode none false = 1
-openCode none true = 3
-openCode (some t) text = 2
+openCode none false = lines.ruleOpen
+openCode none true = lines.textGiven
+openCode (some t) text = lines.definitionOpen
 
 -- the definition or rule that is open
 pub record HoldsCurrent (st : Counts) (w1 : List ℕ) (n : ℕ) (c : Current) : Type 0 where
@@ -110,13 +111,13 @@ pub record HoldsCurrent (st : Counts) (w1 : List ℕ) (n : ℕ) (c : Current) : 
   pub used : Each (λ a. a < length (c .trees)) (c .used)
 
 pub data HoldsOpen (st : Counts) (w1 : List ℕ) (n : ℕ) : Option Current → Type 0 where
-  closed : st .open ≡ 0 → HoldsOpen st w1 n none
+  closed : st .open ≡ lines.nothingOpen → HoldsOpen st w1 n none
   opened : {c : Current} → HoldsCurrent st w1 n c → HoldsOpen st w1 n (some c)
 
 -- ---- the whole
 
 abbrev pub noCounts : Counts
-noCounts = record { block = 0; classes = 0; rows = 0; objects = 0; slots = 0; cells = 0; nodes = 0; definitions = 0; rules = 0; «open» = 0; context = 0; result = 0; first = 0 }
+noCounts = record { block = lines.classes; classes = 0; rows = 0; objects = 0; slots = 0; cells = 0; nodes = 0; definitions = 0; rules = 0; «open» = lines.nothingOpen; context = 0; result = 0; first = 0 }
 
 -- the counts are the sheet's
 pub record Counted (st : Counts) (s : Sheet) : Type 0 where
@@ -158,7 +159,7 @@ pub record Kept (before after : List ℕ) : Type 0 where
 -- a step of the code and a step of the definition
 pub data Moved (w0 w1 : List ℕ) : CodeStep → Step → Type 0 where
   moved-next : {st : Counts} {s : Sheet} → Fine st → Holds st w0 w1 s → Moved w0 w1 (code.Next st) (taken s)
-  moved-stop : {n : ℕ} → Moved w0 w1 (code.Stop n) (refuse n)
+  moved-refused : {n : ℕ} → Moved w0 w1 (code.Refused n) (refuse n)
 
 -- line k with these bytes, taken at st: the words were w0 and w1 and are v0 and v1
 pub record Took (st : Counts) (k : ℕ) (line : Bytes) (r : CodeStep) (w0 w1 v0 v1 : List ℕ) : Type 0 where

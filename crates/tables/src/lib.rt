@@ -7,9 +7,10 @@ ghost use lib.ListN.{length};
 ghost use Rattle.sheet.specs.Sizes.{leastWords};
 ghost use Rattle.sheet.specs.Calls.{wiped};
 ghost use Rattle.tables.specs.Layout.{noCounts};
+use memory::lines;
 
-// How far the sheet has been read: the last block begun (0 to 5 for C, A, O, V, D, R), how much of each there is, and what is open: nothing
-// (0), a rule (1, or 3 once an X line has given its nodes) or a definition (2); its class, a definition's type as a word, its first node.
+// How far the sheet has been read: the last block begun, how much of each there is, and what is open; its class, a definition's type as a
+// word, its first node.
 pub struct Counts {
     pub block: u64,
     pub classes: u64,
@@ -29,7 +30,7 @@ pub struct Counts {
 // After a line: the counts with it, or a refusal's number.
 pub enum Step {
     Next(Counts),
-    Stop(u64),
+    Refused(u64),
 }
 
 // The counts before the first line.
@@ -37,7 +38,7 @@ pub fn nothing() -> Counts
     ensures { λ r. ⌜ r ≡ noCounts ⌝ }
 {
     Counts {
-        block: 0,
+        block: lines::CLASSES,
         classes: 0,
         rows: 0,
         objects: 0,
@@ -46,7 +47,7 @@ pub fn nothing() -> Counts
         nodes: 0,
         definitions: 0,
         rules: 0,
-        open: 0,
+        open: lines::NOTHING_OPEN,
         context: 0,
         result: 0,
         first: 0,

@@ -21,7 +21,7 @@ use Rattle.sheet.specs.Lines.{anInteger}
 use Rattle.laws.specs.Integers.{bias}
 use Rattle.text.specs.Numbers.{leading, DigitsEnd, DigitsRead, IntegerEnd, IntegerRead, wholeOf, minusAt, signed, leadingInteger}
 use Rattle.text.specs.declared.numbers.Digits.{Digits}
-use Rattle.text.specs.declared.numbers.Whole.the-variants.{Bad, Out, Is}
+use Rattle.text.specs.declared.numbers.Int.the-variants.{Bad, Out, Is}
 use Rattle.text.proofs.NumberLaws.{number-leading, digits-after, leading-some, leading-none, whole-read, whole-left}
 
 -- ---- the sign: what `by_sign` answers

@@ -27,8 +27,8 @@ use Rattle.sheet.specs.SpellingLaws.{readingOf}
 use Rattle.sheet.proofs.RealFields.{field-alike}
 use Rattle.text.specs.Numbers.{wholeOf}
 use Rattle.text.specs.Literals.{Narrow, literalOf}
-use Rattle.text.specs.declared.numbers.Whole.{Whole}
-use Rattle.text.specs.declared.numbers.Whole.the-variants as whole
+use Rattle.text.specs.declared.numbers.Int.{Int}
+use Rattle.text.specs.declared.numbers.Int.the-variants as whole
 use Rattle.text.specs.declared.literals.Literal.the-variants.{Bad, Over, Is}
 use Rattle.text.proofs.IntegerLaws.{whole-bad, whole-out, whole-is}
 
@@ -63,7 +63,7 @@ literal-is {w} (some x) h = any-some (go (kept x) h)
 
 -- ---- Integers
 
-pub whole-narrow : {z : Whole} (o : Option ℤ) → z ≡ wholeOf o → Narrow z
+pub whole-narrow : {z : Int} (o : Option ℤ) → z ≡ wholeOf o → Narrow z
 unfolding wholeOf
 whole-narrow none e = subst Narrow (sym e) tt
 whole-narrow (some z) e = subst Narrow (sym e) (go (inRange z) refl)
@@ -73,10 +73,10 @@ whole-narrow (some z) e = subst Narrow (sym e) (go (inRange z) refl)
     go false h = tt
 
 -- what may be handed to `cell_of`
-pub integer-sound : {z : Whole} {n : ℕ} → Narrow z → z ≡ whole.Is n → n < 4294967296
+pub integer-sound : {z : Int} {n : ℕ} → Narrow z → z ≡ whole.Is n → n < 4294967296
 integer-sound h e = subst Narrow e h
 
-module _ {z : Whole} (o : Option ℤ) (e : z ≡ wholeOf o) where
+module _ {z : Int} (o : Option ℤ) (e : z ≡ wholeOf o) where
   pub integer-bad : z ≡ whole.Bad → Bad ≡ literalOf (mapSome int o)
   unfolding literalOf mapSome
   integer-bad h = rw (whole-bad o (sym h ∙ e))

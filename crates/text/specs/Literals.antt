@@ -6,8 +6,8 @@ use Rattle.laws.specs.Choice.{if_then_else_}
 use Rattle.laws.specs.Integers.{storedEnd}
 use Rattle.reals.specs.Reals.{Number, kept}
 use Rattle.reals.specs.Words.{cell}
-use Rattle.text.specs.declared.numbers.Whole.{Whole}
-use Rattle.text.specs.declared.numbers.Whole.the-variants as whole
+use Rattle.text.specs.declared.numbers.Int.{Int}
+use Rattle.text.specs.declared.numbers.Int.the-variants as whole
 use Rattle.text.specs.declared.literals.Literal.{Literal}
 use Rattle.text.specs.declared.literals.Literal.the-variants.{Bad, Over, Is}
 
@@ -16,7 +16,7 @@ literalOf none = Bad
 literalOf (some x) = if kept x then Is (cell x) else Over
 
 -- an Integer of the range has 32 bits
-abbrev pub Narrow : Whole → Type 0
+abbrev pub Narrow : Int → Type 0
 Narrow whole.Bad = Unit {0}
 Narrow whole.Out = Unit {0}
 Narrow (whole.Is n) = n < storedEnd

@@ -14,14 +14,21 @@ use Rattle.sheet.specs.Text.{Bytes, byte, digits, plain, valueOfDigits}
 use Rattle.text.specs.declared.numbers.Num.{Num}
 use Rattle.text.specs.declared.numbers.Num.the-variants.{Bad, Is}
 use Rattle.text.specs.declared.numbers.Digits.{Digits}
-use Rattle.text.specs.declared.numbers.Whole.{Whole}
-use Rattle.text.specs.declared.numbers.Whole.the-variants.{Bad as BadWhole, Out, Is as IsWhole}
+use Rattle.text.specs.declared.numbers.Int.{Int}
+use Rattle.text.specs.declared.numbers.Int.the-variants.{Bad as BadInt, Out, Is as IsInt}
 
 -- ---- numbers
 
--- a million at most: every limit of document 01 on such a number is lower
+-- a million: every limit of document 01 on such a number is lower
+abbrev pub numberCut : ℕ
+numberCut = 1000000
+
 abbrev pub cut : ℕ → ℕ
-cut n = min n 1000000
+cut n = min n numberCut
+
+-- no Integer of the range has as many digits
+abbrev pub digitsCut : ℕ
+digitsCut = 10000000000
 
 unfoldable pub cutNum : Option ℕ → Num
 cutNum none = Bad
@@ -39,13 +46,13 @@ pub record DigitsEnd (s : Bytes) (at r : ℕ) : Type 0 where
 -- the digits from `at` on, and the number they stand for, which saturates above every Integer of the range
 pub record DigitsRead (s : Bytes) (at : ℕ) (r : Digits) : Type 0 where
   pub ends : DigitsEnd s at (r .end)
-  pub value : r .value ≡ min (valueOfDigits 0 (digits (drop at s))) 10000000000
+  pub value : r .value ≡ min (valueOfDigits 0 (digits (drop at s))) digitsCut
 
 -- ---- Integers
 
-unfoldable pub wholeOf : Option ℤ → Whole
-wholeOf none = BadWhole
-wholeOf (some z) = if inRange z then IsWhole (bias z) else Out
+unfoldable pub wholeOf : Option ℤ → Int
+wholeOf none = BadInt
+wholeOf (some z) = if inRange z then IsInt (bias z) else Out
 
 -- how many minus signs stand in front: at most one counts
 unfoldable pub minusAt : Bytes → ℕ
@@ -69,4 +76,4 @@ pub record IntegerEnd (s : Bytes) (at r : ℕ) : Type 0 where
 -- its digits, and what they stand for
 pub record IntegerRead (s : Bytes) (at : ℕ) (r : Digits) : Type 0 where
   pub ends : IntegerEnd s at (r .end)
-  pub value : r .value ≡ min (valueOfDigits 0 (digits (drop (at + minusAt (drop at s)) s))) 10000000000
+  pub value : r .value ≡ min (valueOfDigits 0 (digits (drop (at + minusAt (drop at s)) s))) digitsCut

@@ -7,23 +7,23 @@ use lib.ListN.{length, take, drop}
 use lib.Dec.{eqb}
 use Rattle.laws.specs.Choice.{if_then_else_}
 use Rattle.memory.specs.Codes as code
+use Rattle.memory.specs.Lines as lines
 use Rattle.sheet.specs.Text.{Bytes, byte, isDigit}
 use Rattle.sheet.specs.Lines.{is, Table, named, forms}
 
--- 1 to 6 for the letters of lines in the order in which document 01 lists them, 7 for a digit, 8 for `D` (document 02, F-13), 9 for
--- `X` (F-7), else 0
+-- the letters of lines, `D` and `X` among them (document 02, F-13 and F-7), and the digits
 unfoldable pub byteKind : ℕ → ℕ
 byteKind b =
-    if isDigit b then 7
-    else if eqb b (byte "C") then 1
-    else if eqb b (byte "A") then 2
-    else if eqb b (byte "O") then 3
-    else if eqb b (byte "V") then 4
-    else if eqb b (byte "R") then 5
-    else if eqb b (byte "N") then 6
-    else if eqb b (byte "D") then 8
-    else if eqb b (byte "X") then 9
-    else 0
+    if isDigit b then lines.digit
+    else if eqb b (byte "C") then lines.classLine
+    else if eqb b (byte "A") then lines.rowLine
+    else if eqb b (byte "O") then lines.objectLine
+    else if eqb b (byte "V") then lines.valueLine
+    else if eqb b (byte "R") then lines.ruleLine
+    else if eqb b (byte "N") then lines.nodeLine
+    else if eqb b (byte "D") then lines.definitionLine
+    else if eqb b (byte "X") then lines.textLine
+    else lines.noLine
 
 -- the byte of a field that has one
 unfoldable pub onlyByte : Bytes → ℕ

@@ -1,5 +1,5 @@
 // A spelled number, an Integer or a Real, as the one word that values hold.
-use crate::numbers::Whole;
+use crate::numbers::Int;
 use floats::Number;
 use floats::Spelled;
 use floats::cells::cell_of;
@@ -21,14 +21,14 @@ pub enum Literal {
 }
 
 // The Integer that was read, as a literal.
-pub fn integer_literal(z: Whole) -> Literal
+pub fn integer_literal(z: Int) -> Literal
     requires { ⌜ Narrow z ⌝ }
     ensures { λ r. ⌜ ((o : Option ℤ) → z ≡ wholeOf o → r ≡ literalOf (mapSome int o)) ⌝ }
 {
     match z {
-        Whole::Bad => Literal::Bad,
-        Whole::Out => Literal::Over,
-        Whole::Is(biased) => Literal::Is(cell_of(Number::Integer { biased })),
+        Int::Bad => Literal::Bad,
+        Int::Out => Literal::Over,
+        Int::Is(biased) => Literal::Is(cell_of(Number::Integer { biased })),
     }
 }
 

@@ -1,22 +1,28 @@
 // Decimal numbers and Integers of any length, without a leading zero and without `-0`. Values saturate at a bound above every
 // limit of document 01, so that they fit a word.
 ghost use mathlib.Core.Path.{_≡_};
-ghost use Prim.Native.Nat.{_-_, _≤_, min};
+ghost use Prim.Native.Nat.{_-_, _≤_};
 ghost use lib.ListN.{length, take, drop};
 ghost use Rattle.sheet.specs.Text.{plain as plainOf};
 ghost use Rattle.sheet.specs.Lines.{aNumber, anInteger};
 ghost use Rattle.text.specs.Numbers.{cutNum, leading, DigitsRead, wholeOf, minusAt, signed, leadingInteger, IntegerRead};
 use crate::words::byte_kind;
 use floats::numbers::ZERO;
+use memory::lines;
+use memory::words::at_most;
 
-// A number; any number above a million reads as a million.
+// Any greater number reads as this one, which is above every limit.
+pub const NUMBER_CUT: u64 = 1_000_000;
+// And the digits of an Integer as this one, which is out of the range.
+const DIGITS_CUT: u64 = 10_000_000_000;
+
 pub enum Num {
     Bad,
     Is(u64),
 }
 
 // An Integer of the range, with 2147483648 added to it, or one out of the range.
-pub enum Whole {
+pub enum Int {
     Bad,
     Out,
     Is(u64),
@@ -52,12 +58,6 @@ pub fn digit(b: u8) -> u64
     if b < 48 { 0 } else { (b - 48) as u64 }
 }
 
-pub fn at_most(n: u64, bound: u64) -> u64
-    ensures { λ r. ⌜ r ≡ min n bound ⌝ }
-{
-    if n < bound { n } else { bound }
-}
-
 // The digits that begin at `at`, each looked at once.
 pub fn digits_at(s: &[u8], at: usize) -> Digits
     requires { ⌜ at ≤ length (now s) ⌝ }
@@ -67,10 +67,10 @@ pub fn digits_at(s: &[u8], at: usize) -> Digits
     let mut i = at;
     while i < s.len() {
         let b = s[i];
-        if byte_kind(b) != 7 {
+        if byte_kind(b) != lines::DIGIT {
             return Digits { end: i, value: n };
         }
-        n = at_most(n * 10 + digit(b), 10000000000);
+        n = at_most(n * 10 + digit(b), DIGITS_CUT);
         i += 1;
     }
     Digits { end: i, value: n }
@@ -82,7 +82,7 @@ pub fn number_at(s: &[u8], at: usize, d: Digits) -> Num
     ensures { λ r. ⌜ r ≡ cutNum (leading (drop at (now (s .entry)))) ⌝ }
 {
     if plain(s, at, d.end) {
-        return Num::Is(at_most(d.value, 1000000));
+        return Num::Is(at_most(d.value, NUMBER_CUT));
     }
     Num::Bad
 }
@@ -111,22 +111,22 @@ fn minus_at(s: &[u8], at: usize) -> usize
 }
 
 // The Integer by its minus signs and what its digits stand for.
-fn by_sign(minuses: usize, n: u64) -> Whole
+fn by_sign(minuses: usize, n: u64) -> Int
     ensures { λ r. ⌜ r ≡ wholeOf (signed minuses n) ⌝ }
 {
     if minuses == 0 {
         if n < ZERO {
-            return Whole::Is(ZERO + n);
+            return Int::Is(ZERO + n);
         }
-        return Whole::Out;
+        return Int::Out;
     }
     if n == 0 {
-        return Whole::Bad;
+        return Int::Bad;
     }
     if n <= ZERO {
-        return Whole::Is(ZERO - n);
+        return Int::Is(ZERO - n);
     }
-    Whole::Out
+    Int::Out
 }
 
 // The digits behind the minus, if there is one, of what begins at `at`.
@@ -139,7 +139,7 @@ pub fn integer_digits(s: &[u8], at: usize) -> Digits
 }
 
 // The Integer that begins at `at`, which has these digits.
-pub fn integer_at(s: &[u8], at: usize, d: Digits) -> Whole
+pub fn integer_at(s: &[u8], at: usize, d: Digits) -> Int
     requires { ⌜ IntegerRead (now s) at d ⌝ }
     ensures { λ r. ⌜ r ≡ wholeOf (leadingInteger (drop at (now (s .entry)))) ⌝ }
 {
@@ -148,16 +148,16 @@ pub fn integer_at(s: &[u8], at: usize, d: Digits) -> Whole
     if plain(s, from, d.end) {
         return by_sign(minuses, d.value);
     }
-    Whole::Bad
+    Int::Bad
 }
 
 // The Integer that a whole field spells.
-pub fn integer(f: &[u8]) -> Whole
+pub fn integer(f: &[u8]) -> Int
     ensures { λ r. ⌜ r ≡ wholeOf (anInteger (now (f .entry))) ⌝ }
 {
     let d = integer_digits(f, 0);
     if d.end == f.len() {
         return integer_at(f, 0, d);
     }
-    Whole::Bad
+    Int::Bad
 }

@@ -1,27 +1,29 @@
 // Letters and words: what a byte can begin, whether a field is a certain word, and the code of a form's word.
 use memory::codes;
+use memory::lines;
+use memory::words::of_byte;
 ghost use mathlib.Core.Path.{_≡_};
 ghost use Prim.Native.Nat.{_+_, _*_, _≤_};
 ghost use lib.ListN.{length};
 ghost use Rattle.sheet.specs.Lines.{is};
 ghost use Rattle.text.specs.Words.{byteKind, onlyByte, codeAmong, formCode};
 
-// What a byte can begin: a line by its letter, C, A, O, V, R and N being 1 to 6, D 8 and X 9; a number, 7; nothing, 0. This is the match
-// with ranges over line letters and digits of document 01, Use these forms in these places.
+// What a byte can begin: a line by its letter, a number, or nothing. This is the match with ranges over line letters and digits of document
+// 01, Use these forms in these places.
 pub fn byte_kind(b: u8) -> u64
     ensures { λ r. ⌜ r ≡ byteKind b ⌝ }
 {
     match b {
-        b'0'..=b'9' => 7,
-        b'C' => 1,
-        b'A' => 2,
-        b'O' => 3,
-        b'V' => 4,
-        b'R' => 5,
-        b'N' => 6,
-        b'D' => 8,
-        b'X' => 9,
-        _ => 0,
+        b'0'..=b'9' => lines::DIGIT,
+        b'C' => lines::CLASS_LINE,
+        b'A' => lines::ROW_LINE,
+        b'O' => lines::OBJECT_LINE,
+        b'V' => lines::VALUE_LINE,
+        b'R' => lines::RULE_LINE,
+        b'N' => lines::NODE_LINE,
+        b'D' => lines::DEFINITION_LINE,
+        b'X' => lines::TEXT_LINE,
+        _ => lines::NO_LINE,
     }
 }
 
@@ -63,18 +65,12 @@ pub fn among(f: &[u8], words: &[u8], codes: &[u8]) -> u64
     while k < codes.len() {
         let e = at + n;
         if same(f, &words[at..e]) {
-            return wide(codes[k]);
+            return of_byte(codes[k]);
         }
         at = e + 1;
         k += 1;
     }
     codes::NO_FORM
-}
-
-fn wide(b: u8) -> u64
-    ensures { λ r. ⌜ r ≡ b ⌝ }
-{
-    b as u64
 }
 
 // The codes of the words of each length, in the order of the words in `form_code`.

@@ -17,7 +17,7 @@ use Rattle.ocl.specs.Forms.{undef}
 use Rattle.sheet.specs.Lines.{Shape, leaf}
 use Rattle.sheet.specs.Limits.{formWithin}
 use Rattle.sheet.specs.Refusals.{twoVariables, formKnown, callBelow}
-use Rattle.trees.specs.declared.Parsed.{Parsed}
+use Rattle.shapes.specs.declared.Parsed.{Parsed}
 use Rattle.trees.specs.Calls.{isCall, callsIn}
 use Rattle.trees.proofs.CallLaws.{calls-shape}
 use Rattle.emission.specs.Nodes.{parsedIn, NodeIs, HoldsNodes}

@@ -27,7 +27,7 @@ use Rattle.sheet.proofs.AsNodeLines.{in-rule, no-node, may-be}
 use Rattle.tables.specs.declared.Counts.{Counts}
 use Rattle.tables.specs.declared.Step.{Step}
 use Rattle.tables.specs.declared.Step.the-variants as code
-use Rattle.tables.specs.Layout.{openCode, HoldsOpen, closed, opened, Holds, Fine, moved-stop}
+use Rattle.tables.specs.Layout.{openCode, HoldsOpen, closed, opened, Holds, Fine, moved-refused}
 use Rattle.tables.proofs.Tables.{kept-refl}
 use Rattle.tables.proofs.Steps.{over-limits, out-of-order, unknown-part, calls-none, steps-on}
 use Rattle.emission.specs.Nodes.{HoldsNodes}
@@ -127,17 +127,17 @@ module _ {st : Counts} {line nodes : ℕ} {g : Gathered} {w0 w1 w2 : List ℕ} (
 -- ---- 4, 5, 6 and 24, and a text that meets them
 
 module _ {st : Counts} {line nodes : ℕ} (w0 w1 w2 : List ℕ) where
-  pub judge-many : 768 < nodes → Judged st line nodes (code.Stop 4) w0 w1 w2 w1
+  pub judge-many : 768 < nodes → Judged st line nodes (code.Refused 4) w0 w1 w2 w1
   unfolding withinLimits
   judge-many l = record {
-    is = λ s x e z h. rw (over-limits s line (textLine x) (rw (lt-leb (length (s .lines) + length (nodesOf x)) 768 (omega arith)) (and-false (allOf formWithin (nodesOf x))))) moved-stop;
+    is = λ s x e z h. rw (over-limits s line (textLine x) (rw (lt-leb (length (s .lines) + length (nodesOf x)) 768 (omega arith)) (and-false (allOf formWithin (nodesOf x))))) moved-refused;
     kept = kept-refl w1;
   }
 
   module _ {g : Gathered} (low : nodes ≤ 768) (all : Gathers line nodes w2 g) (fine : Fine st) where
-    pub judge-4 : {b : Bool} → b ≡ textLimits st g nodes → not b ≡ true → Judged st line nodes (code.Stop 4) w0 w1 w2 w1
+    pub judge-4 : {b : Bool} → b ≡ textLimits st g nodes → not b ≡ true → Judged st line nodes (code.Refused 4) w0 w1 w2 w1
     judge-4 {b} told q = record {
-      is = λ s x e z h. rw (over-limits s line (textLine x) (sym (limits-same all fine x e (z low) h) ∙ sym told ∙ not-true b q)) moved-stop;
+      is = λ s x e z h. rw (over-limits s line (textLine x) (sym (limits-same all fine x e (z low) h) ∙ sym told ∙ not-true b q)) moved-refused;
       kept = kept-refl w1;
     }
 
@@ -145,9 +145,9 @@ module _ {st : Counts} {line nodes : ℕ} (w0 w1 w2 : List ℕ) where
       is-within : textLimits st g nodes ≡ true
       is-within = sym told ∙ not-false b ok
 
-      pub judge-5 : {d : Bool} → d ≡ textOrder st g → not d ≡ true → Judged st line nodes (code.Stop 5) w0 w1 w2 w1
+      pub judge-5 : {d : Bool} → d ≡ textOrder st g → not d ≡ true → Judged st line nodes (code.Refused 5) w0 w1 w2 w1
       judge-5 {d} f q = record {
-        is = λ s x e z h. rw (out-of-order s line (textLine x) (sym (limits-same all fine x e (z low) h) ∙ is-within) (sym (order-same all fine x e (z low) h is-within) ∙ sym f ∙ not-true d q)) moved-stop;
+        is = λ s x e z h. rw (out-of-order s line (textLine x) (sym (limits-same all fine x e (z low) h) ∙ is-within) (sym (order-same all fine x e (z low) h is-within) ∙ sym f ∙ not-true d q)) moved-refused;
         kept = kept-refl w1;
       }
 
@@ -155,11 +155,11 @@ module _ {st : Counts} {line nodes : ℕ} (w0 w1 w2 : List ℕ) where
         ordered : textOrder st g ≡ true
         ordered = sym f ∙ not-false d so
 
-        pub judge-6 : st .classes < g .classes → Judged st line nodes (code.Stop 6) w0 w1 w2 w1
+        pub judge-6 : st .classes < g .classes → Judged st line nodes (code.Refused 6) w0 w1 w2 w1
         judge-6 l = record {
           is = λ s x e z h.
               rw (unknown-part s line (textLine x) (sym (limits-same all fine x e (z low) h) ∙ is-within) (sym (order-same all fine x e (z low) h is-within) ∙ ordered)
-              (sym (known-same all fine x e (z low) h is-within) ∙ lt-leb (g .classes) (st .classes) l)) moved-stop;
+              (sym (known-same all fine x e (z low) h is-within) ∙ lt-leb (g .classes) (st .classes) l)) moved-refused;
           kept = kept-refl w1;
         }
 
@@ -172,13 +172,13 @@ module _ {st : Counts} {line nodes : ℕ} (w0 w1 w2 : List ℕ) where
             calls = sym (called-same all fine x e z h is-within low ordered) ∙ le-leb (g .calls) (st .definitions) m;
           }
 
-          pub judge-24 : st .definitions < g .calls → Judged st line nodes (code.Stop 24) w0 w1 w2 w1
+          pub judge-24 : st .definitions < g .calls → Judged st line nodes (code.Refused 24) w0 w1 w2 w1
           unfolding callsSmaller
           judge-24 l = record {
             is = λ s x e z h.
                 rw (calls-none s line (textLine x) (sym (limits-same all fine x e (z low) h) ∙ is-within) (sym (order-same all fine x e (z low) h is-within) ∙ ordered)
                 (sym (known-same all fine x e (z low) h is-within) ∙ le-leb (g .classes) (st .classes) classes) refl
-                (sym (called-same all fine x e (z low) h is-within low ordered) ∙ lt-leb (g .calls) (st .definitions) l)) moved-stop;
+                (sym (called-same all fine x e (z low) h is-within low ordered) ∙ lt-leb (g .calls) (st .definitions) l)) moved-refused;
             kept = kept-refl w1;
           }
 

@@ -20,7 +20,7 @@ use Rattle.text.specs.declared.parts.Fields.{Fields}
 use Rattle.tables.specs.declared.Counts.{Counts}
 use Rattle.tables.specs.declared.Step.{Step}
 use Rattle.tables.specs.declared.Step.the-variants as code
-use Rattle.tables.specs.Layout.{moved-stop}
+use Rattle.tables.specs.Layout.{moved-refused}
 use Rattle.tables.proofs.Tables.{kept-refl}
 use Rattle.tables.proofs.LineFields.{word-is}
 use Rattle.tables.proofs.Steps.{step-bad}
@@ -80,10 +80,10 @@ module _ {k n : ℕ} {s : Bytes} {u v : List ℕ} (i : Imports k s u (imported.I
 -- ---- 3, the brackets' 4, 20, and a text that is judged
 
 module _ {line : List ℕ} {f : Fields} (cut-up : Cut line f) (starts : is (getD (fieldsOf line) 0 []) (bytes "X") ≡ true) where
-  pub line-fields : {st : Counts} {k : ℕ} {w0 w1 w2 : List ℕ} → (f .count ≡ 2 → ⊥) → TookText st k line (code.Stop 3) w0 w1 w2 w1 w2
+  pub line-fields : {st : Counts} {k : ℕ} {w0 w1 w2 : List ℕ} → (f .count ≡ 2 → ⊥) → TookText st k line (code.Refused 3) w0 w1 w2 w1 w2
   line-fields {k = k} {w0} {w1} {w2} h = record {
     took = record {
-      is = λ s z. rw (step-bad s k (fieldsOf line) (other-fields (fieldsOf line) starts (λ e. h (omega (arith, cut-up .counted))))) moved-stop;
+      is = λ s z. rw (step-bad s k (fieldsOf line) (other-fields (fieldsOf line) starts (λ e. h (omega (arith, cut-up .counted))))) moved-refused;
       kept0 = kept-refl w0;
       kept1 = kept-refl w1;
     };
@@ -95,10 +95,10 @@ module _ {line : List ℕ} {f : Fields} (cut-up : Cut line f) (starts : is (getD
     spelled = two-fields (fieldsOf line) starts (omega (arith, cut-up .counted)) ∙ rw field
 
     module _ {b : Bool} (told : b ≡ bracketsWithin x) where
-      pub line-brackets : {st : Counts} {k : ℕ} {w0 w1 w2 : List ℕ} → not b ≡ true → TookText st k line (code.Stop 4) w0 w1 w2 w1 w2
+      pub line-brackets : {st : Counts} {k : ℕ} {w0 w1 w2 : List ℕ} → not b ≡ true → TookText st k line (code.Refused 4) w0 w1 w2 w1 w2
       unfolding step stepSpelled onText must
       line-brackets {k = k} {w0} {w1} {w2} h = record {
-        took = record { is = λ s z. rw (open-many s) moved-stop; kept0 = kept-refl w0; kept1 = kept-refl w1 };
+        took = record { is = λ s z. rw (open-many s) moved-refused; kept0 = kept-refl w0; kept1 = kept-refl w1 };
         kept2 = kept-refl w2;
       }
         where
@@ -106,10 +106,10 @@ module _ {line : List ℕ} {f : Fields} (cut-up : Cut line f) (starts : is (getD
           open-many s = rw (spelled, ← told, not-true b h)
 
       module _ (few : not b ≡ false) where
-        pub line-sentence : {st : Counts} {k : ℕ} {w0 w1 u2 v2 : List ℕ} → Imports k x u2 imported.No v2 → TookText st k line (code.Stop 20) w0 w1 u2 w1 v2
+        pub line-sentence : {st : Counts} {k : ℕ} {w0 w1 u2 v2 : List ℕ} → Imports k x u2 imported.No v2 → TookText st k line (code.Refused 20) w0 w1 u2 w1 v2
         unfolding step stepSpelled onText must
         line-sentence {k = k} {w0} {w1} i = record {
-          took = record { is = λ s z. rw (no-reading s) moved-stop; kept0 = kept-refl w0; kept1 = kept-refl w1 };
+          took = record { is = λ s z. rw (no-reading s) moved-refused; kept0 = kept-refl w0; kept1 = kept-refl w1 };
           kept2 = i .kept;
         }
           where

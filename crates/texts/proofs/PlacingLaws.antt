@@ -20,11 +20,11 @@ use Rattle.sheet.proofs.AsNodeLines.{in-rule, no-node, may-be, text-ready, text
 use Rattle.tables.specs.declared.Counts.{Counts}
 use Rattle.tables.specs.declared.Step.{Step as CodeStep}
 use Rattle.tables.specs.declared.Step.the-variants as code
-use Rattle.tables.specs.Layout.{openCode, HoldsCurrent, HoldsOpen, closed, opened, Holds, Fine, Kept, Moved, moved-next, moved-stop}
+use Rattle.tables.specs.Layout.{openCode, HoldsCurrent, HoldsOpen, closed, opened, Holds, Fine, Kept, Moved, moved-next, moved-refused}
 use Rattle.tables.proofs.Tables.{kept-refl, kept-then}
 use Rattle.tables.proofs.Entries.{tables-same, definitions-same}
-use Rattle.trees.specs.declared.Parsed.{Parsed}
-use Rattle.trees.specs.Fields.{cut}
+use Rattle.shapes.specs.declared.Parsed.{Parsed}
+use Rattle.shapes.specs.Fields.{cut}
 use Rattle.trees.specs.Rules.{Placed}
 use Rattle.emission.specs.Nodes.{parsedIn, NodeIs, HoldsNodes}
 use Rattle.texts.specs.Placing.{HeldNodes, textCounts, Passed, TextPlaced}
@@ -181,11 +181,11 @@ went-on {w0} {v1} {su = su} {t = t} (moved-next {st = sv} {s = s} f h) d e =
     let p : sv ≡ su = cc in
     let q : s ≡ t = cc in
     subst (λ y. Holds y w0 v1 t) p (subst (Holds sv w0 v1) q h)
-went-on moved-stop d e = absurd (let q : _≡_ {A = ℕ} 0 1 = cc in omega arith)
+went-on moved-refused d e = absurd (let q : _≡_ {A = ℕ} 0 1 = cc in omega arith)
 
-not-stopped : {w0 v1 : List ℕ} {r : CodeStep} {n : ℕ} {x : Step} {t : Sheet} → Moved w0 v1 r x → r ≡ code.Stop n → x ≡ taken t → ⊥
+not-stopped : {w0 v1 : List ℕ} {r : CodeStep} {n : ℕ} {x : Step} {t : Sheet} → Moved w0 v1 r x → r ≡ code.Refused n → x ≡ taken t → ⊥
 not-stopped (moved-next f h) d e = let q : _≡_ {A = ℕ} 0 1 = cc in omega arith
-not-stopped moved-stop d e = let q : _≡_ {A = ℕ} 0 1 = cc in omega arith
+not-stopped moved-refused d e = let q : _≡_ {A = ℕ} 0 1 = cc in omega arith
 
 text-moved : {w0 v1 : List ℕ} {su sv : Counts} {t : Sheet} → sv ≡ su → Fine su → Holds su w0 v1 t → Moved w0 v1 (code.Next sv) (taken t)
 text-moved {w0} {v1} {t = t} e f h = subst (λ y. Moved w0 v1 (code.Next y) (taken t)) (sym e) (moved-next f h)
@@ -210,7 +210,7 @@ module _ {st su : Counts} {line nodes i : ℕ} {w0 w1 w2 v1 u1 : List ℕ} {p : 
     kept = kept-then (so .kept) (done .kept);
   }
 
-  pub placing-stop : {m : ℕ} → r ≡ code.Stop m → TextPlaced st line nodes (code.Stop m) w0 w1 w2 u1
+  pub placing-stop : {m : ℕ} → r ≡ code.Refused m → TextPlaced st line nodes (code.Refused m) w0 w1 w2 u1
   placing-stop d = record {
     is = λ s x e z h q.
         let a = so .is s x e z h q in

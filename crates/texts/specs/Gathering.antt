@@ -11,7 +11,7 @@ use Rattle.sheet.specs.Lines.{Shape}
 use Rattle.sheet.specs.Sheet.{operandsOf}
 use Rattle.sheet.specs.Limits.{isNode, formWithin}
 use Rattle.sheet.specs.Refusals.{twoVariables, formKnown, callBelow}
-use Rattle.trees.specs.declared.Parsed.{Parsed}
+use Rattle.shapes.specs.declared.Parsed.{Parsed}
 use Rattle.trees.specs.Calls.{callsIn}
 use Rattle.emission.specs.Nodes.{HoldsNodes}
 use Rattle.texts.specs.declared.gathering.Gathered.{Gathered}

@@ -5,6 +5,7 @@ use mathlib.Core.List.{List}
 use Prim.Native.Nat.{ℕ, _+_, _≤_}
 use lib.ListN.{length}
 use lib.Dec.{eqb, leb}
+use Rattle.memory.specs.Lines as lines
 use Rattle.sheet.specs.Sizes.{mostNodes}
 use Rattle.sheet.specs.Text.{Bytes}
 use Rattle.sheet.specs.Lines.{textLine}
@@ -23,7 +24,7 @@ textLimits st g n = g .within && leb (st .nodes + n) mostNodes
 
 -- 5
 unfoldable pub textOrder : Counts → Gathered → Bool
-textOrder st g = leb (st .block) 5 && (eqb (st .«open») 1 && eqb (st .first) (st .nodes) && g .apart)
+textOrder st g = leb (st .block) lines.rules && (eqb (st .«open») lines.ruleOpen && eqb (st .first) (st .nodes) && g .apart)
 
 -- a text that is a sentence of so many nodes, which wait in w2 if they are not too many: the words were w0 and w1 and are w0 and v1
 pub record Judged (st : Counts) (line nodes : ℕ) (r : Step) (w0 w1 w2 v1 : List ℕ) : Type 0 where

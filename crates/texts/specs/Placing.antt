@@ -4,6 +4,7 @@ use mathlib.Core.Bool.{true}
 use mathlib.Core.List.{List}
 use Prim.Native.Nat.{ℕ}
 use lib.ListN.{length}
+use Rattle.memory.specs.Lines as lines
 use Rattle.sheet.specs.Text.{Bytes}
 use Rattle.sheet.specs.Lines.{Shape, textLine}
 use Rattle.sheet.specs.Texts.{nodesOf}
@@ -34,7 +35,7 @@ textCounts st = record {
   nodes = st .nodes;
   definitions = st .definitions;
   rules = st .rules;
-  «open» = 3;
+  «open» = lines.textGiven;
   context = st .context;
   result = st .result;
   first = st .first;

@@ -7,9 +7,9 @@ ghost use Rattle.sheet.specs.Sizes.{leastWords, mostNodes, mostDefinitions};
 ghost use Rattle.trees.specs.Calls.{callsIn};
 ghost use Rattle.texts.specs.Gathering.{joined, Gathers};
 use emission::emitted;
-use trees::Parsed;
+use memory::words::larger;
+use shapes::Parsed;
 use trees::calls::is_call;
-use trees::operands::larger;
 
 // Whether all are within their limits, whether all have two variables that differ, how many classes there must be, and how many
 // definitions.

@@ -9,6 +9,7 @@ ghost use Rattle.texts.specs.Judging.{textLimits, textOrder, Judged};
 use super::gathering::Gathered;
 use super::gathering::gather;
 use super::placing::place;
+use memory::lines;
 use tables::Counts;
 use tables::Step;
 
@@ -27,10 +28,10 @@ fn within_limits(st: Counts, g: Gathered, nodes: usize) -> bool
 fn in_order(st: Counts, g: Gathered) -> bool
     ensures { λ r. ⌜ r ≡ textOrder st g ⌝ }
 {
-    if st.block > 5 {
+    if st.block > lines::RULES {
         return false;
     }
-    if st.open != 1 {
+    if st.open != lines::RULE_OPEN {
         return false;
     }
     if st.first != st.nodes {
@@ -45,20 +46,20 @@ pub fn judge(w0: &[u64], w1: &mut [u64], w2: &[u64], st: Counts, nodes: usize, k
     ensures { λ r. ⌜ Judged st k nodes r (now (w0 .entry)) (now (w1 .entry)) (now (w2 .entry)) (now (w1 .exit)) ⌝ }
 {
     if nodes > memory::NODES {
-        return Step::Stop(4);
+        return Step::Refused(4);
     }
     let g = gather(w2, nodes, k);
     if !within_limits(st, g, nodes) {
-        return Step::Stop(4);
+        return Step::Refused(4);
     }
     if !in_order(st, g) {
-        return Step::Stop(5);
+        return Step::Refused(5);
     }
     if st.classes < g.classes {
-        return Step::Stop(6);
+        return Step::Refused(6);
     }
     if st.definitions < g.calls {
-        return Step::Stop(24);
+        return Step::Refused(24);
     }
     place(w0, w1, w2, st, nodes, k)
 }

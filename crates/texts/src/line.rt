@@ -33,14 +33,14 @@ pub fn text_line(
     ensures { λ r. ⌜ TookText st k (now (line .entry)) r (now (w0 .entry)) (now (w1 .entry)) (now (w2 .entry)) (now (w1 .exit)) (now (w2 .exit)) ⌝ }
 {
     if f.count != 2 {
-        return Step::Stop(3);
+        return Step::Refused(3);
     }
     let text = field(line, f, 1);
     if !few_open(text) {
-        return Step::Stop(4);
+        return Step::Refused(4);
     }
     let Imported::Is { nodes } = import(text, w2, k) else {
-        return Step::Stop(20);
+        return Step::Refused(20);
     };
     judge(w0, w1, w2, st, nodes, k)
 }

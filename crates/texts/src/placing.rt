@@ -6,6 +6,7 @@ ghost use Rattle.sheet.specs.Sizes.{leastWords, mostNodes};
 ghost use Rattle.tables.specs.Layout.{Fine};
 ghost use Rattle.texts.specs.Placing.{HeldNodes, textCounts, TextPlaced};
 use emission::emitted;
+use memory::lines;
 use tables::Counts;
 use tables::Step;
 use trees::node::place_node;
@@ -15,7 +16,7 @@ fn with_text(st: Counts) -> Counts
     ensures { λ r. ⌜ r ≡ textCounts st ⌝ }
 {
     let mut next = st;
-    next.open = 3;
+    next.open = lines::TEXT_GIVEN;
     next
 }
 
@@ -28,8 +29,8 @@ pub fn place(w0: &[u64], w1: &mut [u64], w2: &[u64], st: Counts, nodes: usize, k
     let mut i: usize = 0;
     while i < nodes {
         match place_node(w0, w1, on, i as u64, emitted(w2, i, k)) {
-            Step::Stop(n) => {
-                return Step::Stop(n);
+            Step::Refused(n) => {
+                return Step::Refused(n);
             }
             Step::Next(next) => {
                 on = next;

@@ -23,8 +23,9 @@ use Rattle.nodes.specs.Nodes.{Called, CallSaid, classIn, treeAt, unaryWords, ac
 use Rattle.nodes.proofs.Keep.{tree-depth}
 use Rattle.tables.specs.Layout.{HoldsDefinitions}
 use Rattle.tables.proofs.Tables.{entry-of, entry-by, entry-each}
-use Rattle.trees.specs.Forms.{operandsAt}
-use Rattle.trees.specs.Calls.{calledBy, byNumber, isCall, callsIn, calledAt, resolvedIn, bodyDepth}
+use Rattle.shapes.specs.Forms.{operandsAt}
+use Rattle.shapes.specs.Calls.{calledBy, byNumber}
+use Rattle.trees.specs.Calls.{isCall, callsIn, calledAt, resolvedIn, bodyDepth}
 use Rattle.trees.proofs.ShapeLaws.{bodyLevels}
 
 -- ---- what the code's tests answer

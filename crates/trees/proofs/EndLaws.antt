@@ -97,7 +97,7 @@ module _ {st : Counts} {w1 : List ℕ} (w0 : List ℕ) where
     unfolding endRule endFor
     rule-end s o = ap (endFor s) (o .is)
 
-    pub end-empty : st .first ≡ st .nodes → RuleEnded st (code.Stop 8) w0 w1 w0
+    pub end-empty : st .first ≡ st .nodes → RuleEnded st (code.Refused 8) w0 w1 w0
     unfolding endOf onSome
     end-empty e = record {
       is = λ s h.
@@ -131,7 +131,7 @@ module _ {st : Counts} {w1 : List ℕ} (w0 : List ℕ) where
         end-by = rw (last-tree (o .rule .trees) (st .nodes - 1 - st .first) many, ← its-used, its-depth)
 
       module _ {b : Bool} (told : b ≡ usedIn w1 (st .first) (st .nodes - 1 - st .first)) where
-        pub end-unused : not b ≡ true → RuleEnded st (code.Stop 8) w0 w1 w0
+        pub end-unused : not b ≡ true → RuleEnded st (code.Refused 8) w0 w1 w0
         end-unused q = record {
           is = λ s h.
               let o = open-rule h is-open in
@@ -139,7 +139,7 @@ module _ {st : Counts} {w1 : List ℕ} (w0 : List ℕ) where
           kept = kept-refl w0;
         }
 
-        pub end-deep : not b ≡ false → mostLevels < getD w1 (memory.depths + (st .nodes - 1)) 0 / 2 → RuleEnded st (code.Stop 8) w0 w1 w0
+        pub end-deep : not b ≡ false → mostLevels < getD w1 (memory.depths + (st .nodes - 1)) 0 / 2 → RuleEnded st (code.Refused 8) w0 w1 w0
         end-deep q l = record {
           is = λ s h.
               let o = open-rule h is-open in

@@ -1,10 +1,3 @@
-pub mod FieldLaws
-pub mod ExactLaws
-pub mod FormLaws
-pub mod HeldLaws
-pub mod BuiltLaws
-pub mod LiteralLaws
-pub mod IterateLaws
 pub mod OperandLaws
 pub mod MarkLaws
 pub mod ShapeLaws

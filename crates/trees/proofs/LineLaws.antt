@@ -21,18 +21,18 @@ use Rattle.text.specs.declared.numbers.Num.the-variants as num
 use Rattle.text.specs.declared.parts.Fields.{Fields}
 use Rattle.text.proofs.NumberLaws.{num-bad, num-is}
 use Rattle.text.proofs.ShapeLaws.{shape-code}
-use Rattle.tables.specs.Layout.{moved-stop, Took}
+use Rattle.tables.specs.Layout.{moved-refused, Took}
 use Rattle.tables.specs.declared.Counts.{Counts}
 use Rattle.tables.specs.declared.Step.{Step}
 use Rattle.tables.specs.declared.Step.the-variants as code
 use Rattle.tables.proofs.Tables.{kept-refl}
 use Rattle.tables.proofs.LineFields.{word-is}
 use Rattle.tables.proofs.Steps.{step-bad, step-line}
-use Rattle.trees.specs.declared.Parsed.{Parsed}
-use Rattle.trees.specs.Fields.{cut}
-use Rattle.trees.specs.Forms.{StandsFor, Spelled, misspelled, spelled, FormRead}
+use Rattle.shapes.specs.declared.Parsed.{Parsed}
+use Rattle.shapes.specs.Fields.{cut}
+use Rattle.shapes.specs.Forms.{StandsFor, Spelled, misspelled, spelled, FormRead}
 use Rattle.trees.specs.Rules.{Placed}
-use Rattle.trees.proofs.FieldLaws.{field-count}
+use Rattle.shapes.proofs.FieldLaws.{field-count}
 
 -- ---- the fields
 
@@ -65,8 +65,8 @@ module _ (fs : List Bytes) (starts : is (getD fs 0 []) (bytes "N") ≡ true) whe
 
 -- ---- 3, and a line that spells a node
 
-took-none : {st : Counts} {k : ℕ} {line w0 w : List ℕ} → lineOf (fieldsOf line) ≡ none → Took st k line (code.Stop 3) w0 w w0 w
-took-none {k = k} {line = line} {w0 = w0} {w = w} e = record { is = λ s h. rw (step-bad s k (fieldsOf line) e) moved-stop; kept0 = kept-refl w0; kept1 = kept-refl w }
+took-none : {st : Counts} {k : ℕ} {line w0 w : List ℕ} → lineOf (fieldsOf line) ≡ none → Took st k line (code.Refused 3) w0 w w0 w
+took-none {k = k} {line = line} {w0 = w0} {w = w} e = record { is = λ s h. rw (step-bad s k (fieldsOf line) e) moved-refused; kept0 = kept-refl w0; kept1 = kept-refl w }
 
 node-plain : (i : ℕ) (x : Shape) (test : Bytes → Bool) → onText (nodeLine i x) test ≡ true
 unfolding onText
@@ -76,19 +76,19 @@ took-node : {st : Counts} {k n : ℕ} {line w0 w v : List ℕ} {p : Parsed} {r :
 took-node {k = k} {line = line} {w0 = w0} i x e q z d = record { is = λ s h. rw (step-line s k (fieldsOf line) (node-plain i x) e) (d .is k s i x q z h); kept0 = kept-refl w0; kept1 = d .kept }
 
 module _ {line : List ℕ} {f : Fields} (cut-up : Cut line f) (starts : is (getD (fieldsOf line) 0 []) (bytes "N") ≡ true) where
-  pub line-short : {st : Counts} {k : ℕ} {w0 w : List ℕ} → f .count < 3 → Took st k line (code.Stop 3) w0 w w0 w
+  pub line-short : {st : Counts} {k : ℕ} {w0 w : List ℕ} → f .count < 3 → Took st k line (code.Refused 3) w0 w w0 w
   line-short h = took-none (few-fields (fieldsOf line) starts (omega (arith, cut-up .counted)))
 
   module _ (long : 3 ≤ f .count) where
     spelled-line : lineOf (fieldsOf line) ≡ onSome (aNumber (getD (fieldsOf line) 1 [])) (λ n. mapSome (nodeLine n) (shapeBy (formCode (getD (fieldsOf line) 2 [])) (drop 3 (fieldsOf line))))
     spelled-line = line-of (fieldsOf line) starts (field-count cut-up long)
 
-    pub line-number : {st : Counts} {k : ℕ} {w0 w : List ℕ} → num.Bad ≡ cutNum (aNumber (getD (fieldsOf line) 1 [])) → Took st k line (code.Stop 3) w0 w w0 w
+    pub line-number : {st : Counts} {k : ℕ} {w0 w : List ℕ} → num.Bad ≡ cutNum (aNumber (getD (fieldsOf line) 1 [])) → Took st k line (code.Refused 3) w0 w w0 w
     unfolding onSome
     line-number h = took-none (spelled-line ∙ rw (num-bad (aNumber (getD (fieldsOf line) 1 [])) h))
 
     module _ {k c : ℕ} {p : Parsed} (coded : c ≡ formCode (getD (fieldsOf line) 2 [])) (form : FormRead k (shapeBy c (drop 3 (fieldsOf line))) p) where
-      pub line-form : {st : Counts} {w0 w : List ℕ} → not (p .spelled) ≡ true → Took st k line (code.Stop 3) w0 w w0 w
+      pub line-form : {st : Counts} {w0 w : List ℕ} → not (p .spelled) ≡ true → Took st k line (code.Refused 3) w0 w w0 w
       unfolding onSome mapSome
       line-form h = took-none (spelled-line ∙ rw (← coded) (go (aNumber (getD (fieldsOf line) 1 [])) (form .is)))
         where

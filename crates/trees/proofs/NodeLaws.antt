@@ -24,9 +24,10 @@ use Rattle.nodes.proofs.Shapes.{shape-tree}
 use Rattle.tables.specs.Layout.{tab, linesIn, usedBit, HoldsCurrent, HoldsOpen, closed, opened, Holds, Fine}
 use Rattle.tables.specs.declared.Counts.{Counts}
 use Rattle.tables.proofs.Entries.{tables-same}
-use Rattle.trees.specs.declared.Parsed.{Parsed}
-use Rattle.trees.specs.Forms.{StandsFor}
-use Rattle.trees.specs.Calls.{calledBy, calledAt}
+use Rattle.shapes.specs.declared.Parsed.{Parsed}
+use Rattle.shapes.specs.Forms.{StandsFor}
+use Rattle.shapes.specs.Calls.{calledBy}
+use Rattle.trees.specs.Calls.{calledAt}
 use Rattle.trees.specs.Rules.{nodeCounts}
 use Rattle.trees.proofs.MarkLaws.{Depths, deepestOf}
 use Rattle.trees.proofs.ShapeLaws.{bodyLevels, grow-same, grow-depth, shape-line}

@@ -13,7 +13,7 @@ use Rattle.laws.specs.Lists.{allOf}
 use Rattle.laws.proofs.Parts.{at-next}
 use Rattle.sheet.specs.Limits.{isNode}
 use Rattle.tables.proofs.Tables.{kept-refl, kept-set, kept-then}
-use Rattle.trees.specs.Forms.{operandsAt}
+use Rattle.shapes.specs.Forms.{operandsAt}
 use Rattle.trees.specs.Operands.{Marking, malformed, deepest, depthAt, marking, shifted, WroteWords}
 
 -- ---- the operands that are left after i

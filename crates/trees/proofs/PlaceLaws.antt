@@ -17,17 +17,18 @@ use Rattle.sheet.specs.Sheet.{Current, Sheet, operandsOf}
 use Rattle.sheet.specs.Limits.{isNode, formWithin, withinLimits}
 use Rattle.sheet.specs.Refusals.{twoVariables, formKnown, blockOf, nextNode, numbered, inOrder, partsKnown, callBelow, hasType, inDefinition, callsSmaller, callsKnown}
 use Rattle.nodes.specs.Nodes.{shapeWords}
-use Rattle.tables.specs.Layout.{openCode, Holds, HoldsOpen, closed, opened, Fine, moved-stop}
+use Rattle.tables.specs.Layout.{openCode, Holds, HoldsOpen, closed, opened, Fine, moved-refused}
 use Rattle.tables.specs.declared.Counts.{Counts}
 use Rattle.tables.specs.declared.Step.the-variants as code
 use Rattle.tables.proofs.Tables.{kept-refl}
 use Rattle.tables.proofs.Steps.{over-limits, out-of-order, unknown-part, calls-up, calls-none}
-use Rattle.trees.specs.declared.Parsed.{Parsed}
-use Rattle.trees.specs.Fields.{cut}
-use Rattle.trees.specs.Forms.{operandsAt, StandsFor}
-use Rattle.trees.specs.Calls.{calledBy, byNumber, callsIn, calledAt, resolvedIn}
+use Rattle.shapes.specs.declared.Parsed.{Parsed}
+use Rattle.shapes.specs.Fields.{cut}
+use Rattle.shapes.specs.Forms.{operandsAt, StandsFor}
+use Rattle.shapes.specs.Calls.{calledBy, byNumber}
+use Rattle.trees.specs.Calls.{callsIn, calledAt, resolvedIn}
 use Rattle.trees.specs.Rules.{nodeLimits, nodeOrder, Placed}
-use Rattle.trees.proofs.FormLaws.{nodes-small}
+use Rattle.shapes.proofs.FormLaws.{nodes-small}
 use Rattle.trees.proofs.CallLaws.{calls-shape, resolved-shape}
 
 -- ---- what the code's tests answer
@@ -183,51 +184,51 @@ defines (some c) (opened q) = rw (q .is-open) (go (c .result) (c .text))
 -- ---- 4, 5, 6, 23 and 24
 
 -- a refusal has no counts
-pub stopped : {n : ℕ} (u : Counts) → code.Stop n ≡ code.Next u → Fine u
+pub stopped : {n : ℕ} (u : Counts) → code.Refused n ≡ code.Next u → Fine u
 stopped u e = absurd (let z : _≡_ {A = ℕ} 0 1 = cc in omega arith)
 
 module _ {st : Counts} {n : ℕ} {p : Parsed} (w0 w1 : List ℕ) (fine : Fine st) where
-  pub place-4 : {b : Bool} → b ≡ nodeLimits st n p → not b ≡ true → Placed st n p (code.Stop 4) w0 w1 w1
+  pub place-4 : {b : Bool} → b ≡ nodeLimits st n p → not b ≡ true → Placed st n p (code.Refused 4) w0 w1 w1
   place-4 {b} e q = record {
-    is = λ line s i x u z h. rw (over-limits s line (nodeLine i x) (sym (limits-same i u z h) ∙ sym e ∙ not-true b q)) moved-stop;
+    is = λ line s i x u z h. rw (over-limits s line (nodeLine i x) (sym (limits-same i u z h) ∙ sym e ∙ not-true b q)) moved-refused;
     fine = stopped;
     kept = kept-refl w1;
   }
 
   module _ (ok : nodeLimits st n p ≡ true) where
-    pub place-5 : {b : Bool} → b ≡ nodeOrder st n p → not b ≡ true → Placed st n p (code.Stop 5) w0 w1 w1
+    pub place-5 : {b : Bool} → b ≡ nodeOrder st n p → not b ≡ true → Placed st n p (code.Refused 5) w0 w1 w1
     place-5 {b} e q = record {
-      is = λ line s i x u z h. rw (out-of-order s line (nodeLine i x) (sym (limits-same i u z h) ∙ ok) (sym (order-same i u z h fine ok) ∙ sym e ∙ not-true b q)) moved-stop;
+      is = λ line s i x u z h. rw (out-of-order s line (nodeLine i x) (sym (limits-same i u z h) ∙ ok) (sym (order-same i u z h fine ok) ∙ sym e ∙ not-true b q)) moved-refused;
       fine = stopped;
       kept = kept-refl w1;
     }
 
     module _ (o : nodeOrder st n p ≡ true) where
-      pub place-6 : st .classes < p .classes → Placed st n p (code.Stop 6) w0 w1 w1
+      pub place-6 : st .classes < p .classes → Placed st n p (code.Refused 6) w0 w1 w1
       place-6 l = record {
         is = λ line s i x u z h.
-            rw (unknown-part s line (nodeLine i x) (sym (limits-same i u z h) ∙ ok) (sym (order-same i u z h fine ok) ∙ o) (sym (known-same i u z h fine ok) ∙ lt-leb (p .classes) (st .classes) l)) moved-stop;
+            rw (unknown-part s line (nodeLine i x) (sym (limits-same i u z h) ∙ ok) (sym (order-same i u z h fine ok) ∙ o) (sym (known-same i u z h fine ok) ∙ lt-leb (p .classes) (st .classes) l)) moved-refused;
         fine = stopped;
         kept = kept-refl w1;
       }
 
       module _ (classes : p .classes ≤ st .classes) {b : Bool} (told : b ≡ leb (callsIn (p .words) (p .count)) (st .definitions)) (upward : b ≡ false) where
-        pub place-23 : st .«open» ≡ 2 → Placed st n p (code.Stop 23) w0 w1 w1
+        pub place-23 : st .«open» ≡ 2 → Placed st n p (code.Refused 23) w0 w1 w1
         unfolding callsSmaller
         place-23 e = record {
           is = λ line s i x u z h.
               rw (calls-up s line (nodeLine i x) (sym (limits-same i u z h) ∙ ok) (sym (order-same i u z h fine ok) ∙ o) (sym (known-same i u z h fine ok) ∙ le-leb (p .classes) (st .classes) classes)
-              (rw (defines (s .current) (h .current), eq-eqb (st .«open») 2 e) (sym (calls-same i u z h fine ok) ∙ sym told ∙ upward))) moved-stop;
+              (rw (defines (s .current) (h .current), eq-eqb (st .«open») 2 e) (sym (calls-same i u z h fine ok) ∙ sym told ∙ upward))) moved-refused;
           fine = stopped;
           kept = kept-refl w1;
         }
 
-        pub place-24 : (st .«open» ≡ 2 → ⊥) → Placed st n p (code.Stop 24) w0 w1 w1
+        pub place-24 : (st .«open» ≡ 2 → ⊥) → Placed st n p (code.Refused 24) w0 w1 w1
         unfolding callsSmaller callsKnown
         place-24 e = record {
           is = λ line s i x u z h.
               rw (calls-none s line (nodeLine i x) (sym (limits-same i u z h) ∙ ok) (sym (order-same i u z h fine ok) ∙ o) (sym (known-same i u z h fine ok) ∙ le-leb (p .classes) (st .classes) classes)
-              (rw (defines (s .current) (h .current), ne-eqb (st .«open») 2 e)) (sym (calls-same i u z h fine ok) ∙ sym told ∙ upward)) moved-stop;
+              (rw (defines (s .current) (h .current), ne-eqb (st .«open») 2 e)) (sym (calls-same i u z h fine ok) ∙ sym told ∙ upward)) moved-refused;
           fine = stopped;
           kept = kept-refl w1;
         }

@@ -15,16 +15,17 @@ use Rattle.sheet.specs.Sheet.{Current, Sheet, added, operandsOf, treeOf, defini
 use Rattle.sheet.specs.Limits.{formWithin}
 use Rattle.sheet.specs.Refusals.{fresh, partsKnown, callBelow, inDefinition, callsSmaller, callsKnown, suits, operandsFresh, treeHolds}
 use Rattle.nodes.specs.Nodes.{word, shapeWords}
-use Rattle.tables.specs.Layout.{Holds, Fine, Kept, moved-next, moved-stop}
+use Rattle.tables.specs.Layout.{Holds, Fine, Kept, moved-next, moved-refused}
 use Rattle.tables.specs.declared.Counts.{Counts}
 use Rattle.tables.specs.declared.Step.the-variants as code
 use Rattle.tables.proofs.Tables.{kept-set, kept-then}
 use Rattle.tables.proofs.Steps.{malformed-tree, steps-on}
-use Rattle.trees.specs.declared.Parsed.{Parsed}
-use Rattle.trees.specs.Fields.{cut}
-use Rattle.trees.specs.Forms.{operandsAt, StandsFor}
+use Rattle.shapes.specs.declared.Parsed.{Parsed}
+use Rattle.shapes.specs.Fields.{cut}
+use Rattle.shapes.specs.Forms.{operandsAt, StandsFor}
 use Rattle.trees.specs.Operands.{malformed, deepest, depthAt, marking, shifted, WroteWords}
-use Rattle.trees.specs.Calls.{calledBy, callsIn, calledAt, resolvedIn, bodyDepth}
+use Rattle.shapes.specs.Calls.{calledBy}
+use Rattle.trees.specs.Calls.{callsIn, calledAt, resolvedIn, bodyDepth}
 use Rattle.trees.specs.Rules.{nodeLimits, nodeOrder, nodeCounts, Fit, Placed}
 use Rattle.trees.proofs.MarkLaws.{wordsOf, depthOf, Framed, mark-frame, mark-small, mark-half, Depths, deepestOf, Marks, marks-law, fresh-low, malformed-fresh, deepest-fresh}
 use Rattle.trees.proofs.ShapeLaws.{bodyLevels, shape-shifted}
@@ -87,13 +88,13 @@ module _ (st : Counts) (n : ℕ) (p : Parsed) (w0 w1 : List ℕ) (fine : Fine st
     unfolding treeHolds operandsFresh
     tree-test = ap (λ (c : Option Current). operandsFresh c x) (o .is)
 
-  pub place-8 : {v1 : List ℕ} → malformed v1 ≡ marking (st .first) n 0 (operandsAt (p .words) (p .count)) w1 → Placed st n p (code.Stop 8) w0 w1 v1
+  pub place-8 : {v1 : List ℕ} → malformed v1 ≡ marking (st .first) n 0 (operandsAt (p .words) (p .count)) w1 → Placed st n p (code.Refused 8) w0 w1 v1
   unfolding suits wordsOf
   place-8 {v1} e = record {
     is = λ line s i x u z h.
         let o = open-rule h (is-open st n p ordered) in
         rw (malformed-tree s line (nodeLine i x) (calls-smaller i u z h o) (calls-known i u z h o) (sym (limits-same i u z h) ∙ ok) (sym (order-same i u z h fine ok) ∙ ordered) (parts-known i u z h o) refl
-        (tree-test i u z h o ∙ malformed-fresh (marks i u z h o) (e ∙ marking-same i u z h o))) moved-stop;
+        (tree-test i u z h o ∙ malformed-fresh (marks i u z h o) (e ∙ marking-same i u z h o))) moved-refused;
     fine = stopped;
     kept = rw (ap wordsOf e) (mark-frame (st .first) n room (operandsAt (p .words) (p .count)) 0 w1 .kept);
   }

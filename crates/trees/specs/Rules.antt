@@ -9,6 +9,7 @@ use lib.ListN.{length, getD}
 use lib.Dec.{eqb, leb, ltb}
 use Rattle.laws.specs.Lists.{allOf}
 use Rattle.memory.specs.Map as memory
+use Rattle.memory.specs.Lines as lines
 use Rattle.ocl.specs.Forms.{levels}
 use Rattle.sheet.specs.Sizes.{mostDefinitions, mostRules, mostNodes}
 use Rattle.sheet.specs.Lines.{Shape, nodeLine}
@@ -20,16 +21,16 @@ use Rattle.tables.specs.Layout.{Holds, Fine, Kept, Moved}
 use Rattle.tables.specs.declared.Counts.{Counts}
 use Rattle.tables.specs.declared.Step.{Step}
 use Rattle.tables.specs.declared.Step.the-variants as code
-use Rattle.trees.specs.declared.Parsed.{Parsed}
-use Rattle.trees.specs.Fields.{cut}
-use Rattle.trees.specs.Forms.{operandsAt, StandsFor}
+use Rattle.shapes.specs.declared.Parsed.{Parsed}
+use Rattle.shapes.specs.Fields.{cut}
+use Rattle.shapes.specs.Forms.{operandsAt, StandsFor}
 use Rattle.trees.specs.Operands.{depthAt}
 use Rattle.trees.specs.Calls.{callsIn}
 
 -- an open rule has a number below 64, and an open definition one below 32: an R line and a D line were held to that
 pub record RuleRoom (st : Counts) : Type 0 where
-  pub room : st .«open» ≢ 0 → st .«open» ≢ 2 → st .rules < mostRules
-  pub space : st .«open» ≡ 2 → st .definitions < mostDefinitions
+  pub room : st .«open» ≢ lines.nothingOpen → st .«open» ≢ lines.definitionOpen → st .rules < mostRules
+  pub space : st .«open» ≡ lines.definitionOpen → st .definitions < mostDefinitions
 
 -- ---- a node line
 
@@ -39,7 +40,7 @@ nodeLimits st n p = isNode n && p .within && allOf isNode (operandsAt (p .words)
 
 -- 5
 unfoldable pub nodeOrder : Counts → ℕ → Parsed → Bool
-nodeOrder st n p = leb (st .block) 5 && (not (eqb (st .«open») 0) && not (eqb (st .«open») 3) && eqb n (st .nodes - st .first) && p .apart)
+nodeOrder st n p = leb (st .block) lines.rules && (not (eqb (st .«open») lines.nothingOpen) && not (eqb (st .«open») lines.textGiven) && eqb n (st .nodes - st .first) && p .apart)
 
 -- neither 4 nor 5, 6, 23 or 24
 pub record Fit (st : Counts) (n : ℕ) (p : Parsed) : Type 0 where
@@ -91,7 +92,7 @@ endedCounts st = record {
   nodes = st .nodes;
   definitions = st .definitions;
   rules = st .rules + 1;
-  «open» = 0;
+  «open» = lines.nothingOpen;
   context = st .context;
   result = st .result;
   first = st .first;
@@ -109,7 +110,7 @@ definedCounts st = record {
   nodes = st .nodes;
   definitions = st .definitions + 1;
   rules = st .rules;
-  «open» = 0;
+  «open» = lines.nothingOpen;
   context = st .context;
   result = st .result;
   first = st .first;
@@ -123,7 +124,7 @@ pub record PutDown (st r : Counts) (root : ℕ) (w0 v0 : List ℕ) : Type 0 wher
 
 pub data EndMoved (w0 w1 : List ℕ) : Step → Option Sheet → Type 0 where
   ended : {st : Counts} {s : Sheet} → Fine st → Holds st w0 w1 s → EndMoved w0 w1 (code.Next st) (some s)
-  refused : EndMoved w0 w1 (code.Stop 8) none
+  refused : EndMoved w0 w1 (code.Refused 8) none
 
 pub record RuleEnded (st : Counts) (r : Step) (w0 w1 v0 : List ℕ) : Type 0 where
   pub is : (s : Sheet) → Holds st w0 w1 s → EndMoved v0 w1 r (endRule s)

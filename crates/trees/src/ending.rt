@@ -6,6 +6,7 @@ ghost use lib.ListN.{length};
 ghost use Rattle.sheet.specs.Sizes.{leastWords, mostNodes};
 ghost use Rattle.tables.specs.Layout.{Fine};
 ghost use Rattle.trees.specs.Rules.{RuleRoom, usedIn, endedCounts, definedCounts, PutDown, RuleEnded};
+use memory::lines;
 use tables::Counts;
 use tables::Step;
 
@@ -31,7 +32,7 @@ fn with_rule(st: Counts) -> Counts
 {
     let mut next = st;
     next.rules = st.rules + 1;
-    next.open = 0;
+    next.open = lines::NOTHING_OPEN;
     next
 }
 
@@ -42,7 +43,7 @@ fn with_definition(st: Counts) -> Counts
 {
     let mut next = st;
     next.definitions = st.definitions + 1;
-    next.open = 0;
+    next.open = lines::NOTHING_OPEN;
     next
 }
 
@@ -51,7 +52,7 @@ fn put_down(w0: &mut [u64], st: Counts, root: u64) -> Counts
     requires { ⌜ (leastWords ≤ length (now w0)) × Fine st × RuleRoom st ⌝ }
     ensures { λ r. ⌜ PutDown st r root (now (w0 .entry)) (now (w0 .exit)) ⌝ }
 {
-    if st.open == 2 {
+    if st.open == lines::DEFINITION_OPEN {
         let n = st.definitions as usize;
         w0[memory::DEFINITION_CONTEXTS + n] = st.context;
         w0[memory::DEFINITION_TYPES + n] = st.result;
@@ -69,20 +70,20 @@ pub fn end_rule(w0: &mut [u64], w1: &[u64], st: Counts) -> Step
     requires { ⌜ (leastWords ≤ length (now w0)) × (leastWords ≤ length (now w1)) × Fine st × RuleRoom st ⌝ }
     ensures { λ r. ⌜ RuleEnded st r (now (w0 .entry)) (now (w1 .entry)) (now (w0 .exit)) ⌝ }
 {
-    if st.open == 0 {
+    if st.open == lines::NOTHING_OPEN {
         return Step::Next(st);
     }
     let first = st.first as usize;
     let nodes = st.nodes as usize;
     if first == nodes {
-        return Step::Stop(8);
+        return Step::Refused(8);
     }
     let last = nodes - 1;
     if !all_used(w1, first, last - first) {
-        return Step::Stop(8);
+        return Step::Refused(8);
     }
     if w1[memory::DEPTHS + last] / 2 > memory::MOST_LEVELS {
-        return Step::Stop(8);
+        return Step::Refused(8);
     }
     Step::Next(put_down(w0, st, last as u64))
 }

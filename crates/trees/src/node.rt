@@ -11,16 +11,17 @@ ghost use Rattle.sheet.specs.Lines.{is};
 ghost use Rattle.text.specs.Parts.{Cut};
 ghost use Rattle.tables.specs.Layout.{Fine, Took};
 ghost use Rattle.trees.specs.Rules.{nodeLimits, nodeOrder, nodeCounts, Fit, Placed};
-use super::Parsed;
 use super::calls::body_depth;
 use super::calls::calls_below;
 use super::calls::resolved;
-use super::forms::read_form;
 use super::operands::Marked;
-use super::operands::larger;
 use super::operands::mark;
 use super::operands::operands_within;
 use super::operands::put_words;
+use memory::lines;
+use memory::words::larger;
+use shapes::Parsed;
+use shapes::forms::read_form;
 use tables::Counts;
 use tables::Step;
 use text::numbers::Num;
@@ -52,13 +53,13 @@ fn in_order(st: Counts, n: u64, p: Parsed) -> bool
     requires { ⌜ Fine st ⌝ }
     ensures { λ r. ⌜ r ≡ nodeOrder st n p ⌝ }
 {
-    if st.block > 5 {
+    if st.block > lines::RULES {
         return false;
     }
-    if st.open == 0 {
+    if st.open == lines::NOTHING_OPEN {
         return false;
     }
-    if st.open == 3 {
+    if st.open == lines::TEXT_GIVEN {
         return false;
     }
     if n != st.nodes - st.first {
@@ -88,7 +89,7 @@ fn put_node(w0: &[u64], w1: &mut [u64], st: Counts, n: u64, p: Parsed) -> Step
     let full = resolved(w0, words, count);
     let body = body_depth(w1, full, count);
     let Marked::Deepest(d) = mark(w1, words, count, first, n) else {
-        return Step::Stop(8);
+        return Step::Refused(8);
     };
     let m = st.nodes as usize;
     put_words(w1, m, full, count, first);
@@ -103,21 +104,21 @@ pub fn place_node(w0: &[u64], w1: &mut [u64], st: Counts, n: u64, p: Parsed) -> 
 {
     let words = p.words;
     if !within_limits(st, n, p) {
-        return Step::Stop(4);
+        return Step::Refused(4);
     }
     if !in_order(st, n, p) {
-        return Step::Stop(5);
+        return Step::Refused(5);
     }
     if st.classes < p.classes {
-        return Step::Stop(6);
+        return Step::Refused(6);
     }
     if calls_below(words, p.count, st.definitions) {
         return put_node(w0, w1, st, n, p);
     }
-    if st.open == 2 {
-        return Step::Stop(23);
+    if st.open == lines::DEFINITION_OPEN {
+        return Step::Refused(23);
     }
-    Step::Stop(24)
+    Step::Refused(24)
 }
 
 // Takes line k, whose first field is `N`.
@@ -126,14 +127,14 @@ pub fn node_line(line: &[u8], f: Fields, w0: &[u64], w1: &mut [u64], st: Counts,
     ensures { λ r. ⌜ Took st k (now (line .entry)) r (now (w0 .entry)) (now (w1 .entry)) (now (w0 .entry)) (now (w1 .exit)) ⌝ }
 {
     if f.count < 3 {
-        return Step::Stop(3);
+        return Step::Refused(3);
     }
     let Num::Is(n) = number(field(line, f, 1)) else {
-        return Step::Stop(3);
+        return Step::Refused(3);
     };
     let p = read_form(line, f, form_code(field(line, f, 2)), k);
     if !p.spelled {
-        return Step::Stop(3);
+        return Step::Refused(3);
     }
     place_node(w0, w1, st, n, p)
 }

@@ -1,5 +1,7 @@
 // A node's operands: within their limits, smaller than the node, each used once; and the depth that they give it.
 use crate::calls::DEPTH_CUT;
+use memory::words::at_most;
+use memory::words::larger;
 ghost use mathlib.Core.Path.{_≡_};
 ghost use Prim.Native.Nat.{_+_, _*_, _/_, _≤_, _<_, min, max};
 ghost use mathlib.Core.Bool.{true};
@@ -9,7 +11,7 @@ ghost use Rattle.memory.specs.Map as memory;
 ghost use Rattle.sheet.specs.Sizes.{leastWords, mostNodes};
 ghost use Rattle.sheet.specs.Limits.{isNode};
 ghost use Rattle.trees.specs.Calls.{depthCut};
-ghost use Rattle.trees.specs.Forms.{operandsAt};
+ghost use Rattle.shapes.specs.Forms.{operandsAt};
 ghost use Rattle.trees.specs.Operands.{shifted, marking, marked, WroteWords};
 
 // An operand that breaks the tree, or the depth of the deepest operand.
@@ -33,21 +35,11 @@ pub fn operands_within(words: [u64; 8], count: usize) -> bool
     true
 }
 
-pub fn larger(a: u64, b: u64) -> u64
-    ensures { λ r. ⌜ r ≡ max a b ⌝ }
-{
-    if a < b { b } else { a }
-}
-
 // The greater of a depth and an operand's depth.
 fn deeper(d: u64, word: u64) -> u64
     ensures { λ r. ⌜ r ≡ max d (min (word / 2) depthCut) ⌝ }
 {
-    let h = word / 2;
-    if h < DEPTH_CUT {
-        return larger(d, h);
-    }
-    larger(d, DEPTH_CUT)
+    larger(d, at_most(word / 2, DEPTH_CUT))
 }
 
 // Where depths begin, as a u64 like the numbers of nodes.

@@ -11,8 +11,8 @@ use borrow.Author.Tests.{eq-eqb, ne-eqb, ltb-true, ltb-false}
 use Rattle.laws.specs.Choice.{if_then_else_, orElse, onSome}
 use Rattle.ocl.specs.Types.{Parents}
 use Rattle.ocl.specs.Model.{Schema, declared, nearest, rowRead}
-use Rattle.types.specs.declared.Found.{Found}
-use Rattle.types.specs.declared.Found.the-variants as f
+use Rattle.types.specs.declared.RowFound.{RowFound}
+use Rattle.types.specs.declared.RowFound.the-variants as f
 use Rattle.types.specs.Flat.{parentWord, parentsIn}
 use Rattle.types.specs.Rows.{declaredIn, nearestIn, rowReadIn, found, Unnamed}
 use Rattle.types.proofs.Parents.{parent-le, parent-none, parent-some}
@@ -101,7 +101,7 @@ module _ (ps owners names : List ℕ) (rows name : ℕ) where
       go ih zero e = rw (parent-none ps c e)
       go ih (suc q) e = rw (parent-some ps c (suc q) (sym e) (λ z. omega arith)) (ih (suc q - 1) (omega (arith, parent-le ps c)) (omega (arith, parent-le ps c)))
 
-  module _ (c : ℕ) (r : Found) (at : found r ≡ declaredIn owners names c name rows) where
+  module _ (c : ℕ) (r : RowFound) (at : found r ≡ declaredIn owners names c name rows) where
     pub read-here : (i : ℕ) → r ≡ f.At i → found r ≡ rowReadIn ps owners names rows c name
     unfolding rowReadIn nearestIn found orElse
     read-here i e = rw (sym at, e)

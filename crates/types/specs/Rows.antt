@@ -9,8 +9,8 @@ use lib.ListN.{getD}
 use lib.Dec.{eqb}
 use Rattle.laws.specs.Choice.{if_then_else_, orElse, onSome}
 use Rattle.ocl.specs.Types.{Parents}
-use Rattle.types.specs.declared.Found.{Found}
-use Rattle.types.specs.declared.Found.the-variants as f
+use Rattle.types.specs.declared.RowFound.{RowFound}
+use Rattle.types.specs.declared.RowFound.the-variants as f
 use Rattle.types.specs.Flat.{parentsIn}
 
 -- the row that class c itself declares with the name, among the first n rows
@@ -29,7 +29,7 @@ unfoldable pub rowReadIn : List ℕ → List ℕ → List ℕ → ℕ → ℕ �
 rowReadIn ps owners names rows c name = nearestIn (parentsIn ps) owners names rows name (suc c) c
 
 -- what the code answers for a row
-unfoldable pub found : Found → Option ℕ
+unfoldable pub found : RowFound → Option ℕ
 found (f.At i) = some i
 found f.Nothing = none
 

@@ -3,12 +3,7 @@ ghost use mathlib.Core.Path.{_≡_};
 ghost use Rattle.ocl.specs.Types.{class, simple, simpleSubtype, simpleJoin};
 ghost use Rattle.types.specs.Flat.{parentWord, parentsIn, baseType};
 use super::Base;
-
-pub fn wide(x: u64) -> usize
-    ensures { λ r. ⌜ r ≡ x ⌝ }
-{
-    x as usize
-}
+use memory::words::wide;
 
 // One more than the parent of class c, or 0. A parent that is not a smaller class counts as none, so every climb ends.
 pub fn parent(parents: &[u64], c: u64) -> u64

@@ -2,6 +2,7 @@
 // and the attribute row that a class reads. Document 01, Values and types. It depends on `text` for the numbers in a spelling.
 
 pub mod classes; // the table of parents: below, and the nearest common class
+pub mod letters; // the codes of C, S, Q and B
 pub mod order; // subtype and common type
 pub mod parts; // depth, letters, members and classes of a type, and types made of them
 pub mod word; // a type as one word
@@ -19,8 +20,7 @@ pub enum Base {
     Class(u8),
 }
 
-// A base with at most three letters around it, the outermost first. A code is 0 for none, 1 for C, 2 for S, 3 for Q, 4 for
-// B; codes after a 0 mean nothing.
+// A base with at most three letters around it, by their codes, the outermost first; codes after a 0 mean nothing.
 pub struct FlatType {
     pub base: Base,
     pub outer: u8,
@@ -41,7 +41,7 @@ pub enum ClassNumber {
 }
 
 // A row's number, if there is one.
-pub enum Found {
+pub enum RowFound {
     At(u64),
     Nothing,
 }

@@ -11,6 +11,7 @@ use super::FlatType;
 use super::Joined;
 use super::classes::class_below;
 use super::classes::common_class;
+use super::letters;
 
 // A number for each case of a base: 0 for Void, 5 for a class.
 pub fn tag(b: Base) -> u64
@@ -111,10 +112,10 @@ fn base_join(parents: &[u64], a: Base, b: Base) -> Base
 fn letter_below(k: u8, l: u8) -> bool
     ensures { λ r. ⌜ r ≡ letterSubtype (letterOf k) (letterOf l) ⌝ }
 {
-    if l < 2 {
+    if l < letters::SET {
         return true;
     }
-    if 4 < l {
+    if letters::BAG < l {
         return true;
     }
     k == l
@@ -128,7 +129,7 @@ fn letter_join(k: u8, l: u8) -> u8
     if k == l {
         return k;
     }
-    1
+    letters::COLLECTION
 }
 
 // One level of the subtype test: codes k and l, the first type's base by its tag.

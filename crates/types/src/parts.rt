@@ -7,6 +7,7 @@ ghost use Rattle.types.specs.Parts.{outerCode, memberType, classOf, clas
 use super::Base;
 use super::ClassNumber;
 use super::FlatType;
+use super::letters;
 use super::order::no_letter;
 use super::order::tag;
 use super::order::under_outer;
@@ -31,8 +32,8 @@ pub fn depth(t: FlatType) -> u64
 pub fn outer_code(t: FlatType) -> u8
     ensures { λ r. ⌜ r ≡ outerCode (tyOf t) ⌝ }
 {
-    if 4 < t.outer {
-        return 1;
+    if letters::BAG < t.outer {
+        return letters::COLLECTION;
     }
     t.outer
 }
@@ -75,7 +76,7 @@ pub fn set_of_class(c: u8) -> FlatType
 {
     FlatType {
         base: Base::Class(c),
-        outer: 2,
+        outer: letters::SET,
         middle: 0,
         inner: 0,
     }

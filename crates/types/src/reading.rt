@@ -10,6 +10,7 @@ ghost use Rattle.types.specs.Reading.{typeField, held, baseBefore, numbe
 use super::Base;
 use super::FlatType;
 use super::GotType;
+use super::letters;
 use super::parts::depth;
 use super::parts::plain;
 use super::parts::wrap;
@@ -125,10 +126,10 @@ fn letter_code(b: u8) -> u8
     ensures { λ r. ⌜ r ≡ byteCode b ⌝ }
 {
     match b {
-        b'C' => 1,
-        b'S' => 2,
-        b'Q' => 3,
-        b'B' => 4,
+        b'C' => letters::COLLECTION,
+        b'S' => letters::SET,
+        b'Q' => letters::SEQUENCE,
+        b'B' => letters::BAG,
         _ => 0,
     }
 }

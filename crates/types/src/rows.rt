@@ -3,14 +3,9 @@ ghost use mathlib.Core.Path.{_≡_};
 ghost use Prim.Native.Nat.{_≤_};
 ghost use lib.ListN.{length};
 ghost use Rattle.types.specs.Rows.{declaredIn, rowReadIn, found, Unnamed};
-use super::Found;
+use super::RowFound;
 use super::classes::parent;
-
-fn number(i: usize) -> u64
-    ensures { λ r. ⌜ r ≡ i ⌝ }
-{
-    i as u64
-}
+use memory::words::long;
 
 // The row behind the last one, of so many rows, that has the name; 0 where none has.
 fn named_end(names: &[u64], rows: usize, name: u64) -> usize
@@ -44,7 +39,7 @@ fn named_start(names: &[u64], end: usize, name: u64) -> usize
 
 // The row that class c itself declares with the name, which no row before `start` has. A class has a name only once, so the
 // order does not matter.
-fn declared(owners: &[u64], names: &[u64], start: usize, end: usize, c: u64, name: u64) -> Found
+fn declared(owners: &[u64], names: &[u64], start: usize, end: usize, c: u64, name: u64) -> RowFound
     requires { ⌜ end ≤ length (now owners) ⌝ }
     requires { ⌜ end ≤ length (now names) ⌝ }
     requires { ⌜ Unnamed (now names) name 0 start ⌝ }
@@ -55,11 +50,11 @@ fn declared(owners: &[u64], names: &[u64], start: usize, end: usize, c: u64, nam
         i -= 1;
         if owners[i] == c {
             if names[i] == name {
-                return Found::At(number(i));
+                return RowFound::At(long(i));
             }
         }
     }
-    Found::Nothing
+    RowFound::Nothing
 }
 
 // The nearest declaration from class c upward, among the rows before `end`.
@@ -71,7 +66,7 @@ fn nearest(
     end: usize,
     c: u64,
     name: u64,
-) -> Found
+) -> RowFound
     requires { ⌜ end ≤ length (now owners) ⌝ }
     requires { ⌜ end ≤ length (now names) ⌝ }
     requires { ⌜ Unnamed (now names) name 0 start ⌝ }
@@ -80,12 +75,12 @@ fn nearest(
     let mut x = c;
     loop {
         let f = declared(owners, names, start, end, x, name);
-        let Found::Nothing = f else {
+        let RowFound::Nothing = f else {
             return f;
         };
         let p = parent(parents, x);
         if p == 0 {
-            return Found::Nothing;
+            return RowFound::Nothing;
         }
         x = p - 1;
     }
@@ -100,7 +95,7 @@ pub fn row_read(
     rows: usize,
     c: u64,
     name: u64,
-) -> Found
+) -> RowFound
     requires { ⌜ rows ≤ length (now owners) ⌝ }
     requires { ⌜ rows ≤ length (now names) ⌝ }
     ensures { λ r. ⌜ found r ≡ rowReadIn (now (parents .entry)) (now (owners .entry)) (now (names .entry)) rows c name ⌝ }

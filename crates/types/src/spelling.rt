@@ -9,6 +9,7 @@ ghost use Rattle.types.specs.Flat.{baseType, letterOf, tyOf};
 ghost use Rattle.types.specs.Written.{opening, letters, brackets};
 use super::Base;
 use super::FlatType;
+use super::letters;
 use super::parts::depth;
 use text::spelling::put_byte;
 use text::spelling::put_bytes;
@@ -38,9 +39,9 @@ fn letter_byte(k: u8) -> u8
     ensures { λ r. ⌜ r ≡ letterByte (letterOf k) ⌝ }
 {
     match k {
-        2 => b'S',
-        3 => b'Q',
-        4 => b'B',
+        letters::SET => b'S',
+        letters::SEQUENCE => b'Q',
+        letters::BAG => b'B',
         _ => b'C',
     }
 }

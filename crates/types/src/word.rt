@@ -4,8 +4,12 @@ ghost use Rattle.types.specs.Flat.{tyOf};
 ghost use Rattle.types.specs.Word.{baseIn, typeIn, ThreeBits};
 use super::Base;
 use super::FlatType;
+use super::letters;
 use super::order::class_in;
 use super::order::tag;
+
+// C's code, as a word.
+const COLLECTION: u64 = letters::COLLECTION as u64;
 
 // A code in three bits; one that does not fit counts as C.
 fn three_bits(k: u8) -> u64
@@ -14,7 +18,7 @@ fn three_bits(k: u8) -> u64
     if k < 8 {
         return k as u64;
     }
-    1
+    COLLECTION
 }
 
 // The type as a word.

@@ -16,10 +16,11 @@ use judgements::forms::conditional_type;
 use judgements::forms::join_more;
 use judgements::single::single_type;
 use memory::codes;
+use memory::words::wide;
 use nodes::node_word;
 use types::Base;
 use types::Joined;
-use types::classes::wide;
+use types::letters;
 use types::parts::plain;
 
 // A form with a single operand.
@@ -112,8 +113,8 @@ pub fn conditional(
     }
 }
 
-// By how much the codes of `coll` for a Set, a Sequence and a Bag are above those of the letters S, Q and B, which are 2 to 4.
-const TO_LETTERS: u64 = codes::SET - 2;
+// By how much the codes of `coll` for a Set, a Sequence and a Bag are above those of their letters.
+const COLLECTIONS: u64 = codes::SET - letters::SET as u64;
 
 // `coll`: all members are typed before their common type is asked for. More than four members, which no accepted sheet has, count as
 // `undef`.
@@ -145,5 +146,5 @@ pub fn coll(
         common = join_more(parents, common, t);
         i += 1;
     }
-    around_common(n as u64, (form - TO_LETTERS) as u8, common)
+    around_common(n as u64, (form - COLLECTIONS) as u8, common)
 }

@@ -15,9 +15,9 @@ use judgements::Reply;
 use judgements::TypeEnv;
 use judgements::environment::bind;
 use judgements::forms::condition;
+use memory::words::wide;
 use nodes::node_word;
 use types::FlatType;
-use types::classes::wide;
 use types::order::subtype;
 use types::parts::member_type;
 use types::parts::outer_code;
@@ -28,7 +28,7 @@ pub fn variable(nodes: &[u64], n: usize, k: usize) -> usize
     requires { ⌜ (n < mostNodes) × (k < 8) × (memory.nodesEnd ≤ length (now nodes)) ⌝ }
     ensures { λ r. ⌜ (r < 16) × (r ≡ variableIn (word (now (nodes .entry)) n k)) ⌝ }
 {
-    wide(node_word(nodes, n, k)) % 16
+    wide(node_word(nodes, n, k)) % memory::VARIABLES
 }
 
 // `let`: the body is typed with the variable bound.

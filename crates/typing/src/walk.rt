@@ -17,9 +17,9 @@ use judgements::Reply;
 use judgements::TypeEnv;
 use judgements::forms::leaf_type;
 use memory::codes;
+use memory::words::wide;
 use nodes::node_word;
 use types::Base;
-use types::classes::wide;
 use types::parts::plain;
 
 // Node n. The range of its form's code says how it is typed.

@@ -14,8 +14,8 @@ use Rattle.ocl.specs.Forms.{Arith, plus, minus, times, Division, div, modulo}
 use Rattle.ocl.specs.Operations.{ranged, unlessZero, quotient, remainder, arithmetic, division}
 use Rattle.values.specs.Cells.{bias}
 use Rattle.values.specs.Integers.{numOf, Calculates, Divides, distance, alike, side, arithOf, divisionOf}
-use Rattle.values.specs.declared.Computed.{Computed}
-use Rattle.values.specs.declared.Computed.the-variants as num
+use Rattle.values.specs.declared.IntegerResult.{IntegerResult}
+use Rattle.values.specs.declared.IntegerResult.the-variants as num
 
 -- ---- in range, too low, too high
 
@@ -160,7 +160,7 @@ out-of-range true d h = is-high (pos d) d 0 (omega arith) (omega arith)
 out-of-range false d h = is-low (negℤ (pos d)) 0 d (neg-diff (pos d) d 0 (omega arith)) (omega arith)
 
 module _ (a b : ℕ) {m n : ℕ} (u : m ≡ distance a) (w : n ≡ distance b) where
-  pub times-is : {up : Bool} {r : Computed} → up ≡ alike a b → r ≡ numOf (ranged (side up (m * n))) → Calculates times a b r
+  pub times-is : {up : Bool} {r : IntegerResult} → up ≡ alike a b → r ≡ numOf (ranged (side up (m * n))) → Calculates times a b r
   unfolding arithmetic
   times-is v z = record { is = λ x y g h e f. z ∙ ap (λ (i : ℤ). numOf (ranged i)) (rw (v, u, w) (sym (product-side (sign x g e) (sign y h f)))) }
 
@@ -190,14 +190,14 @@ unfolding division numOf
 mod-by-zero z = record { is = λ x y g h e f. sym (ap numOf (none-by _ (sign y h f) z)) }
 
 module _ (a b : ℕ) {m n : ℕ} (u : m ≡ distance a) (w : n ≡ distance b) (some : b ≡ 2147483648 → ⊥) where
-  pub div-is : {up : Bool} {r : Computed} → up ≡ alike a b → r ≡ numOf (ranged (side up (m / n))) → Divides div a b r
+  pub div-is : {up : Bool} {r : IntegerResult} → up ≡ alike a b → r ≡ numOf (ranged (side up (m / n))) → Divides div a b r
   unfolding division
   div-is v z = record {
     is = λ x y g h e f.
         z ∙ ap (λ (i : ℤ). numOf (ranged i)) (rw (v, u, w) (sym (quotient-side (sign x g e) (sign y h f)))) ∙ sym (ap numOf (some-by _ (sign y h f) some));
   }
 
-  pub mod-is : {r : Computed} → r ≡ numOf (ranged (side (leb 2147483648 a) (m % n))) → Divides modulo a b r
+  pub mod-is : {r : IntegerResult} → r ≡ numOf (ranged (side (leb 2147483648 a) (m % n))) → Divides modulo a b r
   unfolding division
   mod-is z = record {
     is = λ x y g h e f.
@@ -220,7 +220,7 @@ arith-2 zero h = absurd (omega arith)
 arith-2 (suc zero) h = absurd (omega arith)
 arith-2 (suc (suc n)) h = refl
 
-pub calculated-by : {o p : Arith} {a b : ℕ} {r : Computed} → p ≡ o → Calculates o a b r → Calculates p a b r
+pub calculated-by : {o p : Arith} {a b : ℕ} {r : IntegerResult} → p ≡ o → Calculates o a b r → Calculates p a b r
 calculated-by e c = rw e c
 
 pub division-0 : {op : ℕ} → op ≡ 0 → divisionOf op ≡ div
@@ -232,5 +232,5 @@ unfolding divisionOf
 division-1 zero h = absurd (omega arith)
 division-1 (suc n) h = refl
 
-pub divided-by : {o p : Division} {a b : ℕ} {r : Computed} → p ≡ o → Divides o a b r → Divides p a b r
+pub divided-by : {o p : Division} {a b : ℕ} {r : IntegerResult} → p ≡ o → Divides o a b r → Divides p a b r
 divided-by e c = rw e c

@@ -5,7 +5,7 @@ use mathlib.Core.List.{List, _++_}
 use Prim.Native.Nat.{ℕ, _+_, _-_, _<_, _≤_}
 use native.Mathlib.Omega.{arith}
 use lib.ListN.{length, take, drop}
-use lib.Seq.{slice, length-slice, length-take-le}
+use lib.Seq.{slice, length-slice, length-take-le, paste, take-paste, take-all}
 use lib.Dec.{leb}
 use borrow.Author.Tests.{lt-leb, le-leb, leb-true, leb-false}
 use Rattle.laws.specs.Choice.{if_then_else_}
@@ -16,6 +16,7 @@ use Rattle.values.specs.Contracts.{Skips, SmallForm, Forms, Copies, Brin
 use Rattle.values.specs.declared.Formed.{Formed}
 use Rattle.values.specs.declared.Formed.the-variants as formed
 use Rattle.values.proofs.Encoding.{size-law, past-law}
+use Rattle.values.proofs.Sliding.{part-length}
 
 pub forms-done : {v : Value} {sp n : ℕ} (B : List ℕ) {D : List ℕ} → Fits v → size v ≡ n → n ≤ 128 → sp ≤ length B → take (sp + n) D ≡ take sp B ++ enc v → Forms v sp (take sp B) D (formed.Done n)
 forms-done {v} {sp} {n} B {D} f e s h l = record {
@@ -63,15 +64,20 @@ module _ {L S : List ℕ} {a e sp : ℕ} (h : a < e) (room : e ≤ length L) whe
   pub brings-over : 128 < e - a → Brings L a e sp S S formed.Over
   brings-over l = record { small = tt; low = refl; is = λ v f d. forms-over (let z = part-size L a e v room d in omega arith) refl }
 
-  pub brings-done : {D : List ℕ} → e - a ≤ 128 → sp ≤ length S → take (sp + (e - a)) D ≡ take sp S ++ take (e - a) (drop a L) → Brings L a e sp S D (formed.Done (e - a))
-  brings-done {D} l k t = record {
-    small = (omega arith, l);
-    low = trim sp (e - a) D (take sp S) (take (e - a) (drop a L)) (length-take-le sp S k) t;
-    is = λ v f d.
-        let z : a + (e - a) ≡ e = omega arith in
-        forms-done S f (part-size L a e v room d) l k
-        (t ∙ ap (λ (l : List ℕ). take sp S ++ l) (sym (cut-part a (e - a) L (omega arith)) ∙ ap (λ (n : ℕ). slice a n L) z ∙ d));
-  }
+  pub brings-done : {D : List ℕ} → e - a ≤ 128 → sp + (e - a) ≤ length S → D ≡ paste S sp (take (e - a) (drop a L)) (length (take (e - a) (drop a L))) → Brings L a e sp S D (formed.Done (e - a))
+  brings-done {D} l k p =
+      let part = take (e - a) (drop a L) in
+      let n = part-length L a (e - a) (omega arith) in
+      let there : take (sp + (e - a)) D ≡ take sp S ++ part =
+      rw (p, n) (take-paste S sp part (e - a) (omega arith) (omega arith) ∙ ap (λ (l : List ℕ). take sp S ++ l) (take-all (e - a) part (omega arith))) in
+      record {
+        small = (omega arith, l);
+        low = trim sp (e - a) D (take sp S) part (length-take-le sp S (omega arith)) there;
+        is = λ v f d.
+            let z : a + (e - a) ≡ e = omega arith in
+            forms-done S f (part-size L a e v room d) l (omega arith)
+            (there ∙ ap (λ (l : List ℕ). take sp S ++ l) (sym (cut-part a (e - a) L (omega arith)) ∙ ap (λ (n : ℕ). slice a n L) z ∙ d));
+      }
 
 -- ---- a copy of the value at p
 

@@ -1,5 +1,5 @@
 -- Cells copied one by one, within the stack and from other words. Assumes nothing.
-use mathlib.Core.Path.{_≡_, sym, ap, _∙_}
+use mathlib.Core.Path.{_≡_, refl, sym, ap, _∙_}
 use mathlib.Core.Logic.{_⊎_, ⊎-elim}
 use mathlib.Core.List.{List, _++_, append-assoc}
 use Prim.Native.Nat.{ℕ, _+_, _-_, _<_, _≤_}
@@ -10,7 +10,7 @@ use lib.Seq.{take-paste, take-all, take-at, length-take-le, getD-take, getD-drop
 
 -- ---- the part that is copied, and the list after i of its cells
 
-part-length : (L : List ℕ) (from len : ℕ) → from + len ≤ length L → length (take len (drop from L)) ≡ len
+pub part-length : (L : List ℕ) (from len : ℕ) → from + len ≤ length L → length (take len (drop from L)) ≡ len
 part-length L from len h = length-take-le len (drop from L) (rw (length-drop from L) (omega arith))
 
 part-read : (L : List ℕ) (from len i : ℕ) → i < len → getD (take len (drop from L)) i 0 ≡ getD L (from + i) 0
@@ -31,10 +31,11 @@ copy-behind S T L from to len i h k q e = let n = part-length L from len h in rw
 
 -- ---- from other words
 
-pub copy-again : (S T L : List ℕ) (from to len i : ℕ) → from + len ≤ length L → to + len ≤ length S → i < len → T ≡ paste S to (take len (drop from L)) i
-    → set T (to + i) (getD L (from + i) 0) ≡ paste S to (take len (drop from L)) (i + 1)
-copy-again S T L from to len i h k l e =
-    again S T (take len (drop from L)) to i _ e (omega arith) (let n = part-length L from len h in omega arith) (sym (part-read L from len i l))
+pub paste-more : (S : List ℕ) {T : List ℕ} (t : List ℕ) (to i : ℕ) → T ≡ paste S to t i → to + i < length S → i < length t → set T (to + i) (getD t i 0) ≡ paste S to t (i + 1)
+paste-more S t to i e h l = again S _ t to i _ e h l refl
+
+pub paste-done : (S : List ℕ) {T : List ℕ} (t : List ℕ) (to i : ℕ) → T ≡ paste S to t i → length t ≤ i → i ≤ length t → T ≡ paste S to t (length t)
+paste-done S t to i e h l = e ∙ ap (λ (k : ℕ). paste S to t k) (let z : i ≡ length t = omega arith in z)
 
 -- ---- within one list: what is read has not been written yet
 

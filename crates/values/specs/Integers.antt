@@ -10,20 +10,20 @@ use Rattle.reals.specs.Reals.{int, real, inRange, Result, result, noResult, ove
 use Rattle.ocl.specs.Forms.{Arith, plus, minus, times, Division, div, modulo}
 use Rattle.ocl.specs.Operations.{arithmetic, division}
 use Rattle.values.specs.Cells.{bias}
-use Rattle.values.specs.declared.Computed.{Computed}
-use Rattle.values.specs.declared.Computed.the-variants as num
+use Rattle.values.specs.declared.IntegerResult.{IntegerResult}
+use Rattle.values.specs.declared.IntegerResult.the-variants as num
 
 -- the code's answer for what arithmetic on Integers comes to, which is never a Real
-unfoldable pub numOf : Result → Computed
+unfoldable pub numOf : Result → IntegerResult
 numOf (result (int z)) = num.Is (bias z)
 numOf (result (real r)) = num.Over
 numOf noResult = num.Undef
 numOf overRange = num.Over
 
-pub record Calculates (op : Arith) (a b : ℕ) (r : Computed) : Type 0 where
+pub record Calculates (op : Arith) (a b : ℕ) (r : IntegerResult) : Type 0 where
   pub is : (x y : ℤ) → T (inRange x) → T (inRange y) → a ≡ bias x → b ≡ bias y → r ≡ numOf (arithmetic op x y)
 
-pub record Divides (op : Division) (a b : ℕ) (r : Computed) : Type 0 where
+pub record Divides (op : Division) (a b : ℕ) (r : IntegerResult) : Type 0 where
   pub is : (x y : ℤ) → T (inRange x) → T (inRange y) → a ≡ bias x → b ≡ bias y → r ≡ numOf (division op x y)
 
 -- the operations with the number

@@ -3,28 +3,30 @@ use crate::Formed;
 use crate::Simple;
 use floats::Number;
 use floats::Whole;
+use floats::cells::ABOVE;
 use floats::cells::integer_cell;
 use floats::cells::integer_in;
 use floats::cells::number_of;
+use memory::words::wide;
 ghost use mathlib.Core.Path.{_≡_};
-ghost use mathlib.Core.List.{_++_};
 ghost use mathlib.Core.Logic.{_⊎_};
 ghost use Prim.Native.Nat.{_+_, _*_, _≤_, _<_};
-ghost use lib.ListN.{length, take, drop};
+ghost use lib.ListN.{length};
+ghost use lib.Seq.{paste};
 ghost use Rattle.ocl.specs.Values.{largest};
 ghost use Rattle.values.specs.Cells.{kids, sortSpan};
 ghost use Rattle.values.specs.Contracts.{SortOf, PayloadOf, IntegerTest, SimpleOf, CellOf, Narrow, Pushes, EmptyOf, Skips, Slides, Copies, Brings};
 
 // The cells of truth values are below this, and those of numbers follow.
 pub const NUMBERS: u64 = 2;
-// Cells of objects start here, above those of all numbers, and those of the collections follow and end before TOP.
-pub const OBJECTS: u64 = 18_442_240_474_082_181_120;
-
-pub const COLLECTIONS: u64 = 18_442_240_478_377_148_416;
-
-pub const TOP: u64 = 18_442_240_491_262_050_304;
 // From OBJECTS on a cell is its sort times this, plus a payload below it.
 pub const SORT: u64 = 4_294_967_296;
+// Cells of objects start here, above those of all numbers, and those of the collections follow and end before TOP.
+pub const OBJECTS: u64 = ABOVE;
+
+pub const COLLECTIONS: u64 = OBJECTS + SORT;
+
+pub const TOP: u64 = COLLECTIONS + 3 * SORT;
 // The sorts. That of truth values is 0.
 pub const NUMBER: u64 = 1;
 
@@ -37,12 +39,6 @@ pub const SEQUENCE: u64 = 4;
 pub const BAG: u64 = 5;
 // The most cells that a value may have.
 pub const LARGEST: usize = 128;
-
-fn wide(x: u64) -> usize
-    ensures { λ r. ⌜ r ≡ x ⌝ }
-{
-    x as usize
-}
 
 // The sort of the value with this first cell: 0 truth value, 1 number, 2 object, 3 Set, 4 Sequence, 5 Bag.
 pub fn sort_of(cell: u64) -> u64
@@ -175,14 +171,14 @@ pub fn push_copy(stack: &mut [u64], p: usize, sp: usize) -> Formed
     Formed::Done { len }
 }
 
-// Copies the len cells at `from` of other words to `to`.
-fn copy_in(stack: &mut [u64], to: usize, cells: &[u64], from: usize, len: usize)
-    requires { ⌜ (from + len ≤ length (now cells)) × (to + len ≤ length (now stack)) ⌝ }
-    ensures { λ _. ⌜ take (to + len) (now (stack .exit)) ≡ take to (now (stack .entry)) ++ take len (drop from (now (cells .entry))) ⌝ }
+// Copies the cells to `at`.
+pub fn copy_cells(stack: &mut [u64], at: usize, cells: &[u64])
+    requires { ⌜ at + length (now cells) ≤ length (now stack) ⌝ }
+    ensures { λ _. ⌜ now (stack .exit) ≡ paste (now (stack .entry)) at (now (cells .entry)) (length (now (cells .entry))) ⌝ }
 {
-    let mut i = 0;
-    while i < len {
-        stack[to + i] = cells[from + i];
+    let mut i: usize = 0;
+    while i < cells.len() {
+        stack[at + i] = cells[i];
         i += 1;
     }
 }
@@ -196,6 +192,6 @@ pub fn push_cells(stack: &mut [u64], sp: usize, cells: &[u64], a: usize, e: usiz
     if LARGEST < len {
         return Formed::Over;
     }
-    copy_in(stack, sp, cells, a, len);
+    copy_cells(stack, sp, &cells[a..e]);
     Formed::Done { len }
 }

@@ -30,7 +30,7 @@ pub enum Formed {
 }
 
 // What an operation on Integers comes to: a result, counted from -2147483648; none; or one that is over the range.
-pub enum Computed {
+pub enum IntegerResult {
     Is { n: u64 },
     Undef,
     Over,

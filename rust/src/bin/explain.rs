@@ -12,7 +12,7 @@
 use second_evaluator::calls::LONGEST_SHEET;
 use second_evaluator::explain::advice::{advice, NUMBERS};
 use second_evaluator::explain::page::page;
-use second_evaluator::explain::{explained, refused, Explained, Printed};
+use second_evaluator::explain::{explained, refused, Explained, Printed, Told};
 use second_evaluator::harness::program::run;
 use std::io::{self, BufWriter, Read, Write};
 use std::path::Path;
@@ -74,8 +74,10 @@ fn failed(error: io::Error) -> String {
 
 /// One verdict, and every step of it.
 fn traced(explained: &Explained, asked: &[String], out: &mut dyn Write) -> Result<(), String> {
-    let number = |word: &String| word.parse::<usize>().ok();
-    let (rule, object) = (number(&asked[0]), number(&asked[1]));
+    let number = |word: &str| word.parse::<usize>().ok();
+    // The screen names an object as @9.
+    let object = asked[1].strip_prefix('@').unwrap_or(&asked[1]);
+    let (rule, object) = (number(&asked[0]), number(object));
     let found = explained
         .verdicts
         .iter()
@@ -85,6 +87,10 @@ fn traced(explained: &Explained, asked: &[String], out: &mut dyn Write) -> Resul
             "the report has no line for rule {} and object {}",
             asked[0], asked[1]
         ));
+    };
+    let told = Told {
+        is_traced: true,
+        ..told
     };
     let written = out.write_all(told.words(verdict).as_bytes());
     let written = written.and_then(|()| told.trace(verdict, out));

@@ -50,7 +50,8 @@ const REFUSALS: [(u64, &str, &str, &str); 25] = [
         5,
         "out of row",
         "lines, numbers or members are out of order, or a name or a variable is there twice",
-        "the line before it: blocks come as C, A, O, V, D, R, and each kind counts from 0 without a gap",
+        "the line before it: blocks come as C, A, O, V, D, R, each kind counts from 0 without a gap, and V lines and \
+        members of Sets and Bags ascend",
     ),
     (
         6,
@@ -69,7 +70,7 @@ const REFUSALS: [(u64, &str, &str, &str); 25] = [
         "broken tree",
         "the nodes make no tree: an operand is not smaller or used already, a node is not used, there is \
         none, or the tree is over 19 deep, called bodies counted in",
-        "the operands' numbers; each node but the last is used once",
+        "whether the X line or the N lines are there; the operands' numbers; each node but the last is used once",
     ),
     (
         9,
@@ -81,7 +82,7 @@ const REFUSALS: [(u64, &str, &str, &str); 25] = [
         10,
         "no match",
         "two types have no common one, or a cast is between unrelated classes",
-        "whether a collection stands where a member is meant, or a member where a collection is",
+        "whether a collection stands where a member is meant, or a member where a collection is; of a cast, both classes",
     ),
     (
         11,
@@ -142,7 +143,8 @@ const REFUSALS: [(u64, &str, &str, &str); 25] = [
         20,
         "not a sentence",
         "the text of the rule is no sentence",
-        "brackets, words that run together, a second comparison, a minus in front; cut the text down to a part that is read",
+        "brackets, words that run together, a second comparison, a minus in front; what OCL writes otherwise \
+        stands in `docs/SHEETS.md`, section 9",
     ),
     (
         21,

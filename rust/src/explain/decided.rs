@@ -35,9 +35,8 @@ impl Tree<'_> {
         let mut line = self.short_line(at, depth);
         let origin = self.origin(at);
         let why = Why {
-            sheet: self.sheet,
-            lines: self.lines,
-            operands: self.operands(origin),
+            tree: self,
+            at: origin,
         };
         if let Some((arose, look)) = why.of(self.node(origin)) {
             if origin != at {
@@ -54,6 +53,18 @@ impl Tree<'_> {
     /// gone through; of another, each turn, and if there are many, each in a line alone.
     fn gather_turns(&self, at: usize, depth: usize, found: &mut Vec<Line>) {
         let (_, bodies) = self.turns(at);
+        // A source that stands on the sheet may be at fault; all objects of a class are not.
+        if let ([source, ..], Some(_)) = (self.below(at), bodies.last()) {
+            let reads = |node: &&Node| {
+                matches!(
+                    node.form,
+                    Form::Attr { .. } | Form::Collect { .. } | Form::Call(_)
+                )
+            };
+            if self.node(*source).nodes().iter().any(reads) {
+                self.gather(*source, depth, found);
+            }
+        }
         match (self.decided_by(at), bodies.last()) {
             (Some(_), Some(last)) => self.gather(*last, depth, found),
             (_, None) => self.gather_each(self.below(at), depth, found),

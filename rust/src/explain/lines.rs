@@ -103,9 +103,24 @@ fn key(line: &[u8]) -> Option<(u8, Vec<u8>)> {
 }
 
 fn spelt(line: &[u8], tab: &str) -> String {
-    let shown: String = line.escape_ascii().map(char::from).collect();
-    let shown = shown.replace("\\t", tab).replace("\\'", "'");
-    cut(&shown.replace("\\\"", "\""), LONGEST)
+    let fields = line.split(|byte| *byte == b'\t');
+    let shown: Vec<String> = fields.map(shown_bytes).collect();
+    cut(&shown.join(tab), LONGEST)
+}
+
+/// Bytes as they stand there. Those that can't be seen, or are outside ASCII, are spelled out.
+pub fn shown_bytes(bytes: &[u8]) -> String {
+    let spell = |byte: &u8| match byte {
+        b' '..=b'~' => char::from(*byte).to_string(),
+        _ => byte.escape_ascii().to_string(),
+    };
+    bytes.iter().map(spell).collect()
+}
+
+/// Words behind the number of the line that they are of.
+pub fn numbered(number: usize, words: &str) -> String {
+    let line = format!("line {number}");
+    format!("  {line:<8} {words}\n")
 }
 
 /// A part of a rule as text, no longer than a quoted line.
@@ -119,4 +134,9 @@ pub fn cut(words: &str, longest: usize) -> String {
         Some((end, _)) => format!("{} ..", &words[..end]),
         None => words.to_string(),
     }
+}
+
+/// The number that decimal digits spell.
+pub fn decimal(digits: &[u8]) -> Option<u64> {
+    std::str::from_utf8(digits).ok()?.parse().ok()
 }

@@ -4,16 +4,28 @@
 //! explained.
 
 pub mod advice;
+mod bound;
 mod decided;
+mod fields;
 mod hints;
+mod known;
+mod limits;
 mod lines;
+mod misfit;
+mod operands;
+mod order;
 pub mod page;
 mod refused;
+mod remedies;
 mod runs;
 mod spelling;
+mod texts;
+mod trees;
 mod typed;
+mod unlike;
 mod verdicts;
 mod why;
+mod words;
 
 use crate::calls::{accepted, program, undefined_program};
 use crate::model::Sheet;
@@ -21,6 +33,7 @@ use crate::origins;
 use crate::report;
 use lines::Lines;
 pub use refused::refused;
+use unlike::never_true;
 pub use verdicts::{Kind, Told, Verdict};
 
 /// What the product's programs print for a sheet: its report, and where undefined came
@@ -48,6 +61,9 @@ pub struct Explained<'t> {
 /// Said where the lines that are explained are not those of a program.
 pub const TOO_LONG: &str =
     "Too long to be printed (18), the lines below are the second evaluator's alone.\n\n";
+
+/// Said of a sheet that may have been cut off.
+pub const NO_RULE: &str = "The sheet has no rule: nothing was checked.";
 
 /// What is printed, compared with what the second evaluator says. Where they differ, a
 /// sentence on how.
@@ -186,7 +202,11 @@ impl Explained<'_> {
 
     pub fn told(&self) -> Option<Told<'_>> {
         let lines = &self.lines;
-        self.sheet.as_ref().map(|sheet| Told { sheet, lines })
+        self.sheet.as_ref().map(|sheet| Told {
+            sheet,
+            lines,
+            is_traced: false,
+        })
     }
 
     /// The refusal, or each verdict that is false, undefined or stopped and how many there
@@ -206,6 +226,11 @@ impl Explained<'_> {
             if !matches!(verdict.kind(), Kind::True | Kind::Value) {
                 out += &(told.words(verdict) + "\n");
             }
+        }
+        out += &never_true(told.sheet).concat();
+        if told.sheet.rules.is_empty() {
+            out += NO_RULE;
+            out += "\n";
         }
         out + &self.counted() + "\n"
     }

@@ -2,7 +2,7 @@
 
 use super::advice::advice;
 use super::hints::hints;
-use super::lines::Lines;
+use super::lines::{numbered, Lines};
 use super::typed::Typed;
 use crate::wording::shown;
 
@@ -12,10 +12,7 @@ pub fn refused(text: &[u8], number: u64, place: usize) -> String {
     let Some(advice) = advice(number) else {
         return format!("Refused with {number}, which no document names.\n");
     };
-    let mut out = format!("Refused: {} ({number})", advice.word);
-    if place > 0 {
-        out += &format!(" at line {place}");
-    }
+    let mut out = heading(advice.word, number, place);
     out += &format!(".\n  means    {}.\n", advice.meaning);
     if place > 0 {
         let line = if number == 3 {
@@ -23,7 +20,7 @@ pub fn refused(text: &[u8], number: u64, place: usize) -> String {
         } else {
             lines.quoted(place)
         };
-        out += &format!("  line {place:<4}{line}\n");
+        out += &numbered(place, &line);
         if let Some(head) = lines.head(place).filter(|head| *head < place) {
             out += &format!("  below    {}\n", lines.named(head));
         }
@@ -46,4 +43,18 @@ pub fn refused(text: &[u8], number: u64, place: usize) -> String {
     }
     out += &format!("  look at  {}.\n", advice.look);
     out
+}
+
+/// What it is, by its word and number, and where.
+fn heading(word: &str, number: u64, place: usize) -> String {
+    // A stop ends one verdict, and the sheet is accepted.
+    let what = match number {
+        16 | 17 | 19 => "Stopped",
+        _ => "Refused",
+    };
+    let at = match place {
+        0 => String::new(),
+        _ => format!(" at line {place}"),
+    };
+    format!("{what}: {word} ({number}){at}")
 }

@@ -13,6 +13,9 @@ use std::collections::HashMap;
 /// The longest value that is shown beside a part.
 const LONGEST_VALUE: usize = 80;
 
+/// The most V lines that are named beside a part.
+const MOST_LINES: usize = 6;
+
 /// The runs of one rule and object, by position: the run at a position began one step later.
 pub struct Tree<'s> {
     pub(super) sheet: &'s Sheet,
@@ -84,42 +87,30 @@ impl<'s> Tree<'s> {
         (members, below.get(before..).unwrap_or_default())
     }
 
-    /// What is bound anew in a run: a variable, or `self` in a called body.
-    fn bound(&self, at: usize) -> Option<String> {
-        let above = self.runs[at].above?;
-        let place = self.below(above).iter().position(|below| *below == at)?;
-        let value = |at: usize| self.value(at).map(spelt_short);
-        let first = || self.below(above).first().and_then(|first| value(*first));
-        Some(match self.node(above).form {
-            Form::Let(variable) if place == 1 => format!("v{variable} being {}", first()?),
-            Form::Call(_) if place == 1 => format!("self being {}", first()?),
-            Form::ForAll(variable) | Form::Exists(variable) if place >= 1 => {
-                let (members, _) = self.turns(above);
-                format!("v{variable} being {}", spelt_short(members.get(place - 1)?))
-            }
-            Form::Iter {
-                member,
-                accumulator,
-                ..
-            } if place >= 2 => {
-                let (members, _) = self.turns(above);
-                let member_is = spelt_short(members.get(place - 2)?);
-                let so_far = value(self.below(above)[place - 1])?;
-                format!("v{member} being {member_is} and v{accumulator} {so_far}")
-            }
-            _ => return None,
-        })
-    }
-
     /// Where the value of an attribute stands on the sheet.
     pub fn value_line(&self, at: usize) -> Option<usize> {
-        let Form::Attr { row: Some(row), .. } = self.node(at).form else {
-            return None;
-        };
-        match self.below(at).first().and_then(|first| self.value(*first)) {
-            Some(Value::Object(object)) => self.lines.declared(b'V', &[*object, row]),
+        match self.value_lines(at)[..] {
+            [line] => Some(line),
             _ => None,
         }
+    }
+
+    /// Where the values stand that an attribute or `collect` reads.
+    fn value_lines(&self, at: usize) -> Vec<usize> {
+        let Some(row) = self.node(at).form.row() else {
+            return Vec::new();
+        };
+        let read = self.below(at).first().and_then(|first| self.value(*first));
+        let members = match read {
+            Some(Value::Collection(collection)) => collection.members.as_slice(),
+            Some(one) => std::slice::from_ref(one),
+            None => &[],
+        };
+        let lines = members.iter().filter_map(|member| match member {
+            Value::Object(object) => self.lines.declared(b'V', &[*object, row]),
+            _ => None,
+        });
+        lines.collect()
     }
 
     /// A run in words: its part of the rule, what it came to, and what goes with it.
@@ -150,7 +141,7 @@ impl<'s> Tree<'s> {
         if let Some(bound) = self.bound(at) {
             words += &format!(", {bound}");
         }
-        let look = self.value_line(at).map(|line| self.lines.named(line));
+        let look = self.looked_at(at);
         if let Some(line) = &look {
             words += &format!(", by {line}");
         }
@@ -160,6 +151,23 @@ impl<'s> Tree<'s> {
             words,
             look,
             hides: false,
+        }
+    }
+
+    /// The V lines that a run reads: one as it stands, and several by their numbers.
+    fn looked_at(&self, at: usize) -> Option<String> {
+        let lines = self.value_lines(at);
+        match lines[..] {
+            [] => None,
+            [line] => Some(self.lines.named(line)),
+            _ => {
+                let shown = lines.iter().take(MOST_LINES);
+                let mut named: Vec<String> = shown.map(|line| format!("line {line}")).collect();
+                let others = lines.len().saturating_sub(MOST_LINES);
+                named.extend((others > 0).then(|| format!("{others} more")));
+                let last = named.pop()?;
+                Some(format!("{} and {last}", named.join(", ")))
+            }
         }
     }
 
@@ -189,12 +197,6 @@ impl<'s> Tree<'s> {
             _ => return None,
         })
     }
-
-    /// The values of a run's operands.
-    pub fn operands(&self, at: usize) -> Vec<Option<&Value>> {
-        let below = self.below(at).iter();
-        below.map(|below| self.value(*below)).collect()
-    }
 }
 
 /// A value as a report spells it; a Real with its digits behind it.
@@ -219,7 +221,7 @@ fn digits(real: f64) -> String {
     }
 }
 
-fn spelt_short(value: &Value) -> String {
+pub(super) fn spelt_short(value: &Value) -> String {
     cut(&spelt(value), LONGEST_VALUE)
 }
 

@@ -1,39 +1,21 @@
 //! What can be seen of a misspelled line.
 
-use super::lines::{cut, Lines};
+use super::fields::{of_line, Field};
+use super::lines::{cut, shown_bytes, Lines};
+use super::misfit::misfit;
+use super::trees::parted_by_space;
 
-/// The fields of a line by its letter; of an N line they depend on the form.
-fn fields(letter: &[u8]) -> Option<usize> {
-    Some(match letter {
-        b"C" | b"O" | b"R" => 3,
-        b"A" => 5,
-        b"V" | b"D" => 4,
-        b"X" => 2,
-        _ => return None,
-    })
-}
+/// The letters that lines begin with.
+const LETTERS: &[u8] = b"CAOVDRXN";
 
-/// The fields of an N line by its form; `coll` has four to eight.
-fn node_fields(form: &[u8]) -> Option<std::ops::RangeInclusive<usize>> {
-    Some(match form {
-        b"true" | b"false" | b"undef" | b"self" => 3..=3,
-        b"int" | b"real" | b"var" | b"all" => 4..=4,
-        b"not" | b"isUndef" | b"size" | b"asSet" | b"asBag" | b"asSequence" => 4..=4,
-        b"and" | b"or" | b"eq" | b"less" | b"plus" | b"minus" | b"times" | b"div" | b"mod"
-        | b"over" | b"attr" | b"collect" | b"as" | b"includes" | b"including" | b"union"
-        | b"call" => 5..=5,
-        b"let" | b"if" | b"forAll" | b"exists" => 6..=6,
-        b"iter" => 9..=9,
-        b"coll" => 4..=8,
-        _ => return None,
-    })
-}
-
-/// All that is seen of it.
+/// All that is seen of it. Of its fields one by one only if nothing else is.
 pub fn misspelt(lines: &Lines, place: usize) -> Vec<String> {
     let line = lines.bytes(place);
     if line.is_empty() {
         return vec!["the line is empty".to_string()];
+    }
+    if let Some(whole) = other_file(line) {
+        return vec![whole.to_string()];
     }
     let split = lines.fields(place);
     let is_last = lines.all().len() == place && !lines.are_ended();
@@ -42,47 +24,100 @@ pub fn misspelt(lines: &Lines, place: usize) -> Vec<String> {
             "the line ends in a carriage return: save the sheet with line feeds alone".to_string()
         }),
         beginning(line, split[0]),
-        (line.contains(&b' ') && split[0] != b"X")
-            .then(|| "there is a space: fields are parted by one tab".to_string()),
         count(&split),
         number(&split),
         is_last.then(|| "the last line has no line feed".to_string()),
     ];
-    seen.into_iter().flatten().collect()
+    let seen = seen.into_iter().flatten();
+    let seen: Vec<String> = seen.chain(spaces(lines, place)).collect();
+    if seen.is_empty() {
+        return field(&split).into_iter().collect();
+    }
+    seen
+}
+
+/// A file that is no sheet, or is saved in a way that no sheet is.
+fn other_file(line: &[u8]) -> Option<&'static str> {
+    if line.starts_with(b"\xef\xbb\xbf") {
+        return Some("a byte order mark stands in front: save the sheet as UTF-8 without one");
+    }
+    if line.starts_with(b"\xff\xfe") || line.starts_with(b"\xfe\xff") {
+        return Some("the sheet begins as UTF-16 does: save it as UTF-8");
+    }
+    if line[..line.len() - 1].contains(&b'\r') {
+        return Some("a carriage return stands inside the line: each line ends in a line feed");
+    }
+    let digits = line.iter().all(u8::is_ascii_digit);
+    digits.then_some("a number alone: a run of stitch lengths is for ./load")
 }
 
 fn beginning(line: &[u8], letter: &[u8]) -> Option<String> {
-    if line.starts_with(b"\xef\xbb\xbf") {
-        return Some("a byte order mark stands in front".to_string());
+    let known = |letter: &u8| LETTERS.contains(letter);
+    // Spaces in place of the tabs are said of elsewhere.
+    if matches!(letter, [first] | [first, b' ', ..] if known(first)) {
+        return None;
     }
-    if !line.is_empty() && line.iter().all(u8::is_ascii_digit) {
-        return Some("a number alone: a run of stitch lengths is for ./load".to_string());
+    let comments: [&[u8]; 4] = [b"--", b"//", b"/*", b"#"];
+    if comments.iter().any(|comment| line.starts_with(comment)) {
+        return Some("no line begins so, and a sheet has no comments".to_string());
     }
-    let known = matches!(
-        letter,
-        b"C" | b"A" | b"O" | b"V" | b"D" | b"R" | b"X" | b"N"
-    );
-    (!known).then(|| "no line begins so: its first field is C, A, O, V, D, R, X or N".to_string())
+    Some("no line begins so: its first field is C, A, O, V, D, R, X or N".to_string())
+}
+
+/// Spaces where none may stand. In a text they may.
+fn spaces(lines: &Lines, place: usize) -> Vec<String> {
+    let line = lines.bytes(place);
+    if line.starts_with(b"X") {
+        return parted_by_space(lines, place).into_iter().collect();
+    }
+    let mut open = 0;
+    let mut inside = false;
+    let mut between = false;
+    let ended = line.strip_suffix(b"\r").unwrap_or(line);
+    let trimmed = ended.trim_ascii_end();
+    for byte in trimmed {
+        match byte {
+            b'(' | b'{' => open += 1,
+            b')' | b'}' => open -= 1,
+            b' ' if open > 0 => inside = true,
+            b' ' => between = true,
+            _ => {}
+        }
+    }
+    let seen = [
+        (between, "there is a space: fields are parted by one tab"),
+        (
+            inside,
+            "there is a space inside brackets: members have a comma and no space between them",
+        ),
+        (
+            ended.ends_with(b" "),
+            "the line ends in a space, which can't be seen",
+        ),
+    ];
+    let seen = seen.iter().filter(|(is_seen, _)| *is_seen);
+    seen.map(|(_, words)| words.to_string()).collect()
 }
 
 /// The number of fields, or a form that there is not.
 fn count(split: &[&[u8]]) -> Option<String> {
-    let wanted = match (fields(split[0]), split.get(2)) {
-        (Some(count), _) => count..=count,
-        (None, Some(form)) if split[0] == b"N" => match node_fields(form) {
-            Some(wanted) => wanted,
-            None => {
-                let form = form.escape_ascii().to_string();
-                return Some(format!("there is no form `{}`", cut(&form, 40)));
-            }
-        },
-        _ => return None,
+    let Some(fields) = of_line(split) else {
+        // Only an N line has so many forms, and a beginning that no line has is said of.
+        return (split[0] == b"N").then(|| match split.get(2) {
+            Some([]) => "field 3 is empty".to_string(),
+            Some(form) => format!("there is no form `{}`", cut(&shown_bytes(form), 40)),
+            None => "it has no form, which is the third field of an N line".to_string(),
+        });
     };
+    let most = fields.len() + 1;
+    // Of a collection all members may be left out.
+    let members = fields.iter().skip_while(|field| **field != Field::Kind);
+    let least = most - members.count().saturating_sub(1);
     let count = split.len();
-    if wanted.contains(&count) {
-        return None;
+    if (least..=most).contains(&count) {
+        let empty = split.iter().position(|field| field.is_empty())?;
+        return Some(format!("field {} is empty", empty + 1));
     }
-    let (least, most) = (wanted.start(), wanted.end());
     let should = if least == most {
         least.to_string()
     } else {
@@ -92,7 +127,7 @@ fn count(split: &[&[u8]]) -> Option<String> {
     Some(format!("it has {count} {word}, and should have {should}"))
 }
 
-/// A number with a leading zero, or a minus where none may stand.
+/// A number with a leading zero, or a minus before zero.
 fn number(split: &[&[u8]]) -> Option<String> {
     let is_text = split[0] == b"X";
     let wrong = split.iter().skip(1).filter(|_| !is_text).find(|field| {
@@ -100,13 +135,21 @@ fn number(split: &[&[u8]]) -> Option<String> {
         digits.len() + usize::from(field.len() > digits.len()) > 1
             && digits.first() == Some(&b'0')
             && digits.iter().all(u8::is_ascii_digit)
-    });
-    let undefined = split[0] == b"V" && split.get(3) == Some(&b"u".as_slice());
-    match wrong {
-        Some(field) => Some(format!(
-            "`{}` has a zero in front",
-            cut(&String::from_utf8_lossy(field), 40)
-        )),
-        None => undefined.then(|| "`u` is no value: leave the line out".to_string()),
+    })?;
+    if *wrong == b"-0" {
+        return Some("zero is `0`, without a minus".to_string());
     }
+    let wrong = cut(&shown_bytes(wrong), 40);
+    Some(format!("`{wrong}` has a zero in front"))
+}
+
+/// The first field that is misspelled.
+fn field(split: &[&[u8]]) -> Option<String> {
+    let fields = of_line(split)?;
+    let mut fields = fields.iter().zip(&split[1..]).enumerate();
+    fields.find_map(|(position, (field, spelt))| {
+        let why = misfit(*field, spelt)?;
+        let spelt = cut(&shown_bytes(spelt), 40);
+        Some(format!("field {}, `{spelt}`, {why}", position + 2))
+    })
 }

@@ -4,6 +4,7 @@
 use crate::model::Sheet;
 use crate::read::read;
 use crate::tree::{Form, Node};
+use crate::types::Type;
 use crate::typing::type_rules;
 
 /// A sheet that is read and typed up to a refusal.
@@ -62,12 +63,23 @@ impl Typed {
         } else {
             &part.operands
         };
-        let typed = parts.iter().filter_map(|part| {
-            let mut spelt = Vec::new();
-            part.ty.as_ref()?.spell(&mut spelt);
-            Some((part, String::from_utf8_lossy(&spelt).into_owned()))
-        });
+        let typed = parts.iter();
+        let typed = typed.filter_map(|part| Some((part, spelt(part.ty.as_ref()?))));
         typed.collect()
+    }
+
+    /// The type that the definition declares, if it is one.
+    pub fn declared(&self) -> Option<String> {
+        let mut definitions = self.sheet.definitions.iter();
+        let root = self.root();
+        let own = definitions.find(|definition| std::ptr::eq(&definition.root, root))?;
+        Some(spelt(&own.ty))
+    }
+
+    /// The class that a definition is for.
+    pub fn class_of(&self, definition: u8) -> Option<u8> {
+        let called = self.sheet.definitions.get(usize::from(definition));
+        called.map(|called| called.class)
     }
 
     /// The classes that declare an attribute of this name.
@@ -76,6 +88,12 @@ impl Typed {
         let named = rows.filter(|row| row.name == name);
         named.map(|row| row.class).collect()
     }
+}
+
+pub fn spelt(ty: &Type) -> String {
+    let mut out = Vec::new();
+    ty.spell(&mut out);
+    String::from_utf8_lossy(&out).into_owned()
 }
 
 /// Whether typing began in a part and did not end well there. It goes operands first, and

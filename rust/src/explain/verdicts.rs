@@ -1,7 +1,7 @@
 //! Verdicts in words.
 
 use super::advice::advice;
-use super::lines::Lines;
+use super::lines::{numbered, Lines};
 use super::runs::{Line, Texts, Tree};
 use super::why::Why;
 use crate::eval::Ended;
@@ -18,6 +18,8 @@ const MOST_VALUES: usize = 4;
 pub struct Told<'t> {
     pub sheet: &'t Sheet,
     pub lines: &'t Lines<'t>,
+    /// Whether all steps of a verdict follow its words.
+    pub is_traced: bool,
 }
 
 /// What a verdict says.
@@ -90,7 +92,7 @@ impl<'t> Told<'t> {
         let place = head.map_or(String::new(), |head| {
             format!(", below {}", self.lines.named(head))
         });
-        format!("  line {line:<4}{quoted}{place}\n")
+        numbered(line, &(quoted + &place))
     }
 
     /// The X line of a rule, or the R line of one in nodes.
@@ -107,11 +109,7 @@ impl<'t> Told<'t> {
         let mut out = self.head(verdict, "is undefined");
         out += &self.at(line);
         let at = step - 1;
-        let why = Why {
-            sheet: self.sheet,
-            lines: self.lines,
-            operands: tree.operands(at),
-        };
+        let why = Why { tree, at };
         let node = tree.node(at);
         let (arose, look) = why.of(node).expect("undefined arises there");
         out += &format!("  arose    at `{}`, ", shown(node));
@@ -156,7 +154,7 @@ impl<'t> Told<'t> {
         };
         let mut out = self.head(verdict, &what);
         let line = self.line_of_rule(verdict);
-        out += &format!("  line {line:<4}{}\n", self.lines.quoted(line));
+        out += &numbered(line, &self.lines.quoted(line));
         let parts = tree.decisive();
         let steps = verdict.steps;
         let word = if steps == 1 { "step" } else { "steps" };
@@ -168,7 +166,10 @@ impl<'t> Told<'t> {
         if parts.len() > MOST_PARTS {
             out += &format!("    .. and {} more\n", parts.len() - MOST_PARTS);
         }
-        let trace = format!("./explain SHEET {} {}", verdict.rule, verdict.object);
+        let trace = match self.is_traced {
+            true => "all of them are below".to_string(),
+            false => format!("./explain SHEET {} {}", verdict.rule, verdict.object),
+        };
         out + &format!("  look at  {}.\n", values(&parts, &trace))
     }
 

@@ -79,7 +79,7 @@ impl<'a> Fields<'a> {
     }
 
     pub fn row(&mut self) -> u8 {
-        self.number(0, 63) as u8
+        self.number(0, spelling::LAST_ROW) as u8
     }
 
     pub fn name(&mut self) -> u8 {

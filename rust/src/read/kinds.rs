@@ -13,8 +13,7 @@ pub fn kind(token: &[u8]) -> &'static str {
         b"Set" | b"Sequence" | b"Bag" => "type",
         b"Void" | b"Bool" | b"Int" | b"Real" | b"Any" | b"S" | b"Q" | b"B" | b"C" => "type",
         b"allInstances" | b"isUndef" | b"oclAsType" => "step",
-        b"size" | b"asSet" | b"asBag" | b"asSequence" | b"collect" => "step",
-        b"includes" | b"including" | b"union" | b"forAll" | b"exists" | b"iter" => "step",
+        _ if is_arrow_step(token) => "step",
         b"." | b"->" => "accessor",
         b"+" | b"-" | b"*" | b"/" | b"=" | b"<" => "sign",
         b"(" | b")" | b"{" | b"}" => "bracket",
@@ -23,6 +22,24 @@ pub fn kind(token: &[u8]) -> &'static str {
         _ if number(token, 0, i32::MAX as u64).is_ok() => "integer",
         _ => label(token),
     }
+}
+
+/// Whether a word is a step that stands behind an arrow.
+pub fn is_arrow_step(token: &[u8]) -> bool {
+    matches!(
+        token,
+        b"size"
+            | b"asSet"
+            | b"asBag"
+            | b"asSequence"
+            | b"collect"
+            | b"includes"
+            | b"including"
+            | b"union"
+            | b"forAll"
+            | b"exists"
+            | b"iter"
+    )
 }
 
 /// A letter with a number behind it, or nothing that a text knows.

@@ -3,7 +3,7 @@
 pub mod edits;
 mod fields;
 pub mod kinds;
-mod nodes;
+pub mod nodes;
 mod primaries;
 pub mod sentences;
 pub mod spelling;
@@ -187,7 +187,7 @@ impl Reader {
     }
 
     fn rule(&mut self, mut fields: Fields, place: usize) -> Result<(), Refusal> {
-        let number = fields.number(0, 63) as u8;
+        let number = fields.number(0, spelling::LAST_RULE) as u8;
         let class = fields.class();
         fields.end()?;
         self.in_row(Block::Rules, number, self.sheet.rules.len())?;

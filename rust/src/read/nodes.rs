@@ -6,7 +6,7 @@ use crate::refusal::Refusal;
 use crate::tree::{Form, Node};
 use crate::types::Kind;
 
-pub(super) const MOST_NODES: usize = 768;
+pub const MOST_NODES: usize = 768;
 const MOST_MEMBERS: usize = 4;
 
 /// An N line's fields after its number.

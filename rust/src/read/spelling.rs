@@ -6,9 +6,11 @@ use crate::types::{Kind, Type, DEEPEST};
 use crate::values::{Collection, Value};
 
 pub const LAST_CLASS: u64 = 63;
+pub const LAST_ROW: u64 = 63;
 pub const LAST_OBJECT: u64 = 95;
 pub const LAST_NAME: u64 = 255;
 pub const LAST_DEFINITION: u64 = 31;
+pub const LAST_RULE: u64 = 63;
 pub const LAST_VARIABLE: u64 = 15;
 
 /// What is spelt, or BadLine, or OutOfLimits for a good spelling outside its limits.

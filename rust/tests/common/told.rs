@@ -21,10 +21,14 @@ pub fn printed(text: &[u8]) -> Printed {
     }
 }
 
+/// What is explained of a sheet.
+pub fn explanation(text: &[u8]) -> String {
+    explained(text, &printed(text)).unwrap().words()
+}
+
 /// A sheet's explanation has all of these.
 pub fn says(lines: &str, expected: &[&str]) {
-    let text = sheet(lines);
-    let words = explained(&text, &printed(&text)).unwrap().words();
+    let words = explanation(&sheet(lines));
     for part in expected {
         assert!(words.contains(part), "{part} is not in\n{words}");
     }

@@ -1,5 +1,7 @@
 //! Words and bytes as they may stand in a page.
 
+use crate::explain::lines::shown_bytes;
+
 /// Words with the signs of HTML escaped, and nothing in them that is not to be seen.
 pub fn text(words: &str) -> String {
     let mut out = String::with_capacity(words.len());
@@ -21,16 +23,8 @@ pub fn text(words: &str) -> String {
 /// The bytes of a line: a sheet may hold any. Those outside ASCII are spelled out.
 pub fn bytes(line: &[u8]) -> String {
     let fields = line.split(|byte| *byte == b'\t');
-    let fields = fields.map(|field| text(&spelt(field)));
+    let fields = fields.map(|field| text(&shown_bytes(field)));
     fields.collect::<Vec<_>>().join("\t")
-}
-
-fn spelt(field: &[u8]) -> String {
-    let spell = |byte: &u8| match byte {
-        b' '..=b'~' => char::from(*byte).to_string(),
-        _ => byte.escape_ascii().to_string(),
-    };
-    field.iter().map(spell).collect()
 }
 
 /// An explanation, each line by itself: where it goes on, it goes on below its own words.

@@ -4,8 +4,9 @@
 mod escape;
 mod parts;
 
+use super::unlike::never_true;
 use super::verdicts::{Kind, Verdict};
-use super::{refused, Explained, TOO_LONG};
+use super::{refused, Explained, NO_RULE, TOO_LONG};
 use escape::{bytes, text, words};
 use parts::{class_of, explanations, rules, table};
 
@@ -55,17 +56,39 @@ fn refusal(explained: &Explained, number: u64, place: usize) -> String {
 fn report(explained: &Explained) -> String {
     let counts = counts(explained);
     if explained.verdicts.is_empty() {
-        return format!("{counts}<p>There are no verdicts: no rule has an object.</p>\n");
+        let has_rules = explained
+            .told()
+            .is_some_and(|told| !told.sheet.rules.is_empty());
+        let why = match has_rules {
+            true => "There are no verdicts: no rule has an object.",
+            false => NO_RULE,
+        };
+        return format!("{counts}<p>{why}</p>\n");
     }
     let to_look_at = |kind| matches!(kind, Kind::False | Kind::Undefined | Kind::Stopped);
     [
         counts,
+        never(explained),
         table(explained),
         explanations(explained, "To look at", &to_look_at),
         explanations(explained, "The other verdicts", &|kind| !to_look_at(kind)),
         rules(explained),
     ]
     .concat()
+}
+
+/// The comparisons that are never true, if there are any.
+fn never(explained: &Explained) -> String {
+    let sheet = explained.sheet.as_ref();
+    let never = sheet.map(|sheet| never_true(sheet).concat());
+    let Some(never) = never.filter(|never| !never.is_empty()) else {
+        return String::new();
+    };
+    let never = words(&never, explained.lines.all().len());
+    format!(
+        "<section aria-labelledby=\"never\">\n<h2 id=\"never\">Comparisons that are never true</h2>\n\
+        {never}</section>\n"
+    )
 }
 
 /// How many verdicts there are of each kind, which is the key to letters and colours too.

@@ -7,8 +7,8 @@ use Rattle.answering.proofs.edit.edit_on.Tie as tie
 edit-board-requires : tie.Need-edit-board-requires
 edit-board-requires c κs = search needs
 
-edit-answer-requires : tie.Need-edit-answer-requires
-edit-answer-requires c κs = search needs
+edit-ended-requires : tie.Need-edit-ended-requires
+edit-ended-requires c κs = search needs
 
 same-length : tie.Need-same-length
 same-length c = search needs
@@ -30,7 +30,7 @@ edit-on-spec =
     tie.close
     (tie.spec
     edit-board-requires
-    edit-answer-requires
+    edit-ended-requires
     same-length
     same-length-2
     same-length-3

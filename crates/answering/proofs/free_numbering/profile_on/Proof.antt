@@ -7,8 +7,8 @@ use Rattle.answering.proofs.free_numbering.profile_on.Tie as tie
 lowest-outside-requires : tie.Need-lowest-outside-requires
 lowest-outside-requires c κs = search needs
 
-node-line-requires : tie.Need-node-line-requires
-node-line-requires c κs = search needs
+line-of-requires : tie.Need-line-of-requires
+line-of-requires c κs = search needs
 
 no-output-requires : tie.Need-no-output-requires
 no-output-requires c κs = search needs
@@ -48,7 +48,7 @@ profile-on-spec =
     tie.close
     (tie.spec
     lowest-outside-requires
-    node-line-requires
+    line-of-requires
     no-output-requires
     same-length
     same-length-2

@@ -28,8 +28,8 @@ same-length-5 c = search needs
 returns : tie.Need-returns
 returns c = search edit-short
 
-edit-text-requires : tie.Need-edit-text-requires
-edit-text-requires c κs =
+edit-answer-requires : tie.Need-edit-answer-requires
+edit-answer-requires c κs =
     let at-if1 = c .before .before .before .before .before in
     let at-short-board = at-if1 .before in
     let at-start = at-short-board .before .before .before .before .before .before .before .before .before .before .before .before .before in
@@ -37,11 +37,11 @@ edit-text-requires c κs =
 
 wipe-all-requires : tie.Need-wipe-all-requires
 wipe-all-requires c κs =
-    let at-edit-text = c .before .before .before .before .before .before .before .before .before .before .before .before .before in
-    let at-if1 = at-edit-text .before .before .before .before .before .before in
+    let at-edit-answer = c .before .before .before .before .before .before .before .before .before .before .before .before .before in
+    let at-if1 = at-edit-answer .before .before .before .before .before .before in
     let at-short-board = at-if1 .before in
     let at-start = at-short-board .before .before .before .before .before .before .before .before .before .before .before .before .before in
-    edit-wide (board-lent (at-start .args .w0 .now) (at-start .args .w1 .now) (at-start .args .w2 .now) (at-start .args .words .now) (at-start .args .out .now) (at-short-board .short-board .ensures) (at-if1 .if1 .left) .0) (at-edit-text .edit-text .ensures)
+    edit-wide (board-lent (at-start .args .w0 .now) (at-start .args .w1 .now) (at-start .args .w2 .now) (at-start .args .words .now) (at-start .args .out .now) (at-short-board .short-board .ensures) (at-if1 .if1 .left) .0) (at-edit-answer .edit-answer .ensures)
 
 same-length-6 : tie.Need-same-length-6
 same-length-6 c = search needs
@@ -73,7 +73,7 @@ ocl-edit-board-spec =
     same-length-4
     same-length-5
     returns
-    edit-text-requires
+    edit-answer-requires
     wipe-all-requires
     same-length-6
     same-length-7

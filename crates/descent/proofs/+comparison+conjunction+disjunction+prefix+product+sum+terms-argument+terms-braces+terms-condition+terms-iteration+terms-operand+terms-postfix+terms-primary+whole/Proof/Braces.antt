@@ -9,7 +9,7 @@ use native.Mathlib.Omega.{arith}
 use Rattle.descent.proofs.terms.braces.Reads as braces
 use Rattle.descent.proofs.whole.Reads as whole
 use Rattle.phrases.proofs.words.after.Reads as after-reads
-use Rattle.trees.proofs.built.assembled.Reads as assembled-reads
+use Rattle.shapes.proofs.built.assembled.Reads as assembled-reads
 use Rattle.emission.proofs.emit.Reads as emit-reads
 use Rattle.descent.proofs.+comparison+conjunction+disjunction+prefix+product+sum+terms-argument+terms-braces+terms-condition+terms-iteration+terms-operand+terms-postfix+terms-primary+whole.Lts-terms-braces as braces-lts
 use Rattle.descent.proofs.+comparison+conjunction+disjunction+prefix+product+sum+terms-argument+terms-braces+terms-condition+terms-iteration+terms-operand+terms-postfix+terms-primary+whole.Proof.Base.{braces-at, whole-below}

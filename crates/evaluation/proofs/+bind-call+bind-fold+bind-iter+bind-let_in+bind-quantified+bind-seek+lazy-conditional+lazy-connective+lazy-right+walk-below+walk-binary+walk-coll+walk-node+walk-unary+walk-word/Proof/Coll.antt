@@ -15,7 +15,7 @@ use Rattle.evaluation.proofs.answers.arose.Reads as arose-reads
 use Rattle.evaluation.proofs.answers.place_of.Reads as place-of-reads
 use Rattle.outcomes.proofs.answers.formed.Reads as formed-reads
 use Rattle.nodes.proofs.node_word.Reads as node-word-reads
-use Rattle.types.proofs.classes.wide.Reads as wide-reads
+use Rattle.memory.proofs.words.wide.Reads as wide-reads
 use Rattle.evaluation.proofs.+bind-call+bind-fold+bind-iter+bind-let_in+bind-quantified+bind-seek+lazy-conditional+lazy-connective+lazy-right+walk-below+walk-binary+walk-coll+walk-node+walk-unary+walk-word.Lts-walk-coll as lts
 use Rattle.evaluation.proofs.+bind-call+bind-fold+bind-iter+bind-let_in+bind-quantified+bind-seek+lazy-conditional+lazy-connective+lazy-right+walk-below+walk-binary+walk-coll+walk-node+walk-unary+walk-word.Proof.Base.{below-below, coll-at}
 

@@ -8,7 +8,7 @@ use Rattle.evaluation.proofs.walk.below.Reads as below
 use Rattle.evaluation.proofs.bind.fold.Reads as fold
 use Rattle.evaluation.proofs.bind.iter.Reads as iter
 use Rattle.nodes.proofs.node_word.Reads as node-word-reads
-use Rattle.types.proofs.classes.wide.Reads as wide-reads
+use Rattle.memory.proofs.words.wide.Reads as wide-reads
 use Rattle.values.proofs.cells.sort_of.Reads as sort-of-reads
 use Rattle.evaluation.proofs.+bind-call+bind-fold+bind-iter+bind-let_in+bind-quantified+bind-seek+lazy-conditional+lazy-connective+lazy-right+walk-below+walk-binary+walk-coll+walk-node+walk-unary+walk-word.Lts-bind-iter as lts
 use Rattle.evaluation.proofs.+bind-call+bind-fold+bind-iter+bind-let_in+bind-quantified+bind-seek+lazy-conditional+lazy-connective+lazy-right+walk-below+walk-binary+walk-coll+walk-node+walk-unary+walk-word.Proof.Base.{below-below, fold-below, iter-at}

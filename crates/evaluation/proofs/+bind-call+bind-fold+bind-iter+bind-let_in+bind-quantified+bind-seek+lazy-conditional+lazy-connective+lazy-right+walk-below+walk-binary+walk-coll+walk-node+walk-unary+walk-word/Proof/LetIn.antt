@@ -10,7 +10,7 @@ use Rattle.evaluation.proofs.walk.below.Reads as below
 use Rattle.evaluation.proofs.bind.let_in.Reads as let-in
 use Rattle.nodes.proofs.node_word.Reads as node-word-reads
 use Rattle.values.proofs.cells.slide.Reads as slide-reads
-use Rattle.types.proofs.classes.wide.Reads as wide-reads
+use Rattle.memory.proofs.words.wide.Reads as wide-reads
 use Rattle.evaluation.proofs.+bind-call+bind-fold+bind-iter+bind-let_in+bind-quantified+bind-seek+lazy-conditional+lazy-connective+lazy-right+walk-below+walk-binary+walk-coll+walk-node+walk-unary+walk-word.Lts-bind-let_in as lts
 use Rattle.evaluation.proofs.+bind-call+bind-fold+bind-iter+bind-let_in+bind-quantified+bind-seek+lazy-conditional+lazy-connective+lazy-right+walk-below+walk-binary+walk-coll+walk-node+walk-unary+walk-word.Proof.Base.{below-below, let-in-at}
 

@@ -20,7 +20,7 @@ use Rattle.evaluation.proofs.walk.node.Reads as node
 use Rattle.nodes.proofs.node_word.Reads as node-word-reads
 use Rattle.evaluation.proofs.bind.quantified.Reads as quantified
 use Rattle.evaluation.proofs.walk.unary.Reads as unary
-use Rattle.types.proofs.classes.wide.Reads as wide-reads
+use Rattle.memory.proofs.words.wide.Reads as wide-reads
 use Rattle.evaluation.proofs.+bind-call+bind-fold+bind-iter+bind-let_in+bind-quantified+bind-seek+lazy-conditional+lazy-connective+lazy-right+walk-below+walk-binary+walk-coll+walk-node+walk-unary+walk-word.Lts-walk-node as lts
 use Rattle.evaluation.proofs.+bind-call+bind-fold+bind-iter+bind-let_in+bind-quantified+bind-seek+lazy-conditional+lazy-connective+lazy-right+walk-below+walk-binary+walk-coll+walk-node+walk-unary+walk-word.Proof.Base.{binary-below, call-below, coll-below, conditional-below, connective-below, iter-below, let-in-below, node-at, quantified-below, unary-below}
 

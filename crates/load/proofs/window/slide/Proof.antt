@@ -31,8 +31,8 @@ element-write-recent c = search needs
 sub-next : tie.Need-sub-next
 sub-next c = search needs
 
-wide-requires : tie.Need-wide-requires
-wide-requires c κs = search needs
+word-of-requires : tie.Need-word-of-requires
+word-of-requires c κs = search needs
 
 add-next : tie.Need-add-next
 add-next c = omega (arith, ltb-false)
@@ -50,7 +50,7 @@ returns-2 c =
     (leb-false 1000000 (c .before .before .before .before .before .before .before .before .args .t .count) (c .before .before .before .before .if2 .left))
     (ltb-false 64000 (c .before .before .before .before .before .before .before .before .args .t .sum) (c .before .before .before .if3 .left))
     (rw (c .before .before .before .before .before .before .oldest .ensures) at (ltb-false (c .before .before .before .before .before .before .before .before .args .t .sum) (c .before .before .before .before .before .before .oldest .result) (c .before .before .if4 .left)))
-    (rw (c .before .wide .ensures, c .before .before .before .before .before .before .oldest .ensures) at (c .with-best .ensures (set (c .before .before .before .before .before .before .before .before .args .recent .now) (c .before .before .before .before .before .before .before .before .args .t .count % 64) (c .before .before .before .before .before .before .before .before .args .length))))
+    (rw (c .before .word-of .ensures, c .before .before .before .before .before .before .oldest .ensures) at (c .with-best .ensures (set (c .before .before .before .before .before .before .before .before .args .recent .now) (c .before .before .before .before .before .before .before .before .args .t .count % 64) (c .before .before .before .before .before .before .before .before .args .length))))
 
 pub slide-spec : {M : Type 1} → statement M
 slide-spec =
@@ -61,7 +61,7 @@ slide-spec =
     mul-recent
     element-write-recent
     sub-next
-    wide-requires
+    word-of-requires
     add-next
     add-next-2
     with-best-requires

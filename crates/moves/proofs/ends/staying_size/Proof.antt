@@ -4,8 +4,8 @@ use borrow.Author.Needs.{needs}
 use Rattle.moves.proofs.ends.staying_size.Statement.{statement}
 use Rattle.moves.proofs.ends.staying_size.Tie as tie
 
-has-row-requires : tie.Need-has-row-requires
-has-row-requires c κs = search needs
+has-bit-requires : tie.Need-has-bit-requires
+has-bit-requires c κs = search needs
 
 returns : tie.Need-returns
 returns c = search no-size
@@ -17,4 +17,4 @@ returns-2 : tie.Need-returns-2
 returns-2 c = search some-size
 
 pub staying-size-spec : {M : Type 1} → statement M
-staying-size-spec = tie.close (tie.spec has-row-requires returns piece-size-requires returns-2)
+staying-size-spec = tie.close (tie.spec has-bit-requires returns piece-size-requires returns-2)

@@ -5,8 +5,8 @@ use borrow.Author.Needs.{needs}
 use Rattle.renewal.proofs.fresh.told_lines.Statement.{statement}
 use Rattle.renewal.proofs.fresh.told_lines.Tie as tie
 
-has-row-requires : tie.Need-has-row-requires
-has-row-requires c κs = search needs
+has-bit-requires : tie.Need-has-bit-requires
+has-bit-requires c κs = search needs
 
 fresh-lines-requires : tie.Need-fresh-lines-requires
 fresh-lines-requires c κs = search needs
@@ -26,4 +26,4 @@ returns-2 c = search (not-told, bit)
 pub told-lines-spec : {M : Type 1} → statement M
 told-lines-spec =
     tie.close
-    (tie.spec has-row-requires fresh-lines-requires same-length same-length-2 returns returns-2)
+    (tie.spec has-bit-requires fresh-lines-requires same-length same-length-2 returns returns-2)

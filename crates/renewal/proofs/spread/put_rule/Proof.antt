@@ -8,8 +8,8 @@ use Rattle.renewal.proofs.spread.put_rule.Tie as tie
 start-of-requires : tie.Need-start-of-requires
 start-of-requires c κs = omega arith
 
-has-row-requires : tie.Need-has-row-requires
-has-row-requires c κs = omega arith
+has-bit-requires : tie.Need-has-bit-requires
+has-bit-requires c κs = omega arith
 
 put-fresh-requires : tie.Need-put-fresh-requires
 put-fresh-requires c κs = search fresh-there
@@ -48,7 +48,7 @@ put-rule-spec =
     tie.close
     (tie.spec
     start-of-requires
-    has-row-requires
+    has-bit-requires
     put-fresh-requires
     same-length
     same-length-2

@@ -31,23 +31,23 @@ shared-slice-read-wide c = search needs
 wide-requires-2 : tie.Need-wide-requires-2 Inv-loop μ-loop
 wide-requires-2 c κs = search needs
 
-mul-has-row : tie.Need-mul-has-row Inv-loop μ-loop
-mul-has-row c =
+mul-has-bit : tie.Need-mul-has-bit Inv-loop μ-loop
+mul-has-bit c =
     let at-loop-test = c .before .before in
     let at-wide = at-loop-test .before .before in
     let at-start = at-wide .before .before .before in
     omega (arith, root-low (at-start .pre .3) (at-wide .wide .ensures) (at-loop-test .loop-test .taken) (c .wide2 .ensures))
 
-shared-slice-read-has-row : tie.Need-shared-slice-read-has-row Inv-loop μ-loop
-shared-slice-read-has-row c =
+shared-slice-read-has-bit : tie.Need-shared-slice-read-has-bit Inv-loop μ-loop
+shared-slice-read-has-bit c =
     let at-wide2 = c .before in
     let at-loop-test = at-wide2 .before .before in
     let at-wide = at-loop-test .before .before in
     let at-start = at-wide .before .before .before in
     omega (arith, root-low (at-start .pre .3) (at-wide .wide .ensures) (at-loop-test .loop-test .taken) (at-wide2 .wide2 .ensures))
 
-has-row-requires : tie.Need-has-row-requires Inv-loop μ-loop
-has-row-requires c κs = search needs
+has-bit-requires : tie.Need-has-bit-requires Inv-loop μ-loop
+has-bit-requires c κs = search needs
 
 with-bit-requires : tie.Need-with-bit-requires Inv-loop μ-loop
 with-bit-requires c κs = omega arith
@@ -76,9 +76,9 @@ touched-rules-spec =
     mul-wide
     shared-slice-read-wide
     wide-requires-2
-    mul-has-row
-    shared-slice-read-has-row
-    has-row-requires
+    mul-has-bit
+    shared-slice-read-has-bit
+    has-bit-requires
     with-bit-requires
     add-r
     loop-less

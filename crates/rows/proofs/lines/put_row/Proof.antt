@@ -4,8 +4,8 @@ use Rattle.rows.proofs.LineLaws.{row-room, row-seen, row-unseen}
 use Rattle.rows.proofs.lines.put_row.Statement.{statement}
 use Rattle.rows.proofs.lines.put_row.Tie as tie
 
-has-row-requires : tie.Need-has-row-requires
-has-row-requires c κs = search needs
+has-bit-requires : tie.Need-has-bit-requires
+has-bit-requires c κs = search needs
 
 put-byte-requires : tie.Need-put-byte-requires
 put-byte-requires c κs = search needs
@@ -25,4 +25,4 @@ returns-2 c = search row-unseen
 pub put-row-spec : {M : Type 1} → statement M
 put-row-spec =
     tie.close
-    (tie.spec has-row-requires put-byte-requires put-number-requires same-length returns returns-2)
+    (tie.spec has-bit-requires put-byte-requires put-number-requires same-length returns returns-2)

@@ -24,8 +24,8 @@ type-numbered-requires c κs = search needs
 enum-known-number : tie.Need-enum-known-number Inv-loop μ-loop
 enum-known-number c = search needs
 
-node-line-requires : tie.Need-node-line-requires Inv-loop μ-loop
-node-line-requires c κs = search refused-node
+line-of-requires : tie.Need-line-of-requires Inv-loop μ-loop
+line-of-requires c κs = search refused-node
 
 same-length : tie.Need-same-length Inv-loop μ-loop
 same-length c = search needs
@@ -73,7 +73,7 @@ type-all-spec =
     loop-holds
     type-numbered-requires
     enum-known-number
-    node-line-requires
+    line-of-requires
     same-length
     returns
     enum-known-t

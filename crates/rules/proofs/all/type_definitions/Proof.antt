@@ -24,8 +24,8 @@ define-numbered-requires c κs = search needs
 enum-known-number : tie.Need-enum-known-number Inv-loop μ-loop
 enum-known-number c = search needs
 
-node-line-requires : tie.Need-node-line-requires Inv-loop μ-loop
-node-line-requires c κs = search undefined-node
+line-of-requires : tie.Need-line-of-requires Inv-loop μ-loop
+line-of-requires c κs = search undefined-node
 
 same-length : tie.Need-same-length Inv-loop μ-loop
 same-length c = search needs
@@ -61,7 +61,7 @@ type-definitions-spec =
     loop-holds
     define-numbered-requires
     enum-known-number
-    node-line-requires
+    line-of-requires
     same-length
     returns
     enum-told

@@ -31,11 +31,11 @@ part-same-end c = search word-within
 same-requires : tie.Need-same-requires Inv-loop μ-loop
 same-requires c κs = search needs
 
-shared-slice-read-wide : tie.Need-shared-slice-read-wide Inv-loop μ-loop
-shared-slice-read-wide c = search needs
+shared-slice-read-of-byte : tie.Need-shared-slice-read-of-byte Inv-loop μ-loop
+shared-slice-read-of-byte c = search needs
 
-wide-requires : tie.Need-wide-requires Inv-loop μ-loop
-wide-requires c κs = search needs
+of-byte-requires : tie.Need-of-byte-requires Inv-loop μ-loop
+of-byte-requires c κs = search needs
 
 returns : tie.Need-returns Inv-loop μ-loop
 returns c =
@@ -43,7 +43,7 @@ returns c =
     let at-same = at-if1 .before in
     let at-loop-test = at-same .before .before in
     let at-loop = at-loop-test .before in
-    c .wide .ensures ∙ left-found (at-loop .loop .inv) (at-same .same .ensures) (at-loop-test .loop-test .taken) (at-if1 .if1 .taken)
+    c .of-byte .ensures ∙ left-found (at-loop .loop .inv) (at-same .same .ensures) (at-loop-test .loop-test .taken) (at-if1 .if1 .taken)
 
 add-at : tie.Need-add-at Inv-loop μ-loop
 add-at c = search (word-within, needs)
@@ -72,8 +72,8 @@ among-spec =
     part-same-start
     part-same-end
     same-requires
-    shared-slice-read-wide
-    wide-requires
+    shared-slice-read-of-byte
+    of-byte-requires
     returns
     add-at
     add-k

@@ -1,7 +1,7 @@
 -- `mark` meets its contract.
 use Rattle.trees.proofs.OperandLaws.{mark-late, mark-used, mark-next, mark-end}
 use Rattle.trees.specs.Operands.{marking, marked}
-use Rattle.trees.specs.Forms.{operandsAt}
+use Rattle.shapes.specs.Forms.{operandsAt}
 use lib.ListN.{length, getD, drop, length-set}
 use mathlib.Core.Path.{_≡_, refl}
 use Prim.Native.Nat.{_≤_, _+_, _-_}

@@ -1,6 +1,6 @@
 -- `operands_within` meets its contract.
 use Rattle.trees.proofs.OperandLaws.{within-not, within-next, within-end}
-use Rattle.trees.specs.Forms.{operandsAt}
+use Rattle.shapes.specs.Forms.{operandsAt}
 use Rattle.sheet.specs.Limits.{isNode}
 use Rattle.laws.specs.Lists.{allOf}
 use lib.ListN.{drop}

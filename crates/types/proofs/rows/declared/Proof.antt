@@ -37,8 +37,8 @@ mul-if2 c = search needs
 shared-slice-read-if2 : tie.Need-shared-slice-read-if2 Inv-loop μ-loop
 shared-slice-read-if2 c = omega arith
 
-number-requires : tie.Need-number-requires Inv-loop μ-loop
-number-requires c κs = search needs
+long-requires : tie.Need-long-requires Inv-loop μ-loop
+long-requires c κs = search needs
 
 returns : tie.Need-returns Inv-loop μ-loop
 unfolding found
@@ -47,7 +47,7 @@ returns c =
     let at-if1 = at-if2 .before .before in
     let at-loop-test = at-if1 .before .before in
     let at-loop = at-loop-test .before in
-    ap some (c .number .ensures) ∙ declared-here _ _ _ _ _ (positive (at-loop-test .loop-test .taken)) (at-if1 .if1 .taken) (at-if2 .if2 .taken) ∙ at-loop .loop .inv .1
+    ap some (c .long .ensures) ∙ declared-here _ _ _ _ _ (positive (at-loop-test .loop-test .taken)) (at-if1 .if1 .taken) (at-if2 .if2 .taken) ∙ at-loop .loop .inv .1
 
 loop-less : tie.Need-loop-less Inv-loop μ-loop
 loop-less c = omega arith
@@ -81,7 +81,7 @@ declared-spec =
     shared-slice-read-if1
     mul-if2
     shared-slice-read-if2
-    number-requires
+    long-requires
     returns
     loop-less
     loop-again

@@ -13,7 +13,7 @@ use Rattle.judgements.proofs.forms.around_common.Reads as around-common-reads
 use Rattle.judgements.proofs.forms.join_more.Reads as join-more-reads
 use Rattle.nodes.proofs.node_word.Reads as node-word-reads
 use Rattle.types.proofs.parts.plain.Reads as plain-reads
-use Rattle.types.proofs.classes.wide.Reads as wide-reads
+use Rattle.memory.proofs.words.wide.Reads as wide-reads
 use Rattle.typing.proofs.apply.coll.Reads as coll
 use Rattle.typing.proofs.walk.operand.Reads as operand
 use Rattle.typing.proofs.+apply-binary+apply-coll+apply-conditional+apply-connective+apply-single+scope-body+scope-iterate+scope-let_in+scope-quantified+walk-node+walk-operand+walk-pair.Lts-apply-coll as lts

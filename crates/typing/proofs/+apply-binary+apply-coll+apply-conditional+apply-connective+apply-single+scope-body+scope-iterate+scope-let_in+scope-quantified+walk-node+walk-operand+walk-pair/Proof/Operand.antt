@@ -6,7 +6,7 @@ use Rattle.judgements.proofs.Composition.{as-form}
 use Rattle.typing.proofs.NodeTypings.{operand-node, late-node, undef-done}
 use Rattle.nodes.proofs.node_word.Reads as node-word-reads
 use Rattle.types.proofs.parts.plain.Reads as plain-reads
-use Rattle.types.proofs.classes.wide.Reads as wide-reads
+use Rattle.memory.proofs.words.wide.Reads as wide-reads
 use Rattle.typing.proofs.walk.node.Reads as node
 use Rattle.typing.proofs.walk.operand.Reads as operand
 use Rattle.typing.proofs.+apply-binary+apply-coll+apply-conditional+apply-connective+apply-single+scope-body+scope-iterate+scope-let_in+scope-quantified+walk-node+walk-operand+walk-pair.Lts-walk-operand as lts

@@ -11,14 +11,26 @@ sub-len c = search needs
 returns : tie.Need-returns
 returns c = brings-over (omega arith) (omega arith) (c .if1 .taken)
 
-copy-in-requires : tie.Need-copy-in-requires
-copy-in-requires c κs = search needs
+mul-copy-cells : tie.Need-mul-copy-cells
+mul-copy-cells c = search needs
+
+sub-copy-cells : tie.Need-sub-copy-cells
+sub-copy-cells c = search needs
+
+part-copy-cells-start : tie.Need-part-copy-cells-start
+part-copy-cells-start c = search needs
+
+part-copy-cells-end : tie.Need-part-copy-cells-end
+part-copy-cells-end c = search needs
+
+copy-cells-requires : tie.Need-copy-cells-requires
+copy-cells-requires c κs = search needs
 
 same-length : tie.Need-same-length
 same-length c = search needs
 
 returns-2 : tie.Need-returns-2
-returns-2 c = brings-done (omega arith) (omega arith) (omega arith) (omega arith) (c .before .before .copy-in .ensures)
+returns-2 c = brings-done (omega arith) (omega arith) (omega arith) (omega arith) (c .before .before .copy-cells .ensures)
 
 pub push-cells-spec : {M : Type 1} → statement M
-push-cells-spec = tie.close (tie.spec sub-len returns copy-in-requires same-length returns-2)
+push-cells-spec = tie.close (tie.spec sub-len returns mul-copy-cells sub-copy-cells part-copy-cells-start part-copy-cells-end copy-cells-requires same-length returns-2)

@@ -3,7 +3,7 @@ use Prim.Native.Nat.{ℕ}
 use borrow.Author.Needs.{needs}
 use Rattle.numbering.proofs.Findings.{operand-late, operand-found}
 use Rattle.nodes.proofs.node_word.Reads as node-word-reads
-use Rattle.types.proofs.classes.wide.Reads as wide-reads
+use Rattle.memory.proofs.words.wide.Reads as wide-reads
 use Rattle.numbering.proofs.walk.node.Reads as node
 use Rattle.numbering.proofs.walk.operand.Reads as operand
 use Rattle.numbering.proofs.walk.+body+node+operand+operands+scope.Lts-operand as lts

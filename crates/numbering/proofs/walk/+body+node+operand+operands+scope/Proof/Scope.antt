@@ -2,7 +2,7 @@
 use Prim.Native.Nat.{ℕ}
 use borrow.Author.Needs.{needs}
 use Rattle.numbering.proofs.Findings.{scope-called, scope-bound, scope-none}
-use Rattle.types.proofs.classes.wide.Reads as wide-reads
+use Rattle.memory.proofs.words.wide.Reads as wide-reads
 use Rattle.numbering.proofs.lower.Reads as lower-reads
 use Rattle.numbering.proofs.binds.Reads as binds-reads
 use Rattle.numbering.proofs.walk.body.Reads as body

@@ -1,0 +1,5 @@
+pub mod Fields
+pub mod Calls
+pub mod Forms
+pub mod Iterate
+pub mod Built
