@@ -2,6 +2,8 @@
 // not wiped yet; `checker` above has the calls themselves. Document 01, Calls; document 02, F-6 and F-9 to F-12. It depends on `opening` for
 // how a call begins, on `rules` for a rule's evaluation, on `report` for the report and for where undefined came from, on `rows` for the
 // rows, on `numbering` for the profile, and on `making` and `editing` for a running board.
+#![tactic(auto)]
+
 pub mod read; // the types of all rules
 pub mod free_numbering; // the same, held to the free-numbering profile
 pub mod evaluate; // a rule for an object

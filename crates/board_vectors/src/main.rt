@@ -2,6 +2,8 @@
 // board and prints after each call the answer's four numbers and the verdicts. In a file the sheet and then the edits each end in a
 // tilde and a line feed. It depends on `checker` for the calls, on `opening` for what they return, and on `text` for cutting and for
 // writing numbers.
+#![tactic(auto)]
+
 ghost use Rattle.std.specs.Prelude.{◌<◌, length};
 
 use checker::edit_board_call::ocl_edit_board;

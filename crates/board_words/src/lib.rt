@@ -1,5 +1,7 @@
 // How the running board lies in its words (document 02, F-10), and what is found there again, as definitions and laws; code: a board put
 // there. It depends on `board` for what a board is, on `tables` for how slots lie in words, and on `rules` for laws of slots in words.
+#![tactic(auto)]
+
 ghost use Rattle.std.specs.Prelude.{◌≡◌, List, ℕ, ◌+◌, ◌≤◌, ◌<◌, length, take};
 ghost use Rattle.std.proofs.Math.Seq.{paste};
 ghost use Rattle.sheet.specs.Sizes.{least_words, most_rules};

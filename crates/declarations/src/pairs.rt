@@ -8,7 +8,7 @@ use text::numbers::{Num, number};
 use text::parts::{Fields, field};
 
 // Both numbers within their limits, or a refusal's number.
-#[derive(Drop)]
+#[derive(Clone, Copy)]
 pub enum Pair {
     Refused(u64),
     Are(u64, u64),

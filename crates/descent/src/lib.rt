@@ -1,6 +1,8 @@
 // A text field read by recursive descent: each level calls the next, and primaries call the loosest one again; what is left of the text
 // gets shorter. Only brackets and `if`s make calls stand inside one another. Document 02, F-7. It depends on `importer` for leaves, `let`s and nodes.
 // `n` is how many nodes there are already, `d` how many `let`s are open, and `k` the line.
+#![tactic(auto)]
+
 ghost use Rattle.std.specs.Prelude.{◌≤◌, length};
 ghost use Rattle.sheet.specs.Sizes.{least_words};
 ghost use Rattle.sheet.specs.Grammar.Sentences.{whole as wholeLevel, disjunction as disjunctionLevel, conjunction as conjunctionLevel, comparison as comparisonLevel, sum as sumLevel, product as productLevel, prefix as prefixLevel};

@@ -1,6 +1,8 @@
 // An edit of the running board, on the accepted sheet of its text in the words: it is judged and made on the board's slots, the rules that
 // see its row are evaluated again, and the board is stored. Document 02, F-10. It depends on `replay` for the slots, on `renewal` for the
 // verdicts and on `board_words` for the board's words.
+#![tactic(auto)]
+
 ghost use Rattle.std.specs.Prelude.{◌<◌, ◌≤◌, length};
 ghost use Rattle.sheet.specs.Sizes.{least_words, most_rows};
 ghost use Rattle.board.specs.Calls.{least_board};
@@ -13,7 +15,7 @@ use replay::{Replayed, replay_edit};
 use tables::Counts;
 
 // How an edit ends: with so many bytes of verdicts and the steps of the rules that were evaluated again; or with a refusal's number and place.
-#[derive(Drop)]
+#[derive(Clone, Copy)]
 pub enum Edited {
     Written(usize, u64),
     Refused(u64, u64),

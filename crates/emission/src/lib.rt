@@ -1,5 +1,7 @@
 // The nodes of a text, which wait in w2, the third slice of words, until the whole text has been judged. Document 02, F-7. It depends on
 // `trees` for a node's form.
+#![tactic(auto)]
+
 ghost use Rattle.std.specs.Prelude.{◌≡◌, ◌+◌, ◌≤◌, ◌<◌, length};
 ghost use Rattle.std.specs.Prelude.{if◌then◌else◌};
 ghost use Rattle.sheet.specs.Sizes.{least_words, most_nodes, most_classes};

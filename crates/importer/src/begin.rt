@@ -13,7 +13,7 @@ use shapes::built::{assembled, built};
 use tokens::{Token, next_token};
 
 // No primary; one of a single node, which is put down; or an expression, a condition or members come next.
-#[derive(Drop)]
+#[derive(Clone, Copy)]
 pub enum Begun {
     No,
     Done(Token),

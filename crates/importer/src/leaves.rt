@@ -76,7 +76,7 @@ pub fn leaf(s: &[u8], t: Token, k: u64) -> Parsed
 }
 
 // How many `not`s stand in a row, and the token after them.
-#[derive(Drop)]
+#[derive(Clone, Copy)]
 pub struct Negations {
     pub next: Token,
     pub count: usize,

@@ -23,7 +23,7 @@ fn open_let(w2: &mut [u64], lets: usize, variable: u64)
 }
 
 // What begins at a token: no `let`; a `let` without `v1 =`; or a whole head, after which the value comes.
-#[derive(Drop)]
+#[derive(Clone, Copy)]
 pub enum Head {
     No,
     Broken,
@@ -63,7 +63,7 @@ pub fn end_value(w2: &mut [u64], lets: usize, nodes: usize)
 }
 
 // How many nodes there are, and how many `let`s are open.
-#[derive(Drop)]
+#[derive(Clone, Copy)]
 pub struct Closed {
     pub nodes: usize,
     pub lets: usize,

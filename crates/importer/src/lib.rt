@@ -2,6 +2,8 @@
 // what its levels promise, with the laws of the parser's answers. A node is put down as soon as its operands are, so that nodes come
 // operands first, left to right. `let`s are no calls: only brackets and `if`s make calls stand inside one another. Document 02, F-7. It
 // depends on `phrases` for what begins at a token, on `trees` for a node's form, and on `emission`.
+#![tactic(auto)]
+
 use tokens::Token;
 
 pub mod leaves; // words that are an expression by themselves; `not`s
@@ -10,14 +12,14 @@ pub mod puts; // nodes after their operands
 pub mod begin; // how a primary begins
 
 // No expression; or one, with the token after it and how many nodes there are then.
-#[derive(Drop)]
+#[derive(Clone, Copy)]
 pub enum Found {
     No,
     Is { next: Token, nodes: usize },
 }
 
 // A whole text: no sentence, or how many nodes it has.
-#[derive(Drop)]
+#[derive(Clone, Copy)]
 pub enum Imported {
     No,
     Is { nodes: usize },

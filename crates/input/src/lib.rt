@@ -1,9 +1,11 @@
 // What a program reads: all of its input, at the front of a buffer. No contract can say what is read. It depends on no other crate of
 // this repository.
+#![tactic(auto)]
+
 ghost use Rattle.input.specs.Input.{Within};
 
 // How many bytes stand at the front of a buffer, or that the input could not be read.
-#[derive(Drop)]
+#[derive(Clone, Copy)]
 pub enum Filled {
     With(usize),
     Failed,

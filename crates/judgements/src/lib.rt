@@ -1,5 +1,6 @@
 // The type of each form, from the types of its operands and of the variables. Document 01, The forms and their typing. It depends on
 // `types`, and on `nodes` for what a node's words say; the recursion over operand nodes is in `typing`.
+#![tactic(auto)]
 
 pub mod environment; // the types of the variables, by value
 pub mod forms; // forms with no operand or strict operands, and `if`
@@ -11,14 +12,14 @@ use types::FlatType;
 
 // The types of the sixteen variables, of which `self` is variable 0, and which of them are bound. It is small, since each call of
 // the recursion holds one by value.
-#[derive(Drop)]
+#[derive(Clone, Copy)]
 pub struct TypeEnv {
     pub types: [FlatType; memory::VARIABLES],
     pub bound: [bool; memory::VARIABLES],
 }
 
 // A type; or a refusal's number and the number of its node.
-#[derive(Drop)]
+#[derive(Clone, Copy)]
 pub enum Reply {
     Is(FlatType),
     No(u64, u64),

@@ -12,7 +12,7 @@ use text::words::byte_kind;
 
 // A line that has begun: no byte yet, a number, or what is no number. A number is cut at a million before it takes a further
 // digit.
-#[derive(Drop)]
+#[derive(Clone, Copy)]
 pub enum Line {
     Empty,
     Number(u64),

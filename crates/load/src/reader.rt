@@ -16,7 +16,7 @@ use text::printed::{put_pair, put_refusal};
 
 // Where a text was refused, or number 0, what its lines hold, and the line that has begun. The window's width is 0 until the
 // first line has ended.
-#[derive(Drop)]
+#[derive(Clone, Copy)]
 pub struct Reader {
     pub number: u64,
     pub place: u64,
@@ -25,7 +25,7 @@ pub struct Reader {
 }
 
 // What a reader keeps between two bytes, but for the ring.
-#[derive(Drop)]
+#[derive(Clone, Copy)]
 pub struct State {
     pub number: u64,
     pub place: u64,

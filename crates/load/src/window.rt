@@ -15,7 +15,7 @@ const MOST_SUM: u64 = WIDEST * LONGEST as u64;
 // `recent` is a ring of the last 64 lengths, `sum` the sum of the last `width`; `largest` is the largest sum of a run and
 // `first` the number, from 1, of that run's first length, or 0 while there is no run.
 #[repr(C)]
-#[derive(Drop)]
+#[derive(Clone, Copy)]
 pub struct Window {
     pub width: u64,
     pub count: u64,
@@ -27,14 +27,14 @@ pub struct Window {
 
 // A record after it was handed a length, and whether it took it.
 #[repr(C)]
-#[derive(Drop)]
+#[derive(Clone, Copy)]
 pub struct Pushed {
     pub taken: bool,
     pub window: Window,
 }
 
 // A record without its ring. It fits into registers, where a whole record would be copied again and again.
-#[derive(Drop)]
+#[derive(Clone, Copy)]
 pub struct Tally {
     pub width: u64,
     pub count: u64,
@@ -44,7 +44,7 @@ pub struct Tally {
 }
 
 // A tally after it was handed a length, and whether it took it.
-#[derive(Drop)]
+#[derive(Clone, Copy)]
 pub struct Slid {
     pub taken: bool,
     pub tally: Tally,

@@ -1,5 +1,7 @@
 // A program for the gate: it prints the name of each file that its arguments name, and then what `thread_load` prints for it. The
 // pieces are of seven bytes, so that lines lie across them. It depends on `load`.
+#![tactic(auto)]
+
 use libc::STDOUT_FILENO;
 use load::reader::{Reader, feed, put_answer, start};
 

@@ -1,5 +1,7 @@
 // A running board made from the accepted sheet in the words: the report's lines in the verdict bytes; in the board words the slots, and where
 // the lines of each rule end. Document 02, F-10. It depends on `report` for the lines and on `board_words` for the board in its words.
+#![tactic(auto)]
+
 ghost use Rattle.std.specs.Prelude.{false, ◌≤◌, length};
 ghost use Rattle.sheet.specs.Sizes.{least_output, least_words, most_rules};
 ghost use Rattle.board.specs.Calls.{least_board};

@@ -2,6 +2,7 @@
 // sheet and Calls), where each table lies in what is lent, and what forms, lines and blocks are told by. docs/ARCHITECTURE.md (Memory)
 // draws the tables; definitions have the same names in specs/ and in sheet/specs/Sizes.antt, and tests/memory compares them. It depends on
 // nothing.
+#![tactic(auto)]
 
 pub mod codes; // a form's code
 pub mod lines; // what a line begins with, its block, and what is open

@@ -1,5 +1,7 @@
 // Which nodes stand outside the free-numbering profile: the one with the lowest line. Document 02, F-12. It depends on `typing` for the
 // types that decide, on `nodes` for what a node's words say, and on `rows` for how many members a `coll` has. A node is named by its number.
+#![tactic(auto)]
+
 ghost use Rattle.std.specs.Prelude.{◌≡◌, ◌≤◌, ◌<◌, length};
 ghost use Rattle.memory.specs.Map as memory;
 ghost use Rattle.sheet.specs.Sizes.{most_nodes};

@@ -1,5 +1,7 @@
 // The program of document 01, Calls: it reads a sheet from standard input and prints its report, or its refusal. It depends on `input` and
 // on `printing`.
+#![tactic(auto)]
+
 use input::{Filled, read_input};
 use printing::printed_text;
 

@@ -1,5 +1,7 @@
 // The program of document 02, F-9: it reads a sheet from standard input and prints the rows that each rule sees. It depends on `input` and
 // on `printing`.
+#![tactic(auto)]
+
 use input::{Filled, read_input};
 use printing::printed_rows;
 

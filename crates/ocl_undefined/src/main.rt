@@ -1,5 +1,7 @@
 // The program of document 02, F-11: it reads a sheet from standard input and prints where each undefined verdict came from. It depends on
 // `input` and on `printing`.
+#![tactic(auto)]
+
 use input::{Filled, read_input};
 use printing::printed_origins;
 

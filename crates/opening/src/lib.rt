@@ -1,6 +1,8 @@
 // How every call begins and ends: the lengths of what is lent, a text read and all its definitions and rules typed, what a call returns,
 // and the words set to zero. Document 01, Calls. It depends on `reader` for the sheet, on `rules` for typing and on `report` for how
 // putting lines ends.
+#![tactic(auto)]
+
 ghost use Rattle.std.specs.Prelude.{◌||◌, ◌≡◌, ◌≤◌, length};
 ghost use Rattle.sheet.specs.Sizes.{least_words};
 ghost use Rattle.sheet.specs.Calls.{Verdict, refusal_at, short_words, short_output};
@@ -16,7 +18,7 @@ use tables::Counts;
 
 // What a call returns: 0 or a refusal's number, the steps of an evaluation, a line number, and the bytes written.
 #[repr(C)]
-#[derive(Drop)]
+#[derive(Clone, Copy)]
 pub struct Answer {
     pub number: u64,
     pub steps: u64,

@@ -1,5 +1,7 @@
 // A program for the gate: it prints the name of each file that its arguments name, and then what `ocl_undefined` prints for it. It
 // depends on `printing`.
+#![tactic(auto)]
+
 use libc::STDOUT_FILENO;
 use printing::printed_origins;
 

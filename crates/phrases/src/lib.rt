@@ -1,6 +1,8 @@
 // What begins at a token of a text, without recursion but for types: words, `let` heads, signs, postfix steps, primaries. Document 02,
 // F-7. It depends on `tokens`, whose codes tell one word from another, on `types` for the type in `iter`, and on `memory` and `nodes` for
 // the codes of forms. Numbers are those that `text` reads, a million at most; `next` is the token that comes next.
+#![tactic(auto)]
+
 use tokens::Token;
 use types::GotType;
 
@@ -10,28 +12,28 @@ pub mod steps; // a postfix step
 pub mod openings; // a primary
 
 // The token after one that was looked for.
-#[derive(Drop)]
+#[derive(Clone, Copy)]
 pub enum After {
     No,
     At(Token),
 }
 
 // A number behind its letter, or in `v1 =`.
-#[derive(Drop)]
+#[derive(Clone, Copy)]
 pub enum Labelled {
     No,
     Is { n: u64, next: Token },
 }
 
 // A two-sided sign by the code of its form.
-#[derive(Drop)]
+#[derive(Clone, Copy)]
 pub enum Sign {
     No,
     Is { code: u64, next: Token },
 }
 
 // A type; it may be over its limits, but is not badly spelled.
-#[derive(Drop)]
+#[derive(Clone, Copy)]
 pub enum TypeFound {
     No,
     Is { of: GotType, next: Token },
@@ -39,7 +41,7 @@ pub enum TypeFound {
 
 // A postfix step: none, one that breaks off, one that is done, or operands come next: one, or two with `|` between them. `x` is the class,
 // attribute or definition of its form, 0 where there is none.
-#[derive(Drop)]
+#[derive(Clone, Copy)]
 pub enum Postfix {
     Ends,
     Broken,
@@ -62,7 +64,7 @@ pub enum Postfix {
 }
 
 // A primary that is no leaf: done, or an expression, a condition or members come next.
-#[derive(Drop)]
+#[derive(Clone, Copy)]
 pub enum Opening {
     No,
     All { class: u64, next: Token },

@@ -1,5 +1,7 @@
 // What the programs print for a text. Document 01, Calls; document 02, F-9, F-11 and F-12. It depends on `checker` for the calls, on
 // `opening` for what they return, and on `text` for writing a refusal.
+#![tactic(auto)]
+
 ghost use Rattle.std.specs.Prelude.{◌≡◌, length};
 ghost use Rattle.sheet.specs.Sizes.{program_output};
 ghost use Rattle.sheet.specs.Report.{printed, program};

@@ -1,5 +1,7 @@
 // A program for the gate: it prints the name of each file that its arguments name, and then what is printed for it by the call that
 // holds a sheet to the free-numbering profile. It depends on `printing`.
+#![tactic(auto)]
+
 use libc::STDOUT_FILENO;
 use printing::printed_profile;
 

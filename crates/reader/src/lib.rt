@@ -1,5 +1,7 @@
 // A sheet read line by line into the tables of the lent words. Document 01, The sheet. It depends on `text`, which splits the
 // text, on `declarations`, `slots`, `trees` and `texts`, which take the lines, and on `tables`.
+#![tactic(auto)]
+
 ghost use Rattle.std.specs.Prelude.{◌≡◌, true, false, List, [], ℕ, ◌+◌, ◌≤◌, ◌<◌, length, get_or};
 ghost use Rattle.sheet.specs.Sizes.{least_words, most_bytes};
 ghost use Rattle.sheet.specs.Text.{fields_of};
@@ -24,14 +26,14 @@ use trees::ending::end_rule;
 use trees::node::node_line;
 
 // After a line: the counts with it, or a refusal's number and line.
-#[derive(Drop)]
+#[derive(Clone, Copy)]
 pub enum LineRead {
     Next(Counts),
     Refused(u64, u64),
 }
 
 // After a text: the counts of its sheet, or a refusal's number and line.
-#[derive(Drop)]
+#[derive(Clone, Copy)]
 pub enum SheetRead {
     Sheet(Counts),
     Refused(u64, u64),

@@ -14,7 +14,7 @@ use rules::evaluated::evaluate_numbered;
 use tables::Counts;
 
 // The bytes and the steps so far.
-#[derive(Drop)]
+#[derive(Clone, Copy)]
 pub struct Sums {
     pub bytes: usize,
     pub steps: u64,

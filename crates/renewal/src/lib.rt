@@ -1,6 +1,8 @@
 // The verdicts of a running board after an edit: the rules that were resolved to the edited row are evaluated again, and the others keep
 // their bytes. Document 02, F-10. It depends on `rows` for the rows of each rule, on `report` for the lines of one, and on `moves` for
 // bytes moved in place.
+#![tactic(auto)]
+
 pub mod again; // the lines of a rule once more
 pub mod fresh; // the lines of the rules that are evaluated again, and their steps
 pub mod spread; // all lines put where they belong
@@ -22,7 +24,7 @@ use tables::Counts;
 use touched::touched_rules;
 
 // How renewing ends: with so many bytes and steps; with verdicts that are longer than their bytes; or on a board that no call has made.
-#[derive(Drop)]
+#[derive(Clone, Copy)]
 pub enum Renewal {
     Written(usize, u64),
     Short,

@@ -17,7 +17,7 @@ use text::numbers::{Num, number};
 use text::parts::{Fields, field};
 
 // The key of the edited slot; or a refusal's number.
-#[derive(Drop)]
+#[derive(Clone, Copy)]
 pub enum Judged {
     Key(u64),
     Refused(u64),

@@ -1,6 +1,8 @@
 // An edit of a running board: its line read and judged, and the board's slots with the edit made put onto the sheet in the words, each
 // as its V line would be. Document 02, F-10. It depends on `slots`, which takes V lines, on `board` and `board_words` for what a board is
 // and how it lies in words, and on `rules` for the accepted sheet.
+#![tactic(auto)]
+
 ghost use Rattle.std.specs.Prelude.{◌≡◌, true, List, [], ℕ, ◌<◌, ◌≤◌, length, get_or};
 ghost use Rattle.sheet.specs.Sizes.{least_words};
 ghost use Rattle.sheet.specs.Text.{bytes, fields_of};
@@ -23,7 +25,7 @@ pub mod taking; // the slots in a board's words
 pub mod value; // cells that are a value's
 
 // The counts of the sheet with the edit made, and the edited row; or a refusal's number, whose place is 1.
-#[derive(Drop)]
+#[derive(Clone, Copy)]
 pub enum Replayed {
     Is(Counts, u64),
     Refused(u64),

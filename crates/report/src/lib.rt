@@ -1,6 +1,8 @@
 // The lines of an accepted sheet into the lent output, for each rule and each object of its class or below: the report (document 01,
 // Calls), or where each undefined verdict came from (document 02, F-11). It depends on `rules` for a rule's evaluation by its number and on
 // `spelling` for values.
+#![tactic(auto)]
+
 pub mod bound; // how long the lines can be
 pub mod lines; // one line of the report
 pub mod origins; // one line that says where undefined came from
@@ -17,7 +19,7 @@ use passes::rule_lines;
 use tables::Counts;
 
 // How putting the lines ends: so many bytes are written; or they are longer than the output, and none is.
-#[derive(Drop)]
+#[derive(Clone, Copy)]
 pub enum Reported {
     Written(usize),
     Short,

@@ -1,5 +1,7 @@
 // The rows that each rule of an accepted sheet sees, and the lines that list them. Document 02, F-9. It depends on `rules` for what
 // lies in the words once a sheet is accepted, and on `report` for how putting lines ends.
+#![tactic(auto)]
+
 pub mod lines; // a line for each rule
 pub mod seen; // the rows of each node
 

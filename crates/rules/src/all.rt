@@ -12,7 +12,7 @@ use tables::Counts;
 use types::word::pack;
 
 // How typing definitions or rules ends: each has its type; or the first refusal and its line.
-#[derive(Drop)]
+#[derive(Clone, Copy)]
 pub enum RulesTyped {
     Yes,
     No(u64, u64),

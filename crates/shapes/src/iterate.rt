@@ -22,7 +22,7 @@ use types::{Base, GotType};
 
 // What should be a type: whether it is one, whether the type is within its limits, its word, and how many classes there must be for the
 // class in it.
-#[derive(Drop)]
+#[derive(Clone, Copy)]
 pub struct TypeRead {
     pub spelled: bool,
     pub within: bool,

@@ -10,7 +10,7 @@ use text::numbers::{Num, number};
 use text::parts::{Fields, field};
 
 // The numbers, in the order of their fields, and 0 after them; `good` is false where a field is no number.
-#[derive(Drop)]
+#[derive(Clone, Copy)]
 pub struct Numbers {
     pub good: bool,
     pub at: [u64; 4],

@@ -10,7 +10,7 @@ use text::numbers::{Num, digits_at, integer_at, integer_digits, number_at};
 use values::cells::{OBJECTS, empty_of};
 
 // A part with its cell and the place after it; Wide is a number outside its limits.
-#[derive(Drop)]
+#[derive(Clone, Copy)]
 pub enum Part {
     Bad,
     Simple { cell: u64, end: usize },

@@ -17,7 +17,7 @@ pub const DEEPEST: usize = 3;
 // How many collections are open, and how many cells are written. Once the value is over a limit, the latter is more than any
 // value may have, and no cell is written any more. The outermost open collection has the first cell; where the second and
 // the third have theirs is remembered.
-#[derive(Drop)]
+#[derive(Clone, Copy)]
 pub struct Open {
     pub depth: usize,
     pub size: usize,
@@ -26,7 +26,7 @@ pub struct Open {
 }
 
 // No value is spelled, or one over a limit, or one whose cells are written.
-#[derive(Drop)]
+#[derive(Clone, Copy)]
 pub enum Read {
     Bad,
     Over,
@@ -34,7 +34,7 @@ pub enum Read {
 }
 
 // After a part: what comes at `at` is a value (phase 0), a value or a bracket (1), or a comma or a bracket (2).
-#[derive(Drop)]
+#[derive(Clone, Copy)]
 pub enum Turn {
     On { at: usize, phase: u64, open: Open },
     Stop { read: Read },

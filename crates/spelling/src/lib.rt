@@ -1,5 +1,7 @@
 // A value that lies as cells is written as document 01 spells it: one pass over its cells, by a recursion over its members.
 // It depends on `text`, which writes bytes and numbers, and on `values`, whose cells it reads.
+#![tactic(auto)]
+
 ghost use Rattle.std.specs.Prelude.{◌≡◌, [], ◌∷◌, ◌+◌, ◌≤◌, length};
 ghost use Rattle.std.proofs.Math.Seq.{slice};
 ghost use Rattle.ocl.specs.Types.{Kind, kind_code};
@@ -15,7 +17,7 @@ use values::Simple;
 use values::cells::{member_count, simple_of, sort_of};
 
 // Where the next byte is written, and where the next value's cells begin.
-#[derive(Drop)]
+#[derive(Clone, Copy)]
 pub struct Next {
     pub at: usize,
     pub from: usize,

@@ -1,5 +1,6 @@
 // The tables of a sheet in the lent words, which reading fills and which typing and evaluation read (document 01, The sheet): specs/ says
 // where each lies and what it holds. It depends on `types`, `values` and `nodes` for how these lie in words, and on `text` for a line's fields.
+#![tactic(auto)]
 
 ghost use Rattle.std.specs.Prelude.{◌≡◌, ◌≤◌, length};
 ghost use Rattle.sheet.specs.Sizes.{least_words};
@@ -10,7 +11,7 @@ use memory::lines;
 
 // How far the sheet has been read: the last block begun, how much of each there is, and what is open; its class, a definition's type as a
 // word, its first node.
-#[derive(Drop)]
+#[derive(Clone, Copy)]
 pub struct Counts {
     pub block: u64,
     pub classes: u64,
@@ -28,7 +29,7 @@ pub struct Counts {
 }
 
 // After a line: the counts with it, or a refusal's number.
-#[derive(Drop)]
+#[derive(Clone, Copy)]
 pub enum Step {
     Next(Counts),
     Refused(u64),

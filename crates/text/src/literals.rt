@@ -13,7 +13,7 @@ use floats::spelling::read_real;
 use floats::{Number, Spelled};
 
 // A field that spells no number, one that no value may hold, or the word of a number.
-#[derive(Drop)]
+#[derive(Clone, Copy)]
 pub enum Literal {
     Bad,
     Over,

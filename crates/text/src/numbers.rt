@@ -15,14 +15,14 @@ pub const NUMBER_CUT: u64 = 1_000_000;
 // And the digits of an Integer as this one, which is out of the range.
 const DIGITS_CUT: u64 = 10_000_000_000;
 
-#[derive(Drop)]
+#[derive(Clone, Copy)]
 pub enum Num {
     Bad,
     Is(u64),
 }
 
 // An Integer of the range, with 2147483648 added to it, or one out of the range.
-#[derive(Drop)]
+#[derive(Clone, Copy)]
 pub enum Int {
     Bad,
     Out,
@@ -30,7 +30,7 @@ pub enum Int {
 }
 
 // A run of digits: the position after it, and the number it stands for, which saturates above every Integer of the range.
-#[derive(Drop)]
+#[derive(Clone, Copy)]
 pub struct Digits {
     pub end: usize,
     pub value: u64,

@@ -5,7 +5,7 @@ ghost use Rattle.text.specs.Parts.{PartEnd, Cut};
 
 // Where each field of a line ends. No line has more than nine fields, so ten ends are enough: a line of more than ten fields
 // has the count 11 and the ends of its first ten.
-#[derive(Drop)]
+#[derive(Clone, Copy)]
 pub struct Fields {
     pub count: usize,
     pub ends: [usize; 10],

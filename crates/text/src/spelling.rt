@@ -34,7 +34,7 @@ const POWERS: [u64; 20] = [
 ];
 
 // A number's digit at a place, as a byte, and what the digits behind it stand for.
-#[derive(Drop)]
+#[derive(Clone, Copy)]
 pub struct Lead {
     pub digit: u8,
     pub rest: u64,

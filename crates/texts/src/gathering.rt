@@ -11,7 +11,7 @@ use trees::calls::is_call;
 
 // Whether all are within their limits, whether all have two variables that differ, how many classes there must be, and how many
 // definitions.
-#[derive(Drop)]
+#[derive(Clone, Copy)]
 pub struct Gathered {
     pub within: bool,
     pub apart: bool,

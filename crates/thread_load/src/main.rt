@@ -1,4 +1,6 @@
 // The program of document 02, F-14: it reads stitch lengths from standard input, piece by piece, and prints one line. It depends on `load`.
+#![tactic(auto)]
+
 use libc::{STDIN_FILENO, STDOUT_FILENO};
 use load::reader::{Reader, feed, put_answer, start};
 

@@ -1,5 +1,7 @@
 // The tokens of a text, one at a time: where each begins and ends, and a code that tells what it is, so that no word is compared
 // twice. Document 02, F-7. It depends on `text` for numbers and for words by their length.
+#![tactic(auto)]
+
 ghost use Rattle.std.specs.Prelude.{◌≡◌, ◌≤◌, length};
 ghost use Rattle.sheet.specs.Sizes.{most_open};
 ghost use Rattle.sheet.specs.Grammar.Words.{labelled};
@@ -17,7 +19,7 @@ pub mod codes; // what it is
 pub mod signs; // the codes of words and signs that stand for no form
 
 // A token's bytes and its code. Where none is left, it has no bytes and the code END.
-#[derive(Drop)]
+#[derive(Clone, Copy)]
 pub struct Token {
     pub start: usize,
     pub end: usize,

@@ -12,7 +12,7 @@ use crate::calls::DEPTH_CUT;
 use memory::words::{at_most, larger};
 
 // An operand that breaks the tree, or the depth of the deepest operand.
-#[derive(Drop)]
+#[derive(Clone, Copy)]
 pub enum Marked {
     Malformed,
     Deepest(u64),

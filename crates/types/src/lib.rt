@@ -1,5 +1,6 @@
 // Types by value: a base and three collection codes. Subtyping, the common type, a type as one word, reading and spelling,
 // and the attribute row that a class reads. Document 01, Values and types. It depends on `text` for the numbers in a spelling.
+#![tactic(auto)]
 
 pub mod classes; // the table of parents: below, and the nearest common class
 pub mod letters; // the codes of C, S, Q and B
@@ -11,7 +12,7 @@ pub mod reading; // a field that spells a type
 pub mod spelling; // a type, written
 
 // A type with no letter around it. A class's number is a byte: an accepted sheet has it below 64.
-#[derive(Drop)]
+#[derive(Clone, Copy)]
 pub enum Base {
     Void,
     Bool,
@@ -22,7 +23,7 @@ pub enum Base {
 }
 
 // A base with at most three letters around it, by their codes, the outermost first; codes after a 0 mean nothing.
-#[derive(Drop)]
+#[derive(Clone, Copy)]
 pub struct FlatType {
     pub base: Base,
     pub outer: u8,
@@ -31,28 +32,28 @@ pub struct FlatType {
 }
 
 // The common type of two types, if they have one.
-#[derive(Drop)]
+#[derive(Clone, Copy)]
 pub enum Joined {
     Is(FlatType),
     Nothing,
 }
 
 // The class that a type is, if it is one.
-#[derive(Drop)]
+#[derive(Clone, Copy)]
 pub enum ClassNumber {
     Is(u64),
     Nothing,
 }
 
 // A row's number, if there is one.
-#[derive(Drop)]
+#[derive(Clone, Copy)]
 pub enum RowFound {
     At(u64),
     Nothing,
 }
 
 // A field that should spell a type: badly spelled, over document 01's limits, or a type.
-#[derive(Drop)]
+#[derive(Clone, Copy)]
 pub enum GotType {
     Bad,
     Big,

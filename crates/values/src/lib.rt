@@ -3,6 +3,8 @@
 //
 // Contracts (specs/Meanings.antt) say: whatever values lie at these places, the answer is what document 01 gives for them (Values and
 // types, Evaluation). It depends on `floats` for numbers as words, and on `ocl` for what a value is.
+#![tactic(auto)]
+
 pub mod arith; // arithmetic on Integers
 pub mod cells; // single cells, and runs of cells
 pub mod collections; // collections formed on the stack
@@ -10,7 +12,7 @@ pub mod merge; // ascending members added in one pass
 pub mod order; // two values compared
 
 // A value that is no collection. An Integer is counted from -2147483648; a Real is no whole number in the range of Integers.
-#[derive(Drop)]
+#[derive(Clone, Copy)]
 pub enum Simple {
     Bool { b: bool },
     Integer { biased: u64 },
@@ -19,21 +21,21 @@ pub enum Simple {
 }
 
 // Where a member goes: to a member that is the same, or to a place where it is new.
-#[derive(Drop)]
+#[derive(Clone, Copy)]
 pub enum Spot {
     Same { at: usize },
     New { at: usize },
 }
 
 // A value of len cells was formed, or its size would be over 128.
-#[derive(Drop)]
+#[derive(Clone, Copy)]
 pub enum Formed {
     Done { len: usize },
     Over,
 }
 
 // What an operation on Integers comes to: a result, counted from -2147483648; none; or one that is over the range.
-#[derive(Drop)]
+#[derive(Clone, Copy)]
 pub enum IntegerResult {
     Is { n: u64 },
     Undef,
