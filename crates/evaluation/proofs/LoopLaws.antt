@@ -1,4 +1,4 @@
--- The loop of `for_all` and `exists` over a collection's members: what is left means what the whole meant. And the next member of a loop,
+-- The loop of `forAll` and `exists` over a collection's members: what is left means what the whole meant. And the next member of a loop,
 -- where it lies, for that of `iter` too (FoldLaws). Assumes nothing.
 use mathlib.Core.Path.{◌≡◌, refl, sym, ap, ◌∙◌}
 use mathlib.Core.Bool.{Bool, true, false, not, beq}
@@ -72,7 +72,7 @@ after_first v vs room h k l =
     let e : n.ws ≡ vs = cc in
     rw e at n.left
 
--- ---- `for_all` and `exists`
+-- ---- `forAll` and `exists`
 
 ends_code : (k : ℕ) → 25 ≤ k → k < 27 → k - 25 ≡ bit (ends_at (quantifier_of k))
 unfolding bit ends_at quantifier_of

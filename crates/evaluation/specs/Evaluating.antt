@@ -62,7 +62,7 @@ pub record StackRoom (st : Counts) (w0 w1 w2 n sp left : ℕ) : Type 0 where
 
 -- ---- the forms of node n over its operands
 
--- one operand: the strict forms (`not` to `as`), `is_undef`, `attr`, `collect`
+-- one operand: the strict forms (`not` to `as`), `isUndef`, `attr`, `collect`
 unfoldable pub unary_node : List ℕ → ℕ → ℕ → MeaningT
 unary_node t n k w ρ s = resume_t (operand_for t n 1 w ρ s) (λ v m. at n s (of_value w.model k (word t n) (w.mark n) v m)) (λ m q j. at q j (of_undefined k m))
 

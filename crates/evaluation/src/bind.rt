@@ -1,4 +1,4 @@
-// Forms that bind variables in a body: `let`, `call`, `for_all`, `exists`, `iter`.
+// Forms that bind variables in a body: `let`, `call`, `forAll`, `exists`, `iter`.
 ghost use Rattle.std.specs.Prelude.{◌≡◌, ◌+◌, ◌≤◌, ◌<◌, length};
 ghost use Rattle.memory.specs.Codes as code;
 ghost use Rattle.ocl.specs.Forms.{levels};
@@ -89,7 +89,7 @@ pub fn call(
     }
 }
 
-// `for_all` and `exists`: the source, then its members.
+// `forAll` and `exists`: the source, then its members.
 #[cycle(call_fold_iter_let_in_quantified_seek_conditional_connective_right_below_binary_coll_node_unary_word)]
 pub fn quantified(
     tables: &[u64],
@@ -119,7 +119,7 @@ pub fn quantified(
     seek(tables, st, nodes, n, form, i, env, stack, sp, la, left, sa)
 }
 
-// Members in their order, up to the first whose body decides: false decides `for_all`, true decides `exists`. Where none does, the whole is
+// Members in their order, up to the first whose body decides: false decides `forAll`, true decides `exists`. Where none does, the whole is
 // undefined if a body was, at the place of the first such body.
 #[cycle(call_fold_iter_let_in_quantified_seek_conditional_connective_right_below_binary_coll_node_unary_word)]
 fn seek(

@@ -43,9 +43,9 @@ f64_fits r = of_bits-fits binary64 (bits r)
 neg_real : (s : Bool) (m e : ℕ) → T (is_binary64 (binary s m e)) → Ieee.neg (f64_of (binary s m e)) ≡ f64_of (binary (not s) m e)
 neg_real s m e p = the_float (Ieee.neg (f64_of (binary s m e))) (not s) m e (binary64→full s m e p) (neg-fits binary64 (f64_of (binary s m e)) (f64_fits (binary s m e))) (neg_value (f64_of (binary s m e)) s (m * 2 ^ e) U (the_value s m e p))
 
-pub in_float : (n : ℕ) → n ≤ 2147483648 → T (in_float binary64 (pos n))
+pub in_float_lem : (n : ℕ) → n ≤ 2147483648 → T (in_float binary64 (pos n))
 unfolding in_float
-in_float n h = le→leb n (2 ^ 53) (omega (arith, h))
+in_float_lem n h = le→leb n (2 ^ 53) (omega (arith, h))
 
 small : (n : ℕ) → n ≤ 2147483648 → n < 2 ^ 53
 small n h = omega (arith, h)

@@ -10,7 +10,7 @@ use Rattle.ocl.specs.Typing.{typed, Typed, pure, unary_type, attribute_type, cal
 use Rattle.types.specs.Word.{type_in}
 use Rattle.nodes.specs.Nodes.{class_in, unary_of}
 
--- node n of code k with the words w: `is_undef`, `attr`, `collect`, `call`, or a strict form (`not` to `as`)
+-- node n of code k with the words w: `isUndef`, `attr`, `collect`, `call`, or a strict form (`not` to `as`)
 unfoldable pub single_type : Schema → ℕ → ℕ → (ℕ → ℕ) → Ty → Typed
 single_type m n k w t =
     if eqb k code.is_undef then pure (typed Boolean)

@@ -158,7 +158,7 @@ fn size_type(n: u64, t: FlatType) -> Reply
     Reply::Is(plain(Base::Int))
 }
 
-// `as_set`, `as_sequence`, `as_bag` take a collection, else 11; its letter becomes that of the code.
+// `asSet`, `asSequence`, `asBag` take a collection, else 11; its letter becomes that of the code.
 fn converted(n: u64, code: u8, t: FlatType) -> Reply
     requires { 0 < code }
     ensures { meaning result ≡ on_collection (ty_of t) (refused 11 n) (λ l u. wrapType n (letter_of code) u) }
@@ -201,7 +201,7 @@ pub fn call_type(parents: &[u64], n: u64, c: u64, t: FlatType, u: FlatType) -> R
     Reply::No(11, n)
 }
 
-// By how much the codes of `as_set`, `as_sequence` and `as_bag` are above those of their letters.
+// By how much the codes of `asSet`, `asSequence` and `asBag` are above those of their letters.
 const CONVERSIONS: u64 = codes::TO_SET - letters::SET as u64;
 
 // Node n, whose one strict operand has type t.

@@ -17,7 +17,7 @@ use types::parts::plain;
 use types::word::unpack;
 use types::{Base, FlatType};
 
-// Node n, whose operand has type t. `is_undef` takes any type.
+// Node n, whose operand has type t. `isUndef` takes any type.
 pub fn single_type(
     nodes: &[u64],
     parents: &[u64],

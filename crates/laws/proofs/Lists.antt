@@ -73,6 +73,7 @@ each_head (each-cons p h) = p
 pub each_at : {A : Type 0} {P : A → Type 0} {n : A} {ns : List A} → Each P ns → Memᴰ n ns → P n
 each_at (each-cons p h) (Memᴰ.head e) = rw e p
 each_at (each-cons p h) (Memᴰ.tail m) = each_at h m
+each_at {A = A} {P = P} {n = n} each_nil x3 = elim x3 [ ]
 
 pub map_each : {A B : Type 0} (f g : A → B) (ns : List A) → Each (λ n. f n ≡ g n) ns → map f ns ≡ map g ns
 map_each f g [] each_nil = refl

@@ -47,7 +47,7 @@ source_type k t n Γ = (typing k (trees_below t n (word t n 1)) Γ).answer
 
 -- ---- a body
 
--- `for_all`, `exists`, `let`, `iter`
+-- `forAll`, `exists`, `let`, `iter`
 unfoldable pub binds : ℕ → Bool
 binds form = if eqb form code.let_in then true else if eqb form code.iterate then true else if ltb form code.for_all then false else ltb form code.set
 

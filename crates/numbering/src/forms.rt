@@ -71,7 +71,7 @@ fn looks(form: u64) -> bool
     form < codes::AND
 }
 
-// Whether node n stands outside: `as_sequence` and `iter` do, and `including`, `union` and `collect` on a type `Q(..)`.
+// Whether node n stands outside: `asSequence` and `iter` do, and `including`, `union` and `collect` on a type `Q(..)`.
 fn is_outside(
     nodes: &[u64],
     parents: &[u64],

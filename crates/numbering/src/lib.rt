@@ -37,7 +37,7 @@ pub fn lower(nodes: &[u64], a: usize, b: usize) -> usize
     a
 }
 
-// How many operands stand in the node's own environment, from `is_undef` on: `if` has three, `iter` and `over` two, the others one.
+// How many operands stand in the node's own environment, from `isUndef` on: `if` has three, `iter` and `over` two, the others one.
 fn late_count(form: u64) -> usize
     ensures { (result ≡ late_count form) × (result ≤ 4) }
 {

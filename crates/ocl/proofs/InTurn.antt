@@ -16,7 +16,7 @@ use Rattle.ocl.specs.Marks.{Mark}
 use Rattle.ocl.specs.Operations.{Outcome, value, undefined, stuck, stop, on_bool, on_obj, on_coll, left_fits}
 use Rattle.ocl.specs.Evaluation.{resume, bind, tick, decides, ends_at, unary_run, binary_run, connective_run, is_undef_run, conditional_run, let_run, attribute_run, call_run, seek, quantified_run, fold, iterate_run, no_operand_run, operand_run, assemble_run, evaluation, form_run, operands_run}
 use Rattle.ocl.specs.Origin.{Begun, begun, outcome_from, after_value, unless_decided, branch_of, object_of, members_of, bodies, turns, member_runs, runs_of, FirstUndefined, this_one, after_it, Arose, here, below, After, value_after, undefined_after, InTurn, no_more, then_next, RunsLaw, OriginStep}
-use Rattle.ocl.proofs.Steps.{Counted, limited_value, limited_undefined, limited_stuck, limited_if, limited_form, limited_bool, leaf_limited, unary_limited, binary_limited, access_limited, run_grows}
+use Rattle.ocl.proofs.Steps.{Counted, limited_value, limited_undefined, limited_stuck, limited_if, limited_form, limited_bool, leaf_limited, unary_limited, binary_limited, access_limited, run_grows, limited_stop}
 
 module _ (s : Model) (mark : ℕ → Mark) where
   -- if the outcome is a value or undefined, the runs are all that ran between n steps and its own
@@ -27,6 +27,8 @@ module _ (s : Model) (mark : ℕ → Mark) where
   still : {k m : ℕ} {o : Outcome} → Counted (λ i. i ≡ k) o → After m o → InTurn s mark k [] m
   still (limited_value e) value_after = subst (InTurn s mark _ []) (sym e) no_more
   still (limited_undefined e) undefined_after = subst (InTurn s mark _ []) (sym e) no_more
+  still {k = k} {m = m} limited_stuck x3 = elim x3 [ ]
+  still {k = k} {m = m} (limited_stop {c = c} {n = n} _ _) x8 = elim x8 [ ]
 
   fills_none : {n : ℕ} {o : Outcome} → Counted (λ i. i ≡ n) o → Fills n [] o
   fills_none h = record { turn = λ m a. still h a }
@@ -163,6 +165,8 @@ runs_law s mark p f ρ n m a = by (ltb n 1000000) a
 grown : {n k : ℕ} {o : Outcome} → Counted (λ m. n ≤ m) o → After k o → n ≤ k
 grown (limited_value l) value_after = l
 grown (limited_undefined l) undefined_after = l
+grown {n = n} {k = k} limited_stuck x3 = elim x3 [ ]
+grown {n = n} {k = k} (limited_stop {c = c} _ _) x8 = elim x8 [ ]
 
 module _ {s : Model} {mark : ℕ → Mark} where
   turns_grow : {n m : ℕ} {bs : List Begun} → InTurn s mark n bs m → n ≤ m
@@ -183,6 +187,7 @@ module _ {s : Model} {mark : ℕ → Mark} where
       let i = first_in_turn h f in
       let l = i.0 in
       (omega arith, i.1, i.2, i.3)
+  first_in_turn {b = b} (no_more {n = n}) x5 = elim x5 [ ]
 
   within : {e : Expr} {ρ : Env Value} {n q j : ℕ} → Arose s mark e ρ n q j → (m : ℕ) → evaluation s mark e ρ n ≡ undefined m → (n < j) × (j ≤ m)
   unfolding outcome_from

@@ -161,7 +161,7 @@ keep : (d : Mark) {p : ℕ} {ns : List ℕ} {m : Marks} → Part ns m → Each (
 unfolding mark_or
 keep d part_nil each_nil = refl
 keep d (part_skip q) (each-cons z h) = keep d q h
-keep d {p} (part_take {n} {x} q) (each-cons z h) = keep _ q h ∙ rw (ne_eqb p n (λ e. z (sym e)))
+keep d {p} (part_take {n} {x} q) (each-cons z h) = keep (if eqb p n then x else d) q h ∙ rw (ne_eqb p n (λ e. z (sym e)))
 
 -- whatever stood there before the marks were made
 pub agree_marks : (d : ℕ → Mark) {ns : List ℕ} {m : Marks} → Part ns m → Distinct ns → Agree (λ p. mark_or (d p) m p) m
@@ -169,4 +169,4 @@ unfolding mark_or
 agree_marks d part_nil distinct_nil = no_mark
 agree_marks d (part_skip q) (distinct_cons z e) = agree_marks d q e
 agree_marks d (part_take {n} {x} q) (distinct_cons z e) =
-    mark_then {x = x} (keep _ q z ∙ rw (eq-eqb n n refl)) (agree_marks (λ p. if eqb p n then x else d p) q e)
+    mark_then {x = x} (keep (if eqb n n then x else d n) q z ∙ rw (eq-eqb n n refl)) (agree_marks (λ p. if eqb p n then x else d p) q e)

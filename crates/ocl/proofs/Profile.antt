@@ -89,7 +89,7 @@ some_node : {C : Type 0} (p : ℕ) → node_if p true ≡ [] → C
 unfolding node_if
 some_node p e = absurd (let z : ◌≡◌ {A = ℕ} 0 1 = cc in omega linear)
 
--- no `as_sequence`
+-- no `asSequence`
 no_sequence_made : (p : ℕ) (op : Unary) → node_if p (makes_sequence op) ≡ [] → T (orderless op)
 unfolding makes_sequence orderless no_sequence same_kind kind_code
 no_sequence_made p negation e = tt

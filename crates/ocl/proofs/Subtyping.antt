@@ -68,13 +68,16 @@ module _ (parent : Parents) (small : Small parent) where
 
   least_of : {x : Ty} (o : Option Ty) → Any? (λ w. T (subtype parent w x)) o → (w : Ty) → o ≡ some w → Subtype parent w x
   least_of {x} (some y) (any_some h) w e = let f : y ≡ w = cc in rw (← f) (subtype→Subtype y x h)
+  least_of {x = x} none x3 w e = elim x3 [ ]
 
   there : {P : Ty → Type 0} (o : Option Ty) → Any? P o → (w : Ty) × (o ≡ some w)
   there (some y) (any_some h) = (y, refl)
+  there {P = P} none x' = elim x' [ ]
 
   -- a type above both leaves no `none`
   not_none : {P : Ty → Type 0} (o : Option Ty) → Any? P o → o ≡ none → ⊥
   not_none (some y) (any_some h) e = let z : ◌≡◌ {A = ℕ} 0 1 = cc in omega arith
+  not_none {P = P} none x'' e = elim x'' [ ]
 
   least_some : (t u x : Ty) → Subtype parent t x → Subtype parent u x → Any? (λ w. T (subtype parent w x)) (join parent t u)
   least_some t u x p q = join_least parent small t u x (Subtype→subtype p) (Subtype→subtype q)

@@ -77,7 +77,7 @@ module _ (s : Model) (mark : ℕ → Mark) where
   still_undefined c q j a says_stuck = says_stuck
   still_undefined c q j a says_stop = says_stop
 
-  -- ---- `for_all`, `exists`
+  -- ---- `forAll`, `exists`
 
   module _ (q : Quantifier) (i : ℕ) (b : Expr) (ρ : Env Value) (body-says : (v : Value) (n : ℕ) → Says (Arose s mark b (extend ρ i v) n) (trace s mark b (extend ρ i v) n) (evaluation s mark b (extend ρ i v) n)) where
     -- after an undefined body its place stays

@@ -99,7 +99,7 @@ pub record Definitions : Type 0 where
   -- a stop in the body is the call's
   pub stop_in_body : call_outcome 0 (itself 0) (node 5 (is_undef
       (call₀ 4 (anything (node 2 (binary (arith plus) (int₀ 0 (pos 2147483647)) (int₀ 1 (pos 1))))) (self₀ 3)))) ≡ stop 19 6
-  -- reach adds the body's; under `for_all` it counts as often as the call
+  -- reach adds the body's; under `forAll` it counts as often as the call
   pub call_reach : reach (call₀ 3 (five 0) (self₀ 2)) ≡ 4
   pub iterated_reach : reach (node 5 (quantified for_all 1 (node 2 (leaf (all 0))) (call₀ 4 (five 0) (node 3 (leaf (var 1)))))) ≡ 510
   -- the body lies below the call, as the operand does

@@ -87,12 +87,12 @@ attribute_run s x m f ρ n = bind (f ρ n) (λ v n. access s x m v n)
 unfoldable pub call_run : Model → ℕ → Run → Run → Run
 call_run s c f g ρ n = bind (f ρ n) (λ v n. on_obj v (λ o. if is_a s o (class c) then g (start (obj o)) n else stuck))
 
--- the body that ends it: false for `for_all`, true for `exists`
+-- the body that ends it: false for `forAll`, true for `exists`
 unfoldable pub ends_at : Quantifier → Bool
 ends_at for_all = false
 ends_at exists = true
 
--- document 02, F-2: "`for_all` runs members until one body is false and is then false; with none false it is undefined if any body was
+-- document 02, F-2: "`forAll` runs members until one body is false and is then false; with none false it is undefined if any body was
 -- undefined, else true. `exists` mirrors it with true". blank: a body before these members was undefined
 unfoldable pub seek : Quantifier → (Value → ℕ → Outcome) → Bool → Values → ℕ → Outcome
 seek q body blank nil n = if blank then undefined n else value (bool (not (ends_at q))) n

@@ -15,7 +15,7 @@ pub data Division : Type 0 where
 pub data Connective : Type 0 where
   and or : Connective
 
--- `for_all`, `exists`
+-- `forAll`, `exists`
 pub data Quantifier : Type 0 where
   for_all exists : Quantifier
 
@@ -32,7 +32,7 @@ pub data Leaf : Type 0 where
   var : ℕ → Leaf
   all : ℕ → Leaf
 
--- forms with one strict operand: `not`, `size`, `as_set` `as_sequence` `as_bag`, `as e c`
+-- forms with one strict operand: `not`, `size`, `asSet` `asSequence` `asBag`, `as e c`
 pub data Unary : Type 0 where
   negation : Unary
   size_of : Unary
@@ -69,7 +69,7 @@ mutual
     attribute : Access → ℕ → Expr → Form
     -- `call e n`: definition n's class and type, then e and definition n's body (document 02, F-13)
     call : ℕ → Ty → Expr → Expr → Form
-    -- `for_all s i b`, `exists s i b`, the variable first
+    -- `forAll s i b`, `exists s i b`, the variable first
     quantified : Quantifier → ℕ → Expr → Expr → Form
     -- `iter s i j T e b`: the member, the accumulator, its type, then s, e, b
     iterate : ℕ → ℕ → Ty → Expr → Expr → Expr → Form

@@ -141,7 +141,7 @@ cast s c (coll k vs) n = stuck
 unfoldable pub unary_apply : Model → Unary → Value → ℕ → Outcome
 unary_apply s negation v n = on_bool v (λ b. value (bool (not b)) n)
 unary_apply s size_of v n = on_coll v (λ k vs. value (num (int (pos (count vs)))) n)
--- "`as_sequence` keeps the stored order; `as_set` drops repeats": members are added one by one in their stored order
+-- "`asSequence` keeps the stored order; `asSet` drops repeats": members are added one by one in their stored order
 unary_apply s (convert k) v n = on_coll v (λ j vs. form (coll k (add_all k vs nil)) n)
 unary_apply s (cast_to c) v n = cast s c v n
 

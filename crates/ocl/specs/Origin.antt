@@ -66,7 +66,7 @@ members_of (num x) f = []
 members_of (obj o) f = []
 members_of (coll k vs) f = f vs
 
--- the bodies of `for_all` and `exists`, up to the first that decides
+-- the bodies of `forAll` and `exists`, up to the first that decides
 unfoldable pub bodies : Model → (ℕ → Mark) → Quantifier → ℕ → Expr → Env Value → Values → ℕ → List Begun
 bodies s mark q i b ρ nil n = []
 bodies s mark q i b ρ (cons v vs) n = begun b (extend ρ i v) n
@@ -124,7 +124,7 @@ pub data FirstUndefined (s : Model) (mark : ℕ → Mark) (b : Begun) : List Beg
 
 -- "The node named there began at that step, came out undefined, and had every operand it ran defined. From it to the root each node
 -- came out undefined": a run that came out undefined names itself where every operand was defined, and else goes on from the first
--- that was not. `and` and `or` alone may run two of them, the left one first; of the bodies of `for_all` and `exists` the first one
+-- that was not. `and` and `or` alone may run two of them, the left one first; of the bodies of `forAll` and `exists` the first one
 -- counts; a `let` runs its body only where its e is defined
 pub data Arose (s : Model) (mark : ℕ → Mark) : Expr → Env Value → ℕ → ℕ → ℕ → Type 0 where
   here : {p n : ℕ} {f : Form} {ρ : Env Value} → Undefined s mark (begun (node p f) ρ n)

@@ -1,4 +1,4 @@
--- Document 02, F-12: "a profile without `iter` and `as_sequence`, and with no `union`, `including` or `collect` on a type `Q(..)`". Which
+-- Document 02, F-12: "a profile without `iter` and `asSequence`, and with no `union`, `including` or `collect` on a type `Q(..)`". Which
 -- nodes of a rule stand outside it; typing's answers are asked for again where that follows a type.
 use Rattle.std.specs.Prelude.{Bool, true, false, ◌&&◌, List, [], ◌∷◌, ◌++◌, ℕ}
 use Rattle.std.specs.Prelude.{if◌then◌else◌}
@@ -17,7 +17,7 @@ is_q (exactly k) = same_kind k sequence
 unfoldable pub is_sequence : Ty → Bool
 is_sequence t = on_collection t false (λ l m. is_q l)
 
--- `as_sequence`
+-- `asSequence`
 unfoldable pub makes_sequence : Unary → Bool
 makes_sequence negation = false
 makes_sequence size_of = false

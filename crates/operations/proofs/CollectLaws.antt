@@ -124,6 +124,8 @@ module _ {st : Counts} {w0 : List ℕ} {mark sp len s t : ℕ} {B : List ℕ} (S
             by : (ws : Values) (r : Ended) → Brought (sp + len) s C ws r → Other r → Ends sp C (form (coll (kind_in mark) (add_all (kind_in mark) ws nil)) s) r
             by ws (ended.Value n u) d z = no_value n u z
             by ws (ended.Stop c u) (too_many q) z = rw (many_stop (kind_in mark) ws s (no_set mark) q) ends_stop
+            by ws (ended.Undef _) d z = elim d [ ]
+            by ws ended.Stuck d z = elim d [ ]
 
         pub collect_done : {n u kind : ℕ} {A : List ℕ} (f : Formed) {r : Ended} → x ≡ ended.Value n u → length C ≡ length B → kind ≡ kind_code (kind_in mark) → Assembles kind sp (sp + len) (sp + len + n) C A f → r ≡ formed_as f u
             → Accesses of_members st w0 mark sp len s B A r

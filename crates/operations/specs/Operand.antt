@@ -1,4 +1,4 @@
--- What follows the one operand of a form, by the form's code: the strict forms (`not` to `as`), `is_undef`, `attr`, `collect`.
+-- What follows the one operand of a form, by the form's code: the strict forms (`not` to `as`), `isUndef`, `attr`, `collect`.
 use Rattle.std.specs.Prelude.{true, false, List, ℕ, ◌+◌, get_or, eqb, ltb}
 use Rattle.std.specs.Prelude.{if◌then◌else◌}
 use Rattle.memory.specs.Map as memory

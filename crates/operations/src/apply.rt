@@ -62,7 +62,7 @@ fn member_total(stack: &mut [u64], sp: usize, len: usize, steps: u64) -> Ended
     )
 }
 
-// `as_set` (0), `as_sequence` (1), `as_bag` (2)
+// `asSet` (0), `asSequence` (1), `asBag` (2)
 fn change(kind: u64, stack: &mut [u64], sp: usize, len: usize, steps: u64) -> Ended
     requires { (kind < 3) × (1 ≤ len) × (sp + len + 256 ≤ length stack.old) }
     ensures { OfOne AnyModel (λ m. unary_apply m (convertForm (kind_for kind))) sp len steps stack.old stack.new result }

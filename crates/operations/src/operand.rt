@@ -1,5 +1,5 @@
-// What a form with one operand does once the operand has run: the strict forms (`not`, `size`, `as_set`, `as_sequence`, `as_bag`, `as`),
-// `is_undef`, `attr` and `collect`.
+// What a form with one operand does once the operand has run: the strict forms (`not`, `size`, `asSet`, `asSequence`, `asBag`, `as`),
+// `isUndef`, `attr` and `collect`.
 ghost use Rattle.std.specs.Prelude.{◌+◌, ◌≤◌, ◌<◌, length};
 ghost use Rattle.memory.specs.Codes as code;
 ghost use Rattle.ocl.specs.Values.{largest};
@@ -51,7 +51,7 @@ pub fn of_value(
     }
 }
 
-// A form whose operand is undefined: `is_undef` is true, every other form is undefined too.
+// A form whose operand is undefined: `isUndef` is true, every other form is undefined too.
 pub fn of_undefined(form: u64, stack: &mut [u64], sp: usize, steps: u64) -> Ended
     requires { sp < length stack.old }
     ensures { FromUndefined form sp steps stack.old stack.new result }

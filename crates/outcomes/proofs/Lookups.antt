@@ -48,7 +48,7 @@ unfolding is_a class_is_a
 object_is {st} {w0} {ps} {o} {c} {d} {at} {r} h a e p q = record { is = λ m H. rw (H.class_of o, lt-ltb o st.objects h, H.classes.parent, ← p, ← a, ← e) q }
 
 pub no_owner : {st : Counts} {w0 : List ℕ} {i : ℕ} → st.rows ≤ i → Owner st w0 i 0
-no_owner {i = i} h = record { is = λ m H P. sym (P.no_row i h) }
+no_owner {i = i} h = record { is = λ m H P. sym (P.no_row_lem i h) }
 
 pub owner_is : {st : Counts} {w0 : List ℕ} {i at : ℕ} → i < st.rows → at ≡ i → Owner st w0 i (get_or w0 (memory.owners + at) 0)
 owner_is {st} {w0} {i} {at} h e = record {

@@ -36,7 +36,7 @@ use Rattle.phrases.specs.declared.Opening.{Opening}
 use Rattle.phrases.specs.declared.Opening.TheVariants as opening
 use Rattle.phrases.proofs.WordLaws as words
 
--- ---- `#1.all_instances()`
+-- ---- `#1.allInstances()`
 
 -- by the codes of what follows the class
 unfoldable instances_by : Option (ℕ × Tokens) → Option Start

@@ -74,11 +74,11 @@ is_letter k = leb sign.set_letter k && leb k sign.collection_letter
 unfoldable pub labelled_before : ℕ → ℕ → Tokens → Option (ℕ × Tokens)
 labelled_before letter k s = on_some (taking (labelled letter) s) (λ x. map_some (λ r. (x.0, r)) (after_code k x.1))
 
--- `(#1)`, after `ocl_as_type`
+-- `(#1)`, after `oclAsType`
 unfoldable pub cast_step : Tokens → Option Next
 cast_step s = on_some (after "(" s) (λ r. on_some (taking class_word r) (λ x. map_some (plain (unary (cast_to x.0))) (after ")" x.1)))
 
--- `#1.all_instances()`
+-- `#1.allInstances()`
 unfoldable pub class_start : Tokens → Option Start
 class_start [] = none
 class_start (w ∷ s) = instances_start w s

@@ -10,7 +10,7 @@ use super::{After, Labelled, Opening};
 use memory::codes;
 use tokens::{Token, next_token, signs};
 
-// `#1.all_instances()`
+// `#1.allInstances()`
 fn instances(s: &[u8], t: Token) -> Opening
     requires { Ahead s.now t × (t.code ≢ sign.end) }
     ensures { OpeningAs s.now t (class_start (onward s.now t)) result }

@@ -42,7 +42,7 @@ fn empty_call(s: &[u8], t: Token, code: u64, x: u64) -> Postfix
     closing(s, u, code, x)
 }
 
-// `(#1)`, after `ocl_as_type`.
+// `(#1)`, after `oclAsType`.
 fn cast_step(s: &[u8], t: Token) -> Postfix
     requires { Ahead s.now t }
     ensures { StepAs s.now t (or_broken (cast_step (onward s.now t))) result }

@@ -9,7 +9,7 @@ use Rattle.laws.proofs.Tests.{test_true}
 use Rattle.laws.proofs.Orders.{gt_not_eq, gt_not_lt, lt_not_eq, Chain, left, right, twice, up_down, down_up}
 use Rattle.ocl.specs.Types.{Kind, set, bag}
 use Rattle.ocl.specs.Values.{Value, Values, nil, cons, order, same, has, add, add_all}
-use Rattle.ocl.specs.Laws.{InOrder, ascends, repeats, Sorted, sorted_nil, sorted_one, sorted_cons}
+use Rattle.ocl.specs.Laws.{InOrder, ascends, repeats, Sorted, sorted_nil, sorted_one, sorted_cons, anyhow}
 use Rattle.ocl.proofs.Values.{Every, every_nil, every_cons, add_every, add_all_every}
 use Rattle.ocl.proofs.Order.{order_same, order_turned, order_chain, eq_test, value_order, same_self as same-itself}
 use Rattle.ocl.proofs.NumbersKept.{AllKept}
@@ -96,6 +96,7 @@ pub data InLine : Kind → Type 0 where
 follows : {k : Kind} {o : Ordering} → InLine k → InOrder k o → (o ≡ Ordering.gt → ⊥)
 follows l ascends e = gt_not_lt (sym e)
 follows l repeats e = gt_not_eq (sym e)
+follows {o = o} l anyhow e = elim l [ ]
 
 less_follows : (x v w : Value) → order x v ≡ Ordering.lt → (order v w ≡ Ordering.gt → ⊥) → order x w ≡ Ordering.lt
 less_follows x v w p h = by (order v w) refl

@@ -114,10 +114,12 @@ pub member_from : (f : Value → Value) (y : Value) (vs : Values) → Member y (
 unfolding each
 member_from f y (cons v vs) first = (v, first, refl)
 member_from f y (cons v vs) (later h) = let r = member_from f y vs h in (r.0, later r.1, r.2)
+member_from f y nil x' = elim x' [ ]
 
 pub every_member : {P : Value → Type 0} {x : Value} {vs : Values} → Every P vs → Member x vs → P x
 every_member (every_cons p e) first = p
 every_member (every_cons p e) (later h) = every_member e h
+every_member {P = P} every_nil x4 = elim x4 [ ]
 
 pub no_member : {y : Value} → Member y nil → ⊥
 unfolding has
@@ -223,7 +225,7 @@ module _ (f g : ℕ → ℕ) (back : (o : ℕ) → g (f o) ≡ o) where
       each_add_all (renumbered f) (image_kept f) k vs nil p every_nil
       ∙ gathered_through l (through_self l) (each (renumbered f) vs) nil (changed_kept (renumbered f) (image_kept f) p) tidy_nil
 
-  -- `as_set`, `as_bag`
+  -- `asSet`, `asBag`
   pub image_convert : (j : Kind) {k : Kind} → InLine k → (vs : Values) → FitAll j vs
       → add_all k (add_all j (each (renumbered f) vs) nil) nil ≡ add_all k (each (renumbered f) (add_all k vs nil)) nil
   image_convert j {k} l vs h =

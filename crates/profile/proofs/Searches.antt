@@ -1,4 +1,4 @@
--- What `for_all` and `exists` find depends on the bodies of the members and not on their order: what a search that ends has found, and that
+-- What `forAll` and `exists` find depends on the bodies of the members and not on their order: what a search that ends has found, and that
 -- two searches over members which go with one another find the same. Assumes nothing.
 use mathlib.Core.Path.{◌≡◌, refl, sym, ap, ◌∙◌, subst}
 use mathlib.Core.Logic.{◌⊎◌, inl, inr}

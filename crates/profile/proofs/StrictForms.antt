@@ -1,4 +1,4 @@
--- The forms with one or two strict operands go with one another from their operands on, but for `as_sequence`. Assumes nothing.
+-- The forms with one or two strict operands go with one another from their operands on, but for `asSequence`. Assumes nothing.
 use mathlib.Core.Path.{◌≡◌, refl, sym, ap, ◌∙◌, subst}
 use mathlib.Core.Bool.{Bool, true, false, not}
 use Prim.Native.Nat.{ℕ, ◌<◌}

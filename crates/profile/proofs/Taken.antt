@@ -47,7 +47,7 @@ pub record Cut (s : Sheet) (k : ℕ) (a b : List Line) (u : Sheet) (i : ℕ) : T
 
 pub takes_cut : {s u : Sheet} {k i : ℕ} (a : List Line) {b : List Line} → Takes s k (a ++ b) u i → Cut s k a b u i
 takes_cut {s} {k} [] p = record { sheet = s; number = k; left = takes_nil; right = p }
-takes_cut (x ∷ a) (takes_cons e m p) = let c = takes_cut a p in record { sheet = c.sheet; number = c.number; left = takes_cons e m c.left; right = c.right }
+takes_cut {s = s} {u = u} {k = k} {i = i} (x ∷ a) {b = b} (takes_cons {t = t} e m p) = let c = takes_cut {s = added t (suc k) x} {u = u} {k = suc k} {i = i} a {b = b} p in record { sheet = c.sheet; number = c.number; left = takes_cons e m c.left; right = c.right }
 
 pub takes_count : {s t : Sheet} {k j : ℕ} {a : List Line} → Takes s k a t j → j ≡ k + length a
 takes_count takes_nil = omega arith

@@ -99,6 +99,7 @@ module _ {fs : List Bytes} {from to i : ℕ} {at : List ℕ} (so : ReadTo fs fro
                   let z : i - from ≡ length so.seen = omega (arith, so.many) in
                   rw (so.held, z, q) (four_more so.seen n (omega (arith, so.many)));
             }
+        go none e x'' = elim x'' [ ]
 
 -- ---- the fields after a form's word
 

@@ -211,14 +211,14 @@ module _ (h t : Numbers) (y : TypeRead) {good : Bool} {line : ℕ} {p : Parsed} 
 module _ {h t : Numbers} {y : TypeRead} {good : Bool} {line : ℕ} {p : Parsed} {text : Bytes} {f : Fields} (all : good ≡ (h.good && y.spelled && t.good)) (cut_up : Cut text f) (n : f.count ≡ 9)
     (hd : NumbersRead (each a_number (take (6 - 3) (drop 3 (fields_of text)))) h) (ty : TypeSpelled (read_type (get_or (fields_of text) 6 [])) y)
     (tl : NumbersRead (each a_number (take (9 - 7) (drop 7 (fields_of text)))) t) where
-  pub iterate_bad : not good ≡ true → FormRead line none p → FormRead line (shape_by 35 (drop 3 (fields_of text))) p
-  iterate_bad b q = fields_read h t y all (off q.is ∙ sym (not-true good b)) (λ g. absurd (true≢false (sym g ∙ not-true good b))) q.few q.size q.low cut_up n hd ty tl
+  pub iterate_bad : good ≡ false → FormRead line none p → FormRead line (shape_by 35 (drop 3 (fields_of text))) p
+  iterate_bad b q = fields_read h t y all (off q.is ∙ sym b) (λ g. absurd (true≢false (sym g ∙ b))) q.few q.size q.low cut_up n hd ty tl
     where
       off : Spelled line none p → p.spelled ≡ false
       off (misspelled e) = e
 
-  pub iterate_read : not good ≡ false → Iterates h.at y t.at line p → FormRead line (shape_by 35 (drop 3 (fields_of text))) p
-  iterate_read b q = fields_read h t y all (q.fine.spelled ∙ sym (not-false good b)) (λ g. q.is) q.fine.few q.fine.size q.fine.classes cut_up n hd ty tl
+  pub iterate_read : good ≡ true → Iterates h.at y t.at line p → FormRead line (shape_by 35 (drop 3 (fields_of text))) p
+  iterate_read b q = fields_read h t y all (q.fine.spelled ∙ sym b) (λ g. q.is) q.fine.few q.fine.size q.fine.classes cut_up n hd ty tl
 
 -- what the calls told, as the law asks for it
 pub both_variables : {v u w : Bool} (c : Bool) (i j : ℕ) → v ≡ is_variable i → u ≡ is_variable j → w ≡ (v && u && c) → w ≡ (is_variable i && is_variable j && c)

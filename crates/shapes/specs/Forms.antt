@@ -52,7 +52,7 @@ pub data PlainCode : ℕ → ℕ → Type 0 where
   conditional : PlainCode code.conditional 3
   quotient : PlainCode code.over 2
 
--- of `for_all` and `exists`
+-- of `forAll` and `exists`
 pub record QuantifierCode (k : ℕ) : Type 0 where
   pub low : code.for_all ≤ k
   pub high : k < code.set

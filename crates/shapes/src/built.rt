@@ -137,7 +137,7 @@ fn let_in(at: [u64; 4], k: u64) -> Parsed
     }
 }
 
-// `for_all s i b` and `exists s i b`
+// `forAll s i b` and `exists s i b`
 fn quantified(code: u64, at: [u64; 4], k: u64) -> Parsed
     requires { QuantifierCode code × (length at ≡ 4) }
     ensures { Builds code at k result }

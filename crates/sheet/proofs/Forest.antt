@@ -67,7 +67,7 @@ apart_nil : (xs : List ℕ) → Apart xs []
 apart_nil [] = each_nil
 apart_nil (x ∷ xs) = each-cons each_nil (apart_nil xs)
 
-apart_right : {xs ys zs : List ℕ} → Apart xs ys → Apart xs zs → Apart xs (ys ++ zs)
+apart_right : {ys xs zs : List ℕ} → Apart xs ys → Apart xs zs → Apart xs (ys ++ zs)
 apart_right each_nil each_nil = each_nil
 apart_right (each-cons p h) (each-cons q k) = each-cons (each_append p q) (apart_right h k)
 

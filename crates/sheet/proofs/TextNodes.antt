@@ -37,7 +37,7 @@ pub data FreshAll : ℕ → List ℕ → List Shape → Type 0 where
 fresh_append : {n m : ℕ} {used u : List ℕ} (xs : List Shape) {ys : List Shape} → FreshAll n used xs → m ≡ n + length xs → u ≡ used ++ operands_all xs → FreshAll m u ys → FreshAll n used (xs ++ ys)
 unfolding operands_all
 fresh_append {n} {m} {used} {u} [] {ys} fresh_nil e d h = let z : m ≡ n = omega arith in subst (λ k. FreshAll k used ys) z (subst (λ l. FreshAll m l ys) (d ∙ append-nil used) h)
-fresh_append {used} (x ∷ xs) (fresh_cons p k) e d h = fresh_cons p (fresh_append xs k (omega arith) (d ∙ sym (append_assoc used (operands_of x) (operands_all xs))) h)
+fresh_append {n = n} {m = m} {used = used} {u = u} (x ∷ xs) {ys = ys} (fresh_cons p k) e d h = fresh_cons p (fresh_append {n = suc n} {m = m} {used = used ++ operands_of x} {u = u} xs {ys = ys} k (omega arith) (d ∙ sym (append_assoc used (operands_of x) (operands_all xs))) h)
 
 -- ---- members
 

@@ -95,7 +95,7 @@ pub record Examples : Type 0 where
   pub no_attribute : prints ("C 0 -" ∷ "R 0 0" ∷ "N 0 self" ∷ "N 1 attr 0 5" ∷ []) ≡ bytes "! 12 4\n"
   pub too_deep_type : prints ("C 0 -" ∷ "R 0 0" ∷ "N 0 coll S" ∷ "N 1 coll S 0" ∷ "N 2 coll S 1" ∷ "N 3 coll S 2" ∷ []) ≡ bytes "! 13 6\n"
   -- the source is checked before the body is typed
-  pub source_first : prints ("C 0 -" ∷ "R 0 0" ∷ "N 0 var 2" ∷ "N 1 int 1" ∷ "N 2 for_all 1 1 0" ∷ []) ≡ bytes "! 11 5\n"
+  pub source_first : prints ("C 0 -" ∷ "R 0 0" ∷ "N 0 var 2" ∷ "N 1 int 1" ∷ "N 2 forAll 1 1 0" ∷ []) ≡ bytes "! 11 5\n"
   -- reading writes one type a line; where a rule does not type it writes none; no rule, no line
   pub two_types : reads_into 2560 ("C 0 -" ∷ "R 0 0" ∷ "N 0 self" ∷ "R 1 0" ∷ "N 0 int 1" ∷ "N 1 coll S 0" ∷ []) ≡ answer (bytes "#0\nS(Int)\n")
   pub second_untyped_lem : reads_into 2560 second_untyped ≡ refusal_at 11 8
@@ -126,8 +126,8 @@ pub record Examples : Type 0 where
   pub call_binds : prints ("C 0 -" ∷ "O 0 0" ∷ "D 0 0 Int" ∷ "N 0 int 5" ∷ "N 1 var 1" ∷ "N 2 let 1 0 1" ∷ "R 0 0" ∷ "N 0 int 1" ∷ "N 1 self" ∷ "N 2 call 1 0" ∷ "N 3 var 1" ∷ "N 4 plus 2 3" ∷ "N 5 let 1 0 4" ∷ [])
       ≡ bytes "0 0 6 9\n"
   -- a call of an undefined operand does not run the body, and a stop in a body is the call's
-  pub call_undefined : prints ("C 0 -" ∷ "A 0 0 5 #0" ∷ "O 0 0" ∷ "D 0 0 Int" ∷ "N 0 int 1" ∷ "R 0 0" ∷ "N 0 self" ∷ "N 1 attr 0 5" ∷ "N 2 call 1 0" ∷ "N 3 is_undef 2" ∷ []) ≡ bytes "0 0 t 4\n"
-  pub call_stops : prints ("C 0 -" ∷ "O 0 0" ∷ "D 0 0 Int" ∷ "N 0 int -2147483648" ∷ "N 1 int 1" ∷ "N 2 minus 0 1" ∷ "R 0 0" ∷ "N 0 self" ∷ "N 1 call 0 0" ∷ "N 2 is_undef 1" ∷ []) ≡ bytes "0 0 !19 6\n"
+  pub call_undefined : prints ("C 0 -" ∷ "A 0 0 5 #0" ∷ "O 0 0" ∷ "D 0 0 Int" ∷ "N 0 int 1" ∷ "R 0 0" ∷ "N 0 self" ∷ "N 1 attr 0 5" ∷ "N 2 call 1 0" ∷ "N 3 isUndef 2" ∷ []) ≡ bytes "0 0 t 4\n"
+  pub call_stops : prints ("C 0 -" ∷ "O 0 0" ∷ "D 0 0 Int" ∷ "N 0 int -2147483648" ∷ "N 1 int 1" ∷ "N 2 minus 0 1" ∷ "R 0 0" ∷ "N 0 self" ∷ "N 1 call 0 0" ∷ "N 2 isUndef 1" ∷ []) ≡ bytes "0 0 !19 6\n"
   -- reading writes the definition's type for a call, and no line for a definition; evaluate numbers the rules
   pub call_type_lem : reads_into 2560 ("C 0 -" ∷ "D 0 0 Any" ∷ "N 0 int 1" ∷ "R 0 0" ∷ "N 0 self" ∷ "N 1 call 0 0" ∷ "R 1 0" ∷ "N 0 true" ∷ []) ≡ answer (bytes "Any\nBool\n")
   pub call_rule : evaluates 1 0 ("C 0 -" ∷ "O 0 0" ∷ "D 0 0 Any" ∷ "N 0 int 1" ∷ "R 0 0" ∷ "N 0 self" ∷ "N 1 call 0 0" ∷ []) ≡ refusal 14
@@ -168,20 +168,20 @@ pub record Examples : Type 0 where
       ∷ "N 6 exists 2 1 5" ∷ []) ≡ bytes "0 0 t 7\n"
   -- an undefined body does not hide a false one; with none false it shows
   pub blank_then_false : prints ("C 0 -" ∷ "A 0 0 5 Int" ∷ "O 0 0" ∷ "O 1 0" ∷ "V 1 0 9" ∷ "R 0 0" ∷ "N 0 all 0" ∷ "N 1 var 1" ∷ "N 2 attr 1 5" ∷ "N 3 int 3" ∷ "N 4 less 2 3"
-      ∷ "N 5 for_all 0 1 4" ∷ []) ≡ bytes "0 0 f 9\n0 1 f 9\n"
+      ∷ "N 5 forAll 0 1 4" ∷ []) ≡ bytes "0 0 f 9\n0 1 f 9\n"
   pub blank_then_true : prints ("C 0 -" ∷ "A 0 0 5 Int" ∷ "O 0 0" ∷ "O 1 0" ∷ "V 1 0 2" ∷ "R 0 0" ∷ "N 0 all 0" ∷ "N 1 var 1" ∷ "N 2 attr 1 5" ∷ "N 3 int 3" ∷ "N 4 less 2 3"
-      ∷ "N 5 for_all 0 1 4" ∷ []) ≡ bytes "0 0 u 9\n0 1 u 9\n"
+      ∷ "N 5 forAll 0 1 4" ∷ []) ≡ bytes "0 0 u 9\n0 1 u 9\n"
   -- 2, 4, .. 128 members: 17 with the steps begun
   pub size_stop : prints ("C 0 -" ∷ "O 0 0" ∷ "R 0 0" ∷ "N 0 int 1" ∷ "N 1 int 1" ∷ "N 2 coll Q 0 1" ∷ "N 3 var 1" ∷ "N 4 var 1" ∷ "N 5 union 3 4"
       ∷ "N 6 var 2" ∷ "N 7 var 2" ∷ "N 8 union 6 7" ∷ "N 9 var 3" ∷ "N 10 var 3" ∷ "N 11 union 9 10" ∷ "N 12 var 4" ∷ "N 13 var 4" ∷ "N 14 union 12 13"
       ∷ "N 15 var 5" ∷ "N 16 var 5" ∷ "N 17 union 15 16" ∷ "N 18 var 6" ∷ "N 19 var 6" ∷ "N 20 union 18 19"
       ∷ "N 21 let 6 17 20" ∷ "N 22 let 5 14 21" ∷ "N 23 let 4 11 22" ∷ "N 24 let 3 8 23" ∷ "N 25 let 2 5 24" ∷ "N 26 let 1 2 25" ∷ []) ≡ bytes "0 0 !17 27\n"
-  -- 19 with the steps begun, which `is_undef` does not hide; not where the operand is unrun
-  pub over_range_lem : prints ("C 0 -" ∷ "O 0 0" ∷ "R 0 0" ∷ "N 0 int 2147483647" ∷ "N 1 int 1" ∷ "N 2 plus 0 1" ∷ "N 3 is_undef 2" ∷ []) ≡ bytes "0 0 !19 4\n"
-  pub over_unrun : prints ("C 0 -" ∷ "O 0 0" ∷ "R 0 0" ∷ "N 0 true" ∷ "N 1 int -2147483648" ∷ "N 2 int -1" ∷ "N 3 div 1 2" ∷ "N 4 is_undef 3" ∷ "N 5 or 0 4" ∷ [])
+  -- 19 with the steps begun, which `isUndef` does not hide; not where the operand is unrun
+  pub over_range_lem : prints ("C 0 -" ∷ "O 0 0" ∷ "R 0 0" ∷ "N 0 int 2147483647" ∷ "N 1 int 1" ∷ "N 2 plus 0 1" ∷ "N 3 isUndef 2" ∷ []) ≡ bytes "0 0 !19 4\n"
+  pub over_unrun : prints ("C 0 -" ∷ "O 0 0" ∷ "R 0 0" ∷ "N 0 true" ∷ "N 1 int -2147483648" ∷ "N 2 int -1" ∷ "N 3 div 1 2" ∷ "N 4 isUndef 3" ∷ "N 5 or 0 4" ∷ [])
       ≡ bytes "0 0 t 2\n"
   -- values with members, as they are spelled
-  pub spelled : prints ("C 0 -" ∷ "A 0 0 5 S(Q(Any))" ∷ "O 0 0" ∷ "V 0 0 S(Q(),Q(f,-3),Q(@0,t))" ∷ "R 0 0" ∷ "N 0 self" ∷ "N 1 attr 0 5" ∷ "N 2 as_bag 1" ∷ [])
+  pub spelled : prints ("C 0 -" ∷ "A 0 0 5 S(Q(Any))" ∷ "O 0 0" ∷ "V 0 0 S(Q(),Q(f,-3),Q(@0,t))" ∷ "R 0 0" ∷ "N 0 self" ∷ "N 1 attr 0 5" ∷ "N 2 asBag 1" ∷ [])
       ≡ bytes "0 0 B(Q(),Q(f,-3),Q(@0,t)) 3\n"
   -- document 02, F-9: the rows that each rule sees: of a branch that is not run, of a definition that it reaches, of `collect`, of none
   pub rows_seen_lem : prints_rows ("C 0 -" ∷ "C 1 -" ∷ "A 0 0 1 Int" ∷ "A 1 0 2 #1" ∷ "A 2 1 3 Int" ∷ "A 3 1 4 Int" ∷ "D 0 1 Int" ∷ "N 0 self" ∷ "N 1 attr 0 3"

@@ -13,9 +13,9 @@ use Rattle.sheet.specs.TextExamples.{sheet_of, small, paper_lines}
 unfoldable pub names : List String → Bytes
 names ls = origin_program (sheet_of ls)
 
--- `for_all` of `attr v1 5 < 3` over all objects: nodes 7 to 12, or 8 to 13 with an object more
+-- `forAll` of `attr v1 5 < 3` over all objects: nodes 7 to 12, or 8 to 13 with an object more
 unfoldable pub all_below : List String
-all_below = "R 0 0" ∷ "N 0 all 0" ∷ "N 1 var 1" ∷ "N 2 attr 1 5" ∷ "N 3 int 3" ∷ "N 4 less 2 3" ∷ "N 5 for_all 0 1 4" ∷ []
+all_below = "R 0 0" ∷ "N 0 all 0" ∷ "N 1 var 1" ∷ "N 2 attr 1 5" ∷ "N 3 int 3" ∷ "N 4 less 2 3" ∷ "N 5 forAll 0 1 4" ∷ []
 
 -- a definition of `attr self 5`, an Integer that object 0 has no value of
 unfoldable pub reading : List String
@@ -51,7 +51,7 @@ pub record OriginExamples : Type 0 where
   pub let_value : names (small ++ ("N 0 undef" ∷ "N 1 var 1" ∷ "N 2 let 1 0 1" ∷ [])) ≡ bytes "0 0 4 2\n"
   pub let_body : names (small ++ ("N 0 int 0" ∷ "N 1 int 1" ∷ "N 2 var 1" ∷ "N 3 div 1 2" ∷ "N 4 let 1 0 3" ∷ [])) ≡ bytes "0 0 7 3\n"
   -- a quantifier's source; its first undefined body, also where it is not the first; none where a later body decides
-  pub source : names ("C 0 -" ∷ "A 0 0 5 S(Int)" ∷ "O 0 0" ∷ "R 0 0" ∷ "N 0 self" ∷ "N 1 attr 0 5" ∷ "N 2 true" ∷ "N 3 for_all 1 1 2" ∷ []) ≡ bytes "0 0 6 2\n"
+  pub source : names ("C 0 -" ∷ "A 0 0 5 S(Int)" ∷ "O 0 0" ∷ "R 0 0" ∷ "N 0 self" ∷ "N 1 attr 0 5" ∷ "N 2 true" ∷ "N 3 forAll 1 1 2" ∷ []) ≡ bytes "0 0 6 2\n"
   pub first_body : names ("C 0 -" ∷ "A 0 0 5 Int" ∷ "O 0 0" ∷ "O 1 0" ∷ "V 1 0 2" ∷ all_below) ≡ bytes "0 0 9 4\n0 1 9 4\n"
   pub second_body : names ("C 0 -" ∷ "A 0 0 5 Int" ∷ "O 0 0" ∷ "O 1 0" ∷ "O 2 0" ∷ "V 0 0 2" ∷ all_below) ≡ bytes "0 0 10 8\n0 1 10 8\n0 2 10 8\n"
   pub later_false : names ("C 0 -" ∷ "A 0 0 5 Int" ∷ "O 0 0" ∷ "O 1 0" ∷ "V 1 0 9" ∷ all_below) ≡ []
@@ -63,8 +63,8 @@ pub record OriginExamples : Type 0 where
   pub call_operand : names ("C 0 -" ∷ "A 0 0 5 #0" ∷ "O 0 0" ∷ "D 0 0 Int" ∷ "N 0 undef" ∷ "R 0 0" ∷ "N 0 self" ∷ "N 1 attr 0 5" ∷ "N 2 call 1 0" ∷ []) ≡ bytes "0 0 8 2\n"
   pub call_body : names (reading ++ ("R 0 0" ∷ "N 0 self" ∷ "N 1 call 0 0" ∷ [])) ≡ bytes "0 0 6 3\n"
   pub call_of_call : names (reading ++ ("D 1 0 Int" ∷ "N 0 self" ∷ "N 1 call 0 0" ∷ "R 0 0" ∷ "X 1 - self.d1()" ∷ [])) ≡ bytes "0 0 6 7\n"
-  -- what `is_undef` was told is no verdict; a stop is none either
-  pub hidden : names (small ++ ("X (1 div 0).is_undef()" ∷ [])) ≡ []
+  -- what `isUndef` was told is no verdict; a stop is none either
+  pub hidden : names (small ++ ("X (1 div 0).isUndef()" ∷ [])) ≡ []
   pub stopped : names (small ++ ("X 2147483647 + 1 = 1 div 0" ∷ [])) ≡ []
   -- two rules, in the report's order; objects of the class or below alone
   pub two_rules : names ("C 0 -" ∷ "C 1 0" ∷ "O 0 0" ∷ "O 1 1" ∷ "R 0 1" ∷ "X undef" ∷ "R 1 0" ∷ "X true" ∷ "R 2 0" ∷ "X true and undef" ∷ []) ≡ bytes "0 1 6 1\n2 0 10 3\n2 1 10 3\n"

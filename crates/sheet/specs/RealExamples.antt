@@ -43,11 +43,11 @@ pub record RealExamples : Type 0 where
       ≡ bytes "0 0 r41e0000000000000 5\n"
   pub accumulated : rule ("N 0 int 2" ∷ "N 1 real r3ff8000000000000" ∷ "N 2 coll Q 0 1" ∷ "N 3 int 0" ∷ "N 4 var 1" ∷ "N 5 var 2" ∷ "N 6 plus 4 5" ∷ "N 7 iter 2 1 2 Real 3 6" ∷ [])
       ≡ bytes "0 0 r400c000000000000 11\n"
-  -- 19: an infinite result, which `is_undef` passes on, and which Integers alone have at their own range; a zero divisor is undefined
-  pub infinite : rule ("N 0 real r7fefffffffffffff" ∷ "N 1 int 2" ∷ "N 2 times 0 1" ∷ "N 3 is_undef 2" ∷ []) ≡ bytes "0 0 !19 4\n"
+  -- 19: an infinite result, which `isUndef` passes on, and which Integers alone have at their own range; a zero divisor is undefined
+  pub infinite : rule ("N 0 real r7fefffffffffffff" ∷ "N 1 int 2" ∷ "N 2 times 0 1" ∷ "N 3 isUndef 2" ∷ []) ≡ bytes "0 0 !19 4\n"
   pub by_integers : rule ("N 0 int 2147483647" ∷ "N 1 int 1" ∷ "N 2 plus 0 1" ∷ []) ≡ bytes "0 0 !19 3\n"
   pub zero_divisor : rule ("N 0 int 1" ∷ "N 1 int 0" ∷ "N 2 over 0 1" ∷ []) ≡ bytes "0 0 u 3\n"
-  pub zero_by_zero : rule ("N 0 int 0" ∷ "N 1 int 0" ∷ "N 2 over 0 1" ∷ "N 3 is_undef 2" ∷ []) ≡ bytes "0 0 t 4\n"
+  pub zero_by_zero : rule ("N 0 int 0" ∷ "N 1 int 0" ∷ "N 2 over 0 1" ∷ "N 3 isUndef 2" ∷ []) ≡ bytes "0 0 t 4\n"
   -- reading writes `Real`, also for `over` of Integers, and `Int` where both are below Int
   pub types : reads_into 2560 ("C 0 -" ∷ "R 0 0" ∷ "N 0 real r3ff8000000000000" ∷ "N 1 coll S 0" ∷ "R 1 0" ∷ "N 0 int 1" ∷ "N 1 int 2" ∷ "N 2 over 0 1" ∷ "R 2 0" ∷ "N 0 undef" ∷ "N 1 int 2"
       ∷ "N 2 times 0 1" ∷ []) ≡ answer (bytes "S(Real)\nReal\nInt\n")

@@ -58,8 +58,8 @@ pub record TextExamples : Type 0 where
   pub quantified : prints_for (small ++ ("X Bag{1, 2, 3}->forAll(v1 | v1 < 3) or Set{1}->exists(v2 | v2 = 1)" ∷ [])) ≡ bytes "0 0 t 21\n"
   pub type_spaced : prints_for (small ++ ("X Set{}->iter(v1;v2:S ( Int )=Set{}|v2)" ∷ [])) ≡ bytes "0 0 S() 3\n"
   pub summed : prints_for (small ++ ("X Sequence{3, 1, 7}->iter(v1; v2 : Int = 0 | v2 - v1)" ∷ [])) ≡ bytes "0 0 -11 15\n"
-  pub instances : prints_for (paper_lines ++ ("X #1.all_instances()->collect(a5)->asSet()->includes(self.a5)" ∷ [])) ≡ bytes "0 0 t 6\n0 1 u 6\n"
-  pub cast : prints_for (paper_lines ++ ("X self.ocl_as_type(#1).is_undef()" ∷ [])) ≡ bytes "0 0 f 3\n0 1 t 3\n"
+  pub instances : prints_for (paper_lines ++ ("X #1.allInstances()->collect(a5)->asSet()->includes(self.a5)" ∷ [])) ≡ bytes "0 0 t 6\n0 1 u 6\n"
+  pub cast : prints_for (paper_lines ++ ("X self.oclAsType(#1).isUndef()" ∷ [])) ≡ bytes "0 0 f 3\n0 1 t 3\n"
   -- a definition, by node lines as ever
   pub called : prints_for ("C 0 -" ∷ "A 0 0 5 Int" ∷ "O 0 0" ∷ "V 0 0 9" ∷ "D 0 0 Int" ∷ "N 0 self" ∷ "N 1 attr 0 5" ∷ "R 0 0" ∷ "X self.d0() + self.d0()" ∷ []) ≡ bytes "0 0 18 9\n"
   -- a text and node lines in two rules; the second rule's nodes go on from the first's
@@ -85,7 +85,7 @@ pub record TextExamples : Type 0 where
   -- 20 before 4, where 4 is not the brackets'; 4: numbers, a type's nesting
   pub sentence_first : prints_for (small ++ ("X v0 +" ∷ [])) ≡ bytes "! 20 4\n"
   pub variable_16 : prints_for (small ++ ("X let v16 = 1 in 2" ∷ [])) ≡ bytes "! 4 4\n"
-  pub class_64 : prints_for (small ++ ("X self.ocl_as_type(#64)" ∷ [])) ≡ bytes "! 4 4\n"
+  pub class_64 : prints_for (small ++ ("X self.oclAsType(#64)" ∷ [])) ≡ bytes "! 4 4\n"
   pub name_256 : prints_for (small ++ ("X self.a256" ∷ [])) ≡ bytes "! 4 4\n"
   pub definition_32 : prints_for (small ++ ("X self.d32()" ∷ [])) ≡ bytes "! 4 4\n"
   pub too_large : prints_for (small ++ ("X 2147483648" ∷ [])) ≡ bytes "! 4 4\n"
@@ -101,7 +101,7 @@ pub record TextExamples : Type 0 where
   pub next_node_after : prints_for (small ++ ("X true" ∷ "N 1 not 0" ∷ [])) ≡ bytes "! 5 5\n"
   pub same_variable : prints_for (small ++ ("X Set{}->iter(v1; v1 : #9 = 1 | 1)" ∷ [])) ≡ bytes "! 5 4\n"
   -- 6 and 24: a class and a definition that are not on the sheet
-  pub no_class : prints_for (small ++ ("X self.ocl_as_type(#2)" ∷ [])) ≡ bytes "! 6 4\n"
+  pub no_class : prints_for (small ++ ("X self.oclAsType(#2)" ∷ [])) ≡ bytes "! 6 4\n"
   pub no_definition : prints_for (small ++ ("X self.d0()" ∷ [])) ≡ bytes "! 24 4\n"
   -- 8: twenty levels, at the rule's end, so that a node line after it is 5
   pub nineteen_levels : prints_for (small ++ ("X 1+1+1+1+1+1+1+1+1+1+1+1+1+1+1+1+1+1+1" ∷ [])) ≡ bytes "0 0 19 37\n"
@@ -119,7 +119,7 @@ pub record TextExamples : Type 0 where
   -- F-8: the `r` spelling, and `/`, which leans left as the other products do
   pub real_literal : prints_for (small ++ ("X r3ff8000000000000 * 2" ∷ [])) ≡ bytes "0 0 3 3\n"
   pub quotients : prints_for (small ++ ("X 12 / 4 / 2 - 1/2" ∷ [])) ≡ bytes "0 0 1 9\n"
-  pub zero_divisor : prints_for (small ++ ("X (1 / 0).is_undef()" ∷ [])) ≡ bytes "0 0 t 4\n"
+  pub zero_divisor : prints_for (small ++ ("X (1 / 0).isUndef()" ∷ [])) ≡ bytes "0 0 t 4\n"
   pub real_type : prints_for (small ++ ("X Bag{1, r3fe0000000000000}->iter(v1; v2 : Real = 0 | v1 + v2)" ∷ [])) ≡ bytes "0 0 r3ff8000000000000 11\n"
   -- 20: a whole number in the Integer range, minus zero, a digit too few, a capital digit
   pub real_whole : prints_for (small ++ ("X r4008000000000000" ∷ [])) ≡ bytes "! 20 4\n"

@@ -71,6 +71,7 @@ module _ {f : Bytes} {A : List ℕ} {at : ℕ} {o : Open} (w : Wanted f A at o) 
   pub begin_bad : PartIs f at part.Bad → read_value f ≡ none
   begin_bad (part_bad q n) = let m = wanted_parts in w.same ∙ start_none w.parts w.frames (drop at f) (ap (λ (k : ℕ). value_parser k (drop at f)) m.1 ∙ n m.0)
   begin_bad (part_opens k q l n) = absurd (let z : ◌≡◌ {A = ℕ} 0 1 = cc in omega arith)
+  begin_bad (part_alone v _ x'' _) = elim x'' [ ]
 
   read_to : {v : Value} {r : Bytes} → ((n : ℕ) → value_parser (suc n) (drop at f) ≡ some (v, r)) → read_value f ≡ resume_read w.frames v r
   read_to n = let m = wanted_parts in w.same ∙ start_alone w.parts w.frames (drop at f) (ap (λ (k : ℕ). value_parser k (drop at f)) m.1 ∙ n m.0)
@@ -131,6 +132,7 @@ module _ {f : Bytes} {A : List ℕ} {at : ℕ} {o : Open} (w : Wanted f A at o) 
         same = same ∙ ap (λ (i : ℕ). enter i k w.frames (drop (at + 2) f)) x.1;
       }))
   begin_opens (part_bad q n) a = absurd (let z : ◌≡◌ {A = ℕ} 0 1 = cc in omega arith)
+  begin_opens {c = c} {e = e} {B = B} {s = s} (part_alone v _ x3 _) a = elim x3 [ ]
 
 -- ---- the beginning
 
@@ -160,6 +162,7 @@ wide_up (part_alone v al (told_wide af t) n) = let u = af.up in omega arith
 pub opens_up : {f : Bytes} {at c e : ℕ} → PartIs f at (part.Opens c e) → at + 1 ≤ e
 opens_up {at} {e} (part_opens k q l n) = let z : at + 2 ≡ e = cc in omega arith
 opens_up (part_bad q n) = absurd (let z : ◌≡◌ {A = ℕ} 0 1 = cc in omega arith)
+opens_up {f = f} {at = at} {c = c} {e = e} (part_alone v _ x'' _) = elim x'' [ ]
 
 -- at most as many collections are open as bytes are read
 pub wanted_depth : {f : Bytes} {A : List ℕ} {at : ℕ} {o : Open} → Wanted f A at o → o.depth ≤ at

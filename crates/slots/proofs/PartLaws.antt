@@ -58,6 +58,7 @@ module _ {f : Bytes} {at e : ℕ} (to : DigitsEnd f at e) {r : Num} (got : r ≡
       go (some n) d (any_some q) =
           let s : m ≡ n = omega arith in
           object_is n (λ from g. told_simple (ends from g) (ap (λ (k : ℕ). 18442240474082181120 + k) s ∙ sym (head_obj n)) (lt-ltb n 96 (omega arith))) d
+      go none d x'' = elim x'' [ ]
 
   pub object_wide : {m : ℕ} → r ≡ number.Is m → 96 ≤ m → ObjectIs f at (part.Wide e)
   unfolding map_some part_within
@@ -65,6 +66,7 @@ module _ {f : Bytes} {at e : ℕ} (to : DigitsEnd f at e) {r : Num} (got : r ≡
     where
       go : (o : Option ℕ) → number_parser (drop at f) ≡ map_some (λ n. (n, drop e f)) o → Any? (λ n. m ≡ min n 1000000) o → ObjectIs f at (part.Wide e)
       go (some n) d (any_some q) = object_is n (λ from g. told_wide (ends from g) (le-ltb n 96 (omega arith))) d
+      go none d x'' = elim x'' [ ]
 
 -- ---- a number
 

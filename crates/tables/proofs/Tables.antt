@@ -46,7 +46,7 @@ pub entry_by : {A B : Type 0} (read : ℕ → B) (f : A → B) (off : ℕ) (w : 
     → (i : ℕ) → i < length xs → read (get_or w (off + i) 0) ≡ f (get_or xs i d)
 entry_by {B = B} read f off w xs d e i h =
     ap read (sym (tab_at off (length xs) w i h))
-    ∙ sym (ListN.get_d_map read (tab off (length xs) w) i 0)
+    ∙ sym (ListN.get_or-map read (tab off (length xs) w) i 0)
     ∙ ap (λ (l : List B). get_or l i (read 0)) e
     ∙ get_d_map f xs i d (read 0) h
 
@@ -69,7 +69,7 @@ parent_back c (some p) h = rw (le-leb (suc p) c (h p refl))
 parents_back : (ps : List (Option ℕ)) → Small (λ c. get_or ps c none) → (c : ℕ) → get_or ps c none ≡ parents_in (map parent_code ps) c
 unfolding parents_in parent_word parent_code
 parents_back ps h c =
-    let e : get_or (map parent_code ps) c 0 ≡ parent_code (get_or ps c none) = ListN.get_d_map parent_code ps c none in
+    let e : get_or (map parent_code ps) c 0 ≡ parent_code (get_or ps c none) = ListN.get_or-map parent_code ps c none in
     rw e (parent_back c (get_or ps c none) (h c))
 
 pub parents_held : {w0 : List ℕ} {s : Sheet} → HoldsTables w0 s → (n : ℕ) → n ≡ length s.parents → (λ c. get_or s.parents c none) ≡ parents_in (tab memory.parents n w0)

@@ -136,7 +136,7 @@ pub fn form_code(f: &[u8]) -> u64
             b"true real self coll less plus over attr call size iter",
             &FOUR,
         ),
-        5 => among(f, b"false undef minus times as_set as_bag union", &FIVE),
+        5 => among(f, b"false undef minus times asSet asBag union", &FIVE),
         6 => among(f, b"forAll exists", &SIX),
         7 => among(f, b"isUndef collect", &SEVEN),
         8 => among(f, b"includes", &EIGHT),

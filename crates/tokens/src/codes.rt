@@ -98,7 +98,7 @@ fn word_code(f: &[u8]) -> u64
         2 => among(f, b"or if -> in", &TWO),
         3 => among(f, b"not div mod and Set Bag let Int Any", &THREE),
         4 => among(f, b"true self size iter then else Void Bool Real", &FOUR),
-        5 => among(f, b"false undef as_set as_bag union endif", &FIVE),
+        5 => among(f, b"false undef asSet asBag union endif", &FIVE),
         6 => among(f, b"forAll exists", &SIX),
         7 => among(f, b"isUndef collect", &SEVEN),
         8 => among(f, b"includes Sequence", &EIGHT),

@@ -103,3 +103,4 @@ module _ {line : List ℕ} {f : Fields} (cut_up : Cut line f) (starts : is (get_
           go : (o : Option ℕ) → a_number (get_or (fields_of line) 1 []) ≡ o → Any? (λ i. n ≡ cut i) o → (q : Option Shape) → shape_by c (drop 3 (fields_of line)) ≡ q → Spelled k q p → Took st k line r w0 w w0 v
           go (some i) a (any_some u) none b (misspelled z) = absurd (true≢false (sym (not-false p.spelled h) ∙ z))
           go (some i) a (any_some u) (some x) b (spelled s z) = took_node i x (spelled_line ∙ rw (a, ← coded, b)) u z d
+          go none a x4 q b _ = elim x4 [ ]

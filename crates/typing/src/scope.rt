@@ -49,7 +49,7 @@ pub fn let_in(
     operand(nodes, parents, tables, rows, n, 2, inner, marks)
 }
 
-// `for_all`, `exists`: the source must be a collection, else 11, before the body is typed with the variable bound to a member.
+// `forAll`, `exists`: the source must be a collection, else 11, before the body is typed with the variable bound to a member.
 #[cycle(binary_coll_conditional_connective_single_body_iterate_let_in_quantified_node_operand_pair)]
 pub fn quantified(
     nodes: &[u64],

@@ -76,6 +76,9 @@ module _ {s : Simple} where
     where
       by : {v : Value} → Fits v → Means (simple.Integer n) v → r ≡ head v
       by (fits_num k) (means_int {z = z} i) = C.is z k i
+      by (fits_bool {b = b}) x3 = elim x3 [ ]
+      by (fits_obj {o = o} _) x6 = elim x6 [ ]
+      by (fits_coll {k = k} {vs = vs} _ _) x9 = elim x9 [ ]
 
   pub cell_real : {x : Float} {r : ℕ} → s ≡ simple.Real x → NumberCell (coded.Real x) r → CellOf s r
   unfolding head coded_of
@@ -83,6 +86,9 @@ module _ {s : Simple} where
     where
       by : {v : Value} → Fits v → Means (simple.Real x) v → r ≡ head v
       by (fits_num k) (means_real {r = y} i) = C.is (real y) k (ap coded.Real i)
+      by (fits_bool {b = b}) x4 = elim x4 [ ]
+      by (fits_obj {o = o} _) x7 = elim x7 [ ]
+      by (fits_coll {k = k} {vs = vs} _ _) x10 = elim x10 [ ]
 
   pub cell_obj : {n : ℕ} → s ≡ simple.Object n → CellOf s (18442240474082181120 + n)
   unfolding head

@@ -1,0 +1,10 @@
+-- `fits_scale` meets its contract. Assumes nothing.
+use Rattle.operations.proofs.NumberLaws.{scale_reals, scale_integers}
+use borrow.Author.Rules.{rules}
+use Rattle.operations.proofs.apply.fits_scale.Goals as goal
+
+pub returns-then-by_reals : goal.returns-then-by_reals
+returns-then-by_reals c = search scale_reals
+
+pub returns : goal.returns
+returns c = search scale_integers

@@ -1,0 +1,22 @@
+-- `left_fits` meets its contract. Assumes nothing.
+use native.Mathlib.Omega.{arith}
+use mathlib.Core.Logic.{⊎_elim}
+use Prim.Native.Nat.{◌≤◌}
+use Rattle.operations.proofs.BinaryLaws.{left_any, left_scale, left_int, left_num, left_coll}
+use borrow.Author.Rules.{rules}
+use Rattle.operations.proofs.apply.left_fits.Goals as goal
+
+pub returns-in-13 : goal.returns-in-13
+returns-in-13 c = search left_any
+
+pub returns-in-37 : goal.returns-in-37
+returns-in-37 c = search left_num
+
+pub returns-in-14-to-17 : goal.returns-in-14-to-17
+returns-in-14-to-17 c = left_scale (omega arith) (omega arith) c.fits_scale.ensures
+
+pub returns-in-18-to-19 : goal.returns-in-18-to-19
+returns-in-18-to-19 c = search left_int
+
+pub returns-in_default : goal.returns-in_default
+returns-in_default c = left_coll (⊎_elim {C = 20 ≤ c.args.form} (λ w. omega arith) (λ w. omega arith) c.in_default.branch) c.in_default-1.rest.1 c.sort_of-in_default.ensures

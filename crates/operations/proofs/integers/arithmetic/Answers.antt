@@ -1,0 +1,16 @@
+-- `arithmetic` meets its contract. Assumes nothing.
+use Rattle.operations.proofs.NumberLaws.{whole_narrow, ints_left, ints_right, arith_done}
+use borrow.Author.Rules.{rules}
+use Rattle.operations.proofs.integers.arithmetic.Goals as goal
+
+pub returns-in_default : goal.returns-in_default
+returns-in_default c = search ints_left
+
+pub returns-in_default-integer_in : goal.returns-in_default-integer_in
+returns-in_default-integer_in c = search ints_right
+
+pub calculate-requires : goal.calculate-requires
+calculate-requires c = search whole_narrow
+
+pub returns : goal.returns
+returns c = search arith_done

@@ -1,0 +1,12 @@
+-- `all_three` meets its contract.
+use borrow.Author.Tests.{not-true, not-false}
+use Rattle.shapes.proofs.iterate.all_three.Goals as goal
+
+pub returns-then-not-a : goal.returns-then-not-a
+returns-then-not-a c = rw c.if-not-a.true
+
+pub returns-then-not-b : goal.returns-then-not-b
+returns-then-not-b c = rw (c.if-not-a.false, c.if-not-b.true)
+
+pub returns : goal.returns
+returns c = rw (c.if-not-a.false, c.if-not-b.false)

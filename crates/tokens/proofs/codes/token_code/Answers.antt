@@ -1,0 +1,22 @@
+-- `token_code` meets its contract. Assumes nothing.
+use mathlib.Core.Path.{◌∙◌, ap}
+use Rattle.tokens.specs.Codes.{code_of}
+use Rattle.tokens.proofs.CodeLaws.{other_code, some_code}
+use Rattle.tokens.proofs.LengthLaws.{one_byte, hash_begins, digit_begins}
+use borrow.Author.Rules.{rules}
+use Rattle.tokens.proofs.codes.token_code.Goals as goal
+
+pub returns-then-f-eq1 : goal.returns-then-f-eq1
+returns-then-f-eq1 c = c.byte_code.ensures ∙ ap code_of (one_byte _ c.if-f-eq1.true)
+
+pub returns-then-k-eq-NO_FORM : goal.returns-then-k-eq-NO_FORM
+returns-then-k-eq-NO_FORM c = search other_code
+
+pub returns-else-k-eq-NO_FORM : goal.returns-else-k-eq-NO_FORM
+returns-else-k-eq-NO_FORM c = search some_code
+
+pub returns-in-48-to-57 : goal.returns-in-48-to-57
+returns-in-48-to-57 c = search hash_begins
+
+pub returns-in-48-to-57-2 : goal.returns-in-48-to-57-2
+returns-in-48-to-57-2 c = search digit_begins

@@ -1,0 +1,19 @@
+-- `few_by_bytes` meets its contract: what is left of the text tells what the whole does.
+use Prim.Native.Nat.{◌-◌}
+use native.Mathlib.Omega.{arith}
+use lib.ListN.{length}
+use borrow.Author.Rules.{rules}
+use Rattle.tokens.proofs.ScanLaws.{BytesLeft, bytes_begin, bytes_over, bytes_next, bytes_end}
+use Rattle.tokens.proofs.few_by_bytes.Goals as goal
+
+pub loop-i-init : goal.loop-i-init
+loop-i-init c = bytes_begin _
+
+pub returns-then-depth-gt-MOST_OPEN : goal.returns-then-depth-gt-MOST_OPEN
+returns-then-depth-gt-MOST_OPEN c = search bytes_over
+
+pub loop-i-preserved : goal.loop-i-preserved
+loop-i-preserved c = search bytes_next
+
+pub returns : goal.returns
+returns c = search bytes_end

@@ -1,0 +1,13 @@
+-- `all_used` meets its contract.
+use Rattle.trees.proofs.EndLaws.{used_not, used_next, used_all}
+use Rattle.trees.specs.Rules.{used_in}
+use mathlib.Core.Path.{◌≡◌, refl}
+use Prim.Native.Nat.{◌≤◌}
+use borrow.Author.Rules.{rules}
+use Rattle.trees.proofs.ending.all_used.Given as goal
+
+abbrev pub invariant-loop-n : goal.invariant-loop-n
+invariant-loop-n l = (used_in l.w1 l.first l.n ≡ used_in l.w1 l.first l.count) × (l.n ≤ l.count)
+
+abbrev pub decreases-loop-n : goal.decreases-loop-n
+decreases-loop-n l = l.n

@@ -1,0 +1,13 @@
+-- `put_words` meets its contract.
+use Rattle.trees.proofs.OperandLaws.{wrote_none, wrote_next, wrote_all}
+use Rattle.trees.specs.Operands.{shifted, WroteWords}
+use Prim.Native.Nat.{◌≤◌, ◌-◌, ◌*◌}
+use native.Mathlib.Omega.{arith}
+use borrow.Author.Rules.{rules}
+use Rattle.trees.proofs.operands.put_words.Given as goal
+
+abbrev pub invariant-loop-k : goal.invariant-loop-k
+invariant-loop-k l = WroteWords (8 * l.m) l.k (shifted l.words l.count l.first) l.initial.w1 l.w1 × (l.k ≤ 8)
+
+abbrev pub decreases-loop-k : goal.decreases-loop-k
+decreases-loop-k l = 8 - l.k

@@ -1,0 +1,7 @@
+-- `subtype` meets its contract.
+use Rattle.types.proofs.Levels.{subtype_law}
+use borrow.Author.Rules.{rules}
+use Rattle.types.proofs.order.subtype.Goals as goal
+
+pub returns : goal.returns
+returns c = search subtype_law

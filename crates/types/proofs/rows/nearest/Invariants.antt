@@ -1,0 +1,13 @@
+-- `nearest` meets its contract. The loop's invariant: the class reached reads the row that c reads.
+use borrow.Author.Rules.{rules}
+use mathlib.Core.Path.{◌≡◌, refl, sym, ◌∙◌}
+use Rattle.types.specs.Rows.{row_read_in, found}
+use Rattle.types.proofs.Parents.{parent_falls}
+use Rattle.types.proofs.RowLaws.{read_here, read_none, read_up}
+use Rattle.types.proofs.rows.nearest.Given as goal
+
+abbrev pub invariant-loop-f : goal.invariant-loop-f
+invariant-loop-f l = row_read_in l.parents l.owners l.names l.end l.x l.name ≡ row_read_in l.parents l.owners l.names l.end l.c l.name
+
+abbrev pub decreases-loop-f : goal.decreases-loop-f
+decreases-loop-f l = l.x

@@ -1,0 +1,20 @@
+-- `values::cells::copy_cells` meets its contract. Assumes nothing.
+use native.Mathlib.Omega.{arith}
+use Prim.Native.Nat.{◌-◌, ◌≤◌, zero-le}
+use mathlib.Core.Path.{◌≡◌, refl}
+use lib.ListN.{length, length-set}
+use lib.Seq.{paste, paste-zero}
+use Rattle.values.proofs.Sliding.{paste_more, paste_done}
+use Rattle.values.proofs.cells.copy_cells.Goals as goal
+
+pub loop-i-init : goal.loop-i-init
+loop-i-init c = (paste-zero c.args.stack.now c.args.at c.args.cells.now, zero-le, refl)
+
+pub loop-i-preserved : goal.loop-i-preserved
+loop-i-preserved c = (paste_more c.args.stack.now c.args.cells.now c.args.at c.loop-i.i c.loop-i.invariant.0 (omega arith) c.loop-i-test.true, omega arith, simp length-set c.loop-i.invariant.2)
+
+pub shape_of-stack : goal.shape_of-stack
+shape_of-stack c = cc
+
+pub returns : goal.returns
+returns c = search paste_done

@@ -1,0 +1,8 @@
+-- `values::cells::push` meets its contract. Assumes nothing.
+use native.Mathlib.Omega.{arith}
+use borrow.Author.Rules.{rules}
+use Rattle.values.proofs.Scanning.{pushed}
+use Rattle.values.proofs.cells.push.Goals as goal
+
+pub returns : goal.returns
+returns c = pushed c.cell_of.ensures (omega arith)

@@ -1,0 +1,7 @@
+-- `values::order::equal` meets its contract. Assumes nothing.
+use borrow.Author.Rules.{rules}
+use Rattle.values.proofs.Comparing.{same_at}
+use Rattle.values.proofs.order.equal.Goals as goal
+
+pub returns : goal.returns
+returns c = same_at c.compare.ensures
