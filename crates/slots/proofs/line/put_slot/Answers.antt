@@ -26,4 +26,4 @@ pub returns-then-not-slot_suits : goal.returns-then-not-slot_suits
 returns-then-not-slot_suits c = search (slot_unsuited, not-false, not-true)
 
 pub returns : goal.returns
-returns c = λ w1 k. slot_taken c.args.st k c.args.w0.now w1 (omega arith) (omega arith) (omega arith) c.requires.3 c.slot_in_order.ensures (not-false _ c.if-not-slot_in_order.false) c.slot_known.ensures (not-false _ c.if-not-slot_known.false) c.slot_suits.ensures c.requires.0 c.requires.1 (not-false _ c.if-not-slot_suits.false) (c.store_slot.ensures.0 ∙ ap (slot_counts c.args.st) c.long.ensures) c.store_slot.ensures.1
+returns c = λ w1 k. slot_taken c.args.st k c.args.w0.now w1 (omega arith) (omega arith) (omega arith) c.requires.3 c.slot_in_order.ensures (c.if-not-slot_in_order.false) c.slot_known.ensures (c.if-not-slot_known.false) c.slot_suits.ensures c.requires.0 c.requires.1 (c.if-not-slot_suits.false) (c.store_slot.ensures.0 ∙ ap (slot_counts c.args.st) c.long.ensures) c.store_slot.ensures.1

@@ -8,4 +8,4 @@ use Rattle.memory.specs.Map as memory
 use Rattle.slots.proofs.line.read_into.Goals as goal
 
 pub returns : goal.returns
-returns c = read_into _ _ _ _ (omega arith) (omega arith) (c.read_value.auto.1.0 ∙ mid_len _ memory.cells_end _ (omega arith)) c.read_value.ensures
+returns c = read_into _ _ _ _ (omega arith) (omega arith) (c.read_value.auto.cells ∙ mid_len _ memory.cells_end _ (omega arith)) c.read_value.ensures

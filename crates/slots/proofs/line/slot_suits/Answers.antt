@@ -14,4 +14,4 @@ pub returns-then-not-object_suits : goal.returns-then-not-object_suits
 returns-then-not-object_suits c = search (suits_object, parents_part, objects_part, not-true)
 
 pub returns : goal.returns
-returns c = suits_value c.requires.0 c.requires.1 (parents_part c.args.w0.now _ c.wide-classes.ensures) (objects_part c.args.w0.now _ c.wide-objects_end.ensures) c.wide-i.ensures c.object_suits.ensures (not-false _ c.if-not-object_suits.false) (part_is c.args.w0.now _ _ c.wide-from.ensures) (omega arith) c.unpack-t.ensures c.belongs.ensures
+returns c = suits_value c.requires.0 c.requires.1 (parents_part c.args.w0.now _ c.wide-classes.ensures) (objects_part c.args.w0.now _ c.wide-objects_end.ensures) c.wide-i.ensures c.object_suits.ensures (c.if-not-object_suits.false) (part_is c.args.w0.now _ _ c.wide-from.ensures) (omega arith) c.unpack-t.ensures c.belongs.ensures

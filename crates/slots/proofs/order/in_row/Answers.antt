@@ -31,7 +31,7 @@ pub loop-q-smaller : goal.loop-q-smaller
 loop-q-smaller c = let u = c.skip-r.ensures.up c.loop-q-test.true in omega arith
 
 pub loop-q-preserved : goal.loop-q-preserved
-loop-q-preserved c = row_again c.loop-q.invariant c.loop-q-test.true c.skip-r.ensures c.if-r-end.false c.skip-s.ensures c.compare.ensures c.may_follow-in-loop-q.ensures (not-false _ c.if-not-may_follow.false)
+loop-q-preserved c = row_again c.loop-q.invariant c.loop-q-test.true c.skip-r.ensures c.if-r-end.false c.skip-s.ensures c.compare.ensures c.may_follow-in-loop-q.ensures (c.if-not-may_follow.false)
 
 pub returns : goal.returns
 returns c = search row_end

@@ -16,7 +16,7 @@ pub loop-a-smaller : goal.loop-a-smaller
 loop-a-smaller c = let t = rw c.in-On.is at c.next_part-t.ensures in omega (arith, turn_up t, live_within (turn_live t))
 
 pub loop-a-preserved : goal.loop-a-preserved
-loop-a-preserved c = (turn_live (rw c.in-On.is at c.next_part-t.ensures), c.next_part-t.auto.o.0 ∙ c.loop-a.invariant.1)
+loop-a-preserved c = (turn_live (rw c.in-On.is at c.next_part-t.ensures), c.next_part-t.auto.cells ∙ c.loop-a.invariant.1)
 
 pub returns-in-Stop : goal.returns-in-Stop
 returns-in-Stop c = turn_read (rw c.in-Stop.is at c.next_part-t.ensures)
