@@ -65,11 +65,11 @@ nothing_bound S sp = record { slots = refl; at = λ j. free (zero_at 16 j) }
 
 -- no value
 abbrev pub Other : Answer → Type 0
-Other r = OneOf (1 ∷ 2 ∷ 3 ∷ []) (tag_of the_type r)
+Other r = (len steps : ℕ) → r ≡ traced.Value len steps → ⊥
 
 -- and not undefined
 abbrev pub Fatal : Answer → Type 0
-Fatal r = OneOf (0 ∷ 2 ∷ 3 ∷ []) (tag_of the_type r) × Other r
+Fatal r = ((steps place : ℕ) → r ≡ traced.Undef steps place → ⊥) × Other r
 
 pub bounds : {r : Answer} {la sa : ℕ} → SmallTraced r → r ≡ traced.Value la sa → (1 ≤ la) × (la ≤ 128)
 bounds h q = rw q at h

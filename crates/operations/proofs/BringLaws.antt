@@ -29,7 +29,7 @@ use Rattle.outcomes.proofs.Lookups.{Object, has_object}
 use Rattle.operations.proofs.StandingLaws.{standing_least, given_by, all_given, values_cons}
 
 pub no_value : {A : Type 0} (n s : ℕ) → Other (ended.Value n s) → A
-no_value n s z = absurd (⊎_elim (λ e. omega arith) (⊎_elim (λ e. omega arith) (λ e. omega arith)) z)
+no_value n s z = absurd (z n s refl)
 
 -- the value that stands at p, by the answer for it
 stood : {v : Value} {p s n t : ℕ} {B A : List ℕ} {r : Ended} → Ran (value v s) p B A r → r ≡ ended.Value n t → Lies v p n A

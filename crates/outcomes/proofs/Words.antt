@@ -144,7 +144,7 @@ truth_other {cell} {s} S e = record { is = λ v f h. by (shape f (S.is v f h) (�
 
 -- no value
 abbrev pub Other : Ended → Type 0
-Other r = OneOf (1 ∷ 2 ∷ 3 ∷ []) (tag_of the_type r)
+Other r = (len steps : ℕ) → r ≡ ended.Value len steps → ⊥
 
 pub bounds : {r : Ended} {la sa : ℕ} → SmallAnswer r → r ≡ ended.Value la sa → (1 ≤ la) × (la ≤ 128)
 bounds h q = rw q at h

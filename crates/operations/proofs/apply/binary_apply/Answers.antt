@@ -6,6 +6,7 @@ use mathlib.Core.Logic.{⊎_elim}
 use Prim.Native.Nat.{◌≤◌}
 use borrow.Author.Rules.{rules}
 use Rattle.operations.proofs.apply.binary_apply.Goals as goal
+use Rattle.operations.proofs.apply.binary_apply.Goals.{in_default-via-then-form-lt13, in_default-via-else-form-lt13+else-form-lt18+else-form-lt20}
 
 pub returns-in-13 : goal.returns-in-13
 returns-in-13 c = binary_by _ (binary_13 c.in-13.is) (any_mark c.same_value.ensures)
@@ -29,4 +30,4 @@ pub returns-in-18-to-19 : goal.returns-in-18-to-19
 returns-in-18-to-19 c = binary_by _ (binary_18 (omega arith) (omega arith)) (any_mark (by_division _ c.division.ensures))
 
 pub returns-in_default : goal.returns-in_default
-returns-in_default c = binary_by _ (binary_22 (⊎_elim {C = 22 ≤ c.args.form} (λ w. omega arith) (λ w. omega arith) c.in_default.branch) c.in_default-1.rest.1) (any_mark c.united.ensures)
+returns-in_default c = binary_by _ (binary_22 (elim c.in_default.branch [ in_default-via-then-form-lt13 w ↦ omega arith | in_default-via-else-form-lt13+else-form-lt18+else-form-lt20 w ↦ omega arith ]) (omega arith)) (any_mark c.united.ensures)

@@ -5,6 +5,7 @@ use Prim.Native.Nat.{◌≤◌}
 use Rattle.operations.proofs.BinaryLaws.{left_any, left_scale, left_int, left_num, left_coll}
 use borrow.Author.Rules.{rules}
 use Rattle.operations.proofs.apply.left_fits.Goals as goal
+use Rattle.operations.proofs.apply.left_fits.Goals.{in_default-via-then-form-lt13, in_default-via-else-form-lt13+else-form-lt18+else-form-lt20}
 
 pub returns-in-13 : goal.returns-in-13
 returns-in-13 c = search left_any
@@ -19,4 +20,4 @@ pub returns-in-18-to-19 : goal.returns-in-18-to-19
 returns-in-18-to-19 c = search left_int
 
 pub returns-in_default : goal.returns-in_default
-returns-in_default c = left_coll (⊎_elim {C = 20 ≤ c.args.form} (λ w. omega arith) (λ w. omega arith) c.in_default.branch) c.in_default-1.rest.1 c.sort_of-in_default.ensures
+returns-in_default c = left_coll (elim c.in_default.branch [ in_default-via-then-form-lt13 w ↦ omega arith | in_default-via-else-form-lt13+else-form-lt18+else-form-lt20 w ↦ omega arith ]) (omega arith) c.sort_of-in_default.ensures

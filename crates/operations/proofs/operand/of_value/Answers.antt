@@ -5,6 +5,7 @@ use native.Mathlib.Omega.{arith}
 use Rattle.operations.proofs.OperandLaws.{value_unary, value_is_undef, value_attribute, value_collect}
 use borrow.Author.Rules.{rules}
 use Rattle.operations.proofs.operand.of_value.Goals as goal
+use Rattle.operations.proofs.operand.of_value.Goals.{in_default-via-then-form-lt7, in_default-via-else-form-lt7+else-form-lt13}
 
 pub returns-in-30 : goal.returns-in-30
 returns-in-30 c = search value_is_undef
@@ -16,4 +17,4 @@ pub returns-in-7-to-12 : goal.returns-in-7-to-12
 returns-in-7-to-12 c = search value_unary
 
 pub returns-in_default : goal.returns-in_default
-returns-in_default c = value_collect _ _ _ (⊎_elim {C = 13 ≤ c.args.form} (λ w. omega arith) (λ w. omega arith) c.in_default.branch) c.in_default-1.rest.0.1 c.in_default-1.rest.1 c.collect.ensures
+returns-in_default c = value_collect _ _ _ (elim c.in_default.branch [ in_default-via-then-form-lt7 w ↦ omega arith | in_default-via-else-form-lt7+else-form-lt13 w ↦ omega arith ]) (omega arith) (omega arith) c.collect.ensures
