@@ -129,7 +129,7 @@ pub falls : {sp mid : ℕ} {B C A : List ℕ} {r : Answer} (o : Traced) (k : Val
 falls {sp} {mid} {B} {C} {A} o k h u x z = record { kept = under_then (under_down h x.kept) u; ends = by x.ends z }
   where
     by : {o : Traced} {r : Answer} → EndsT mid A o r → Other r → EndsT sp A (bind_t o k) r
-    by (ends_value a m) z = absurd (⊎_elim (λ e. omega arith) (⊎_elim (λ e. omega arith) (λ e. omega arith)) z)
+    by (ends_value a m) z = absurd (z _ _ refl)
     by (ends_undefined a) z = ends_undefined a
     by ends_stuck z = ends_stuck
     by ends_stop z = ends_stop
@@ -139,8 +139,8 @@ pub breaks : {sp mid : ℕ} {B C A : List ℕ} {r : Answer} (o : Traced) (k : Va
 breaks {sp} {mid} {B} {C} {A} o k u h under x z = record { kept = under_then (under_down h x.kept) under; ends = by x.ends z }
   where
     by : {o : Traced} {r : Answer} → EndsT mid A o r → Fatal r → EndsT sp A (resume_t o k u) r
-    by (ends_value a m) z = absurd (⊎_elim (λ e. omega arith) (⊎_elim (λ e. omega arith) (λ e. omega arith)) z.1)
-    by (ends_undefined a) z = absurd (⊎_elim (λ e. omega arith) (⊎_elim (λ e. omega arith) (λ e. omega arith)) z.0)
+    by (ends_value a m) z = absurd (z.1 _ _ refl)
+    by (ends_undefined a) z = absurd (z.0 _ _ refl)
     by ends_stuck z = ends_stuck
     by ends_stop z = ends_stop
 
