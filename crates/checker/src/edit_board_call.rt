@@ -9,8 +9,7 @@ use opening::{Answer, no_output, wipe_all};
 // Edits the running board of a sheet: 0 with all verdicts in out, the board after the edit in words and the steps of the rules that were
 // evaluated again, else a refusal, which leaves both as they are. A slice of words below 8,192, or an out below 2,560 bytes, is refused
 // with 1. The text is the one that the board was made of, and nobody else has touched the board: else the call only ends.
-#[unsafe(no_mangle)]
-pub extern "C" fn ocl_edit_board(
+pub fn ocl_edit_board(
     text: &[u8],
     edit: &[u8],
     w0: &mut [u64],

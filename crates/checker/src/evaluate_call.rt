@@ -7,8 +7,7 @@ use opening::{Answer, no_output, short_lent, wipe_all};
 
 // Evaluates a rule for an object: 0 with `u` or the value's spelling in out, and the steps; else a refusal or a stop. A slice of words
 // below 8,192, or an out below 2,560 bytes, is refused with 1.
-#[unsafe(no_mangle)]
-pub extern "C" fn ocl_evaluate_rule(
+pub fn ocl_evaluate_rule(
     text: &[u8],
     rule: u64,
     object: u64,

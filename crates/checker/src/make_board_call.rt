@@ -19,8 +19,7 @@ pub fn short_board(w0: &[u64], w1: &[u64], w2: &[u64], words: &[u64], out: &[u8]
 
 // Makes the running board of a sheet: 0 with all verdicts in out and the board in words, else a refusal, which leaves both as they are. A
 // slice of words below 8,192, or an out below 2,560 bytes, is refused with 1.
-#[unsafe(no_mangle)]
-pub extern "C" fn ocl_make_board(
+pub fn ocl_make_board(
     text: &[u8],
     w0: &mut [u64],
     w1: &mut [u64],

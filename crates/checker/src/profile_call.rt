@@ -7,8 +7,7 @@ use opening::{Answer, no_output, short_lent, wipe_all};
 
 // Reads a sheet and types all its rules as `ocl_read_sheet` does, and refuses with 22 what is outside the free-numbering profile. A slice
 // of words below 8,192, or an out below 2,560 bytes, is refused with 1.
-#[unsafe(no_mangle)]
-pub extern "C" fn ocl_read_free_numbering(
+pub fn ocl_read_free_numbering(
     text: &[u8],
     w0: &mut [u64],
     w1: &mut [u64],

@@ -7,8 +7,7 @@ use opening::{Answer, no_output, short_lent, wipe_all};
 
 // Writes the report of a sheet: 0 with its lines in out, else a refusal, which leaves out as it is. A slice of words below 8,192, or an out
 // below 2,560 bytes, is refused with 1.
-#[unsafe(no_mangle)]
-pub extern "C" fn ocl_report(
+pub fn ocl_report(
     text: &[u8],
     w0: &mut [u64],
     w1: &mut [u64],

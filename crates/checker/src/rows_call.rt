@@ -7,8 +7,7 @@ use opening::{Answer, no_output, short_lent, wipe_all};
 
 // Writes for each rule of a sheet a line with the rows that it sees: 0 with the lines in out, else a refusal, which leaves out as it is. A
 // slice of words below 8,192, or an out below 2,560 bytes, is refused with 1.
-#[unsafe(no_mangle)]
-pub extern "C" fn ocl_rows(
+pub fn ocl_rows(
     text: &[u8],
     w0: &mut [u64],
     w1: &mut [u64],

@@ -8,8 +8,7 @@ use opening::{Answer, no_output, short_lent, wipe_all};
 // Writes for each undefined verdict of a sheet a line with its rule and object, and the line and the step of the node at which undefined
 // arose: 0 with the lines in out, else a refusal, which leaves out as it is. A slice of words below 8,192, or an out below 2,560 bytes, is
 // refused with 1.
-#[unsafe(no_mangle)]
-pub extern "C" fn ocl_undefined(
+pub fn ocl_undefined(
     text: &[u8],
     w0: &mut [u64],
     w1: &mut [u64],

@@ -1,8 +1,10 @@
-// What a program reads: all of its input, at the front of a buffer. No contract can say what is read. It depends on no other crate of
-// this repository.
+// What a program reads: all of its input, at the front of a buffer. No contract can say what the system gives; of a reader whose bytes
+// are known it says that they are read, to the last. It depends on no other crate of this repository.
 #![tactic(auto)]
 
-ghost use Rattle.input.specs.Input.{Within};
+ghost use Rattle.input.specs.Input.{Within, Reads};
+
+use std::io::Read;
 
 // How many bytes stand at the front of a buffer, or that the input could not be read.
 #[derive(Clone, Copy)]
@@ -12,16 +14,15 @@ pub enum Filled {
 }
 
 // Reads until the input ends or the buffer is full.
-pub fn read_input(fd: i32, text: &mut [u8]) -> Filled
-    ensures { Within text.new result }
+pub fn read_input<R: Read>(input: &mut R, text: &mut [u8]) -> Filled
+    ensures within { Within text.new result }
+    ensures bytes { Reads (R.remaining input.old) (R.remaining input.new) text.new result }
 {
     let mut n: usize = 0;
     while n < text.len() {
-        let got = libc::read(fd, &mut text[n..]);
-        if got < 0 {
+        let Ok(more) = input.read(&mut text[n..]) else {
             return Filled::Failed;
-        }
-        let more = io::count(got, &text[n..]);
+        };
         if more == 0 {
             return Filled::With(n);
         }

@@ -16,7 +16,7 @@ use Rattle.sheet.specs.Lines.{a_number}
 use Rattle.text.specs.Numbers.{cut_num}
 use Rattle.text.specs.declared.numbers.Num.TheVariants.{Bad as NoNum, Is}
 use Rattle.text.proofs.NumberLaws.{num_bad, num_is}
-use Rattle.load.specs.Reading.{Run, taken, step_window, step_length, step}
+use Rattle.load.specs.Reading.{Run, step_window, step_length, step}
 use Rattle.load.specs.Record.{window_of, Lengths, empty_window, pushed_of, Takes}
 use Rattle.load.specs.Tally.{with_ring}
 use Rattle.load.specs.Reader.{with_byte, line_from, line_of, refused, line_at, on_line, byte_read, window_for, state_of, empty_ring, after_line, reader_with, Fits, fits_none, fits_some, FirstLine, LengthLine, Ended, ByteRead}
@@ -142,6 +142,8 @@ module _ {line : Line} where
         go : (run : Option Run) (o : Option ℕ) → Fits run → with_ring t ring ≡ window_for run → Any? (λ m. n ≡ min m 1000000) o → reader_with s ring ≡ state_of (on_line (step run o) (line_at run))
         go none (some k) fits_none is (any_some c) = rw (ring_empty {t = t} is) (first.is k c)
         go (some r) (some k) (fits_some fit) is (any_some c) = absurd (omega (arith, width_some (with_ring t ring) fit is))
+        go none none _ is x7 = elim x7 [ ]
+        go (some r) none _ is x8 = elim x8 [ ]
 
     pub ended_length : {w : Window} {s : Reader} → (w.width ≡ 0 → ⊥) → LengthLine w n s → Ended w line s
     unfolding step line_at window_for empty_window
@@ -150,6 +152,8 @@ module _ {line : Line} where
         go : (run : Option Run) (o : Option ℕ) → Fits run → w ≡ window_for run → Any? (λ m. n ≡ min m 1000000) o → s ≡ state_of (on_line (step run o) (line_at run))
         go none (some k) fits_none is (any_some c) = absurd (z (ap (λ (v : Window). v.width) is))
         go (some r) (some k) (fits_some fit) is (any_some c) = line_Taken.is r k fit is c
+        go none none _ is x7 = elim x7 [ ]
+        go (some r) none _ is x8 = elim x8 [ ]
 
 -- ---- any byte
 

@@ -194,8 +194,7 @@ pub fn put_answer(s: Reader, out: &mut [u8; 64]) -> usize
 }
 
 // What the program prints for a text that lies there whole.
-#[unsafe(no_mangle)]
-pub extern "C" fn load_text(text: &[u8], out: &mut [u8; 64]) -> usize
+pub fn load_text(text: &[u8], out: &mut [u8; 64]) -> usize
     ensures { Puts 0 (program text.now) out.old out.new result }
 {
     put_answer(feed(start(), text), out)

@@ -166,10 +166,8 @@ pub fn push(w: Window, length: u16) -> Pushed
     }
 }
 
-// The lent record takes one length; whether it did is answered. It is the one function over a reference to a record, and is
-// proved by hand.
-#[unsafe(no_mangle)]
-pub extern "C" fn load_push(w: &mut Window, length: u16) -> bool
+// The lent record takes one length; whether it did is answered.
+pub fn load_push(w: &mut Window, length: u16) -> bool
     ensures { Pushes w.old length result w.new }
 {
     let next = push(*w, length);

@@ -2,56 +2,44 @@
 // pieces are of seven bytes, so that lines lie across them. It depends on `load`.
 #![tactic(auto)]
 
-use libc::STDOUT_FILENO;
 use load::reader::{Reader, feed, put_answer, start};
+use std::fs::File;
+use std::io::Read;
+use std::rt::Files;
+use std::{env, io};
 
-fn print_answer(s: Reader, name: &[u8]) {
+fn print_answer(rt: &impl Print, s: Reader, name: &str) -> io::Result<()> {
     let mut out: [u8; 64] = [0; 64];
     let end = put_answer(s, &mut out);
-    io::write_all(STDOUT_FILENO, name);
-    io::write_all(STDOUT_FILENO, b"\n");
-    io::write_all(STDOUT_FILENO, &out[..end]);
+    println!(rt; "{name}")?;
+    rt.write_all(&out[..end])
 }
 
 // A proved loop has to end, so that its turns are counted; no run uses them up.
-fn print_input(fd: i32, name: &[u8]) {
+fn print_input<R: Read>(rt: &impl Print, input: &mut R, name: &str) -> io::Result<()> {
     let mut piece: [u8; 7] = [0; 7];
     let mut s = start();
-    let mut turns = u64::MAX;
-    while turns > 0 {
-        let got = libc::read(fd, &mut piece);
-        if got < 0 {
-            os::fail(name);
-            return;
-        }
-        let n = io::count(got, &piece);
+    for _ in 0..u64::MAX {
+        let n = input.read(&mut piece)?;
         s = feed(s, &piece[..n]);
         if n == 0 {
-            print_answer(s, name);
-            return;
+            return print_answer(rt, s, name);
         }
-        turns -= 1;
     }
+    Ok(())
 }
 
-fn print_file(argument: usize) {
-    let mut space = io::buffer();
-    let n = os::arg(argument, &mut space);
-    let name = &space[..n];
-    let fd = os::open_read(name);
-    if fd < 0 {
-        os::fail(name);
-        return;
-    }
-    print_input(fd, name);
-    libc::close(fd);
+fn print_file(rt: &(impl Files + Print), name: &str) -> io::Result<()> {
+    let mut file = File::open(rt, name)?;
+    print_input(rt, &mut file, name)
 }
 
-fn main() {
-    let count = os::arg_count();
-    let mut i: usize = 1;
-    while i < count {
-        print_file(i);
-        i += 1;
+// A file that could not be read or printed is named on standard error, and the next one follows.
+fn main(rt: HostRuntime) -> io::Result<()> {
+    for name in env::args(&rt)?.skip(1) {
+        if let Err(e) = print_file(&rt, name.as_str()) {
+            eprintln!(rt; "{name}: {e}")?;
+        }
     }
+    Ok(())
 }

@@ -4,16 +4,18 @@
 
 use input::{Filled, read_input};
 use printing::printed_rows;
+use std::io;
 
-fn main() {
+// What could not be read or written is named on standard error.
+fn main(rt: HostRuntime) -> io::Result<()> {
     let mut text: [u8; memory::PROGRAM_TEXT] = [0; memory::PROGRAM_TEXT];
     let mut out: [u8; memory::PROGRAM_OUTPUT] = [0; memory::PROGRAM_OUTPUT];
-    let Filled::With(n) = read_input(libc::STDIN_FILENO, &mut text) else {
-        os::fail(b"standard input");
-        return;
+    let Filled::With(n) = read_input(&mut rt.stdin(), &mut text) else {
+        return rt.eprintln("standard input: it could not be read");
     };
     let end = printed_rows(&text[..n], &mut out);
-    if !io::write_all(libc::STDOUT_FILENO, &out[..end]) {
-        os::fail(b"standard output");
+    if let Err(e) = rt.write_all(&out[..end]) {
+        return eprintln!(rt; "standard output: {e}");
     }
+    Ok(())
 }

@@ -1,38 +1,36 @@
 // A program for the gate: it prints the name of each file that its arguments name, and then what `ocl_report` prints for it. It
-// depends on `printing`.
+// depends on `printing`, and on `input` for reading.
 #![tactic(auto)]
 
-use libc::STDOUT_FILENO;
+use input::{Filled, read_input};
 use printing::printed_text;
+use std::fs::File;
+use std::io::Read;
+use std::rt::Files;
+use std::{env, io};
 
-fn print_input(fd: i32, name: &[u8]) {
+fn print_input<R: Read>(rt: &impl Print, input: &mut R, name: &str) -> io::Result<()> {
     let mut text: [u8; memory::PROGRAM_TEXT] = [0; memory::PROGRAM_TEXT];
     let mut out: [u8; memory::PROGRAM_OUTPUT] = [0; memory::PROGRAM_OUTPUT];
-    let n = io::read_full(fd, &mut text);
+    let Filled::With(n) = read_input(input, &mut text) else {
+        return Err(io::Error::other("it could not be read"));
+    };
     let end = printed_text(&text[..n], &mut out);
-    io::write_all(STDOUT_FILENO, name);
-    io::write_all(STDOUT_FILENO, b"\n");
-    io::write_all(STDOUT_FILENO, &out[..end]);
+    println!(rt; "{name}")?;
+    rt.write_all(&out[..end])
 }
 
-fn print_file(argument: usize) {
-    let mut space = io::buffer();
-    let n = os::arg(argument, &mut space);
-    let name = &space[..n];
-    let fd = os::open_read(name);
-    if fd < 0 {
-        os::fail(name);
-        return;
-    }
-    print_input(fd, name);
-    libc::close(fd);
+fn print_file(rt: &(impl Files + Print), name: &str) -> io::Result<()> {
+    let mut file = File::open(rt, name)?;
+    print_input(rt, &mut file, name)
 }
 
-fn main() {
-    let count = os::arg_count();
-    let mut i: usize = 1;
-    while i < count {
-        print_file(i);
-        i += 1;
+// A file that could not be read or printed is named on standard error, and the next one follows.
+fn main(rt: HostRuntime) -> io::Result<()> {
+    for name in env::args(&rt)?.skip(1) {
+        if let Err(e) = print_file(&rt, name.as_str()) {
+            eprintln!(rt; "{name}: {e}")?;
+        }
     }
+    Ok(())
 }
