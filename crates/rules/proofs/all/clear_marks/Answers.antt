@@ -1,0 +1,23 @@
+-- The loop's invariant: the first i words are 0, and the others are as they were. Assumes nothing.
+use borrow.Author.Rules.{rules}
+use native.Mathlib.Omega.{arith}
+use Prim.Native.Nat.{◌≤◌, ◌-◌}
+use mathlib.Core.Path.{◌≡◌, refl, ap, ◌∙◌}
+use mathlib.Core.List.{◌++◌}
+use lib.ListN.{length, drop, set, replicate, length-set}
+use Rattle.tables.proofs.Zeros.{zero_next}
+use Rattle.rules.proofs.all.clear_marks.Goals as goal
+
+pub loop-i-init : goal.loop-i-init
+loop-i-init c = (omega arith, refl, refl)
+
+pub loop-i-preserved : goal.loop-i-preserved
+loop-i-preserved c =
+    (
+  search rules,
+  length-set c.loop-i.w2 c.loop-i.i 0 ∙ c.loop-i.invariant.1,
+  ap (λ l. set l c.loop-i.i 0) c.loop-i.invariant.2 ∙ zero_next c.loop-i.i c.args.w2.now (omega (arith, c.requires)),
+)
+
+pub returns : goal.returns
+returns c = let e : c.loop-i.i ≡ 768 = omega arith in c.loop-i.invariant.2 ∙ ap (λ i. replicate i 0 ++ drop i c.args.w2.now) e

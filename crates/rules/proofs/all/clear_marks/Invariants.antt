@@ -1,0 +1,15 @@
+-- The loop's invariant: the first i words are 0, and the others are as they were. Assumes nothing.
+use borrow.Author.Rules.{rules}
+use native.Mathlib.Omega.{arith}
+use Prim.Native.Nat.{◌≤◌, ◌-◌}
+use mathlib.Core.Path.{◌≡◌, refl, ap, ◌∙◌}
+use mathlib.Core.List.{◌++◌}
+use lib.ListN.{length, drop, set, replicate, length-set}
+use Rattle.tables.proofs.Zeros.{zero_next}
+use Rattle.rules.proofs.all.clear_marks.Given as goal
+
+abbrev pub invariant-loop-i : goal.invariant-loop-i
+invariant-loop-i l = (l.i ≤ 768) × (length l.w2 ≡ length l.initial.w2) × (l.w2 ≡ replicate l.i 0 ++ drop l.i l.initial.w2)
+
+abbrev pub decreases-loop-i : goal.decreases-loop-i
+decreases-loop-i l = 768 - l.i

@@ -1,0 +1,16 @@
+use Prim.Native.Nat.{◌-◌}
+use native.Mathlib.Omega.{arith}
+use Rattle.rules.proofs.Marks.{Copying, copy_none, copy_more, copy_done}
+use Rattle.rules.proofs.all.keep_marks.Goals as goal
+
+pub loop-p-init : goal.loop-p-init
+loop-p-init c = copy_none _ _
+
+pub loop-p-preserved : goal.loop-p-preserved
+loop-p-preserved c = search copy_more
+
+pub shape_of-w1 : goal.shape_of-w1
+shape_of-w1 c = cc
+
+pub returns : goal.returns
+returns c = search copy_done

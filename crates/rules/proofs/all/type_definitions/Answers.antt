@@ -1,0 +1,21 @@
+-- `type_definitions` meets its contract. Assumes nothing.
+use Prim.Native.Nat.{◌-◌}
+use native.Mathlib.Omega.{arith}
+use borrow.Author.Rules.{rules}
+use Rattle.rules.proofs.DefineLaws.{DefinedTo, defined_none, defined_next, undefined_node, defined_refused, defined_all}
+use Rattle.rules.proofs.all.type_definitions.Goals as goal
+
+pub loop-d-init : goal.loop-d-init
+loop-d-init c = defined_none _
+
+pub line_of-requires : goal.line_of-requires
+line_of-requires c = search undefined_node
+
+pub returns-in-No : goal.returns-in-No
+returns-in-No c = search defined_refused
+
+pub loop-d-preserved : goal.loop-d-preserved
+loop-d-preserved c = search defined_next
+
+pub returns : goal.returns
+returns c = search defined_all
