@@ -2,7 +2,6 @@
 use Rattle.std.specs.Prelude.{Bool, true, false}
 use Rattle.std.proofs.Math.Option.{Option, none, some}
 
-
 -- the first of two options that is there
 unfoldable pub or_else : {A : Type 0} → Option A → Option A → Option A
 or_else none o = o

@@ -35,6 +35,6 @@ loop-i-preserved c =
 pub returns : goal.returns
 returns c =
     record {
-  ends = record { is = end_none _ _ c.loop-i.invariant.1 c.loop-i-test.false; within = c.loop-i.invariant.0 };
-  value = value_none _ _ _ _ c.loop-i.invariant.3 c.loop-i.invariant.2 c.loop-i-test.false;
-}
+      ends = record { is = end_none _ _ c.loop-i.invariant.1 c.loop-i-test.false; within = c.loop-i.invariant.0 };
+      value = value_none _ _ _ _ c.loop-i.invariant.3 c.loop-i.invariant.2 c.loop-i-test.false;
+    }

@@ -19,6 +19,6 @@ shape_of-stack c = cc
 pub returns : goal.returns
 returns c =
     record {
-  front = copy_done _ _ _ _ _ _ c.loop-i.i c.requires.len_in_bounds.0 c.requires.len_in_bounds.1 (omega arith) c.loop-i.invariant.0;
-  behind = copy_behind _ _ _ _ _ _ c.loop-i.i c.requires.len_in_bounds.0 c.requires.len_in_bounds.1 (omega arith) c.loop-i.invariant.0;
-}
+      front = copy_done _ _ _ _ _ _ c.loop-i.i c.requires.len_in_bounds.0 c.requires.len_in_bounds.1 (omega arith) c.loop-i.invariant.0;
+      behind = copy_behind _ _ _ _ _ _ c.loop-i.i c.requires.len_in_bounds.0 c.requires.len_in_bounds.1 (omega arith) c.loop-i.invariant.0;
+    }

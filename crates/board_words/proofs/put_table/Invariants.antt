@@ -1,0 +1,15 @@
+-- `board_words::put_table` meets its contract. Assumes nothing.
+use native.Mathlib.Omega.{arith}
+use Prim.Native.Nat.{◌-◌, ◌≤◌, zero-le}
+use mathlib.Core.Path.{◌≡◌, refl}
+use lib.ListN.{length, take, length-set}
+use lib.Seq.{paste, paste-zero}
+use Rattle.board_words.specs.Layout.{padded}
+use Rattle.board_words.proofs.StoringLaws.{put_more, put_done}
+use Rattle.board_words.proofs.put_table.Given as goal
+
+abbrev pub invariant-loop-i : goal.invariant-loop-i
+invariant-loop-i l = (l.words ≡ paste l.initial.words l.at (padded l.room (take l.n l.table)) l.i) × (l.i ≤ l.room) × (length l.words ≡ length l.initial.words)
+
+abbrev pub decreases-loop-i : goal.decreases-loop-i
+decreases-loop-i l = l.room - l.i
