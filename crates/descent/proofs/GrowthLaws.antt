@@ -60,6 +60,7 @@ module _ {R : Tree → Tokens → parser.Found → Type 0} {l : Level} {k : ℕ}
         where
           go : {r : Found} {w : List ℕ} → FoundAt l k s t n d v r w → Growing R k s d r w (Is u m) w' → Room s u m d w'
           go (found_one y) (goes z) = room_grown z (room_after q y)
+          go (found_none _ _) x11 = elim x11 [ ]
 
       -- some node has been put down, and some byte has been read
       pub growing_some : 0 < m
@@ -67,9 +68,11 @@ module _ {R : Tree → Tokens → parser.Found → Type 0} {l : Level} {k : ℕ}
         where
           go : {r : Found} {w : List ℕ} → FoundAt l k s t n d v r w → Growing R k s d r w (Is u m) w' → 0 < m
           go (found_one y) (goes z) = let a = some_node y.tree in let b = y.counted in let c = z.counted in omega arith
+          go (found_none _ _) x11 = elim x11 [ ]
 
       pub growing_further : t.start < u.start
       growing_further = go x (rw e at g)
         where
           go : {r : Found} {w : List ℕ} → FoundAt l k s t n d v r w → Growing R k s d r w (Is u m) w' → t.start < u.start
           go (found_one y) (goes z) = let a = some_node y.tree in let b = y.from in let c = z.from in omega arith
+          go (found_none _ _) x11 = elim x11 [ ]

@@ -94,6 +94,7 @@ module _ {l : Level} (p : Leans l) {k : ℕ} {s : Bytes} {d : ℕ} {r : Found} {
       go : {r : Found} {w : List ℕ} → FoundAt (tighter l) k s t n d v r w → Growing (Chained l) k s d r w (Is u m) w' → SignAs s u (sign_of l (onward s u)) sign.No → FoundAt l k s t n d v (Is u m) w'
       go (found_one {u = u₀} y) (goes z) (sign_none a) =
           found_grown z y (start_with p (onward s t) y.tree (onward s u₀) _ y.answers (z.on y.tree _ (chain_ends l (z.grows y.tree) (onward s u) a)))
+      go (found_none _ _) x14 _ = elim x14 [ ]
 
 -- a sign and its right side
 going_on : {l : Level} {k : ℕ} {s : Bytes} {u : Token} {m d : ℕ} {v : List ℕ} {q : Sign} → SignAs s u (sign_of l (onward s u)) q

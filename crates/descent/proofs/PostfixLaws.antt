@@ -7,7 +7,6 @@ use native.Mathlib.Omega.{arith}
 use lib.ListN.{length}
 use Rattle.ocl.specs.Types.{Ty}
 use Rattle.sheet.specs.Text.{Bytes}
-use Rattle.sheet.specs.Lines.{is}
 use Rattle.sheet.specs.Grammar.Trees.{One, Two, iterate, one, count, one_shape, shapes}
 use Rattle.sheet.specs.Grammar.Sentences.{postfix, primary}
 use Rattle.sheet.specs.Grammar.Parser.{Next, step_of}
@@ -51,6 +50,7 @@ module _ {k : ℕ} {s : Bytes} {d : ℕ} {r : Found} {w : List ℕ} {r' : Found}
             go : {r : Found} {w : List ℕ} → FoundAt primary k s t n d v r w → Growing Stepped k s d r w (Is u m) w' → StepAs s u (step_of (onward s u)) step.Ends → FoundAt postfix k s t n d v (Is u m) w'
             go (found_one {u = u₀} y) (goes z) (step_ends a) =
                 found_grown z y (steps.steps_start (onward s t) y.tree (onward s u₀) _ y.answers (z.on y.tree _ (steps.step_ends (z.grows y.tree) (onward s u) a)))
+            go (found_none _ _) x14 _ = elim x14 [ ]
 
         pub steps_break : q ≡ step.Broken → FoundAt postfix k s t n d v No w'
         steps_break i = go x (rw e at g) (rw i at h)
@@ -59,6 +59,7 @@ module _ {k : ℕ} {s : Bytes} {d : ℕ} {r : Found} {w : List ℕ} {r' : Found}
             go (found_one {u = u₀} y) (goes z) (step_broken a) =
                 found_none (steps.steps_start (onward s t) y.tree (onward s u₀) none y.answers (z.on y.tree none (steps.step_broken (z.grows y.tree) (onward s u) a)))
                 (kept_then y.wrote.kept z.kept)
+            go (found_none _ _) x14 _ = elim x14 [ ]
 
   -- ---- a turn
 

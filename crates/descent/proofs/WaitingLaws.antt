@@ -20,8 +20,7 @@ use Rattle.emission.proofs.NodeLaws.{parsed_kept}
 use Rattle.importer.specs.Answers.{Answers}
 use Rattle.importer.specs.Lets.{SameLets, Frame, value, body, counted, value_nodes, LetsLie, no_lets, HeadAt, no_head, broken_head, a_head}
 use Rattle.importer.specs.Descent.{Room, FoundAt, found_none}
-use Rattle.importer.specs.declared.Found.{Found}
-use Rattle.importer.specs.declared.Found.TheVariants.{No, Is}
+use Rattle.importer.specs.declared.Found.TheVariants.{No}
 use Rattle.importer.specs.declared.lets.Head.{Head}
 use Rattle.importer.specs.declared.lets.Head.TheVariants as head
 use Rattle.importer.proofs.LetLaws.{lets_refl, lets_less, lets_then, values_size}

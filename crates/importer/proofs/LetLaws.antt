@@ -8,7 +8,7 @@ use lib.ListN.{length, get_or, set, length-set, length-append}
 use lib.Seq.{get_or-set_same, get_or-set_other}
 use Rattle.memory.specs.Map as memory
 use Rattle.sheet.specs.Lines.{Shape}
-use Rattle.sheet.specs.Grammar.Trees.{Tree, count, roots, shapes}
+use Rattle.sheet.specs.Grammar.Trees.{Tree, count, shapes}
 use Rattle.sheet.proofs.TextNodes.{shapes_size}
 use Rattle.tables.proofs.Tables.{kept_refl, kept_set, kept_then}
 use Rattle.emission.specs.Nodes.{KeptBehind}

@@ -1,11 +1,11 @@
 -- What is gathered of nodes, one after the other, tells all that is asked of each. Assumes nothing.
 use mathlib.Core.Path.{◌≡◌, refl, sym, ap, ◌∙◌, subst}
-use mathlib.Core.Bool.{Bool, true, false, not, ◌&&◌}
+use mathlib.Core.Bool.{Bool, true, false, ◌&&◌}
 use mathlib.Core.List.{List, [], ◌∷◌, ◌++◌}
 use Prim.Native.Nat.{ℕ, suc, ◌+◌, ◌<◌, ◌≤◌, min, max}
 use native.Mathlib.Omega.{arith}
 use native.Mathlib.Decide.{dec_lt}
-use borrow.Author.Tests.{le-leb, lt-leb, not-true, not-false}
+use borrow.Author.Tests.{le-leb, lt-leb}
 use lib.ListN.{length, get_or, take}
 use lib.Seq.{length-take-le, get_or-take, take-suc, take_all}
 use lib.Dec.{leb}
@@ -27,14 +27,14 @@ use Rattle.texts.specs.Gathering.{joined, operands_within, Sums, Gathers}
 -- ---- one call's number
 
 module _ (words : List ℕ) (count : ℕ) {b : Bool} (told : b ≡ is_call words count) where
-  pub called_none : not b ≡ true → 0 ≡ min (calls_in words count) 33
+  pub called_none : b ≡ false → 0 ≡ min (calls_in words count) 33
   unfolding calls_in
-  called_none h = rw (← told, not-true b h)
+  called_none h = rw (← told, h)
 
-  module _ (h : not b ≡ false) where
+  module _ (h : b ≡ true) where
     calls_are : calls_in words count ≡ suc (get_or words 2 0)
     unfolding calls_in
-    calls_are = rw (← told, not-false b h)
+    calls_are = rw (← told, h)
 
     pub called_low : get_or words 2 0 < 32 → get_or words 2 0 + 1 ≡ min (calls_in words count) 33
     called_low l = rw calls_are (omega arith)

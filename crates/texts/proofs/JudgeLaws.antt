@@ -135,25 +135,25 @@ module _ {st : Counts} {line nodes : ℕ} (w0 w1 w2 : List ℕ) where
   }
 
   module _ {g : Gathered} (low : nodes ≤ 768) (all : Gathers line nodes w2 g) (fine : Fine st) where
-    pub judge_4 : {b : Bool} → b ≡ text_limits st g nodes → not b ≡ true → Judged st line nodes (code.Refused 4) w0 w1 w2 w1
+    pub judge_4 : {b : Bool} → b ≡ text_limits st g nodes → b ≡ false → Judged st line nodes (code.Refused 4) w0 w1 w2 w1
     judge_4 {b} told q = record {
-      is = λ s x e z h. rw (over_limits s line (text_line x) (sym (limits_same all fine x e (z low) h) ∙ sym told ∙ not-true b q)) moved_refused;
+      is = λ s x e z h. rw (over_limits s line (text_line x) (sym (limits_same all fine x e (z low) h) ∙ sym told ∙ q)) moved_refused;
       kept = kept_refl w1;
     }
 
-    module _ {b : Bool} (told : b ≡ text_limits st g nodes) (ok : not b ≡ false) where
+    module _ {b : Bool} (told : b ≡ text_limits st g nodes) (ok : b ≡ true) where
       is_within : text_limits st g nodes ≡ true
-      is_within = sym told ∙ not-false b ok
+      is_within = sym told ∙ ok
 
-      pub judge_5 : {d : Bool} → d ≡ text_order st g → not d ≡ true → Judged st line nodes (code.Refused 5) w0 w1 w2 w1
+      pub judge_5 : {d : Bool} → d ≡ text_order st g → d ≡ false → Judged st line nodes (code.Refused 5) w0 w1 w2 w1
       judge_5 {d} f q = record {
-        is = λ s x e z h. rw (out_of_order s line (text_line x) (sym (limits_same all fine x e (z low) h) ∙ is_within) (sym (order_same all fine x e (z low) h is_within) ∙ sym f ∙ not-true d q)) moved_refused;
+        is = λ s x e z h. rw (out_of_order s line (text_line x) (sym (limits_same all fine x e (z low) h) ∙ is_within) (sym (order_same all fine x e (z low) h is_within) ∙ sym f ∙ q)) moved_refused;
         kept = kept_refl w1;
       }
 
-      module _ {d : Bool} (f : d ≡ text_order st g) (so : not d ≡ false) where
+      module _ {d : Bool} (f : d ≡ text_order st g) (so : d ≡ true) where
         ordered : text_order st g ≡ true
-        ordered = sym f ∙ not-false d so
+        ordered = sym f ∙ so
 
         pub judge_6 : st.classes < g.classes → Judged st line nodes (code.Refused 6) w0 w1 w2 w1
         judge_6 l = record {

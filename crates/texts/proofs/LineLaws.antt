@@ -1,11 +1,10 @@
 -- A line whose first field is `X`: what its fields spell, and what the code makes of it. Assumes nothing.
 use mathlib.Core.Path.{◌≡◌, refl, sym, ap, ◌∙◌, subst}
-use mathlib.Core.Bool.{Bool, true, false, not}
+use mathlib.Core.Bool.{Bool, true, false}
 use mathlib.Core.Option.{none, some}
 use mathlib.Core.List.{List, [], ◌∷◌}
 use Prim.Native.Nat.{ℕ, ◌≤◌}
 use native.Mathlib.Omega.{arith}
-use borrow.Author.Tests.{not-true, not-false}
 use lib.ListN.{length, get_or}
 use Rattle.laws.specs.Choice.{on_some}
 use Rattle.sheet.specs.Text.{Bytes, bytes, fields_of}
@@ -95,7 +94,7 @@ module _ {line : List ℕ} {f : Fields} (cut_up : Cut line f) (starts : is (get_
     spelled = two_fields (fields_of line) starts (omega (arith, cut_up.counted)) ∙ rw field
 
     module _ {b : Bool} (told : b ≡ brackets_within x) where
-      pub line_brackets : {st : Counts} {k : ℕ} {w0 w1 w2 : List ℕ} → not b ≡ true → TookText st k line (code.Refused 4) w0 w1 w2 w1 w2
+      pub line_brackets : {st : Counts} {k : ℕ} {w0 w1 w2 : List ℕ} → b ≡ false → TookText st k line (code.Refused 4) w0 w1 w2 w1 w2
       unfolding step step_spelled on_text must
       line_brackets {k = k} {w0} {w1} {w2} h = record {
         took = record { is = λ s z. rw (open_many s) moved_refused; kept0 = kept_refl w0; kept1 = kept_refl w1 };
@@ -103,9 +102,9 @@ module _ {line : List ℕ} {f : Fields} (cut_up : Cut line f) (starts : is (get_
       }
         where
           open_many : (s : Sheet) → step s k (fields_of line) ≡ refuse 4
-          open_many s = rw (spelled, ← told, not-true b h)
+          open_many s = rw (spelled, ← told, h)
 
-      module _ (few : not b ≡ false) where
+      module _ (few : b ≡ true) where
         pub line_sentence : {st : Counts} {k : ℕ} {w0 w1 u2 v2 : List ℕ} → Imports k x u2 imported.No v2 → TookText st k line (code.Refused 20) w0 w1 u2 w1 v2
         unfolding step step_spelled on_text must
         line_sentence {k = k} {w0} {w1} i = record {
@@ -114,7 +113,7 @@ module _ {line : List ℕ} {f : Fields} (cut_up : Cut line f) (starts : is (get_
         }
           where
             no_reading : (s : Sheet) → step s k (fields_of line) ≡ refuse 20
-            no_reading s = rw (spelled, ← told, not-false b few, no_sentence_is i)
+            no_reading s = rw (spelled, ← told, few, no_sentence_is i)
 
         pub line_judged : {st : Counts} {k n : ℕ} {r : Step} {w0 w1 v1 u2 v2 : List ℕ} → Imports k x u2 (imported.Is n) v2 → Judged st k n r w0 w1 v2 v1 → TookText st k line r w0 w1 u2 v1 v2
         unfolding step step_spelled on_text must
@@ -124,4 +123,4 @@ module _ {line : List ℕ} {f : Fields} (cut_up : Cut line f) (starts : is (get_
         }
           where
             goes_on : (s : Sheet) → step s k (fields_of line) ≡ step_line s k (text_line x)
-            goes_on s = rw (spelled, ← told, not-false b few, is_sentence_lem i)
+            goes_on s = rw (spelled, ← told, few, is_sentence_lem i)

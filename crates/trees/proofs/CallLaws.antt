@@ -1,12 +1,12 @@
 -- The definition that a node calls: the code's tests by a node's words, what they say of its form, and what the tables hold of the
 -- definition. Assumes nothing.
 use mathlib.Core.Path.{◌≡◌, refl, sym, ap, ◌∙◌}
-use mathlib.Core.Bool.{Bool, true, false, not, ◌&&◌, and-false}
+use mathlib.Core.Bool.{Bool, true, false, ◌&&◌, and-false}
 use mathlib.Core.List.{List, [], ◌∷◌}
 use Prim.Native.Nat.{ℕ, suc, ◌+◌, ◌/◌, ◌<◌, ◌≤◌, min}
 use native.Mathlib.Omega.{arith}
 use native.Mathlib.Decide.{dec_lt}
-use borrow.Author.Tests.{eq-eqb, ne_eqb, lt-ltb, le-ltb, ltb-true, le-leb, lt-leb, eqb-true, not-true, not-false}
+use borrow.Author.Tests.{eq-eqb, ne_eqb, lt-ltb, le-ltb, ltb-true, le-leb, lt-leb, eqb-true}
 use lib.Dec.{eqb, leb, ltb}
 use lib.ListN.{length, get_or, take, drop}
 use Rattle.std.specs.Prelude.{if◌then◌else◌}
@@ -47,38 +47,38 @@ module _ (words : List ℕ) (count : ℕ) where
   call_code h = rw (eq-eqb count 1 h)
 
   module _ {b : Bool} (told : b ≡ is_call words count) where
-    pub below_none : (m : ℕ) → not b ≡ true → true ≡ leb (calls_in words count) m
+    pub below_none : (m : ℕ) → b ≡ false → true ≡ leb (calls_in words count) m
     unfolding calls_in
-    below_none m h = rw (← told, not-true b h) (sym (zero_least m))
+    below_none m h = rw (← told, h) (sym (zero_least m))
 
-    pub below_call : (m : ℕ) → not b ≡ false → ltb (get_or words 2 0) m ≡ leb (calls_in words count) m
+    pub below_call : (m : ℕ) → b ≡ true → ltb (get_or words 2 0) m ≡ leb (calls_in words count) m
     unfolding calls_in
-    below_call m h = rw (← told, not-false b h) (less_leb (get_or words 2 0) m)
+    below_call m h = rw (← told, h) (less_leb (get_or words 2 0) m)
 
-    pub resolved_none : (w0 : List ℕ) → not b ≡ true → words ≡ resolved_in w0 words count
+    pub resolved_none : (w0 : List ℕ) → b ≡ false → words ≡ resolved_in w0 words count
     unfolding resolved_in
-    resolved_none w0 h = rw (← told, not-true b h)
+    resolved_none w0 h = rw (← told, h)
 
-    pub called_low : not b ≡ false → calls_in words count ≤ 32 → get_or words 2 0 < 32
+    pub called_low : b ≡ true → calls_in words count ≤ 32 → get_or words 2 0 < 32
     unfolding calls_in
-    called_low h l = let q : suc (get_or words 2 0) ≤ 32 = rw (← told, not-false b h) at l in omega arith
+    called_low h l = let q : suc (get_or words 2 0) ≤ 32 = rw (← told, h) at l in omega arith
 
-    pub resolved_call : (w0 : List ℕ) → not b ≡ false
+    pub resolved_call : (w0 : List ℕ) → b ≡ true
         → 36 ∷ get_or words 1 0 ∷ get_or w0 (memory.definition_roots + get_or words 2 0) 0 ∷ get_or w0 (memory.definition_contexts + get_or words 2 0) 0 ∷ get_or w0 (memory.definition_types + get_or words 2 0) 0 ∷ 0 ∷ 0 ∷ get_or words 7 0 ∷ [] ≡ resolved_in w0 words count
     unfolding resolved_in
-    resolved_call w0 h = rw (← told, not-false b h)
+    resolved_call w0 h = rw (← told, h)
 
-    pub depth_none : (w1 : List ℕ) → not b ≡ true → 0 ≡ body_depth w1 words count
+    pub depth_none : (w1 : List ℕ) → b ≡ false → 0 ≡ body_depth w1 words count
     unfolding body_depth
-    depth_none w1 h = rw (← told, not-true b h)
+    depth_none w1 h = rw (← told, h)
 
-    pub depth_far : (w1 : List ℕ) → not b ≡ false → 768 ≤ get_or words 2 0 → 0 ≡ body_depth w1 words count
+    pub depth_far : (w1 : List ℕ) → b ≡ true → 768 ≤ get_or words 2 0 → 0 ≡ body_depth w1 words count
     unfolding body_depth
-    depth_far w1 h l = rw (← told, not-false b h, le-ltb (get_or words 2 0) 768 l)
+    depth_far w1 h l = rw (← told, h, le-ltb (get_or words 2 0) 768 l)
 
-    pub depth_is : (w1 : List ℕ) {d : ℕ} → not b ≡ false → get_or words 2 0 < 768 → d ≡ min (get_or w1 (memory.depths + get_or words 2 0) 0 / 2) 1000 → d ≡ body_depth w1 words count
+    pub depth_is : (w1 : List ℕ) {d : ℕ} → b ≡ true → get_or words 2 0 < 768 → d ≡ min (get_or w1 (memory.depths + get_or words 2 0) 0 / 2) 1000 → d ≡ body_depth w1 words count
     unfolding body_depth
-    depth_is w1 h l e = rw (← told, not-false b h, lt-ltb (get_or words 2 0) 768 l) e
+    depth_is w1 h l e = rw (← told, h, lt-ltb (get_or words 2 0) 768 l) e
 
 pub depth_small : (w1 words : List ℕ) (count : ℕ) → body_depth w1 words count ≤ 1000
 unfolding body_depth

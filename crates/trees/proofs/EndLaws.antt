@@ -1,11 +1,11 @@
 -- The end of a definition or rule: the code's tests and the definition's. Assumes nothing.
 use mathlib.Core.Path.{◌≡◌, refl, sym, ap, ◌∙◌}
-use mathlib.Core.Bool.{Bool, true, false, not, ◌&&◌}
+use mathlib.Core.Bool.{Bool, true, false, ◌&&◌}
 use mathlib.Core.Option.{Option, none, some}
 use mathlib.Core.List.{List, [], ◌∷◌}
 use Prim.Native.Nat.{ℕ, zero, suc, ◌+◌, ◌-◌, ◌*◌, ◌/◌, ◌%◌, ◌<◌, ◌≤◌}
 use native.Mathlib.Omega.{arith}
-use borrow.Author.Tests.{eq-eqb, ne_eqb, le-leb, lt-leb, not-true, not-false}
+use borrow.Author.Tests.{eq-eqb, ne_eqb, le-leb, lt-leb}
 use lib.Dec.{eqb, leb}
 use lib.ListN.{length, get_or}
 use Rattle.laws.specs.Choice.{on_some}
@@ -132,32 +132,32 @@ module _ {st : Counts} {w1 : List ℕ} (w0 : List ℕ) where
         end_by = rw (last_tree_lem o.rule.trees (st.nodes - 1 - st.first) many, ← its_used, its_depth)
 
       module _ {b : Bool} (told : b ≡ used_in w1 st.first (st.nodes - 1 - st.first)) where
-        pub end_unused : not b ≡ true → RuleEnded st (code.Refused 8) w0 w1 w0
+        pub end_unused : b ≡ false → RuleEnded st (code.Refused 8) w0 w1 w0
         end_unused q = record {
           is = λ s h.
               let o = open_rule h is_open in
-              rw (rule_end s o, end_by h o, ← told, not-true b q) refused;
+              rw (rule_end s o, end_by h o, ← told, q) refused;
           kept = kept_refl w0;
         }
 
-        pub end_deep : not b ≡ false → most_levels < get_or w1 (memory.depths + (st.nodes - 1)) 0 / 2 → RuleEnded st (code.Refused 8) w0 w1 w0
+        pub end_deep : b ≡ true → most_levels < get_or w1 (memory.depths + (st.nodes - 1)) 0 / 2 → RuleEnded st (code.Refused 8) w0 w1 w0
         end_deep q l = record {
           is = λ s h.
               let o = open_rule h is_open in
-              rw (rule_end s o, end_by h o, ← told, not-false b q, lt-leb (get_or w1 (memory.depths + (st.nodes - 1)) 0 / 2) most_levels l) refused;
+              rw (rule_end s o, end_by h o, ← told, q, lt-leb (get_or w1 (memory.depths + (st.nodes - 1)) 0 / 2) most_levels l) refused;
           kept = kept_refl w0;
         }
 
 -- ---- what ends well
 
 pub end_down : {st : Counts} {w1 : List ℕ} {b : Bool} {r : Counts} (w0 v0 : List ℕ) → (st.«open» ≡ 0 → ⊥) → Fine st → (st.first ≡ st.nodes → ⊥)
-    → b ≡ used_in w1 st.first (st.nodes - 1 - st.first) → not b ≡ false → get_or w1 (memory.depths + (st.nodes - 1)) 0 / 2 ≤ most_levels
+    → b ≡ used_in w1 st.first (st.nodes - 1 - st.first) → b ≡ true → get_or w1 (memory.depths + (st.nodes - 1)) 0 / 2 ≤ most_levels
     → PutDown st r (st.nodes - 1) w0 v0 → RuleEnded st (code.Next r) w0 w1 v0
 end_down {st} {w1} {b} {r} w0 v0 is_open fine node told q l down = record {
   is = λ s h.
       let o = open_rule h is_open in
       let d = down.is w1 s o.rule o.is h (omega (arith, h.counted.nodes, fine.first)) (its_depth w0 is_open fine node h o ∙ ap levels (sym (tree s h o))) in
-      rw (rule_end w0 is_open s o, end_by w0 is_open fine node h o, ← told, not-false b q, le-leb (get_or w1 (memory.depths + (st.nodes - 1)) 0 / 2) most_levels l, ← tree s h o) (ended d.0 d.1);
+      rw (rule_end w0 is_open s o, end_by w0 is_open fine node h o, ← told, q, le-leb (get_or w1 (memory.depths + (st.nodes - 1)) 0 / 2) most_levels l, ← tree s h o) (ended d.0 d.1);
   kept = down.kept;
 }
   where

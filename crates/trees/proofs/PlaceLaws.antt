@@ -43,13 +43,13 @@ module _ (st : Counts) (n : ℕ) (p : Parsed) where
   limits_form h k = rw (lt-ltb n 768 h, not-true p.within k)
 
   module _ {b : Bool} (told : b ≡ all_of is_node (operands_at p.words p.count)) where
-    pub limits_operands : n < 768 → not p.within ≡ false → not b ≡ true → false ≡ node_limits st n p
+    pub limits_operands : n < 768 → not p.within ≡ false → b ≡ false → false ≡ node_limits st n p
     unfolding node_limits is_node
-    limits_operands h k q = rw (lt-ltb n 768 h, not-false p.within k, ← told, not-true b q)
+    limits_operands h k q = rw (lt-ltb n 768 h, not-false p.within k, ← told, q)
 
-    pub limits_nodes : n < 768 → not p.within ≡ false → not b ≡ false → ltb st.nodes 768 ≡ node_limits st n p
+    pub limits_nodes : n < 768 → not p.within ≡ false → b ≡ true → ltb st.nodes 768 ≡ node_limits st n p
     unfolding node_limits is_node
-    limits_nodes h k q = rw (lt-ltb n 768 h, not-false p.within k, ← told, not-false b q)
+    limits_nodes h k q = rw (lt-ltb n 768 h, not-false p.within k, ← told, q)
 
   pub order_block : 5 < st.block → false ≡ node_order st n p
   unfolding node_order
@@ -188,17 +188,17 @@ pub stopped : {n : ℕ} (u : Counts) → code.Refused n ≡ code.Next u → Fine
 stopped u e = absurd (let z : ◌≡◌ {A = ℕ} 0 1 = cc in omega arith)
 
 module _ {st : Counts} {n : ℕ} {p : Parsed} (w0 w1 : List ℕ) (fine : Fine st) where
-  pub place_4 : {b : Bool} → b ≡ node_limits st n p → not b ≡ true → Placed st n p (code.Refused 4) w0 w1 w1
+  pub place_4 : {b : Bool} → b ≡ node_limits st n p → b ≡ false → Placed st n p (code.Refused 4) w0 w1 w1
   place_4 {b} e q = record {
-    is = λ line s i x u z h. rw (over_limits s line (node_line i x) (sym (limits_same i u z h) ∙ sym e ∙ not-true b q)) moved_refused;
+    is = λ line s i x u z h. rw (over_limits s line (node_line i x) (sym (limits_same i u z h) ∙ sym e ∙ q)) moved_refused;
     fine = stopped;
     kept = kept_refl w1;
   }
 
   module _ (ok : node_limits st n p ≡ true) where
-    pub place_5 : {b : Bool} → b ≡ node_order st n p → not b ≡ true → Placed st n p (code.Refused 5) w0 w1 w1
+    pub place_5 : {b : Bool} → b ≡ node_order st n p → b ≡ false → Placed st n p (code.Refused 5) w0 w1 w1
     place_5 {b} e q = record {
-      is = λ line s i x u z h. rw (out_of_order s line (node_line i x) (sym (limits_same i u z h) ∙ ok) (sym (order_same i u z h fine ok) ∙ sym e ∙ not-true b q)) moved_refused;
+      is = λ line s i x u z h. rw (out_of_order s line (node_line i x) (sym (limits_same i u z h) ∙ ok) (sym (order_same i u z h fine ok) ∙ sym e ∙ q)) moved_refused;
       fine = stopped;
       kept = kept_refl w1;
     }

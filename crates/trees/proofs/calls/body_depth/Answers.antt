@@ -1,7 +1,6 @@
 -- `body_depth` meets its contract.
 use native.Mathlib.Omega.{arith}
 use Rattle.trees.proofs.CallLaws.{depth_none, depth_far, depth_is}
-use borrow.Author.Rules.{rules}
 use Rattle.trees.proofs.calls.body_depth.Goals as goal
 
 pub returns-then-not-is_call : goal.returns-then-not-is_call

@@ -1,6 +1,5 @@
 -- `calls_below` meets its contract.
 use Rattle.trees.proofs.CallLaws.{below_none, below_call}
-use borrow.Author.Rules.{rules}
 use Rattle.trees.proofs.calls.calls_below.Goals as goal
 
 pub returns-then-not-is_call : goal.returns-then-not-is_call

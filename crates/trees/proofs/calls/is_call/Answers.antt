@@ -1,6 +1,5 @@
 -- `is_call` meets its contract.
 use Rattle.trees.proofs.CallLaws.{call_count, call_code}
-use borrow.Author.Rules.{rules}
 use Rattle.trees.proofs.calls.is_call.Goals as goal
 
 pub returns-then-count-ne1 : goal.returns-then-count-ne1

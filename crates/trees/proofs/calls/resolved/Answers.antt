@@ -1,7 +1,6 @@
 -- `resolved` meets its contract.
 use native.Mathlib.Omega.{arith}
 use Rattle.trees.proofs.CallLaws.{resolved_none, resolved_call, called_low}
-use borrow.Author.Rules.{rules}
 use Rattle.trees.proofs.calls.resolved.Goals as goal
 
 pub returns-then-not-is_call : goal.returns-then-not-is_call

@@ -1,8 +1,6 @@
 -- `all_used` meets its contract.
 use Rattle.trees.proofs.EndLaws.{used_not, used_next, used_all}
-use Rattle.trees.specs.Rules.{used_in}
-use mathlib.Core.Path.{◌≡◌, refl}
-use Prim.Native.Nat.{◌≤◌}
+use mathlib.Core.Path.{refl}
 use borrow.Author.Rules.{rules}
 use Rattle.trees.proofs.ending.all_used.Goals as goal
 

@@ -1,9 +1,7 @@
 -- `all_used` meets its contract.
-use Rattle.trees.proofs.EndLaws.{used_not, used_next, used_all}
 use Rattle.trees.specs.Rules.{used_in}
-use mathlib.Core.Path.{◌≡◌, refl}
+use mathlib.Core.Path.{◌≡◌}
 use Prim.Native.Nat.{◌≤◌}
-use borrow.Author.Rules.{rules}
 use Rattle.trees.proofs.ending.all_used.Given as goal
 
 abbrev pub invariant-loop-n : goal.invariant-loop-n

@@ -1,6 +1,5 @@
 -- `end_rule` meets its contract.
 use Rattle.trees.proofs.EndLaws.{end_none, end_empty, end_unused, end_deep, end_down}
-use borrow.Author.Rules.{rules}
 use Rattle.trees.proofs.ending.end_rule.Goals as goal
 
 pub returns-then-st-eq-NOTHING_OPEN : goal.returns-then-st-eq-NOTHING_OPEN

@@ -2,7 +2,6 @@
 use native.Mathlib.Omega.{arith}
 use lib.ListN.{length-set}
 use Rattle.trees.proofs.DownLaws.{put_definition, put_rule}
-use borrow.Author.Rules.{rules}
 use Rattle.trees.proofs.ending.put_down.Goals as goal
 
 pub bounds-w0-n-then-st-eq-DEFINITION_OPEN : goal.bounds-w0-n-then-st-eq-DEFINITION_OPEN

@@ -1,7 +1,6 @@
 -- `with_definition` meets its contract.
 use mathlib.Core.Path.{refl}
 use Rattle.trees.specs.Rules.{defined_counts}
-use borrow.Author.Rules.{rules}
 use Rattle.trees.proofs.ending.with_definition.Goals as goal
 
 pub returns : goal.returns

@@ -1,7 +1,6 @@
 -- `with_rule` meets its contract.
 use Rattle.trees.specs.Rules.{ended_counts}
 use mathlib.Core.Path.{refl}
-use borrow.Author.Rules.{rules}
 use Rattle.trees.proofs.ending.with_rule.Goals as goal
 
 pub returns : goal.returns

@@ -1,6 +1,5 @@
 -- `in_order_lem` meets its contract.
 use Rattle.trees.proofs.PlaceLaws.{order_block, order_open, order_text, order_number, order_apart}
-use borrow.Author.Rules.{rules}
 use Rattle.trees.proofs.node.in_order.Goals as goal
 
 pub returns-then-st-gt-RULES : goal.returns-then-st-gt-RULES

@@ -4,7 +4,6 @@ use Rattle.text.specs.Words.{form_code}
 use Rattle.text.specs.Numbers.{cut_num}
 use Rattle.sheet.specs.Lines.{a_number}
 use mathlib.Core.Path.{sym, ap, ◌∙◌}
-use borrow.Author.Rules.{rules}
 use Rattle.trees.proofs.node.node_line.Goals as goal
 
 pub returns-then-f-lt3 : goal.returns-then-f-lt3

@@ -6,7 +6,6 @@ use Rattle.trees.specs.Operands.{marked}
 use Rattle.trees.proofs.CallLaws.{depth_small, resolved_operands}
 use Rattle.trees.proofs.PlaceLaws.{nodes_low, operands_fine}
 use Rattle.trees.proofs.PutLaws.{place_room, place_8, place_on, deepest_small}
-use borrow.Author.Rules.{rules}
 use Rattle.trees.proofs.node.put_node.Goals as goal
 
 pub mark-requires : goal.mark-requires

@@ -1,7 +1,6 @@
 -- `with_node` meets its contract.
 use Rattle.trees.specs.Rules.{node_counts}
 use mathlib.Core.Path.{refl}
-use borrow.Author.Rules.{rules}
 use Rattle.trees.proofs.node.with_node.Goals as goal
 
 pub returns : goal.returns

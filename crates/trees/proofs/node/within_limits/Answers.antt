@@ -1,6 +1,5 @@
 -- `within_limits` meets its contract.
 use Rattle.trees.proofs.PlaceLaws.{limits_number, limits_form, limits_operands, limits_nodes}
-use borrow.Author.Rules.{rules}
 use Rattle.trees.proofs.node.within_limits.Goals as goal
 
 pub returns-then-n-ge-MOST_NODES : goal.returns-then-n-ge-MOST_NODES

@@ -1,13 +1,9 @@
 -- `mark` meets its contract.
-use Rattle.trees.proofs.OperandLaws.{mark_late, mark_used, mark_next, mark_end}
-use Rattle.trees.specs.Operands.{marking, marked}
+use Rattle.trees.specs.Operands.{marking}
 use Rattle.shapes.specs.Forms.{operands_at}
-use lib.ListN.{length, get_or, drop, length-set}
-use mathlib.Core.Path.{◌≡◌, refl}
-use Prim.Native.Nat.{◌≤◌, ◌+◌, ◌-◌}
-use native.Mathlib.Omega.{arith}
-use borrow.Author.Rules.{rules}
-use Rattle.memory.specs.Map as memory
+use lib.ListN.{length, drop}
+use mathlib.Core.Path.{◌≡◌}
+use Prim.Native.Nat.{◌≤◌, ◌-◌}
 use Rattle.trees.proofs.operands.mark.Given as goal
 
 abbrev pub invariant-loop-i : goal.invariant-loop-i

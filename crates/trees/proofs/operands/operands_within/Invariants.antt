@@ -1,12 +1,10 @@
 -- `operands_within` meets its contract.
-use Rattle.trees.proofs.OperandLaws.{within_not, within_next, within_end}
 use Rattle.shapes.specs.Forms.{operands_at}
 use Rattle.sheet.specs.Limits.{is_node}
 use Rattle.laws.specs.Lists.{all_of}
 use lib.ListN.{drop}
-use mathlib.Core.Path.{◌≡◌, refl}
+use mathlib.Core.Path.{◌≡◌}
 use Prim.Native.Nat.{◌≤◌, ◌-◌}
-use borrow.Author.Rules.{rules}
 use Rattle.trees.proofs.operands.operands_within.Given as goal
 
 abbrev pub invariant-loop-i : goal.invariant-loop-i

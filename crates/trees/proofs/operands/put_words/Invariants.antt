@@ -1,9 +1,6 @@
 -- `put_words` meets its contract.
-use Rattle.trees.proofs.OperandLaws.{wrote_none, wrote_next, wrote_all}
 use Rattle.trees.specs.Operands.{shifted, WroteWords}
 use Prim.Native.Nat.{◌≤◌, ◌-◌, ◌*◌}
-use native.Mathlib.Omega.{arith}
-use borrow.Author.Rules.{rules}
 use Rattle.trees.proofs.operands.put_words.Given as goal
 
 abbrev pub invariant-loop-k : goal.invariant-loop-k

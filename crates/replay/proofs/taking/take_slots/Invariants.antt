@@ -1,0 +1,12 @@
+-- `replay::taking::take_slots` meets its contract. Assumes nothing.
+use native.Mathlib.Omega.{arith}
+use borrow.Author.Rules.{rules}
+use Prim.Native.Nat.{◌-◌}
+use Rattle.replay.proofs.TakingLaws.{Taking, taking_first, taking_stop, taking_again, taking_end}
+use Rattle.replay.proofs.taking.take_slots.Given as goal
+
+abbrev pub invariant-loop-j : goal.invariant-loop-j
+invariant-loop-j l = Taking l.words l.n l.from l.to l.initial.su l.initial.w0 l.su l.j l.w0
+
+abbrev pub decreases-loop-j : goal.decreases-loop-j
+decreases-loop-j l = l.to - l.j
