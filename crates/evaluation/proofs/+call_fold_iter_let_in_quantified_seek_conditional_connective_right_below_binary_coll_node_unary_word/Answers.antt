@@ -226,10 +226,10 @@ pub walk::node-coll-requires : goal.walk::node-coll-requires
 walk::node-coll-requires t c = (omega (arith, c.requires), (omega (arith, c.requires, some_level (tree_at c.args.nodes.now c.args.n)), (omega arith, omega arith, omega (arith, c.requires), omega (arith, c.requires), shallow c.args.nodes.now c.args.n c.node_word-form.result (c.args.left - 1) c.node_word-form.ensures (omega arith) (omega arith) (omega (arith, c.requires, some_level (tree_at c.args.nodes.now c.args.n))))))
 
 pub walk::node-binary-requires : goal.walk::node-binary-requires
-walk::node-binary-requires t c = omega (arith, c.requires, some_level (tree_at c.args.nodes.now c.args.n), two_codes {k = c.node_word-form.result} (elim c.in-13-to-22-1.branch [ | walk::node-in-37-1 w ↦ inl (search rules) | walk::node-in_default+else-form-lt7+else-form-lt13+then-form-lt23 w ↦ inr (omega arith, omega arith) ]), binary_levels c.args.nodes.now c.args.n c.node_word-form.result c.node_word-form.ensures (elim c.in-13-to-22-1.branch [ | walk::node-in-37-1 w ↦ inl (search rules) | walk::node-in_default+else-form-lt7+else-form-lt13+then-form-lt23 w ↦ inr (omega arith, omega arith) ]))
+walk::node-binary-requires t c = omega (arith, c.requires, some_level (tree_at c.args.nodes.now c.args.n), two_codes {k = c.node_word-form.result} (elim c.in-13-to-22-1.branch [ walk::node-in-37-1 w ↦ inl (search rules) | walk::node-in_default+else-form-lt7+else-form-lt13+then-form-lt23 w ↦ inr (omega arith, omega arith) ]), binary_levels c.args.nodes.now c.args.n c.node_word-form.result c.node_word-form.ensures (elim c.in-13-to-22-1.branch [ walk::node-in-37-1 w ↦ inl (search rules) | walk::node-in_default+else-form-lt7+else-form-lt13+then-form-lt23 w ↦ inr (omega arith, omega arith) ]))
 
 pub walk::node-unary-requires : goal.walk::node-unary-requires
-walk::node-unary-requires t c = omega (arith, c.requires, some_level (tree_at c.args.nodes.now c.args.n), single_codes {k = c.node_word-form.result} (elim c.in-7-to-12-1.branch [ | walk::node-in-30-1 w ↦ lone_code (search rules) | walk::node-in_default+else-form-lt7+then-form-lt13 w ↦ low_code (omega arith) (omega arith) | walk::node-in_default+else-form-lt7+else-form-lt13+else-form-lt23+else-form-lt25+else-form-lt27+else-form-lt30+then-form-lt35 w ↦ high_code (omega arith) (omega arith) ]), single_levels c.args.nodes.now c.args.n c.node_word-form.result c.node_word-form.ensures (elim c.in-7-to-12-1.branch [ | walk::node-in-30-1 w ↦ lone_code (search rules) | walk::node-in_default+else-form-lt7+then-form-lt13 w ↦ low_code (omega arith) (omega arith) | walk::node-in_default+else-form-lt7+else-form-lt13+else-form-lt23+else-form-lt25+else-form-lt27+else-form-lt30+then-form-lt35 w ↦ high_code (omega arith) (omega arith) ]))
+walk::node-unary-requires t c = omega (arith, c.requires, some_level (tree_at c.args.nodes.now c.args.n), single_codes {k = c.node_word-form.result} (elim c.in-7-to-12-1.branch [ walk::node-in-30-1 w ↦ lone_code (search rules) | walk::node-in_default+else-form-lt7+then-form-lt13 w ↦ low_code (omega arith) (omega arith) | walk::node-in_default+else-form-lt7+else-form-lt13+else-form-lt23+else-form-lt25+else-form-lt27+else-form-lt30+then-form-lt35 w ↦ high_code (omega arith) (omega arith) ]), single_levels c.args.nodes.now c.args.n c.node_word-form.result c.node_word-form.ensures (elim c.in-7-to-12-1.branch [ walk::node-in-30-1 w ↦ lone_code (search rules) | walk::node-in_default+else-form-lt7+then-form-lt13 w ↦ low_code (omega arith) (omega arith) | walk::node-in_default+else-form-lt7+else-form-lt13+else-form-lt23+else-form-lt25+else-form-lt27+else-form-lt30+then-form-lt35 w ↦ high_code (omega arith) (omega arith) ]))
 
 pub walk::node-returns-in-31 : goal.walk::node-returns-in-31
 walk::node-returns-in-31 t c = search node_conditional
@@ -259,10 +259,10 @@ pub walk::node-returns-in_default : goal.walk::node-returns-in_default
 walk::node-returns-in_default t c = search (node_none, over_37)
 
 pub walk::node-returns-in-13-to-22 : goal.walk::node-returns-in-13-to-22
-walk::node-returns-in-13-to-22 t c = node_binary _ _ _ c.node_word-form.ensures c.requires.n_bound.1 (elim c.in-13-to-22-1.branch [ | walk::node-in-37-1 w ↦ inl (search rules) | walk::node-in_default+else-form-lt7+else-form-lt13+then-form-lt23 w ↦ inr (omega arith, omega arith) ]) c.binary.ensures
+walk::node-returns-in-13-to-22 t c = node_binary _ _ _ c.node_word-form.ensures c.requires.n_bound.1 (elim c.in-13-to-22-1.branch [ walk::node-in-37-1 w ↦ inl (search rules) | walk::node-in_default+else-form-lt7+else-form-lt13+then-form-lt23 w ↦ inr (omega arith, omega arith) ]) c.binary.ensures
 
 pub walk::node-returns-in-7-to-12 : goal.walk::node-returns-in-7-to-12
-walk::node-returns-in-7-to-12 t c = node_unary _ _ _ c.node_word-form.ensures c.requires.n_bound.1 (elim c.in-7-to-12-1.branch [ | walk::node-in-30-1 w ↦ lone_code (search rules) | walk::node-in_default+else-form-lt7+then-form-lt13 w ↦ low_code (omega arith) (omega arith) | walk::node-in_default+else-form-lt7+else-form-lt13+else-form-lt23+else-form-lt25+else-form-lt27+else-form-lt30+then-form-lt35 w ↦ high_code (omega arith) (omega arith) ]) c.unary.ensures
+walk::node-returns-in-7-to-12 t c = node_unary _ _ _ c.node_word-form.ensures c.requires.n_bound.1 (elim c.in-7-to-12-1.branch [ walk::node-in-30-1 w ↦ lone_code (search rules) | walk::node-in_default+else-form-lt7+then-form-lt13 w ↦ low_code (omega arith) (omega arith) | walk::node-in_default+else-form-lt7+else-form-lt13+else-form-lt23+else-form-lt25+else-form-lt27+else-form-lt30+then-form-lt35 w ↦ high_code (omega arith) (omega arith) ]) c.unary.ensures
 
 pub bind::quantified-returns-in_default : goal.bind::quantified-returns-in_default
 bind::quantified-returns-in_default t c = search quantified_first

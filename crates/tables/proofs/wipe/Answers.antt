@@ -13,8 +13,7 @@ pub loop-i-init : goal.loop-i-init
 loop-i-init c = (omega arith, refl, refl)
 
 pub loop-i-preserved : goal.loop-i-preserved
-loop-i-preserved c =
-    (
+loop-i-preserved c = (
   search rules,
   length-set c.loop-i.w c.loop-i.i 0 ∙ c.loop-i.invariant.1,
   ap (λ l. set l c.loop-i.i 0) c.loop-i.invariant.2 ∙ zero_next c.loop-i.i c.args.w.now (omega (arith, c.requires)),

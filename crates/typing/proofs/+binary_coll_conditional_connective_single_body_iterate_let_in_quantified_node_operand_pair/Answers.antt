@@ -104,7 +104,7 @@ scope::let_in-returns t c = λ m h. after _ (c.operand-first.ensures m h) c.in-I
 
 pub walk::node-binary-requires : goal.walk::node-binary-requires
 walk::node-binary-requires t c =
-    let l = from_13 c.node_word-form.result (elim c.in-13-to-22-1.branch [ | walk::node-in-37-1 w ↦ inl (search rules) | walk::node-in_default+else-form-lt7+else-form-lt13+then-form-lt23 w ↦ inr (omega arith, omega arith) ]) in search rules
+    let l = from_13 c.node_word-form.result (elim c.in-13-to-22-1.branch [ walk::node-in-37-1 w ↦ inl (search rules) | walk::node-in_default+else-form-lt7+else-form-lt13+then-form-lt23 w ↦ inr (omega arith, omega arith) ]) in search rules
 
 pub walk::node-returns-in-31 : goal.walk::node-returns-in-31
 walk::node-returns-in-31 t c = λ m h. as_form (conditional_node m _ _ _ c.node_word-form.ensures c.in-31.is) (c.conditional.ensures m h)
@@ -133,7 +133,7 @@ walk::node-returns-in_default t c = λ m h. as_form (none_node m _ _ _ c.node_wo
 
 pub walk::node-returns-in-13-to-22 : goal.walk::node-returns-in-13-to-22
 walk::node-returns-in-13-to-22 t c =
-    λ m h. as_form (binary_node m _ _ _ c.node_word-form.ensures (elim c.in-13-to-22-1.branch [ | walk::node-in-37-1 w ↦ inl (search rules) | walk::node-in_default+else-form-lt7+else-form-lt13+then-form-lt23 w ↦ inr (omega arith, omega arith) ])) (c.binary.ensures m h)
+    λ m h. as_form (binary_node m _ _ _ c.node_word-form.ensures (elim c.in-13-to-22-1.branch [ walk::node-in-37-1 w ↦ inl (search rules) | walk::node-in_default+else-form-lt7+else-form-lt13+then-form-lt23 w ↦ inr (omega arith, omega arith) ])) (c.binary.ensures m h)
 
 pub walk::node-returns-in-7-to-12 : goal.walk::node-returns-in-7-to-12
 walk::node-returns-in-7-to-12 t c =

@@ -19,13 +19,12 @@ pub returns-then-w0-i-2 : goal.returns-then-w0-i-2
 returns-then-w0-i-2 c = search declares_here
 
 pub loop-i-preserved : goal.loop-i-preserved
-loop-i-preserved c =
-    (
+loop-i-preserved c = (
   search rules,
   elim c.if-w0-i.branch [
-      then-w0-i+else-w0-i-2 w ↦ declares_name c.args.w0.now c.args.rows c.args.c c.args.name c.loop-i.i c.requires.0 c.requires.1 c.loop-i.invariant.1 c.loop-i-test.true w.if-w0-i.true w.if-w0-i-2.false
+    | then-w0-i+else-w0-i-2 w ↦ declares_name c.args.w0.now c.args.rows c.args.c c.args.name c.loop-i.i c.requires.0 c.requires.1 c.loop-i.invariant.1 c.loop-i-test.true w.if-w0-i.true w.if-w0-i-2.false
     | else-w0-i w ↦ declares_owner c.args.w0.now c.args.rows c.args.c c.args.name c.loop-i.i c.requires.0 c.requires.1 c.loop-i.invariant.1 c.loop-i-test.true w.if-w0-i.false
-    ],
+  ],
 )
 
 pub returns : goal.returns

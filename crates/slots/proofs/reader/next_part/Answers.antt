@@ -22,8 +22,10 @@ pub returns-then-phase-ne1 : goal.returns-then-phase-ne1
 returns-then-phase-ne1 c = search (turn_stop, read_bad, others)
 
 pub begin-requires : goal.begin-requires
-begin-requires c =
-    (elim c.if-phase-ne0.branch [
-      | then-phase-ne0+else-f-at-eq41+else-phase-ne1 w ↦ begins (omega arith) c.requires w.if-phase-ne1.false w.if-f-at-eq41.false
-      | else-phase-ne0 w ↦ is_wanted c.requires w.if-phase-ne0.false
-    ], omega arith)
+begin-requires c = (
+  elim c.if-phase-ne0.branch [
+    | then-phase-ne0+else-f-at-eq41+else-phase-ne1 w ↦ begins (omega arith) c.requires w.if-phase-ne1.false w.if-f-at-eq41.false
+    | else-phase-ne0 w ↦ is_wanted c.requires w.if-phase-ne0.false
+  ],
+  omega arith,
+)
