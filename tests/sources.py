@@ -9,6 +9,12 @@ IMPORT = r"^((?:(?:unfoldable|pub|ghost) )*)use ([^\s{]+)\.\{([^}]*)\};?$"
 WHOLE = r"^(?:(?:unfoldable|pub|ghost) )*use ([^\s{;]+) as ([^\s;]+);?$"
 
 
+def files(*endings, below=CRATES):
+    """The files of crates/ with these endings, but for what the toolchain keeps in each crate's out/."""
+    found = (path for ending in endings for path in below.rglob(f"*{ending}"))
+    return sorted(path for path in found if path.relative_to(CRATES).parts[1:2] != ("out",))
+
+
 def listed():
     """What crates.txt lists: each crate with its dependencies."""
     lines = (line.partition("#")[0] for line in (ROOT / "crates.txt").read_text().splitlines())
