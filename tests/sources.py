@@ -106,7 +106,7 @@ def function(path):
     """The function of ours that a path names; None where it is one of the toolchain's."""
     crate, *module, name = path.split("::")
     if crate in listed():
-        return next(functions(crate, CRATES / crate / "src" / f"{'/'.join(module) or 'lib'}.rt", rf"^pub fn ({name})\(.*?^(?=\{{)"))
+        return next(functions(crate, CRATES / crate / "src" / f"{'/'.join(module) or 'lib'}.rt", rf"^pub fn ({name})\b.*?^(?=\{{)"))
 
 
 def stated(file, line):
