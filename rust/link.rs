@@ -1,7 +1,7 @@
 // For the build scripts of `checker` and `load`: links a static library of the
 // product, from the folder that CHECKER_LIB_DIR names, else from the `lib` of the
 // release that this stands in, installed or unpacked, else from where the
-// repository's `rt staticlib` writes it.
+// repository's commands put it.
 
 use std::env;
 use std::path::{Path, PathBuf};
@@ -42,6 +42,6 @@ fn advice(name: &str, top: &Path) -> String {
     if top.join("MANIFEST").exists() {
         folder
     } else {
-        format!("run `rt staticlib {name}`, or {folder}")
+        format!("run `./test`, or {folder}")
     }
 }

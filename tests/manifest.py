@@ -1,7 +1,7 @@
 """What a release's manifest says besides the sums of its files: for ./release."""
 import re
 
-from sources import CRATES, ROOT, called, checked, definitions, exported, function, programs, proof_of
+from sources import CRATES, ROOT, called, checked, definitions, exported, function, library, programs, proofs_of
 
 PROGRAMS = """\
 Each program is proved to be safe and to end. What it prints is what the contracts of our functions that it calls say: for the bytes
@@ -21,12 +21,14 @@ def header_lines():
 
 
 def contract(call, indent):
-    """Where a function's contract, what that cites and its proof stand."""
+    """Where a function's contract, what that cites and its proof stand; the toolchain may find the proof alone."""
     yield f"{indent}contract    crates/{call.source}:{call.line}"
     for file, line, name in definitions(call):
         yield f"{indent}definition  crates/{file}:{line} {name}"
-    if (CRATES / proof_of(call)).exists():
-        yield f"{indent}proof       crates/{proof_of(call)}"
+    proofs = list(proofs_of(call))
+    yield from (f"{indent}proof       crates/{path}" for path in proofs)
+    if not proofs:
+        yield f"{indent}found       by the toolchain alone"
 
 
 def about_calls():
@@ -34,7 +36,7 @@ def about_calls():
     declared = header_lines()
     for call in exported():
         yield f"call {call.name}"
-        yield f"  library     lib/lib{call.crate}.a"
+        yield f"  library     lib/lib{library(call)}.a"
         yield f"  declared    {declared.pop(call.name, 'nowhere')}"
         yield from contract(call, "  ")
         yield ""
@@ -48,7 +50,7 @@ def about_programs():
         yield f"program {program}"
         yield f"  file        bin/{program}"
         yield from (f"  source      {path.relative_to(ROOT)}" for path in sorted((CRATES / program / "src").rglob("*.rt")))
-        yield from (f"  proof       {path.relative_to(ROOT)}" for path in sorted((CRATES / program / "proofs").rglob("Proof.antt")))
+        yield from (f"  proof       {path.relative_to(ROOT)}" for path in sorted((CRATES / program / "proofs").rglob("*.antt")))
         for path in called(program):
             ours = function(path)
             yield f"  calls       {path}{'' if ours else ' of the toolchain'}"

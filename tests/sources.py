@@ -9,10 +9,17 @@ IMPORT = r"^((?:(?:unfoldable|pub|ghost) )*)use ([^\s{]+)\.\{([^}]*)\};?$"
 WHOLE = r"^(?:(?:unfoldable|pub|ghost) )*use ([^\s{;]+) as ([^\s;]+);?$"
 
 
+def files(*endings, below=CRATES):
+    """The files of crates/ with these endings, but for what the toolchain keeps in each crate's out/."""
+    found = (path for ending in endings for path in below.rglob(f"*{ending}"))
+    return sorted(path for path in found if path.relative_to(CRATES).parts[1:2] != ("out",))
+
+
 def listed():
     """What crates.txt lists: each crate with its dependencies."""
     lines = (line.partition("#")[0] for line in (ROOT / "crates.txt").read_text().splitlines())
-    return {name.strip(): names.split() for name, colon, names in (line.partition(":") for line in lines) if colon}
+    # behind the name may stand what kind of crate it is
+    return {head.split()[0]: names.split() for head, colon, names in (line.partition(":") for line in lines) if colon}
 
 
 def names_in(braces):
@@ -28,6 +35,14 @@ def imports(text):
         yield module, list(names_in(braces)), "pub" in marks
 
 
+def uses(text):
+    """What a file of code takes in by `use`: each name as the file knows it, with its path."""
+    found = {}
+    for path, braces in re.findall(r"^(?:pub )?use ([\w:]+?)(?:::\{([^}]*)\})?;$", text, re.M):
+        found |= {name: f"{path}::{name}" for name in re.findall(r"\w+", braces)} if braces else {path.split("::")[-1]: path}
+    return found
+
+
 def whole_imports(text):
     """Each module that a file imports whole, with the name that its names stand behind."""
     return re.findall(WHOLE, text, re.M)
@@ -35,7 +50,7 @@ def whole_imports(text):
 
 def file_of(module):
     """The file of specs/ or proofs/ that a module is, below crates/; None for what the toolchain has or makes."""
-    ours = re.fullmatch(r"Rattle·(\w+?)(?:·(?:specs|proofs))?\.(specs|proofs)\.(.+)", module)
+    ours = re.fullmatch(r"Rattle\.(\w+)\.(specs|proofs)\.(.+)", module)
     path = f"{ours[1]}/{ours[2]}/{ours[3].replace('.', '/')}.antt" if ours else None
     return path if ours and (CRATES / path).is_file() else None
 
@@ -44,7 +59,7 @@ def file_of(module):
 
 # a public function: its crate and name, its source below crates/, the line of its contract there, and what the contract says
 Call = collections.namedtuple("Call", "crate name source line clause")
-EXPORTED = r'^#\[no_mangle\]\npub extern "C" fn (\w+)\(.*?^(?=\{)'
+EXPORTED = r'^#\[unsafe\(no_mangle\)\]\npub extern "C" fn (\w+)\(.*?^(?=\{)'
 
 
 def functions(crate, path, head):
@@ -62,6 +77,11 @@ def exported():
             yield from functions(crate, path, EXPORTED)
 
 
+def library(call):
+    """The library that an exported call is in: a static library is a crate of its own, with `_c` behind the name of the one it is of."""
+    return call.crate.removesuffix("_c")
+
+
 def programs():
     """The programs that are shipped. Those with a folder data/ run vectors, and are the gate's own."""
     return [crate for crate in listed() if (CRATES / crate / "src/main.rt").exists() and not (CRATES / crate / "data").exists()]
@@ -74,18 +94,19 @@ def line_of(file, name):
 
 
 def called(program):
-    """The functions of other crates that a program calls, by their paths: ours, and those of the toolchain's libraries."""
+    """The functions of other crates that a program calls, by their paths: ours, and those of the toolchain's libraries and its handle."""
     text = "".join(re.sub(r"//.*", "", path.read_text()) for path in sorted((CRATES / program / "src").rglob("*.rt")))
-    used = {path.split("::")[-1]: path for path in re.findall(r"^use ([\w:]+);", text, re.M)}
-    names = dict.fromkeys(re.findall(r"(?<![\w:])(?<!fn )([a-z]\w*(?:::\w+)*)\(", text))
-    return [used.get(name, name) for name in names if name in used or "::" in name]
+    used = uses(text)
+    names = dict.fromkeys(re.findall(r"(?<![\w:.])(?<!fn )([a-z]\w*(?:::\w+)*)\(", text))
+    handle = dict.fromkeys(re.findall(r"\brt\.(\w+)\(", text))
+    return [used.get(name, name) for name in names if name in used or "::" in name] + [f"HostRuntime::{name}" for name in handle]
 
 
 def function(path):
     """The function of ours that a path names; None where it is one of the toolchain's."""
     crate, *module, name = path.split("::")
     if crate in listed():
-        return next(functions(crate, CRATES / crate / "src" / f"{'/'.join(module) or 'lib'}.rt", rf"^pub fn ({name})\(.*?^(?=\{{)"))
+        return next(functions(crate, CRATES / crate / "src" / f"{'/'.join(module) or 'lib'}.rt", rf"^pub fn ({name})\b.*?^(?=\{{)"))
 
 
 def stated(file, line):
@@ -112,10 +133,13 @@ def definitions(call):
                 yield file, line, name
 
 
-def proof_of(call):
-    """The file of a call's own proof, below crates/."""
-    module = [] if call.source.stem == "lib" else [call.source.stem]
-    return pathlib.Path(call.crate, "proofs", *module, call.name, "Proof.antt")
+def proofs_of(call):
+    """The files of a function's own proof, below crates/, and of the one of its name that it calls. There are none where the toolchain
+    finds the proof alone."""
+    for crate in dict.fromkeys([call.crate, library(call)]):
+        folders = [path for path in (CRATES / crate / "proofs").rglob(call.name) if path.is_dir()]
+        for folder in sorted(folders):
+            yield from (path.relative_to(CRATES) for path in sorted(folder.rglob("*.antt")))
 
 
 # ---- what the last checks said

@@ -6,13 +6,52 @@ use crate::generate::{asks, sheet};
 use crate::harness::answer;
 use crate::harness::tally::NUMBERS;
 use crate::read::read;
-use crate::tree::{Node, FORMS};
+use crate::tree::Node;
 use crate::types::Kind;
 use crate::typing::type_rules;
 use crate::values::Value;
 use std::collections::BTreeMap;
 use std::fmt;
 
+const FORMS: [&str; 37] = [
+    "true",
+    "false",
+    "undef",
+    "int",
+    "real",
+    "self",
+    "var",
+    "coll",
+    "let",
+    "if",
+    "and",
+    "or",
+    "not",
+    "isUndef",
+    "eq",
+    "less",
+    "plus",
+    "minus",
+    "times",
+    "div",
+    "mod",
+    "over",
+    "attr",
+    "collect",
+    "all",
+    "as",
+    "size",
+    "includes",
+    "asSet",
+    "asBag",
+    "asSequence",
+    "including",
+    "union",
+    "iter",
+    "forAll",
+    "exists",
+    "call",
+];
 const OUTCOMES: [&str; 6] = ["value", "undefined", "16", "17", "19", "stuck"];
 const KINDS: [&str; 8] = [
     "f", "t", "Integer", "Real", "object", "Set", "Sequence", "Bag",

@@ -8,47 +8,6 @@ use crate::types::{Kind, Type};
 /// The greatest depth of a rule and of a body, the root being depth 1.
 pub const DEEPEST_RULE: usize = 19;
 
-/// The form words of N lines.
-pub const FORMS: [&str; 37] = [
-    "true",
-    "false",
-    "undef",
-    "int",
-    "real",
-    "self",
-    "var",
-    "coll",
-    "let",
-    "if",
-    "and",
-    "or",
-    "not",
-    "isUndef",
-    "eq",
-    "less",
-    "plus",
-    "minus",
-    "times",
-    "div",
-    "mod",
-    "over",
-    "attr",
-    "collect",
-    "all",
-    "as",
-    "size",
-    "includes",
-    "asSet",
-    "asBag",
-    "asSequence",
-    "including",
-    "union",
-    "iter",
-    "forAll",
-    "exists",
-    "call",
-];
-
 /// The numbers a node computes with: Integers alone, or both kinds widened.
 #[derive(Clone, Copy, PartialEq, Eq, Debug)]
 pub enum Scale {

@@ -36,7 +36,7 @@ const CAUSES: [(&str, &[&str]); 10] = [
     ),
     (
         "#0.allInstances()->collect(a10)->size() = 1",
-        &["line 3: A 0 0 10 S(Int); and where `V 2 0 ..` would stand, behind line 13.\n"],
+        &["the V lines, none of which gives @2 a value in row 0.\n"],
     ),
     (
         "self.a11 = undef",
@@ -81,7 +81,7 @@ fn what_may_be_true_is_not_said_to_be_never_true() {
 fn a_sheet_without_a_rule_is_not_checked() {
     says(
         "C 0 -|O 0 0",
-        &["Not checked: the sheet has no rule.\n0 rules, 1 object, 0 verdicts"],
+        &["The sheet has no rule: nothing was checked.\n0 verdicts"],
     );
 }
 

@@ -22,9 +22,11 @@ const BLANK: [(&str, &[&str]); 8] = [
         "X self.a5 < 12",
         &[
             "Rule 0 is undefined for @1, of class #0.\n",
+            "  rule     self.a5 < 12\n",
             "  line 10  X self.a5 < 12\n",
             "  arose    at `self.a5`, step 2 of 3: @1 has no value in row 0, name 5.\n",
-            "  look at  line 3: A 0 0 5 Int; and where `V 1 0 ..` would stand, behind line 8.\n",
+            "  look at  line 3: A 0 0 5 Int; and the V lines, none of which gives @1 a value in row 0.\n",
+            "2 verdicts: 1 true, 0 false, 1 undefined, 0 stopped, 0 other values.\n",
         ],
     ),
     (

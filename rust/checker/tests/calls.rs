@@ -1,12 +1,13 @@
 //! What the crate adds to the calls: lent memory, results and words.
 
-#[path = "common/sheet.rs"]
-mod common;
-
-use common::sheet;
 use ocl_checker::calls::{self, Answer, Words};
 use ocl_checker::{evaluate_rule, read_types, report};
 use ocl_checker::{Evaluated, Memory, Refusal, Refused, LEAST_OUTPUT, LEAST_WORDS};
+
+fn sheet(lines: &str) -> Vec<u8> {
+    let lines = lines.split('|').map(|line| line.replace(' ', "\t") + "\n");
+    lines.collect::<String>().into_bytes()
+}
 
 fn small() -> Vec<u8> {
     sheet("C 0 -|C 1 0|O 0 0|O 1 1|R 0 1|N 0 self|N 1 coll Q 0|R 1 0|N 0 int 5")

@@ -1,11 +1,12 @@
 //! Sheets held to the free-numbering profile, and other numbers for their objects.
 
-#[path = "common/sheet.rs"]
-mod common;
-
-use common::sheet;
 use ocl_checker::{evaluate_rule, read_free_numbering, read_types};
 use ocl_checker::{Memory, Refusal, Refused, LEAST_OUTPUT};
+
+fn sheet(lines: &str) -> Vec<u8> {
+    let lines = lines.split('|').map(|line| line.replace(' ', "\t") + "\n");
+    lines.collect::<String>().into_bytes()
+}
 
 fn outside(place: u64) -> Refused {
     Refused {

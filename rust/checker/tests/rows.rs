@@ -1,11 +1,13 @@
 //! The rows that a rule sees, and that no other row changes what it answers.
 
-mod common;
-
-use common::{refuses_as_reading, sheet};
 use ocl_checker::calls::{self, Answer};
-use ocl_checker::{evaluate_rule, rows};
-use ocl_checker::{Evaluated, Memory, Refused, LEAST_OUTPUT, LEAST_WORDS};
+use ocl_checker::{evaluate_rule, read_types, rows};
+use ocl_checker::{Evaluated, Memory, Refusal, Refused, LEAST_OUTPUT, LEAST_WORDS};
+
+fn sheet(lines: &str) -> Vec<u8> {
+    let lines = lines.split('|').map(|line| line.replace(' ', "\t") + "\n");
+    lines.collect::<String>().into_bytes()
+}
 
 /// Four rows, a definition that reads row 2, and a rule for each way to see one: in a
 /// part that is not run, through the definition, by `collect`, and none.
@@ -62,7 +64,23 @@ fn other_rows_change_nothing() {
 
 #[test]
 fn refusals_are_those_of_reading() {
-    refuses_as_reading(|text, memory, output| rows(text, memory, output).map(str::len));
+    let mut memory = Box::new(Memory::new());
+    let mut output = [0; LEAST_OUTPUT];
+    for refused in [
+        "C 0 -|C 1 1",
+        "C 0 -|R 0 0|X 1+",
+        "C 0 -|R 0 0|N 0 true|R 1 0|N 0 var 1",
+    ] {
+        let text = sheet(refused);
+        let types = read_types(&text, &mut memory, &mut output).unwrap_err();
+        assert_eq!(
+            rows(&text, &mut memory, &mut output),
+            Err(types),
+            "{refused}"
+        );
+    }
+    let short = rows(b"", &mut memory, &mut output[1..]).unwrap_err();
+    assert_eq!(short.refusal(), Some(Refusal::ShortSlice));
 }
 
 /// 64 rules that call a definition which reads 64 rows.

@@ -1,10 +1,16 @@
 //! Where undefined came from, as the crate tells it.
 
-mod common;
+use ocl_checker::{evaluate_rule, read_types, report, undefined};
+use ocl_checker::{Evaluated, Memory, Refusal, Refused, LEAST_OUTPUT};
 
-use common::{refuses_as_reading, sheet};
-use ocl_checker::{evaluate_rule, report, undefined};
-use ocl_checker::{Evaluated, Memory, Refused, LEAST_OUTPUT};
+/// Lines that a bar parts; in a text of an X line it is a `!`.
+fn sheet(lines: &str) -> Vec<u8> {
+    let lines = lines.split('|').map(|line| match line.strip_prefix("X ") {
+        Some(text) => format!("X\t{}\n", text.replace('!', "|")),
+        None => line.replace(' ', "\t") + "\n",
+    });
+    lines.collect::<String>().into_bytes()
+}
 
 fn told(lines: &str) -> String {
     let mut memory = Box::new(Memory::new());
@@ -64,7 +70,20 @@ fn it_is_followed_to_where_it_arose() {
 
 #[test]
 fn refusals_are_those_of_reading() {
-    refuses_as_reading(|text, memory, output| undefined(text, memory, output).map(str::len));
+    let mut memory = Box::new(Memory::new());
+    let mut output = [0; LEAST_OUTPUT];
+    for refused in [
+        "C 0 -|C 1 1",
+        "C 0 -|R 0 0|X 1+",
+        "C 0 -|O 0 0|R 0 0|N 0 undef|R 1 0|N 0 var 1",
+    ] {
+        let text = sheet(refused);
+        let types = read_types(&text, &mut memory, &mut output).unwrap_err();
+        let lines = undefined(&text, &mut memory, &mut output);
+        assert_eq!(lines, Err(types), "{refused}");
+    }
+    let short = undefined(b"", &mut memory, &mut output[1..]).unwrap_err();
+    assert_eq!(short.refusal(), Some(Refusal::ShortSlice));
 }
 
 #[test]

@@ -83,10 +83,10 @@ fn traced(explained: &Explained, asked: &[String], out: &mut dyn Write) -> Resul
         .iter()
         .find(|verdict| Some(verdict.rule) == rule && Some(usize::from(verdict.object)) == object);
     let (Some(verdict), Some(told)) = (found, explained.told()) else {
-        let (rule, object) = rule
-            .zip(object)
-            .ok_or("a rule and an object are named by their numbers, as in `0 @3`")?;
-        return Err(explained.no_verdict(rule, object));
+        return Err(format!(
+            "the report has no line for rule {} and object {}",
+            asked[0], asked[1]
+        ));
     };
     let told = Told {
         is_traced: true,

@@ -88,21 +88,6 @@ impl Field {
         })
     }
 
-    /// What it holds, in a word.
-    pub fn word(self) -> &'static str {
-        match self {
-            Parent => "parent or -",
-            Form => "form",
-            Integer => "Integer",
-            Real => "Real",
-            Kind => "S, Q or B",
-            Type => "type",
-            Value => "value",
-            Text => "text",
-            _ => self.range().map_or("number", |([one, _], ..)| one),
-        }
-    }
-
     /// What a field that is spelled so is refused for: 3 or 4.
     pub fn refusal(self, spelt: &[u8]) -> Option<Refusal> {
         let judged = match self {

@@ -10,30 +10,20 @@ use super::texts::no_sentence;
 use super::trees::no_tree;
 use super::typed::Typed;
 
-/// Whether what is seen says what to change. Of a text that is no sentence, the first line says
-/// where it can't be read on, and the second how it is written.
-pub fn is_enough(number: u64, seen: &[String]) -> bool {
-    match number {
-        13 => false,
-        20 => seen.len() > 1,
-        _ => !seen.is_empty(),
-    }
-}
-
 /// What is seen of the line with this refusal.
 pub fn hints(lines: &Lines, typed: Option<&Typed>, number: u64, place: usize) -> Vec<String> {
     let hint = match (number, typed) {
         (3, _) => return misspelt(lines, place),
         (4, _) => over(lines, place),
         (5, _) => out_of_row(lines, place),
-        (6 | 23 | 24, _) => return on_the_sheet(lines, place),
-        (7, _) => return slot(lines, place),
+        (6 | 23 | 24, _) => on_the_sheet(lines, place),
+        (7, _) => slot(lines, place),
         (8, _) => return no_tree(lines, place),
         (20, _) => {
             let text = lines.bytes(place).strip_prefix(b"X\t");
             return text.map(no_sentence).unwrap_or_default();
         }
-        (12, Some(typed)) => return unnamed(typed),
+        (12, Some(typed)) => unnamed(typed),
         (9..=13, Some(typed)) => return operands(typed, number),
         _ => None,
     };

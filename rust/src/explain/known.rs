@@ -1,68 +1,37 @@
 //! What a line names that the sheet does not have, and values that do not suit their row.
 
-use super::digits::spelt;
 use super::fields::{of_line, Field};
 use super::lines::{decimal, shown_bytes, Lines};
-use super::typed::spelt as spelt_type;
 use crate::model::{Model, Sheet};
 use crate::read::read;
 use crate::read::spelling::value;
 use crate::read::tokens::tokens;
-use crate::types::{Kind, Type};
+use crate::types::Kind;
 use crate::values::Value;
 
-/// What is named and not there, and how many of its kind there are before the line, or before
-/// the rule that it stands in; and the row that has such a name.
-pub fn on_the_sheet(lines: &Lines, place: usize) -> Vec<String> {
-    let split = lines.fields(place);
-    let inside = matches!(split[0], b"N" | b"X");
-    let head = lines.head(place).filter(|_| inside);
-    let Ok(sheet) = read(lines.before(head.unwrap_or(place))) else {
-        return Vec::new();
+/// What is named and not there, and how many of each there are before the line, or before
+/// the rule that it stands in.
+pub fn on_the_sheet(lines: &Lines, place: usize) -> Option<String> {
+    let inside = matches!(lines.fields(place)[0], b"N" | b"X");
+    let first = if inside { lines.head(place)? } else { place };
+    let sheet = read(lines.before(first)).ok()?;
+    let named = |count: usize, one: &str, many: &str| match count {
+        0 => format!("no {one}"),
+        1 => format!("1 {one}, number 0"),
+        _ => format!("{count} {many}, 0 to {}", count - 1),
     };
-    let upward = head.and_then(|head| calls_upward(&lines.fields(head), &split));
-    let missing = upward.or_else(|| missing(&sheet, &split));
-    // A row that is there is not the one that is missing.
-    let is_known = |row: u64| row < sheet.model.rows.len() as u64;
-    let row = split.get(2).and_then(|row| decimal(row));
-    let meant = match row.filter(|row| is_known(*row)) {
-        Some(_) => None,
-        None => row_of_name(lines, &sheet.model, &split),
-    };
-    missing.into_iter().chain(meant).collect()
-}
-
-/// A definition that calls itself or a larger one.
-fn calls_upward(head: &[&[u8]], split: &[&[u8]]) -> Option<String> {
-    let (b"D", [_, _, b"call", _, called]) = (head[0], split) else {
-        return None;
-    };
-    let (own, called) = (decimal(head.get(1)?)?, decimal(called)?);
-    (own <= called).then(|| match own == called {
-        true => format!("definition {own} calls itself: a definition calls smaller ones alone"),
-        false => format!(
-            "definition {own} calls {called}, which is larger: a definition that is called stands before"
-        ),
-    })
-}
-
-/// The row that an object has under a name, where a V line has the name in place of the row.
-fn row_of_name(lines: &Lines, model: &Model, split: &[&[u8]]) -> Option<String> {
-    let [b"V", object, name, spelling] = split else {
-        return None;
-    };
-    let number = |field: &[u8]| u8::try_from(decimal(field)?).ok();
-    let (object, name) = (number(object)?, number(name)?);
-    let class = *model.objects.get(usize::from(object))?;
-    let row = model.row(class, name).filter(|row| *row != name)?;
-    let value = value(spelling).ok()?;
-    // The name is meant only if the value suits it.
-    if !model.belongs(&value, &model.rows[usize::from(row)].ty) {
-        return None;
-    }
-    let line = lines.named(lines.declared(b'A', &[row])?);
+    let model = &sheet.model;
+    let counts = [
+        named(model.classes.0.len(), "class", "classes"),
+        named(model.rows.len(), "row", "rows"),
+        named(model.objects.len(), "object", "objects"),
+        named(sheet.definitions.len(), "definition", "definitions"),
+    ];
+    let missing = missing(&sheet, &lines.fields(place));
+    let missing = missing.map_or(String::new(), |missing| format!("{missing}; "));
     Some(format!(
-        "a V line has the row, not the name: the name {name} stands in row {row}, {line}"
+        "{missing}by then the sheet has {}",
+        counts.join("; ")
     ))
 }
 
@@ -108,38 +77,22 @@ fn unknown(sheet: &Sheet, field: Field, digits: &[u8]) -> Option<String> {
         Field::Definition => sheet.definitions.len(),
         _ => return None,
     };
-    let ([one, many], ..) = field.range()?;
+    let ([one, _], ..) = field.range()?;
     let number = decimal(digits)?;
-    let there = match count {
-        0 => format!("no {one}"),
-        1 => format!("1 {one}, number 0"),
-        _ => format!("{count} {many}, 0 to {}", count - 1),
-    };
-    (number >= count as u64)
-        .then(|| format!("there is no {one} {number}: before this line the sheet has {there}"))
+    (number >= count as u64).then(|| format!("there is no {one} {number} yet"))
 }
 
 /// The row and the object of a V line, and which of them the line does not suit.
-pub fn slot(lines: &Lines, place: usize) -> Vec<String> {
-    let Ok(sheet) = read(lines.before(place)) else {
-        return Vec::new();
-    };
-    let split = lines.fields(place);
-    let unsuited = unsuited(lines, &sheet.model, &split);
-    unsuited
-        .into_iter()
-        .chain(row_of_name(lines, &sheet.model, &split))
-        .collect()
-}
-
-fn unsuited(lines: &Lines, model: &Model, split: &[&[u8]]) -> Option<String> {
-    let number = |field: usize| u8::try_from(decimal(split.get(field)?)?).ok();
+pub fn slot(lines: &Lines, place: usize) -> Option<String> {
+    let fields = lines.fields(place);
+    let number = |field: usize| u8::try_from(decimal(fields.get(field)?)?).ok();
     let (object, row) = (number(1)?, number(2)?);
     let said = format!(
         "the object is {}; the row is {}",
         lines.named(lines.declared(b'O', &[object])?),
         lines.named(lines.declared(b'A', &[row])?)
     );
+    let model = read(lines.before(place)).ok()?.model;
     let (class, declared) = (
         model.objects[usize::from(object)],
         &model.rows[usize::from(row)],
@@ -150,26 +103,9 @@ fn unsuited(lines: &Lines, model: &Model, split: &[&[u8]]) -> Option<String> {
             "{said}; #{class} has no such row, as it is not #{of} or below"
         ));
     }
-    let value = value(split.get(3)?).ok()?;
-    let (part, ty) = misplaced(model, &value, &declared.ty);
-    let (part, what, ty) = (spelt(part), what(model, part), spelt_type(ty));
-    Some(format!(
-        "{said}; `{part}` is {what}, and does not belong to {ty}"
-    ))
-}
-
-/// The value, or the first of its members at any depth, that does not belong to its type.
-fn misplaced<'v>(model: &Model, value: &'v Value, ty: &'v Type) -> (&'v Value, &'v Type) {
-    let (Value::Collection(collection), Some(member)) = (value, ty.member()) else {
-        return (value, ty);
-    };
-    let mut members = collection.members.iter();
-    let wrong = members.find(|one| !model.belongs(one, member));
-    match (wrong, ty) {
-        (_, Type::Of(kind, _)) if *kind != collection.kind => (value, ty),
-        (Some(wrong), _) => misplaced(model, wrong, member),
-        (None, _) => (value, ty),
-    }
+    let spelt = shown_bytes(fields.get(3)?);
+    let what = what(&model, &value(fields[3]).ok()?);
+    Some(format!("{said}; `{spelt}` is {what}"))
 }
 
 /// What a value is.

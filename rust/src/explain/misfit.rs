@@ -15,7 +15,6 @@ pub fn misfit(field: Field, spelt: &[u8]) -> Option<String> {
     let (what, shape) = shape(field);
     let remedy = match field {
         _ if !spelt.is_ascii() => Some("it has bytes outside ASCII; type it anew".to_string()),
-        Field::Type if spelt.ends_with(b"String") => Some(NO_STRINGS.to_string()),
         Field::Type => type_meant(spelt).map(write),
         Field::Integer => whole_meant(&shown_bytes(spelt)),
         Field::Real => bits_meant(&shown_bytes(spelt)),
@@ -70,7 +69,7 @@ fn number_meant(field: Field, spelt: &[u8]) -> Option<String> {
 }
 
 /// OCL's words for types, and the sheet's.
-const TYPES: [(&str, &str); 13] = [
+const TYPES: [(&str, &str); 9] = [
     ("Integer", "Int"),
     ("Boolean", "Bool"),
     ("OclAny", "Any"),
@@ -80,10 +79,6 @@ const TYPES: [(&str, &str); 13] = [
     ("Bag", "B"),
     ("Collection", "C"),
     ("int", "Int"),
-    ("bool", "Bool"),
-    ("real", "Real"),
-    ("Float", "Real"),
-    ("Double", "Real"),
 ];
 
 /// The type that is written with OCL's words.
@@ -95,10 +90,7 @@ pub fn type_meant(spelt: &[u8]) -> Option<String> {
         .map(|word| {
             let name = word.trim_end_matches(['(', ')']);
             let ours = TYPES.iter().find(|(ocl, _)| *ocl == name);
-            let class = format!("#{name}");
-            let is_class = name.starts_with(|first: char| first.is_ascii_digit());
-            let name_here = if is_class { &class } else { name };
-            word.replacen(name, ours.map_or(name_here, |(_, ours)| ours), 1)
+            word.replacen(name, ours.map_or(name, |(_, ours)| ours), 1)
         })
         .collect();
     ty(meant.as_bytes()).is_ok().then_some(meant)
@@ -111,31 +103,11 @@ fn value_meant(text: &str) -> Option<String> {
         "false" | "False" | "FALSE" => write("f".to_string()),
         "u" | "undef" | "null" | "-" => "leave the line out".to_string(),
         _ if text.starts_with(['\'', '"']) => NO_STRINGS.to_string(),
-        _ => {
-            let number = number_in(text).or_else(|| with_comma(text));
-            return number.or_else(|| collection_meant(text)).or_else(|| {
-                let is_number = text.starts_with(|first: char| first.is_ascii_digit());
-                is_number.then(|| "an Integer has digits alone".to_string())
-            });
-        }
+        _ => return number_in(text).or_else(|| collection_meant(text)),
     })
 }
 
 pub const NO_STRINGS: &str = "there are no Strings: a number stands for each word";
-
-/// A number with a comma: one before three digits may part thousands.
-pub fn with_comma(text: &str) -> Option<String> {
-    let (whole, digits) = text.split_once(',')?;
-    let are_digits = |part: &str| !part.is_empty() && part.bytes().all(|b| b.is_ascii_digit());
-    let whole = whole.strip_prefix('-').unwrap_or(whole);
-    if !are_digits(whole) || !are_digits(digits) {
-        return None;
-    }
-    match digits.len() {
-        3 => Some("no number has a comma inside".to_string()),
-        _ => number_in(&text.replace(',', ".")),
-    }
-}
 
 /// A number that is spelled otherwise here.
 pub fn number_in(text: &str) -> Option<String> {
@@ -181,48 +153,23 @@ fn bits_meant(text: &str) -> Option<String> {
     })
 }
 
-/// A collection in OCL's words, in other brackets, or with members that are spelled otherwise.
+/// A collection in OCL's braces.
 fn collection_meant(text: &str) -> Option<String> {
-    let words = [
-        ("Sequence", "Q"),
-        ("Set", "S"),
-        ("Bag", "B"),
-        ("{", "("),
-        ("}", ")"),
-        ("[", "("),
-        ("]", ")"),
-        (";", ","),
+    let braces = [
+        ("Sequence{", "Q("),
+        ("Set{", "S("),
+        ("Bag{", "B("),
+        ("{", "S("),
     ];
-    let ours = words.iter().fold(text.to_string(), |text, (ocl, ours)| {
-        text.replace(ocl, ours)
-    });
-    // What has no kind may be any.
-    let kind = if ours.starts_with('(') { "S" } else { "" };
-    let count = |bracket| ours.matches(bracket).count();
-    let missing = ")".repeat(count('(').saturating_sub(count(')')));
-    let parts = ours.split_inclusive(['(', ')', ',']).map(|part| {
-        let member = part.trim_end_matches(['(', ')', ',']);
-        part.replacen(member, &member_meant(member), 1)
-    });
-    let meant = format!("{kind}{}{missing}", parts.collect::<String>());
-    let is_other = meant != text && ours.contains('(') && value(meant.as_bytes()).is_ok();
-    is_other.then(|| match kind {
-        "" => write(meant),
-        _ => format!("a Set is written {meant}"),
-    })
-}
-
-/// A member as a sheet spells it.
-fn member_meant(text: &str) -> String {
-    let number: Option<Number> = text.parse().ok().and_then(Number::of);
-    match (text, number) {
-        ("true", _) => "t".to_string(),
-        ("false", _) => "f".to_string(),
-        (_, Some(number)) if text.contains('.') => {
-            let mut spelt = Vec::new();
-            number.spell(&mut spelt);
-            shown_bytes(&spelt)
-        }
-        _ => text.to_string(),
-    }
+    let meant = braces
+        .iter()
+        .fold(text.to_string(), |meant, (ocl, ours)| {
+            meant.replace(ocl, ours)
+        })
+        .replace('}', ")");
+    let said = match text.starts_with('{') {
+        true => format!("a Set is written {meant}"),
+        false => write(meant.clone()),
+    };
+    value(meant.as_bytes()).is_ok().then_some(said)
 }

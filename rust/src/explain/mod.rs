@@ -6,11 +6,7 @@
 pub mod advice;
 mod bound;
 mod decided;
-mod digits;
-mod due;
 mod fields;
-mod forms;
-mod heads;
 mod hints;
 mod known;
 mod limits;
@@ -23,7 +19,6 @@ mod refused;
 mod remedies;
 mod runs;
 mod spelling;
-mod summary;
 mod texts;
 mod trees;
 mod typed;
@@ -66,6 +61,9 @@ pub struct Explained<'t> {
 /// Said where the lines that are explained are not those of a program.
 pub const TOO_LONG: &str =
     "Too long to be printed (18), the lines below are the second evaluator's alone.\n\n";
+
+/// Said of a sheet that may have been cut off.
+pub const NO_RULE: &str = "The sheet has no rule: nothing was checked.";
 
 /// What is printed, compared with what the second evaluator says. Where they differ, a
 /// sentence on how.
@@ -187,6 +185,21 @@ impl Explained<'_> {
         self.verdicts = verdicts.collect();
     }
 
+    /// How many verdicts there are of each kind: true, false, undefined, stopped, others.
+    pub fn counts(&self) -> [usize; 5] {
+        let kinds = [
+            Kind::True,
+            Kind::False,
+            Kind::Undefined,
+            Kind::Stopped,
+            Kind::Value,
+        ];
+        kinds.map(|kind| {
+            let verdicts = self.verdicts.iter();
+            verdicts.filter(|verdict| verdict.kind() == kind).count()
+        })
+    }
+
     pub fn told(&self) -> Option<Told<'_>> {
         let lines = &self.lines;
         self.sheet.as_ref().map(|sheet| Told {
@@ -196,8 +209,8 @@ impl Explained<'_> {
         })
     }
 
-    /// The refusal, or each verdict that is false, undefined or stopped and what the report
-    /// comes to.
+    /// The refusal, or each verdict that is false, undefined or stopped and how many there
+    /// are of each kind.
     pub fn words(&self) -> String {
         let mut out = String::new();
         if let Some((number, place)) = self.refusal {
@@ -210,13 +223,27 @@ impl Explained<'_> {
             out += TOO_LONG;
         }
         for verdict in &self.verdicts {
-            if verdict.kind().is_wrong() {
+            if !matches!(verdict.kind(), Kind::True | Kind::Value) {
                 out += &(told.words(verdict) + "\n");
             }
         }
         out += &never_true(told.sheet).concat();
-        out.extend(self.unchecked().map(|rules| rules + "\n"));
-        out + &self.summary()
+        if told.sheet.rules.is_empty() {
+            out += NO_RULE;
+            out += "\n";
+        }
+        out + &self.counted() + "\n"
+    }
+
+    /// The number of verdicts, and how many there are of each kind.
+    pub fn counted(&self) -> String {
+        let [kept, broken, undefined, stopped, others] = self.counts();
+        let total = self.verdicts.len();
+        let word = if total == 1 { "verdict" } else { "verdicts" };
+        format!(
+            "{total} {word}: {kept} true, {broken} false, {undefined} undefined, {stopped} stopped, \
+            {others} other values."
+        )
     }
 
     pub fn whose(&self) -> &'static str {

@@ -1,14 +1,9 @@
 //! What is out of order: lines, numbers, members, names and variables.
 
-use super::digits::spelt;
 use super::lines::{decimal, Lines};
 use crate::read::sentences::sentence;
-use crate::read::spelling::value;
 use crate::read::tokens::tokens;
 use crate::tree::Form;
-use crate::types::Kind;
-use crate::values::Value;
-use std::mem::discriminant;
 
 /// The blocks of a sheet in their order.
 const BLOCKS: &[u8] = b"CAOVDR";
@@ -53,17 +48,12 @@ fn beside_text(lines: &Lines, place: usize) -> Option<String> {
         return Some("no R or D line stands before it".to_string());
     }
     let before = lines.fields(place - 1)[0];
-    let of_definition = lines
-        .head(place)
-        .is_some_and(|head| lines.fields(head)[0] == b"D");
-    let said = match (lines.fields(place)[0], before) {
-        (b"X", _) if of_definition => "a definition has N lines, and no X line",
-        (b"X", b"R") => return None,
-        (b"X", b"X") => "a rule has one X line: write `and` between two texts, or another R line",
-        (_, b"X") | (b"X", _) => "a rule has one X line or N lines, not both",
-        _ => return None,
+    let fits = match lines.fields(place)[0] {
+        b"X" => before == b"R",
+        _ => before != b"X",
     };
-    Some(said.to_string())
+    (!fits)
+        .then(|| "a rule has one X line or N lines, not both, and a definition N lines".to_string())
 }
 
 /// An `iter` of a text that has one variable twice.
@@ -110,49 +100,11 @@ fn values_descend(lines: &Lines, place: usize) -> Option<String> {
             .flatten()
     };
     let (here, before) = (pair(place)?, pair(place - 1));
-    let stands = lines.named(place - 1);
-    match before {
-        Some(before) if before == here => Some(format!(
-            "@{} has a value in row {} already, {stands}",
-            here.0, here.1
-        )),
-        Some(before) if before > here => Some(format!(
-            "V lines ascend by object and then by row, and before it stands {stands}"
-        )),
-        _ => members_descend(&value(lines.fields(place).get(3)?).ok()?),
-    }
-}
-
-/// The first two members of a Set or a Bag, at any depth, that do not ascend.
-fn members_descend(value: &Value) -> Option<String> {
-    let Value::Collection(collection) = value else {
-        return None;
-    };
-    let members = &collection.members;
-    if let Some(inside) = members.iter().find_map(members_descend) {
-        return Some(inside);
-    }
-    let what = match collection.kind {
-        Kind::Set => "Set",
-        Kind::Sequence => return None,
-        Kind::Bag => "Bag",
-    };
-    let are_wrong = |pair: &&[Value]| match collection.kind {
-        Kind::Set => pair[0] >= pair[1],
-        _ => pair[0] > pair[1],
-    };
-    let pair = members.windows(2).find(are_wrong)?;
-    let [first, second] = [&pair[0], &pair[1]].map(spelt);
-    if pair[0] == pair[1] {
+    if before.is_some_and(|before| before >= here) {
         return Some(format!(
-            "`{first}` is there twice, and a Set has each member once"
+            "V lines ascend by object and then by row, and before it stands {}",
+            lines.named(place - 1)
         ));
     }
-    let kinds = match discriminant(&pair[0]) == discriminant(&pair[1]) {
-        true => "",
-        false => ": truth values, then numbers, objects and collections",
-    };
-    Some(format!(
-        "`{first}` stands before `{second}`, and members of a {what} ascend{kinds}"
-    ))
+    Some("the members of a Set or a Bag do not ascend".to_string())
 }

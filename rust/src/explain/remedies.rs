@@ -1,18 +1,14 @@
 //! How what OCL writes otherwise is written here, found where a text can't be read on.
 
 use super::lines::shown_bytes as shown;
-use super::misfit::{number_in, type_meant, with_comma, NO_STRINGS};
+use super::misfit::{number_in, type_meant, NO_STRINGS};
 use crate::read::kinds::{is_arrow_step, kind};
 use crate::read::sentences::read_up_to;
 use crate::read::spelling::LAST_VARIABLE;
 
-pub(super) const AT_MOST: &str = "`a <= b` is written `not (b < a)`";
-pub(super) const AT_LEAST: &str = "`a >= b` is written `not (a < b)`";
-pub(super) const UNLIKE: &str = "`a <> b` is written `not (a = b)`";
-pub(super) const ABOVE: &str = "`a > b` is written `b < a`";
-pub(super) const IMPLIES: &str = "`a implies b` is written `not (a) or b`";
-pub(super) const ITER: &str = "iter(v1; v2 : T = e | ..)";
-const COMMENTS: &str = "a text has no comments";
+const AT_MOST: &str = "`a <= b` is written `not (b < a)`";
+const AT_LEAST: &str = "`a >= b` is written `not (a < b)`";
+const UNLIKE: &str = "`a <> b` is written `not (a = b)`";
 
 /// A text that can't be read on at a token.
 pub(super) struct Stop<'t> {
@@ -33,10 +29,8 @@ pub fn remedy(tokens: &[&[u8]], at: usize, letter: Option<char>) -> Option<Strin
         .or_else(|| stop.sign())
         .or_else(|| stop.variable())
         .or_else(|| stop.listed())
-        .or_else(|| stop.enclosed())
         .or_else(|| stop.word())
         .or_else(|| stop.step())
-        .or_else(|| stop.due())
 }
 
 /// Signs that look like those of a text.
@@ -51,7 +45,7 @@ fn outside_ascii(letter: char) -> Option<&'static str> {
         '→' => "the arrow of a text is `->`",
         '‘' | '’' | '“' | '”' => NO_STRINGS,
         '\u{a0}' => "that is a no-break space: type a space in its place",
-        _ => "a text has letters, digits and signs of ASCII alone",
+        _ => return None,
     })
 }
 
@@ -64,26 +58,6 @@ impl Stop<'_> {
 
     pub(super) fn here(&self) -> &[u8] {
         self.tokens.get(self.at).copied().unwrap_or_default()
-    }
-
-    pub(super) fn after(&self) -> &[u8] {
-        self.tokens.get(self.at + 1).copied().unwrap_or_default()
-    }
-
-    /// Whether what stands here is a word that no text has.
-    pub(super) fn is_unknown(&self) -> bool {
-        kind(self.here()) == "unknown word"
-    }
-
-    /// Whether no space stands before what is here and behind it.
-    fn is_near(&self) -> bool {
-        let (before, here, after) = (self.before(1), self.here(), self.after());
-        before.as_ptr_range().end == here.as_ptr() && here.as_ptr_range().end == after.as_ptr()
-    }
-
-    /// What stands before the stop.
-    pub(super) fn all_before(&self) -> &[&[u8]] {
-        &self.tokens[..self.at]
     }
 
     /// Whether the text could be read on with another token in this place. Where a step or a type
@@ -134,7 +108,6 @@ impl Stop<'_> {
     /// A number with a point, or a minus in front of one.
     fn number(&self) -> Option<String> {
         let is_number = |token: &[u8]| token.first().is_some_and(u8::is_ascii_digit);
-        let next = self.after();
         match (self.before(2), self.before(1), self.here()) {
             (whole, b".", fraction) if is_number(whole) && is_number(fraction) => {
                 number_in(&format!("{}.{}", shown(whole), shown(fraction)))
@@ -142,22 +115,11 @@ impl Stop<'_> {
             (whole, b".", b".") if is_number(whole) => {
                 Some("there are no ranges: write each member".to_string())
             }
-            (_, whole, b",") if is_number(whole) && self.is_near() && !self.goes_on_with(b"}") => {
-                with_comma(&format!("{},{}", shown(whole), shown(next)))
-            }
-            (_, _, b".") if is_number(next) && self.goes_on_with(b"self") => {
-                number_in(&format!("0.{}", shown(next)))
-            }
             (_, _, [b'0', b'0'..=b'9', ..]) => Some("a number has no zero in front".to_string()),
-            (_, _, [b'0'..=b'9', .., b'a'..=b'z' | b'A'..=b'Z' | b'0'..=b'9'])
-                if self.is_unknown() =>
-            {
-                Some("an Integer has digits alone".to_string())
-            }
             (_, _, bits @ [b'r', ..]) => number_in(&shown(bits)),
-            (_, b"-", b"-") => Some(format!(
-                "a minus has two sides, as in `0 - 5`, and {COMMENTS}"
-            )),
+            (_, b"-", b"-") => {
+                Some("a minus has two sides, as in `0 - 5`, and a text has no comments".to_string())
+            }
             (_, _, b"-") if self.goes_on_with(b"self") => {
                 Some("a minus has two sides: `-5` is written `0 - 5`".to_string())
             }
@@ -167,25 +129,18 @@ impl Stop<'_> {
 
     /// A sign that OCL has, or a second comparison.
     fn sign(&self) -> Option<String> {
-        Some(match (self.before(1), self.here(), self.after()) {
-            (b"<", b"=", _) | (b"=", b"<", _) => AT_MOST.to_string(),
-            (b"=", b">", _) => AT_LEAST.to_string(),
-            (b"<", b">", b"null") => "`x <> null` is written `not x.isUndef()`".to_string(),
+        let next = self.tokens.get(self.at + 1).copied().unwrap_or_default();
+        Some(match (self.before(1), self.here(), next) {
+            (b"<", b"=", _) => AT_MOST.to_string(),
             (b"<", b">", _) | (_, b"!", b"=") => UNLIKE.to_string(),
-            (b"/", b"*" | b"/", _) => COMMENTS.to_string(),
-            (b"*", b"*", _) | (_, b"^", _) => "there are no powers: write `a * a`".to_string(),
-            (_, b"%", _) => "what a division leaves is written `mod`".to_string(),
             (b"=", b"=", _) => "equal is written with one `=`".to_string(),
             (b"-", b">", _) => "`->` has no space inside".to_string(),
             (_, b"&", _) => "both is written `and`".to_string(),
             (_, b"|", b"|") => "one of both is written `or`".to_string(),
             (_, b"!", _) => "the other truth value is written `not`".to_string(),
-            (_, b"@", b"pre") => {
-                "there is no `@pre`: a sheet has one value for each row".to_string()
-            }
             (_, b"@", _) => "no text names an object by its number".to_string(),
             (_, b">", b"=") => AT_LEAST.to_string(),
-            (_, b">", _) => ABOVE.to_string(),
+            (_, b">", _) => "`a > b` is written `b < a`".to_string(),
             (_, b"'" | b"\"", _) => NO_STRINGS.to_string(),
             (_, b"=" | b"<", _) if self.goes_on_with(b"+") => {
                 "one comparison at a time: put brackets around it, or `and` between two".to_string()
@@ -204,8 +159,7 @@ impl Stop<'_> {
             (_, b"let") => "let v1 = e in ..",
             (b"forAll", b"(") => "forAll(v1 | ..)",
             (b"exists", b"(") => "exists(v1 | ..)",
-            (b"iter", b"(") => ITER,
-            (_, b";") if self.before(4) == b"iter" => ITER,
+            (b"iter", b"(") | (_, b";") => "iter(v1; v2 : T = e | ..)",
             (b"oclAsType", b"(") => {
                 return Some("`oclAsType` takes a class, as `oclAsType(#1)`".to_string())
             }
@@ -217,5 +171,23 @@ impl Stop<'_> {
         Some(format!(
             "variables are v1 to v{LAST_VARIABLE}, as in `{how}`"
         ))
+    }
+
+    /// A comma or a colon where there is one member or one variable too many.
+    fn listed(&self) -> Option<String> {
+        let said = match self.here() {
+            b":" if kind(self.before(1)) == "variable" => {
+                "only the accumulator of an `iter` has a type"
+            }
+            b"," if self.goes_on_with(b"in") => "a `let` binds one variable: write two `let`s",
+            b"," if self.before(2) == b"(" && matches!(self.before(3), b"forAll" | b"exists") => {
+                "a loop has one variable: write a loop inside a loop"
+            }
+            b"," if self.goes_on_with(b"}") => {
+                "four members at most stand in braces: join two collections by `->union(..)`"
+            }
+            _ => return None,
+        };
+        Some(said.to_string())
     }
 }

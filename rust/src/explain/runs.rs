@@ -1,10 +1,10 @@
 //! All that ran for one rule and object, as a tree: which runs stand below which, what was
 //! bound in them, and each in words.
 
-use super::digits::spelt;
 use super::lines::{cut, part, Lines};
 use crate::eval::{runs, Ended, Run};
 use crate::model::{Rule, Sheet};
+use crate::report::spell;
 use crate::tree::{Form, Node};
 use crate::values::Value;
 use crate::wording::shown;
@@ -87,24 +87,12 @@ impl<'s> Tree<'s> {
         (members, below.get(before..).unwrap_or_default())
     }
 
-    /// The V lines that a run reads, or else those below it, each once and as it stands.
-    pub fn lines_read(&self, at: usize) -> Vec<String> {
-        let mut lines = self.value_lines(at);
-        let mut below = match lines.is_empty() {
-            true => self.below(at).to_vec(),
-            false => Vec::new(),
-        };
-        while let Some(next) = below.pop() {
-            lines.extend(self.value_lines(next));
-            below.extend(self.below(next));
+    /// Where the value of an attribute stands on the sheet.
+    pub fn value_line(&self, at: usize) -> Option<usize> {
+        match self.value_lines(at)[..] {
+            [line] => Some(line),
+            _ => None,
         }
-        lines.sort();
-        lines.dedup();
-        let named = lines.iter().take(MOST_LINES);
-        let mut named: Vec<String> = named.map(|line| self.lines.named(*line)).collect();
-        let others = lines.len().saturating_sub(MOST_LINES);
-        named.extend((others > 0).then(|| format!("{others} more")));
-        named
     }
 
     /// Where the values stand that an attribute or `collect` reads.
@@ -208,6 +196,28 @@ impl<'s> Tree<'s> {
             (Form::Iter { .. }, None) => format!("in {ran} turns"),
             _ => return None,
         })
+    }
+}
+
+/// A value as a report spells it; a Real with its digits behind it.
+pub fn spelt(value: &Value) -> String {
+    let mut out = Vec::new();
+    spell(Some(value), &mut out);
+    let spelt = String::from_utf8_lossy(&out).into_owned();
+    match value {
+        Value::Number(number) if number.integer().is_none() => {
+            format!("{spelt} ({})", digits(number.widened()))
+        }
+        _ => spelt,
+    }
+}
+
+/// The fewest decimal digits that come back as the same Real.
+fn digits(real: f64) -> String {
+    if (1e-4..1e15).contains(&real.abs()) {
+        real.to_string()
+    } else {
+        format!("{real:e}")
     }
 }
 

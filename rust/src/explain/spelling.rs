@@ -1,10 +1,9 @@
 //! What can be seen of a misspelled line.
 
 use super::fields::{of_line, Field};
-use super::forms::no_form;
-use super::lines::{cut, decimal, shown_bytes, Lines};
+use super::lines::{cut, shown_bytes, Lines};
 use super::misfit::misfit;
-use super::trees::without_tab;
+use super::trees::parted_by_space;
 
 /// The letters that lines begin with.
 const LETTERS: &[u8] = b"CAOVDRXN";
@@ -15,7 +14,7 @@ pub fn misspelt(lines: &Lines, place: usize) -> Vec<String> {
     if line.is_empty() {
         return vec!["the line is empty".to_string()];
     }
-    if let Some(whole) = other_file(line).or_else(|| comment(line)) {
+    if let Some(whole) = other_file(line) {
         return vec![whole.to_string()];
     }
     let split = lines.fields(place);
@@ -24,7 +23,7 @@ pub fn misspelt(lines: &Lines, place: usize) -> Vec<String> {
         line.ends_with(b"\r").then(|| {
             "the line ends in a carriage return: save the sheet with line feeds alone".to_string()
         }),
-        beginning(split[0]),
+        beginning(line, split[0]),
         count(&split),
         number(&split),
         is_last.then(|| "the last line has no line feed".to_string()),
@@ -32,20 +31,9 @@ pub fn misspelt(lines: &Lines, place: usize) -> Vec<String> {
     let seen = seen.into_iter().flatten();
     let seen: Vec<String> = seen.chain(spaces(lines, place)).collect();
     if seen.is_empty() {
-        let field = field(&split);
-        return field.into_iter().chain(row(lines, &split)).collect();
+        return field(&split).into_iter().collect();
     }
     seen
-}
-
-/// The row of a V line whose value is misspelled: it has the type that is due.
-fn row(lines: &Lines, split: &[&[u8]]) -> Option<String> {
-    let [b"V", _, row, _] = split else {
-        return None;
-    };
-    let row = u8::try_from(decimal(row)?).ok()?;
-    let line = lines.named(lines.declared(b'A', &[row])?);
-    Some(format!("the row is {line}"))
 }
 
 /// A file that is no sheet, or is saved in a way that no sheet is.
@@ -63,22 +51,15 @@ fn other_file(line: &[u8]) -> Option<&'static str> {
     digits.then_some("a number alone: a run of stitch lengths is for ./load")
 }
 
-fn comment(line: &[u8]) -> Option<&'static str> {
-    let comments: [&[u8]; 4] = [b"--", b"//", b"/*", b"#"];
-    let is_comment = comments.iter().any(|comment| line.starts_with(comment));
-    is_comment.then_some("no line begins so, and a sheet has no comments")
-}
-
-fn beginning(letter: &[u8]) -> Option<String> {
+fn beginning(line: &[u8], letter: &[u8]) -> Option<String> {
     let known = |letter: &u8| LETTERS.contains(letter);
     // Spaces in place of the tabs are said of elsewhere.
     if matches!(letter, [first] | [first, b' ', ..] if known(first)) {
         return None;
     }
-    let capital = letter.to_ascii_uppercase();
-    if capital.len() == 1 && known(&capital[0]) {
-        let capital = shown_bytes(&capital);
-        return Some(format!("the letter of a line is a capital: {capital}"));
+    let comments: [&[u8]; 4] = [b"--", b"//", b"/*", b"#"];
+    if comments.iter().any(|comment| line.starts_with(comment)) {
+        return Some("no line begins so, and a sheet has no comments".to_string());
     }
     Some("no line begins so: its first field is C, A, O, V, D, R, X or N".to_string())
 }
@@ -87,7 +68,7 @@ fn beginning(letter: &[u8]) -> Option<String> {
 fn spaces(lines: &Lines, place: usize) -> Vec<String> {
     let line = lines.bytes(place);
     if line.starts_with(b"X") {
-        return without_tab(lines, place).into_iter().collect();
+        return parted_by_space(lines, place).into_iter().collect();
     }
     let mut open = 0;
     let mut inside = false;
@@ -124,7 +105,7 @@ fn count(split: &[&[u8]]) -> Option<String> {
         // Only an N line has so many forms, and a beginning that no line has is said of.
         return (split[0] == b"N").then(|| match split.get(2) {
             Some([]) => "field 3 is empty".to_string(),
-            Some(form) => no_form(form),
+            Some(form) => format!("there is no form `{}`", cut(&shown_bytes(form), 40)),
             None => "it has no form, which is the third field of an N line".to_string(),
         });
     };
@@ -137,48 +118,13 @@ fn count(split: &[&[u8]]) -> Option<String> {
         let empty = split.iter().position(|field| field.is_empty())?;
         return Some(format!("field {} is empty", empty + 1));
     }
-    if count > most {
-        if let Some(tab) = tab_too_many(split) {
-            return Some(tab);
-        }
-    }
     let should = if least == most {
         least.to_string()
     } else {
         format!("{least} to {most}")
     };
     let word = if count == 1 { "field" } else { "fields" };
-    let due = due(split, &fields);
-    Some(format!(
-        "it has {count} {word}, and should have {should}: {due}"
-    ))
-}
-
-/// A tab where none may stand.
-fn tab_too_many(split: &[&[u8]]) -> Option<String> {
-    if split[0] == b"X" {
-        return Some("there is a tab inside the text: type a space in its place".to_string());
-    }
-    let empty = split.iter().position(|field| field.is_empty())?;
-    Some(match empty + 1 == split.len() {
-        true => "the line ends in a tab, which can't be seen".to_string(),
-        false => format!("two tabs stand side by side, behind field {empty}"),
-    })
-}
-
-/// The fields that a line has, its letter first.
-fn due(split: &[&[u8]], fields: &[Field]) -> String {
-    let words = fields
-        .iter()
-        .enumerate()
-        .map(|(position, field)| match field {
-            Field::Form => shown_bytes(split[position + 1]),
-            _ => field.word().to_string(),
-        });
-    let all: Vec<String> = std::iter::once(shown_bytes(split[0]))
-        .chain(words)
-        .collect();
-    all.join(", ")
+    Some(format!("it has {count} {word}, and should have {should}"))
 }
 
 /// A number with a leading zero, or a minus before zero.

@@ -2,7 +2,7 @@
 
 use super::lines::{cut, shown_bytes};
 use super::remedies::remedy;
-use crate::read::kinds::{is_arrow_step, kind};
+use crate::read::kinds::is_arrow_step;
 use crate::read::sentences::read_up_to;
 use crate::read::tokens::tokens;
 use crate::wording::spaced;
@@ -11,13 +11,6 @@ use crate::wording::spaced;
 pub fn no_sentence(text: &[u8]) -> Vec<String> {
     let tokens = tokens(text);
     let at = stop(&tokens);
-    // A word that a letter outside ASCII cuts in two ends where that stands.
-    let runs_on = |at: &usize| {
-        let (word, next) = (tokens.get(*at)?, tokens.get(at + 1)?);
-        let is_near = word.as_ptr_range().end == next.as_ptr();
-        (kind(word) == "unknown word" && is_near && !next.is_ascii()).then_some(at + 1)
-    };
-    let at = runs_on(&at).unwrap_or(at);
     let letter = tokens.get(at).and_then(|token| outside_ascii(text, token));
     let before: Vec<String> = tokens[..at]
         .iter()

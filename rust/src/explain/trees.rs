@@ -6,12 +6,12 @@ use crate::tree::DEEPEST_RULE;
 
 /// What can be seen of a tree at its node or at its end.
 pub fn no_tree(lines: &Lines, place: usize) -> Vec<String> {
-    let parted = without_tab(lines, place + 1);
+    let parted = parted_by_space(lines, place + 1);
     let seen = match lines.fields(place)[0] {
-        b"X" => return too_deep("text"),
+        b"X" => return vec![too_deep("text")],
         b"N" => match not_taken(lines, place) {
             Some(operand) => return vec![operand],
-            None => return at_end(lines, place),
+            None => at_end(lines, place),
         },
         _ if parted.is_some() => None,
         b"R" => Some("the rule has no X line and no N line".to_string()),
@@ -20,25 +20,18 @@ pub fn no_tree(lines: &Lines, place: usize) -> Vec<String> {
     parted.into_iter().chain(seen).collect()
 }
 
-fn too_deep(what: &str) -> Vec<String> {
-    vec![
-        format!("the {what} is over {DEEPEST_RULE} deep, called bodies counted in"),
-        "a long `and`, `or`, `+` or `*` is less deep with brackets around each half, and two rules are \
-        less deep than one"
-            .to_string(),
-    ]
+fn too_deep(what: &str) -> String {
+    format!("the {what} is over {DEEPEST_RULE} deep, called bodies counted in")
 }
 
-/// A line of a rule that is none, as no tab comes after its letter.
-pub fn without_tab(lines: &Lines, place: usize) -> Option<String> {
-    let (letter, what) = match lines.bytes(place) {
-        [_, b'\t', ..] => return None,
-        [letter @ (b'X' | b'N'), b' ', ..] => (char::from(*letter), "and a space"),
-        [letter @ (b'X' | b'N'), _, ..] => (char::from(*letter), "without a tab"),
+/// A line of a rule that is none, as a space comes after its letter.
+pub fn parted_by_space(lines: &Lines, place: usize) -> Option<String> {
+    let letter = match lines.bytes(place) {
+        [letter @ (b'X' | b'N'), b' ', ..] => char::from(*letter),
         _ => return None,
     };
     Some(format!(
-        "line {place} begins with {letter} {what}: one tab comes after the {letter}"
+        "line {place} begins with {letter} and a space: one tab comes after the {letter}"
     ))
 }
 
@@ -80,15 +73,15 @@ fn not_taken(lines: &Lines, place: usize) -> Option<String> {
 }
 
 /// A node that nothing takes, or else too many levels.
-fn at_end(lines: &Lines, place: usize) -> Vec<String> {
-    let first = lines.head(place).map_or(place, |head| head + 1);
+fn at_end(lines: &Lines, place: usize) -> Option<String> {
+    let first = lines.head(place)? + 1;
     let unused = (first..place).find(|line| user(lines, line - first, first..place + 1).is_none());
-    match unused {
-        Some(line) => vec![format!(
+    Some(match unused {
+        Some(line) => format!(
             "node {} is used by no other, {}",
             line - first,
             lines.named(line)
-        )],
+        ),
         None => too_deep("tree"),
-    }
+    })
 }

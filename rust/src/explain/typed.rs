@@ -1,12 +1,11 @@
 //! A rule or a definition that does not type: the part that is to blame, and what its
 //! operands are.
 
-use crate::model::{Model, Sheet};
+use crate::model::Sheet;
 use crate::read::read;
 use crate::tree::{Form, Node};
 use crate::types::Type;
 use crate::typing::type_rules;
-use crate::wording::shown;
 
 /// A sheet that is read and typed up to a refusal.
 pub struct Typed {
@@ -75,32 +74,6 @@ impl Typed {
         let root = self.root();
         let own = definitions.find(|definition| std::ptr::eq(&definition.root, root))?;
         Some(spelt(&own.ty))
-    }
-
-    pub fn model(&self) -> &Model {
-        &self.sheet.model
-    }
-
-    /// How a comparison is denied, where `not` stands before one without brackets.
-    pub fn negated(&self) -> Option<String> {
-        let blamed = self.blamed();
-        let nodes = self.root().nodes();
-        let is_above = |node: &&&Node| {
-            matches!(node.form, Form::Eq | Form::Less(_))
-                && node
-                    .operands
-                    .first()
-                    .is_some_and(|first| std::ptr::eq(first, blamed))
-        };
-        let above = nodes.iter().find(is_above)?;
-        let [denied] = blamed.operands.as_slice() else {
-            return None;
-        };
-        let sign = if above.form == Form::Eq { "=" } else { "<" };
-        (blamed.form == Form::Not).then(|| {
-            let (left, right) = (shown(denied), shown(&above.operands[1]));
-            format!("`not` comes before `{sign}`: write `not ({left} {sign} {right})`")
-        })
     }
 
     /// The class that a definition is for.

@@ -1,14 +1,11 @@
 //! Verdicts in words.
 
 use super::advice::advice;
-use super::heads::{in_text, reals};
 use super::lines::{numbered, Lines};
 use super::runs::{Line, Texts, Tree};
 use super::why::Why;
 use crate::eval::Ended;
 use crate::model::{Rule, Sheet};
-use crate::profile::all_nodes;
-use crate::values::Value;
 use crate::wording::shown;
 use std::io::{self, Write};
 
@@ -34,13 +31,6 @@ pub enum Kind {
     Stopped,
     /// Any other value.
     Value,
-}
-
-impl Kind {
-    /// Whether somebody has to look at it.
-    pub fn is_wrong(self) -> bool {
-        matches!(self, Kind::False | Kind::Undefined | Kind::Stopped)
-    }
 }
 
 /// A verdict of the report.
@@ -86,15 +76,12 @@ impl<'t> Told<'t> {
         }
     }
 
-    /// The first lines of a verdict: what it is of, the rule where the line that is quoted does not
-    /// say it, the line, and the Reals.
-    fn head(&self, verdict: &Verdict, what: &str, line: usize) -> String {
+    /// The first lines of a verdict: what it is of, and the rule.
+    fn head(&self, verdict: &Verdict, what: &str) -> String {
         let Verdict { rule, object, .. } = verdict;
         let class = self.sheet.model.objects[usize::from(*object)];
-        let own = self.rule(verdict);
-        let text = in_text("rule", &own.root, &self.lines.quoted(line));
-        let (line, reals) = (self.at(line), reals(all_nodes(self.sheet, own)));
-        format!("Rule {rule} {what} for @{object}, of class #{class}.\n{text}{line}{reals}")
+        let text = shown(&self.rule(verdict).root);
+        format!("Rule {rule} {what} for @{object}, of class #{class}.\n  rule     {text}\n")
     }
 
     /// A line of the sheet, and the definition that it stands in.
@@ -119,7 +106,8 @@ impl<'t> Told<'t> {
 
     /// Where undefined arose, and why.
     fn undefined(&self, verdict: &Verdict, tree: &Tree, (line, step): (usize, usize)) -> String {
-        let mut out = self.head(verdict, "is undefined", line);
+        let mut out = self.head(verdict, "is undefined");
+        out += &self.at(line);
         let at = step - 1;
         let why = Why { tree, at };
         let node = tree.node(at);
@@ -141,7 +129,8 @@ impl<'t> Told<'t> {
         // The innermost run that did not end is the last of them to have begun.
         let stopped = |at: &usize| tree.runs[*at].ended == Ended::Stopped;
         let last = (0..tree.runs.len()).rev().find(stopped).unwrap_or(0);
-        let mut out = self.head(verdict, &what, tree.node(last).line);
+        let mut out = self.head(verdict, &what);
+        out += &self.at(tree.node(last).line);
         out += &format!("  means    {}.\n", advice.meaning);
         out += &format!("  stopped  in `{}`.\n", shown(tree.node(last)));
         // A loop's turns say nothing of where it was stopped; operands do.
@@ -150,14 +139,8 @@ impl<'t> Told<'t> {
         // What is written as a value says its value.
         let operands = operands.filter(|below| !tree.node(**below).is_literal());
         for below in operands {
-            let words = tree.short_line(*below, 0).words;
-            // What is too large together is large by its parts.
-            let size = tree.value(*below).map(Value::size).filter(|_| number == 17);
-            let size = size.map_or(String::new(), |size| format!(", of size {size}"));
-            let there = format!("  there    {words}{size}.\n");
-            if !out.ends_with(&there) {
-                out += &there;
-            }
+            let line = tree.line(*below, 0, &mut Texts::default());
+            out += &format!("  there    {}.\n", line.words);
         }
         out + &format!("  look at  {}.\n", advice.look)
     }
@@ -169,7 +152,9 @@ impl<'t> Told<'t> {
             Kind::False => "is false".to_string(),
             _ => format!("comes to {}", tree.spelt(0)),
         };
-        let mut out = self.head(verdict, &what, self.line_of_rule(verdict));
+        let mut out = self.head(verdict, &what);
+        let line = self.line_of_rule(verdict);
+        out += &numbered(line, &self.lines.quoted(line));
         let parts = tree.decisive();
         let steps = verdict.steps;
         let word = if steps == 1 { "step" } else { "steps" };

@@ -1,8 +1,7 @@
 //! Why undefined arose at a node all of whose operands have values.
 
-use super::digits::spelt;
 use super::lines::part;
-use super::runs::Tree;
+use super::runs::{spelt, Tree};
 use crate::tree::{Form, Node};
 use crate::values::Value;
 use crate::wording::shown;
@@ -25,7 +24,7 @@ impl Why<'_> {
         Some(match &node.form {
             Form::Undef => (
                 "that is what is written there".to_string(),
-                "the line above: it says `undef`, and whether something is undefined is asked by `isUndef()`"
+                "the rule itself: it says `undef`, and whether something is undefined is asked by `isUndef()`"
                     .to_string(),
             ),
             Form::Attr { row: Some(row), .. } => match self.value(0)? {
@@ -59,9 +58,8 @@ impl Why<'_> {
         if !bound.is_empty() {
             said += &format!(", {}", bound.join(", "));
         }
-        let read = self.tree.lines_read(*at);
-        if !read.is_empty() {
-            said += &format!(", by {}", read.join("; "));
+        if let Some(line) = self.tree.value_line(*at) {
+            said += &format!(", by {}", self.tree.lines.named(line));
         }
         said
     }
@@ -117,25 +115,9 @@ impl Why<'_> {
         let declared = declared.map_or(String::new(), |line| {
             format!("{}; and ", self.tree.lines.named(line))
         });
-        let look = match objects {
-            [object] => self.place(*object, row),
-            _ => format!(
-                "the V lines, none of which gives {} a value in row {row}",
-                named.join(" or ")
-            ),
-        };
-        (arose, format!("{declared}{look}"))
-    }
-
-    /// Where a V line would stand that the sheet does not have.
-    fn place(&self, object: u8, row: u8) -> String {
-        let values = self.tree.sheet.model.values.iter().map(|(key, _)| *key);
-        let before = values.take_while(|key| *key < (object, row)).last();
-        let before =
-            before.and_then(|(object, row)| self.tree.lines.declared(b'V', &[object, row]));
-        let last = self.tree.sheet.model.objects.len() as u8 - 1;
-        let line = before.or_else(|| self.tree.lines.declared(b'O', &[last]));
-        let line = line.map_or(String::new(), |line| format!(", behind line {line}"));
-        format!("where `V {object} {row} ..` would stand{line}")
+        let whom = named.join(" or ");
+        let look =
+            format!("{declared}the V lines, none of which gives {whom} a value in row {row}");
+        (arose, look)
     }
 }

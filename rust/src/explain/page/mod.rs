@@ -4,10 +4,9 @@
 mod escape;
 mod parts;
 
-use super::digits::{of_line, reworded};
 use super::unlike::never_true;
 use super::verdicts::{Kind, Verdict};
-use super::{refused, Explained, TOO_LONG};
+use super::{refused, Explained, NO_RULE, TOO_LONG};
 use escape::{bytes, text, words};
 use parts::{class_of, explanations, rules, table};
 
@@ -57,14 +56,22 @@ fn refusal(explained: &Explained, number: u64, place: usize) -> String {
 fn report(explained: &Explained) -> String {
     let counts = counts(explained);
     if explained.verdicts.is_empty() {
-        return counts;
+        let has_rules = explained
+            .told()
+            .is_some_and(|told| !told.sheet.rules.is_empty());
+        let why = match has_rules {
+            true => "There are no verdicts: no rule has an object.",
+            false => NO_RULE,
+        };
+        return format!("{counts}<p>{why}</p>\n");
     }
+    let to_look_at = |kind| matches!(kind, Kind::False | Kind::Undefined | Kind::Stopped);
     [
         counts,
         never(explained),
         table(explained),
-        explanations(explained, "To look at", &Kind::is_wrong),
-        explanations(explained, "The other verdicts", &|kind| !kind.is_wrong()),
+        explanations(explained, "To look at", &to_look_at),
+        explanations(explained, "The other verdicts", &|kind| !to_look_at(kind)),
         rules(explained),
     ]
     .concat()
@@ -98,22 +105,13 @@ fn counts(explained: &Explained) -> String {
         let class = class_of(*kind);
         format!("<li><span class=\"mark {class}\">{letter}</span> {word}: <b>{count}</b></li>\n")
     });
-    let (sizes, wrong) = (explained.sizes(), wrong(explained));
+    let total = explained.verdicts.len();
+    let word = if total == 1 { "verdict" } else { "verdicts" };
     format!(
-        "<section aria-labelledby=\"counts\">\n<h2 id=\"counts\">{sizes}</h2>\n\
-        <ul class=\"counts\">\n{}</ul>\n{wrong}</section>\n",
+        "<section aria-labelledby=\"counts\">\n<h2 id=\"counts\">{total} {word}</h2>\n\
+        <ul class=\"counts\">\n{}</ul>\n</section>\n",
         items.collect::<String>()
     )
-}
-
-/// What is to be looked at, and what was not checked.
-fn wrong(explained: &Explained) -> String {
-    let rule = |rule| format!("<a href=\"#rule-{rule}\">{rule}</a>");
-    let object = |object| format!("<a href=\"#object-{object}\">@{object}</a>");
-    let wrong = (!explained.verdicts.is_empty()).then(|| explained.wrong(&rule, &object));
-    let unchecked = explained.unchecked().map(|rules| text(&rules));
-    let said = wrong.into_iter().chain(unchecked);
-    said.map(|words| format!("<p>{words}</p>\n")).collect()
 }
 
 /// The lines of the sheet, the one to blame marked.
@@ -123,12 +121,15 @@ fn sheet(explained: &Explained) -> String {
     let shown = lines.iter().enumerate().take(MOST_LINES);
     let items = shown.map(|(position, line)| {
         let number = position + 1;
-        let (class, mark) = match number == blamed {
-            true => (" class=\"blamed\"", " <strong>refused here</strong>"),
-            false => ("", ""),
-        };
-        let (line, reals) = (bytes(line), reals(line));
-        format!("<li id=\"line-{number}\"{class}><code>{line}</code>{reals}{mark}</li>\n")
+        let line = bytes(line);
+        if number == blamed {
+            format!(
+                "<li id=\"line-{number}\" class=\"blamed\"><code>{line}</code> \
+                <strong>refused here</strong></li>\n"
+            )
+        } else {
+            format!("<li id=\"line-{number}\"><code>{line}</code></li>\n")
+        }
     });
     let items: String = items.collect();
     let rest = lines.len().saturating_sub(MOST_LINES);
@@ -140,20 +141,6 @@ fn sheet(explained: &Explained) -> String {
         "<section aria-labelledby=\"sheet\">\n<h2 id=\"sheet\">The sheet</h2>\n\
         <ol class=\"sheet\">\n{items}</ol>\n{more}</section>\n"
     )
-}
-
-/// The Reals of a line in digits. They are no part of it, and are not copied with it.
-fn reals(line: &[u8]) -> String {
-    let value = line
-        .strip_prefix(b"V\t")
-        .and(line.split(|byte| *byte == b'\t').nth(3));
-    let said = of_line(line).map(|all| match value {
-        Some(value) => reworded(&String::from_utf8_lossy(value)),
-        None => all,
-    });
-    said.map_or(String::new(), |said| {
-        format!(" <span class=\"digits\">{}</span>", text(&said))
-    })
 }
 
 /// Where a verdict is explained, and where its cell is.

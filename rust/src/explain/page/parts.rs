@@ -1,6 +1,5 @@
 //! The table of verdicts, and their explanations.
 
-use super::super::digits::{reworded, written};
 use super::super::lines::cut;
 use super::anchors;
 use super::escape::{text, words};
@@ -47,7 +46,7 @@ pub fn table(explained: &Explained) -> String {
         .map(|(class, object)| {
             let cells = (0..sheet.rules.len()).map(|rule| cell(by_place.get(&(rule, object))));
             format!(
-                "<tr><th scope=\"row\" id=\"object-{object}\">@{object} <span class=\"class\">#{class}</span></th>\n{}</tr>\n",
+                "<tr><th scope=\"row\">@{object} <span class=\"class\">#{class}</span></th>\n{}</tr>\n",
                 cells.collect::<String>()
             )
         })
@@ -67,7 +66,7 @@ fn cell(verdict: Option<&&Verdict>) -> String {
     };
     let class = class_of(verdict.kind());
     let (why, cell) = anchors(verdict);
-    let value = text(&cut(&reworded(&verdict.value), LONGEST_CELL));
+    let value = text(&cut(&verdict.value, LONGEST_CELL));
     format!("<td class=\"{class}\"><a id=\"{cell}\" href=\"#{why}\">{value}</a></td>\n")
 }
 
@@ -91,14 +90,10 @@ pub fn rules(explained: &Explained) -> String {
     let items = rules.enumerate().map(|(number, rule)| {
         let class = rule.context;
         let line = explained.lines.head(rule.root.line).unwrap_or(0);
-        let reals = written(rule.root.nodes());
-        let reals = reals.map_or(String::new(), |reals| {
-            format!("<dd>{}</dd>\n", text(&reals))
-        });
         let rule = text(&shown(&rule.root));
         format!(
             "<dt id=\"rule-{number}\">Rule {number}, for each object of class #{class}, \
-            <a href=\"#line-{line}\">line {line}</a></dt>\n<dd><code>{rule}</code></dd>\n{reals}"
+            <a href=\"#line-{line}\">line {line}</a></dt>\n<dd><code>{rule}</code></dd>\n"
         )
     });
     format!(
@@ -113,7 +108,7 @@ fn explanation(explained: &Explained, verdict: &Verdict) -> String {
     let told = told.map_or(String::new(), |told| told.words(verdict));
     let (first, rest) = told.split_once('\n').unwrap_or((&told, ""));
     let class = class_of(verdict.kind());
-    let value = text(&cut(&reworded(&verdict.value), LONGEST_CELL));
+    let value = text(&cut(&verdict.value, LONGEST_CELL));
     let (why, cell) = anchors(verdict);
     format!(
         "<article id=\"{why}\" class=\"why {class}\">\n\
