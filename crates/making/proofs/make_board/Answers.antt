@@ -7,7 +7,7 @@ pub rule_ends-requires : goal.rule_ends-requires
 rule_ends-requires c = search (room_to_count, rules)
 
 pub store_board-requires : goal.store_board-requires
-store_board-requires c = (c.requires.0.0, c.requires.1.0.accepted.lies.fine, search rules, c.requires.0.3)
+store_board-requires c = (c.requires.least_words_in_bounds.0, c.requires.known_typed.0.accepted.lies.fine, search rules, c.requires.least_words_in_bounds.3)
 
 pub returns-in-Short : goal.returns-in-Short
 returns-in-Short c = search made_short

@@ -16,7 +16,7 @@ pub object_lines-total-requires : goal.object_lines-total-requires
 object_lines-total-requires c = search (rule_room, rules)
 
 pub loop-r-preserved : goal.loop-r-preserved
-loop-r-preserved c = (rules_next c.wide-rules.ensures c.loop-r.invariant.0 c.loop-r-test.true (rule_room c.wide-rules.ensures c.loop-r.invariant.0 c.loop-r-test.true c.requires.1.0 refl refl) refl c.object_lines-total.ensures, ends_next c.loop-r.invariant.1 (rules_next c.wide-rules.ensures c.loop-r.invariant.0 c.loop-r-test.true (rule_room c.wide-rules.ensures c.loop-r.invariant.0 c.loop-r-test.true c.requires.1.0 refl refl) refl c.object_lines-total.ensures) (let f = c.requires.1.1.rules in let u = c.wide-rules.ensures in let k = c.loop-r.invariant.2 in omega (arith, c.requires.1.2)), simp length-set c.loop-r.invariant.2)
+loop-r-preserved c = (rules_next c.wide-rules.ensures c.loop-r.invariant.0 c.loop-r-test.true (rule_room c.wide-rules.ensures c.loop-r.invariant.0 c.loop-r-test.true c.requires.room_for_all.0 refl refl) refl c.object_lines-total.ensures, ends_next c.loop-r.invariant.1 (rules_next c.wide-rules.ensures c.loop-r.invariant.0 c.loop-r-test.true (rule_room c.wide-rules.ensures c.loop-r.invariant.0 c.loop-r-test.true c.requires.room_for_all.0 refl refl) refl c.object_lines-total.ensures) (let f = c.requires.room_for_all.1.rules in let u = c.wide-rules.ensures in let k = c.loop-r.invariant.2 in omega (arith, c.requires.room_for_all.2)), simp length-set c.loop-r.invariant.2)
 
 pub returns : goal.returns
-returns c = ends_all c.wide-rules.ensures c.requires.1.1 (let k = c.loop-r.invariant.2 in omega (arith, c.requires.1.2)) c.loop-r.invariant.1 c.loop-r.invariant.0 (omega arith)
+returns c = ends_all c.wide-rules.ensures c.requires.room_for_all.1 (let k = c.loop-r.invariant.2 in omega (arith, c.requires.room_for_all.2)) c.loop-r.invariant.1 c.loop-r.invariant.0 (omega arith)

@@ -1,0 +1,18 @@
+-- `put_rows` meets its contract. Assumes nothing.
+use Prim.Native.Nat.{◌-◌, ◌≤◌}
+use native.Mathlib.Omega.{arith}
+use borrow.Author.Rules.{rules}
+use Rattle.rows.proofs.LineLaws.{RowsTo, rows_none, rows_room, rows_next, rows_all}
+use Rattle.rows.proofs.lines.put_rows.Goals as goal
+
+pub loop-i-init : goal.loop-i-init
+loop-i-init c = (rows_none, omega arith)
+
+pub put_row-end-requires : goal.put_row-end-requires
+put_row-end-requires c = (omega arith, search rows_room)
+
+pub loop-i-preserved : goal.loop-i-preserved
+loop-i-preserved c = (search rows_next, omega arith)
+
+pub returns : goal.returns
+returns c = search rows_all

@@ -1,0 +1,9 @@
+-- `has_bit` meets its contract. Assumes nothing.
+use mathlib.Core.Path.{refl}
+use borrow.Author.Rules.{rules}
+use Rattle.rows.specs.Bits.{bit}
+use Rattle.rows.proofs.seen.has_bit.Goals as goal
+
+pub returns : goal.returns
+unfolding bit
+returns c = refl

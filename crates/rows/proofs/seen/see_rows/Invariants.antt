@@ -1,0 +1,11 @@
+-- `see_rows` meets its contract. Assumes nothing.
+use borrow.Author.Rules.{rules}
+use Prim.Native.Nat.{◌-◌}
+use Rattle.rows.proofs.SeenLaws.{Seeing, seeing_none, seeing_next, seeing_all}
+use Rattle.rows.proofs.seen.see_rows.Given as goal
+
+abbrev pub invariant-loop-n : goal.invariant-loop-n
+invariant-loop-n l = Seeing l.w1 l.initial.w2 l.w2 l.n
+
+abbrev pub decreases-loop-n : goal.decreases-loop-n
+decreases-loop-n l = 768 - l.n
