@@ -1,0 +1,10 @@
+-- `enters` meets its contract. Assumes nothing.
+use borrow.Author.Rules.{rules}
+use Rattle.numbering.proofs.Codes.{enters_let, enters_code}
+use Rattle.numbering.proofs.forms.enters.Goals as goal
+
+pub returns-then-form-eq-LET_IN : goal.returns-then-form-eq-LET_IN
+returns-then-form-eq-LET_IN c = search enters_let
+
+pub returns : goal.returns
+returns c = search enters_code
