@@ -9,7 +9,7 @@ pub loop-o-init : goal.loop-o-init
 loop-o-init c = objects_none _ _
 
 pub fresh_line-sums-requires : goal.fresh_line-sums-requires
-fresh_line-sums-requires c = record { least_words_in_bounds = (c.requires.0.0, c.requires.0.1, omega (arith, c.requires.0.2, c.loop-o.invariant.so.kept.size), c.requires.0.3, c.loop-o-test.true); least_output_in_bounds = (omega (arith, c.requires.1.0, c.loop-o.invariant.so.size), (objects_few c.loop-o.invariant c.requires.0.3 c.requires.1.1 c.requires.1.2).0, (objects_few c.loop-o.invariant c.requires.0.3 c.requires.1.1 c.requires.1.2).1) }
+fresh_line-sums-requires c = record { least_words_in_bounds = (c.requires.least_words_in_bounds.0, c.requires.least_words_in_bounds.1, omega (arith, c.requires.least_words_in_bounds.2, c.loop-o.invariant.so.kept.size), c.requires.least_words_in_bounds.3, c.loop-o-test.true); least_output_in_bounds = (omega (arith, c.requires.least_output_in_bounds.0, c.loop-o.invariant.so.size), (objects_few c.loop-o.invariant c.requires.least_words_in_bounds.3 c.requires.least_output_in_bounds.1 c.requires.least_output_in_bounds.2).0, (objects_few c.loop-o.invariant c.requires.least_words_in_bounds.3 c.requires.least_output_in_bounds.1 c.requires.least_output_in_bounds.2).1) }
 
 pub loop-o-preserved : goal.loop-o-preserved
 loop-o-preserved c = search objects_next

@@ -5,10 +5,10 @@ use borrow.Author.Rules.{rules}
 use Rattle.renewal.proofs.spread.put_fresh.Goals as goal
 
 pub slice_bounds-put_bytes-count : goal.slice_bounds-put_bytes-count
-slice_bounds-put_bytes-count c = omega (arith, fresh_order c.requires.least_words_in_bounds.3 c.requires.1, c.start_of-start.ensures, c.wide-end.ensures)
+slice_bounds-put_bytes-count c = omega (arith, fresh_order c.requires.least_words_in_bounds.3 c.requires.fresh_fits, c.start_of-start.ensures, c.wide-end.ensures)
 
 pub slice_bounds-put_bytes-start : goal.slice_bounds-put_bytes-start
-slice_bounds-put_bytes-start c = omega (arith, fresh_order c.requires.least_words_in_bounds.3 c.requires.1, c.start_of-start.ensures, c.wide-end.ensures, c.if-end-buf.true)
+slice_bounds-put_bytes-start c = omega (arith, fresh_order c.requires.least_words_in_bounds.3 c.requires.fresh_fits, c.start_of-start.ensures, c.wide-end.ensures, c.if-end-buf.true)
 
 pub put_bytes-requires : goal.put_bytes-requires
 put_bytes-requires c = search fresh_room

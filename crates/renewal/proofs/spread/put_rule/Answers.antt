@@ -14,7 +14,7 @@ pub overflow_sub-from : goal.overflow_sub-from
 overflow_sub-from c = search fresh_before
 
 pub piece_size-requires : goal.piece_size-requires
-piece_size-requires c = (omega (arith, c.requires.least_words_in_bounds.3, c.requires.1.0, c.requires.1.1.is.held.accepted.lies.fine.rules), rule_order c.requires.least_words_in_bounds.3 c.requires.1.1)
+piece_size-requires c = (omega (arith, c.requires.least_words_in_bounds.3, c.requires.most_rules_in_bounds.0, c.requires.most_rules_in_bounds.1.is.held.accepted.lies.fine.rules), rule_order c.requires.least_words_in_bounds.3 c.requires.most_rules_in_bounds.1)
 
 pub shift_right-requires : goal.shift_right-requires
 shift_right-requires c = search (rule_room, rules)
