@@ -1,0 +1,19 @@
+-- `edit_board` meets its contract. Assumes nothing.
+use mathlib.Core.List.{[]}
+use native.Mathlib.Omega.{arith}
+use Rattle.replay.proofs.ReplayLaws.{lying_accepted}
+use Rattle.editing.proofs.EditLaws.{edit_known, edit_row, edit_made, edit_refused}
+use borrow.Author.Rules.{rules}
+use Rattle.editing.proofs.edit_board.Goals as goal
+
+pub replay_edit-requires : goal.replay_edit-requires
+replay_edit-requires c = search lying_accepted
+
+pub renew_board-requires : goal.renew_board-requires
+renew_board-requires c = record { least_words_in_bounds = (omega (arith, c.requires.least_words_in_bounds.0, (c.replay_edit.ensures []).kept.size), c.requires.least_words_in_bounds.1, c.requires.least_words_in_bounds.2, edit_known (c.replay_edit.ensures _) c.in-Is.is c.requires.known_accepted); row_lt_most_rows = (edit_row (c.replay_edit.ensures _) c.in-Is.is c.requires.known_accepted, c.requires.least_words_in_bounds.3) }
+
+pub returns-in-Is : goal.returns-in-Is
+returns-in-Is c = edit_made (c.replay_edit.ensures _) c.in-Is.is c.renew_board.ensures
+
+pub returns-in-Refused : goal.returns-in-Refused
+returns-in-Refused c = edit_refused (c.replay_edit.ensures _) c.in-Refused.is _ _
