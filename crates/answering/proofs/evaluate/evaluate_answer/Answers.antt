@@ -1,0 +1,14 @@
+-- `evaluate_answer` meets its contract. Assumes nothing.
+use borrow.Author.Rules.{rules}
+use Rattle.opening.proofs.Answers.{still_lent}
+use Rattle.opening.proofs.Readings.{known_on, leaves_on, leaves_stop}
+use Rattle.answering.proofs.evaluate.evaluate_answer.Goals as goal
+
+pub evaluate_on-requires : goal.evaluate_on-requires
+evaluate_on-requires c = (still_lent c.requires c.open_text.ensures, search known_on)
+
+pub returns-in-Sheet : goal.returns-in-Sheet
+returns-in-Sheet c = search leaves_on
+
+pub returns-in-Refused : goal.returns-in-Refused
+returns-in-Refused c = search leaves_stop

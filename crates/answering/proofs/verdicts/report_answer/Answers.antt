@@ -1,0 +1,15 @@
+-- `report_answer` meets its contract. Assumes nothing.
+use borrow.Author.Rules.{rules}
+use Rattle.opening.proofs.Answers.{still_lent}
+use Rattle.opening.proofs.Readings.{known_on}
+use Rattle.answering.proofs.ReportCalls.{report_given, report_stopped}
+use Rattle.answering.proofs.verdicts.report_answer.Goals as goal
+
+pub report_on-requires : goal.report_on-requires
+report_on-requires c = (still_lent c.requires c.open_text.ensures, search known_on)
+
+pub returns-in-Sheet : goal.returns-in-Sheet
+returns-in-Sheet c = search report_given
+
+pub returns-in-Refused : goal.returns-in-Refused
+returns-in-Refused c = search report_stopped

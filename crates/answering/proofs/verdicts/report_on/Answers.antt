@@ -1,0 +1,7 @@
+-- `report_on` meets its contract. Assumes nothing.
+use borrow.Author.Rules.{rules}
+use Rattle.answering.proofs.ReportCalls.{report_gives}
+use Rattle.answering.proofs.verdicts.report_on.Goals as goal
+
+pub returns : goal.returns
+returns c = search report_gives
