@@ -7,7 +7,7 @@ pub tell_calls-requires : goal.tell_calls-requires
 tell_calls-requires c = search sheet_room
 
 pub rules_outside-requires : goal.rules_outside-requires
-rules_outside-requires c = search (sheet_room, few_rules, roots_in, rules)
+rules_outside-requires c = record { sheet_room = search (sheet_room, rules); rules_le_most_rules = (few_rules c.requires.known, roots_in c.requires.known) }
 
 pub returns : goal.returns
 returns c = search outside_found

@@ -1,0 +1,24 @@
+-- `fresh_lines` meets its contract. Assumes nothing.
+use Prim.Native.Nat.{◌-◌}
+use native.Mathlib.Omega.{arith}
+use Rattle.renewal.proofs.FreshLaws.{ObjectsTo, objects_none, objects_next, objects_few, objects_all}
+use borrow.Author.Rules.{rules}
+use Rattle.renewal.proofs.fresh.fresh_lines.Goals as goal
+
+pub loop-o-init : goal.loop-o-init
+loop-o-init c = objects_none _ _
+
+pub fresh_line-sums-requires : goal.fresh_line-sums-requires
+fresh_line-sums-requires c = record { least_words_in_bounds = (c.requires.0.0, c.requires.0.1, omega (arith, c.requires.0.2, c.loop-o.invariant.so.kept.size), c.requires.0.3, c.loop-o-test.true); least_output_in_bounds = (omega (arith, c.requires.1.0, c.loop-o.invariant.so.size), (objects_few c.loop-o.invariant c.requires.0.3 c.requires.1.1 c.requires.1.2).0, (objects_few c.loop-o.invariant c.requires.0.3 c.requires.1.1 c.requires.1.2).1) }
+
+pub loop-o-preserved : goal.loop-o-preserved
+loop-o-preserved c = search objects_next
+
+pub shape_of-w2 : goal.shape_of-w2
+shape_of-w2 c = cc
+
+pub shape_of-buf : goal.shape_of-buf
+shape_of-buf c = cc
+
+pub returns : goal.returns
+returns c = search objects_all

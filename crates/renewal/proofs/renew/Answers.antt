@@ -1,0 +1,20 @@
+-- `renew` meets its contract. Assumes nothing.
+use native.Mathlib.Omega.{arith}
+use Rattle.renewal.proofs.RenewalLaws.{rooted_known, few_rules, told_standing, renews, foreign}
+use borrow.Author.Rules.{rules}
+use Rattle.renewal.proofs.renew.Goals as goal
+
+pub touched_rules-touched-requires : goal.touched_rules-touched-requires
+touched_rules-touched-requires c = search (rooted_known, rules)
+
+pub can_stand-requires : goal.can_stand-requires
+can_stand-requires c = search (few_rules, rules)
+
+pub renew_touched-requires : goal.renew_touched-requires
+renew_touched-requires c = record { least_words_in_bounds = (c.requires.0.0, c.requires.0.1, omega (arith, c.requires.0.2, c.see_rows.ensures.kept.size), c.requires.0.3); most_rules_in_bounds = (c.requires.1.1, c.requires.1.2, told_standing c.can_stand.ensures c.if-can_stand.true c.wide.ensures) }
+
+pub returns-then-can_stand : goal.returns-then-can_stand
+returns-then-can_stand c = search renews
+
+pub returns : goal.returns
+returns c = search foreign

@@ -1,0 +1,13 @@
+-- `touched_rules` meets its contract. Assumes nothing.
+use Prim.Native.Nat.{◌-◌}
+use native.Mathlib.Omega.{arith}
+use Rattle.rows.proofs.RuleLaws.{root_low}
+use Rattle.renewal.proofs.TouchedLaws.{TouchedTo, touched_none, touched_next, touched_all}
+use borrow.Author.Rules.{rules}
+use Rattle.renewal.proofs.touched.touched_rules.Given as goal
+
+abbrev pub invariant-loop-r : goal.invariant-loop-r
+invariant-loop-r l = TouchedTo l.rules l.w0 l.w2 l.row l.touched l.r
+
+abbrev pub decreases-loop-r : goal.decreases-loop-r
+decreases-loop-r l = l.rules - l.r
