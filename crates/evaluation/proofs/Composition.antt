@@ -1,18 +1,15 @@
 -- How the outcomes of operands compose to the outcome of a form: environments over the stack, an operand that ends it, what follows a
 -- value, and where undefined arises. Assumes nothing.
 use mathlib.Core.Path.{◌≡◌, refl, ap, ◌∙◌}
-use mathlib.Core.Logic.{⊎_elim}
 use mathlib.Core.Bool.{Bool, true, false}
 use mathlib.Core.Option.{Option, none, some}
-use mathlib.Core.List.{List, [], ◌∷◌}
+use mathlib.Core.List.{List}
 use Prim.Native.Nat.{ℕ, zero, suc, ◌+◌, ◌/◌, ◌%◌, ◌<◌, ◌≤◌}
 use native.Mathlib.Omega.{arith}
 use lib.ListN.{length, get_or, set, replicate, length-set}
 use lib.Seq.{get_or-set_same, get_or-set_other}
 use lib.Dec.{eqb}
 use borrow.Author.Tests.{eqb-true, eqb-false, lt-ltb, le-ltb}
-use types.Run.{OneOf}
-use denote.Enum.Declared.{tag_of}
 use Rattle.std.specs.Prelude.{if◌then◌else◌}
 use Rattle.ocl.specs.Values.{Value}
 use Rattle.ocl.specs.Environment.{Env, extend}
@@ -24,7 +21,6 @@ use Rattle.outcomes.specs.Answers as plain
 use Rattle.outcomes.specs.Answers.{Lies, Under, Ran, SmallAnswer}
 use Rattle.operations.specs.Runs.{World, Held, free, held, Rel}
 use Rattle.outcomes.proofs.Words.{under_refl, under_then, under_down, lies_kept}
-use Rattle.evaluation.specs.contracts.Traced.{the_type}
 use Rattle.evaluation.specs.declared.Traced.{Traced as Answer}
 use Rattle.evaluation.specs.declared.Traced.TheVariants as traced
 use Rattle.evaluation.specs.Traces.{place_of, Names, Placed, EndsT, ends_value, ends_undefined, ends_stuck, ends_stop, RanT, SmallTraced, arisen, without_place, MeaningT, EvalsT}

@@ -234,7 +234,3 @@ shallow t n k left e a b h = record { members = λ c i m. let l = assemble_level
 
 pub over_37 : (k : ℕ) → 35 ≤ k → (k ≡ 37 → ⊥) → (k ≡ 35 → ⊥) → (k ≡ 36 → ⊥) → 37 < k
 over_37 k h a b c = omega arith
-
--- those of `attr` and `collect` come after that of `let`
-pub from_33 : (k : ℕ) → 30 ≤ k → (k ≡ 30 → ⊥) → (k ≡ 31 → ⊥) → (k ≡ 32 → ⊥) → 33 ≤ k
-from_33 k h a b c = omega arith

@@ -1,11 +1,11 @@
 -- Types by variable: one replaced is a binding, and a rule's start binds `self` alone. Assumes nothing.
-use mathlib.Core.Path.{◌≡◌, refl, sym, ap, ◌∙◌, fun_ext}
+use mathlib.Core.Path.{◌≡◌, refl, ap, ◌∙◌, fun_ext}
 use mathlib.Core.Bool.{Bool, true, false}
 use mathlib.Core.Option.{Option, none, some}
-use mathlib.Core.List.{List, map}
+use mathlib.Core.List.{List}
 use Prim.Native.Nat.{ℕ, zero, suc, ◌<◌}
 use native.Mathlib.Omega.{arith}
-use lib.ListN.{length, get_or, set, replicate, length-map}
+use lib.ListN.{length, get_or, set, replicate}
 use lib.Seq.{get_or-set_same, get_or-set_other}
 use lib.Dec.{eqb}
 use borrow.Author.Tests.{eqb-true, eqb-false}
@@ -31,10 +31,6 @@ module _ (n i : ℕ) (env : TypeEnv) where
   is_free h = rw h
 
 -- ---- a binding
-
--- an array in a struct is known by the machine values of its elements: as many as it has elements
-pub sixteen : {A B : Type 0} (f : A → B) (l : List A) → length (map f l) ≡ 16 → length l ≡ 16
-sixteen f l h = sym (length-map l f) ∙ h
 
 abbrev type_at : List FlatType → List Bool → ℕ → Option Ty
 type_at ts bs j = if get_or bs j false then some (ty_of (get_or ts j (bare b.Void))) else none

@@ -1,5 +1,4 @@
--- Choices by a test, and options.
-use Rattle.std.specs.Prelude.{Bool, true, false}
+-- Options.
 use Rattle.std.proofs.Math.Option.{Option, none, some}
 
 -- the first of two options that is there

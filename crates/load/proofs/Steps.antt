@@ -147,11 +147,11 @@ module _ {line : Line} where
 
     pub ended_length : {w : Window} {s : Reader} → (w.width ≡ 0 → ⊥) → LengthLine w n s → Ended w line s
     unfolding step line_at window_for empty_window
-    ended_length {w} {s} z line_Taken = record { is = λ run l fit is from. go run (a_number l) fit is (num_is (a_number l) (num l from)) }
+    ended_length {w} {s} z line_taken = record { is = λ run l fit is from. go run (a_number l) fit is (num_is (a_number l) (num l from)) }
       where
         go : (run : Option Run) (o : Option ℕ) → Fits run → w ≡ window_for run → Any? (λ m. n ≡ min m 1000000) o → s ≡ state_of (on_line (step run o) (line_at run))
         go none (some k) fits_none is (any_some c) = absurd (z (ap (λ (v : Window). v.width) is))
-        go (some r) (some k) (fits_some fit) is (any_some c) = line_Taken.is r k fit is c
+        go (some r) (some k) (fits_some fit) is (any_some c) = line_taken.is r k fit is c
         go none none _ is x7 = elim x7 [ ]
         go (some r) none _ is x8 = elim x8 [ ]
 

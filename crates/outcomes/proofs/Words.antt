@@ -10,8 +10,6 @@ use lib.ListN.{length, get_or, take, drop, set}
 use lib.Seq.{take-suc-set, take-take, drop_at, length-take-le, get_or-take, get_or-drop}
 use lib.Dec.{leb}
 use borrow.Author.Tests.{le-leb, leb-true}
-use types.Run.{OneOf}
-use denote.Enum.Declared.{tag_of}
 use Rattle.std.specs.Prelude.{if◌then◌else◌}
 use Rattle.laws.proofs.Slices.{cut_part, trim, under_top}
 use Rattle.ocl.specs.Values.{Value, bool, num, obj, coll, size, sort}
@@ -23,7 +21,6 @@ use Rattle.values.specs.declared.Simple.{Simple}
 use Rattle.values.specs.declared.Formed.{Formed}
 use Rattle.values.specs.declared.Formed.TheVariants as formed
 use Rattle.values.proofs.Heads.{enc_parts, sort_kind, shape, Shape, shape_bool, shape_num, shape_obj, shape_coll}
-use Rattle.outcomes.specs.contracts.Ended.{the_type}
 use Rattle.outcomes.specs.declared.Ended.{Ended}
 use Rattle.outcomes.specs.declared.Ended.TheVariants as ended
 use Rattle.outcomes.specs.Answers.{Lies, Ends, ends_value, ends_stop, Under, Ran, SmallAnswer, GivesCell, Gives, formed_as, truth_of, Truth}

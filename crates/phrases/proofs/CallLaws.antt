@@ -103,7 +103,7 @@ iterates : all_to (λ k. same (eqb k 35) (eqb (call_kind k) 5)) 65 ≡ true
 unfolding all_to same call_kind
 iterates = refl
 
--- ---- the returns of `call_step_lem`
+-- ---- the returns of `call_step`
 
 module _ (s : Bytes) (t : Token) {k r : ℕ} (e : r ≡ call_kind k) (b : Token) (w : Bytes) (l : b.start < t.start) (c : code_of w ≡ k) where
   kind : {j : ℕ} → r ≡ j → call_kind (code_of w) ≡ j

@@ -78,15 +78,15 @@ unfolding every_part
 every_parts_lem P every_nil = tt
 every_parts_lem P (every_cons {v} {vs} p h) = and_i (every_part P v) (every_parts P vs) p (every_parts_lem P h)
 
-module _ (f : ℕ → ℕ) (P Q : Value → Bool) (on_Bool : (b : Bool) → T (P (bool b)) → T (Q (bool b))) (on-num : (x : Number) → T (P (num x)) → T (Q (num x)))
-    (on-obj : (o : ℕ) → T (P (obj o)) → T (Q (obj (f o)))) where
+module _ (f : ℕ → ℕ) (P Q : Value → Bool) (on_bool : (b : Bool) → T (P (bool b)) → T (Q (bool b))) (on_num : (x : Number) → T (P (num x)) → T (Q (num x)))
+    (on_obj : (o : ℕ) → T (P (obj o)) → T (Q (obj (f o)))) where
   mutual
     unfolding renumbered every_part
 
     pub image_parts : (v : Value) → T (every_part P v) → T (every_part Q (renumbered f v))
-    image_parts (bool b) h = on_Bool b h
-    image_parts (num x) h = on-num x h
-    image_parts (obj o) h = on-obj o h
+    image_parts (bool b) h = on_bool b h
+    image_parts (num x) h = on_num x h
+    image_parts (obj o) h = on_obj o h
     image_parts (coll k vs) h = every_parts_lem Q (gathered_every f k (images_parts vs h))
 
     images_parts : (vs : Values) → T (every_parts P vs) → Every (λ v. T (every_part Q (renumbered f v))) vs

@@ -181,7 +181,7 @@ module _ {S : List ℕ} {p t end q r : ℕ} (F : Rowing S p t end q) (h : q < en
       going = λ v y f e. let T = two v y f e in record { rest = T.ws; left = T.left; same = T.same ∙ ap (λ (a : Bool). a && row t T.ws) z };
     }
 
--- ---- all values in a value: the loop of `in_order_lem`
+-- ---- all values in a value: the loop of `in_order`
 
 pub record Ordered (S : List ℕ) (v : Value) (p : ℕ) : Type 0 where
   pub rest : Values

@@ -96,10 +96,6 @@ pub other_lengths : (w : Bytes) (ls : List ℕ) (t : Rows) → lengths_in ls t �
 unfolding code_in
 other_lengths w ls t m h = sym (sym (by_length w t) ∙ ap (code_in w) (none_such ls (length w) t m h))
 
--- a number that is at least k, and not k
-pub above : {n k : ℕ} → k ≤ n → (n ≡ k → ⊥) → k + 1 ≤ n
-above p h = omega arith
-
 pub no_length : (w : Bytes) → (length w ≡ 2 → ⊥) → (length w ≡ 3 → ⊥) → (length w ≡ 4 → ⊥) → (length w ≡ 5 → ⊥) → (length w ≡ 6 → ⊥) → (length w ≡ 7 → ⊥) → (length w ≡ 8 → ⊥) → (length w ≡ 9 → ⊥) → (length w ≡ 10 → ⊥) → 99 ≡ form_code w
 unfolding lengths_in all_of rows coded_words forms form_codes bytes member
 no_length w a b c d e f g h i =

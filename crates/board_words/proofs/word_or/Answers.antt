@@ -1,6 +1,5 @@
 -- `board_words::word_or` meets its contract. Assumes nothing.
 use Rattle.board_words.proofs.StoringLaws.{word_there, word_past}
-use borrow.Author.Rules.{rules}
 use Rattle.board_words.proofs.word_or.Goals as goal
 
 pub returns-then-i-n : goal.returns-then-i-n

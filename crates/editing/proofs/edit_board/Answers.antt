@@ -3,7 +3,6 @@ use mathlib.Core.List.{[]}
 use native.Mathlib.Omega.{arith}
 use Rattle.replay.proofs.ReplayLaws.{lying_accepted}
 use Rattle.editing.proofs.EditLaws.{edit_known, edit_row, edit_made, edit_refused}
-use borrow.Author.Rules.{rules}
 use Rattle.editing.proofs.edit_board.Goals as goal
 
 pub replay_edit-requires : goal.replay_edit-requires

@@ -1,11 +1,11 @@
 use mathlib.Core.Path.{◌∙◌, ap, sym}
-use Rattle.evaluation.proofs.NodeLaws.{below_done, below_stop, below_late, below_levels, low_code, lone_code, high_code, from_33, single_codes, single_levels, two_codes, over_37, node_leaf, node_unary, node_binary, node_connective, node_quantified, node_assemble, node_conditional, node_let, node_iterate, node_call, node_none, shallow, node_packed}
+use Rattle.evaluation.proofs.NodeLaws.{below_done, below_stop, below_late, below_levels, low_code, lone_code, high_code, single_codes, single_levels, two_codes, over_37, node_leaf, node_unary, node_binary, node_connective, node_quantified, node_assemble, node_conditional, node_let, node_iterate, node_call, node_none, shallow, node_packed}
 use Prim.Native.Nat.{ℕ, ◌+◌, ◌-◌, ◌%◌}
 use native.Mathlib.Omega.{arith}
 use borrow.Author.Rules.{rules}
 use Rattle.evaluation.proofs.Composition.{bounds, its_place}
 use Rattle.evaluation.proofs.FormLaws.{binary_first, binary_stuck, binary_second, binary_done, conditional_first, conditional_stuck, conditional_then, conditional_else, iterate_first, iterate_stuck, iterate_second, iterate_done, let_first, let_second, let_done, quantified_first, quantified_stuck, quantified_done, unary_value, unary_undefined, unary_stuck, unary_stop}
-use mathlib.Core.Logic.{inl, ⊎_elim, inr}
+use mathlib.Core.Logic.{inl, inr}
 use Rattle.evaluation.proofs.CallLaws.{call_first, call_stuck, call_second, call_done}
 use Rattle.nodes.proofs.Levels.{some_level, binary_levels, connective_levels, quantified_levels, conditional_levels, let_levels, iterate_levels, call_levels}
 use Rattle.evaluation.specs.Evaluating.{operand_tree}

@@ -1,12 +1,10 @@
 -- `making::rule_ends` meets its contract. Assumes nothing.
 use native.Mathlib.Omega.{arith}
 use borrow.Author.Rules.{rules}
-use mathlib.Core.Path.{◌≡◌, refl}
-use mathlib.Core.Bool.{false}
-use Prim.Native.Nat.{◌-◌}
-use lib.ListN.{length, length-set}
-use Rattle.report.proofs.RuleLaws.{RulesTo, rules_none, rule_room, rules_next}
-use Rattle.making.proofs.MadeLaws.{EndsTo, ends_none, ends_next, ends_all}
+use mathlib.Core.Path.{refl}
+use lib.ListN.{length-set}
+use Rattle.report.proofs.RuleLaws.{rules_none, rule_room, rules_next}
+use Rattle.making.proofs.MadeLaws.{ends_none, ends_next, ends_all}
 use Rattle.making.proofs.rule_ends.Goals as goal
 
 pub loop-r-init : goal.loop-r-init

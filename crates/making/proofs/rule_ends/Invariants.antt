@@ -1,12 +1,11 @@
 -- `making::rule_ends` meets its contract. Assumes nothing.
-use native.Mathlib.Omega.{arith}
 use borrow.Author.Rules.{rules}
-use mathlib.Core.Path.{◌≡◌, refl}
+use mathlib.Core.Path.{◌≡◌}
 use mathlib.Core.Bool.{false}
 use Prim.Native.Nat.{◌-◌}
-use lib.ListN.{length, length-set}
-use Rattle.report.proofs.RuleLaws.{RulesTo, rules_none, rule_room, rules_next}
-use Rattle.making.proofs.MadeLaws.{EndsTo, ends_none, ends_next, ends_all}
+use lib.ListN.{length}
+use Rattle.report.proofs.RuleLaws.{RulesTo}
+use Rattle.making.proofs.MadeLaws.{EndsTo}
 use Rattle.making.proofs.rule_ends.Given as goal
 
 abbrev pub invariant-loop-r : goal.invariant-loop-r

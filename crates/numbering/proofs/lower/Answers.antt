@@ -1,5 +1,4 @@
 -- `lower` meets its contract. Assumes nothing.
-use borrow.Author.Rules.{rules}
 use Rattle.numbering.proofs.Lowest.{lower_first, lower_second, lower_right, lower_left}
 use Rattle.numbering.proofs.lower.Goals as goal
 

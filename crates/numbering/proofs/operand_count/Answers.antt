@@ -1,5 +1,4 @@
 -- `operand_count` meets its contract. Assumes nothing.
-use borrow.Author.Rules.{rules}
 use Rattle.numbering.proofs.Codes.{no_form, leaf_count, unary_count, binary_count, quantified_count, coll_count, late_is}
 use Rattle.numbering.proofs.operand_count.Goals as goal
 

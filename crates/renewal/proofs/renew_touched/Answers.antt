@@ -3,7 +3,6 @@ use Prim.Native.Nat.{ℕ}
 use native.Mathlib.Omega.{arith}
 use lib.ListN.{length-replicate}
 use Rattle.renewal.proofs.RenewalLaws.{few_rules, rising_by, fresh_rising, some_placing, renewed_written, renewed_short}
-use borrow.Author.Rules.{rules}
 use Rattle.renewal.proofs.renew_touched.Goals as goal
 
 pub place-requires : goal.place-requires

@@ -5,7 +5,6 @@ use Rattle.sheet.specs.Text.{fields_of}
 use Rattle.text.specs.Words.{byte_kind, only_byte}
 use Rattle.text.proofs.PartLaws.{counted_some}
 use Rattle.replay.proofs.EditLineLaws.{value_letter, not_value}
-use borrow.Author.Rules.{rules}
 use Rattle.replay.proofs.edit_line.Goals as goal
 
 pub field-requires : goal.field-requires

@@ -2,7 +2,6 @@
 use native.Mathlib.Omega.{arith}
 use mathlib.Core.List.{[]}
 use Rattle.replay.proofs.EditSlotLaws.{spelled_judged, lying_emptied, edit_refused, edit_full, edit_made}
-use borrow.Author.Rules.{rules}
 use Rattle.replay.proofs.edit_slots.Goals as goal
 
 pub replay-requires : goal.replay-requires

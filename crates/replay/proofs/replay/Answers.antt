@@ -4,7 +4,6 @@ use Prim.Native.Nat.{zero-le}
 use mathlib.Core.List.{[]}
 use Rattle.replay.proofs.TakingLaws.{after_low}
 use Rattle.replay.proofs.ReplayLaws.{lying_slots, lying_own, replay_many, replay_first, replay_own, replay_last}
-use borrow.Author.Rules.{rules}
 use Rattle.replay.proofs.replay.Goals as goal
 
 pub returns-then-n-gt-MOST_SLOTS : goal.returns-then-n-gt-MOST_SLOTS

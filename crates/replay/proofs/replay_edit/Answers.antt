@@ -2,7 +2,6 @@
 use native.Mathlib.Omega.{arith}
 use lib.Seq.{length-take-le}
 use Rattle.replay.proofs.EditLineLaws.{no_feed, two_lines, one_line_lem}
-use borrow.Author.Rules.{rules}
 use Rattle.replay.proofs.replay_edit.Goals as goal
 
 pub returns-then-line-e : goal.returns-then-line-e

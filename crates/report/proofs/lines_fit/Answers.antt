@@ -1,5 +1,4 @@
 -- `lines_fit` meets its contract. Assumes nothing.
-use borrow.Author.Rules.{rules}
 use Rattle.report.proofs.SheetLaws.{tells_length, tells_bound}
 use Rattle.report.proofs.lines_fit.Goals as goal
 

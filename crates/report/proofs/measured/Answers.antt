@@ -1,5 +1,4 @@
 -- `measured` meets its contract. Assumes nothing.
-use borrow.Author.Rules.{rules}
 use Rattle.report.proofs.SheetLaws.{counted_room, measures}
 use Rattle.report.proofs.measured.Goals as goal
 

@@ -1,5 +1,4 @@
 -- `origins_sheet` meets its contract. Assumes nothing.
-use borrow.Author.Rules.{rules}
 use Rattle.report.proofs.SheetLaws.{as_origins}
 use Rattle.report.proofs.origins_sheet.Goals as goal
 

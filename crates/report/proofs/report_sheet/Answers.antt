@@ -1,5 +1,4 @@
 -- `report_sheet` meets its contract. Assumes nothing.
-use borrow.Author.Rules.{rules}
 use Rattle.report.proofs.SheetLaws.{as_report}
 use Rattle.report.proofs.report_sheet.Goals as goal
 

@@ -1,6 +1,5 @@
 -- `put_opening` meets its contract. Assumes nothing.
 use native.Mathlib.Omega.{arith}
-use borrow.Author.Rules.{rules}
 use Rattle.text.proofs.WrittenLaws.{puts_then}
 use Rattle.spelling.proofs.put_opening.Goals as goal
 

@@ -1,7 +1,6 @@
 -- `put_simple` meets its contract. Assumes nothing.
 use mathlib.Core.Path.{ap}
 use native.Mathlib.Omega.{arith}
-use borrow.Author.Rules.{rules}
 use lib.ListN.{length}
 use Rattle.text.proofs.WrittenLaws.{puts_as, puts_then}
 use Rattle.spelling.proofs.LeafLaws.{bool_room, integer_room, real_room, object_room, bool_puts, integer_puts, real_puts, object_puts}

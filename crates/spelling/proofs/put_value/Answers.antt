@@ -1,7 +1,6 @@
 -- `put_value` meets its contract. Assumes nothing.
 use lib.Seq.{length-take-le}
 use Rattle.spelling.proofs.CellLaws.{stands_last}
-use borrow.Author.Rules.{rules}
 use Rattle.spelling.proofs.put_value.Goals as goal
 
 pub slice_bounds-put_next-end : goal.slice_bounds-put_next-end

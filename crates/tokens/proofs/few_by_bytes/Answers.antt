@@ -1,9 +1,5 @@
 -- `few_by_bytes` meets its contract: what is left of the text tells what the whole does.
-use Prim.Native.Nat.{◌-◌}
-use native.Mathlib.Omega.{arith}
-use lib.ListN.{length}
-use borrow.Author.Rules.{rules}
-use Rattle.tokens.proofs.ScanLaws.{BytesLeft, bytes_begin, bytes_over, bytes_next, bytes_end}
+use Rattle.tokens.proofs.ScanLaws.{bytes_begin, bytes_over, bytes_next, bytes_end}
 use Rattle.tokens.proofs.few_by_bytes.Goals as goal
 
 pub loop-i-init : goal.loop-i-init

@@ -1,10 +1,7 @@
 -- `few_open` meets its contract: few are open by bytes, or what is left of the text tells what the whole does. Assumes nothing.
-use mathlib.Core.Path.{sym, ◌∙◌}
 use Prim.Native.Nat.{◌-◌}
 use lib.ListN.{length}
-use borrow.Author.Rules.{rules}
-use Rattle.tokens.proofs.BracketLaws.{FewLeft, few_begin, too_many, few_next, few_end, few_less}
-use Rattle.tokens.proofs.ByteLaws.{bytes_few}
+use Rattle.tokens.proofs.BracketLaws.{FewLeft}
 use Rattle.tokens.proofs.few_open.Given as goal
 
 abbrev pub invariant-loop-t : goal.invariant-loop-t

@@ -1,6 +1,5 @@
 -- `label` meets its contract. Assumes nothing.
 use Rattle.tokens.proofs.LabelLaws.{label_none, label_other, label_here}
-use borrow.Author.Rules.{rules}
 use Rattle.tokens.proofs.label.Goals as goal
 
 pub returns-then-a-e : goal.returns-then-a-e

@@ -1,6 +1,5 @@
 -- `next_token` meets its contract. Assumes nothing.
 use Rattle.tokens.proofs.TokenLaws.{next_none, next_one}
-use borrow.Author.Rules.{rules}
 use Rattle.tokens.proofs.next_token.Goals as goal
 
 pub token_end-end-requires : goal.token_end-end-requires

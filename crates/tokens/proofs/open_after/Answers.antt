@@ -1,6 +1,5 @@
 -- `open_after` meets its contract. Assumes nothing.
 use Rattle.tokens.proofs.BracketLaws.{opens_one, closes_none, closes_one, neither}
-use borrow.Author.Rules.{rules}
 use Rattle.tokens.proofs.open_after.Goals as goal
 
 pub returns-in-31 : goal.returns-in-31

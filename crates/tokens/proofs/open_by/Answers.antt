@@ -1,5 +1,4 @@
 -- `open_by` meets its contract.
-use borrow.Author.Rules.{rules}
 use Rattle.tokens.proofs.ScanLaws.{opening, closing_none, closing, of_if, of_f, of_other}
 use Rattle.tokens.proofs.open_by.Goals as goal
 

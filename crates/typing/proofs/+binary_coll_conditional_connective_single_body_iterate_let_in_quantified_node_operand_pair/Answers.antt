@@ -6,7 +6,6 @@ use Rattle.typing.proofs.NodeTypings.{in_env, iter_rest_lem, iter_source, iter_s
 use Rattle.judgements.proofs.FormTypes.{below_yes, below_no}
 use Rattle.typing.specs.Tables.{body_at, single_at}
 use mathlib.Core.Option.{some}
-use Prim.Native.Nat.{◌-◌}
 use native.Mathlib.Omega.{arith}
 use Rattle.types.specs.Flat.{joined_type, ty_of}
 use Rattle.typing.proofs.Members.{assemble_over, left_all, left_refused, left_next, left_done}

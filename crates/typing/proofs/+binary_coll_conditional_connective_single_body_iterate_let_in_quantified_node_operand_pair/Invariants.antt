@@ -1,6 +1,6 @@
 -- The measures of the recursion: the node's number falls, and within a node the gate for operands stands below its callers.
 use Prim.Native.Nat.{◌+◌, ◌*◌, ◌-◌}
-use mathlib.Core.Path.{◌≡◌, ap}
+use mathlib.Core.Path.{◌≡◌}
 use lib.ListN.{length}
 use Rattle.ocl.specs.Model.{Schema}
 use Rattle.types.specs.Flat.{joined_type}

@@ -2,7 +2,6 @@
 use Rattle.opening.proofs.Answers.{still_lent}
 use Rattle.opening.proofs.Readings.{known_on}
 use Rattle.answering.proofs.EditCalls.{edit_given, edit_stopped}
-use borrow.Author.Rules.{rules}
 use Rattle.answering.proofs.edit.edit_answer.Goals as goal
 
 pub edit_on-requires : goal.edit_on-requires

@@ -1,6 +1,5 @@
 -- `edit_ended` meets its contract. Assumes nothing.
 use Rattle.answering.proofs.EditCalls.{edit_written, edit_refused}
-use borrow.Author.Rules.{rules}
 use Rattle.answering.proofs.edit.edit_ended.Goals as goal
 
 pub returns-in-Written : goal.returns-in-Written

@@ -1,6 +1,5 @@
 -- `edit_on` meets its contract. Assumes nothing.
 use Rattle.answering.proofs.EditCalls.{edits_on}
-use borrow.Author.Rules.{rules}
 use Rattle.answering.proofs.edit.edit_on.Goals as goal
 
 pub returns : goal.returns

@@ -1,5 +1,4 @@
 -- `evaluate_answer` meets its contract. Assumes nothing.
-use borrow.Author.Rules.{rules}
 use Rattle.opening.proofs.Answers.{still_lent}
 use Rattle.opening.proofs.Readings.{known_on, leaves_on, leaves_stop}
 use Rattle.answering.proofs.evaluate.evaluate_answer.Goals as goal

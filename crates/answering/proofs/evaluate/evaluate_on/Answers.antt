@@ -1,5 +1,4 @@
 -- `evaluate_on` meets its contract. Assumes nothing.
-use borrow.Author.Rules.{rules}
 use native.Mathlib.Omega.{arith}
 use Rattle.tables.proofs.Tables.{kept_refl}
 use Rattle.answering.proofs.EvaluateCalls.{no_rule, no_object, other_class}

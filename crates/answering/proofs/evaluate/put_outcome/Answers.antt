@@ -1,5 +1,4 @@
 -- `put_outcome` meets its contract.
-use borrow.Author.Rules.{rules}
 use native.Mathlib.Omega.{arith}
 use lib.ListN.{length}
 use Rattle.answering.proofs.OutcomeLaws.{value_fits, gives_value, gives_undefined, gives_stuck, gives_stopped}

@@ -1,6 +1,5 @@
 -- `profile_answer` meets its contract. Assumes nothing.
 use mathlib.Core.Path.{refl}
-use borrow.Author.Rules.{rules}
 use Rattle.opening.proofs.Answers.{still_lent}
 use Rattle.opening.proofs.Readings.{known_on}
 use Rattle.answering.proofs.ReadCalls.{types_wait}

@@ -2,7 +2,6 @@
 use Rattle.opening.proofs.Answers.{still_lent}
 use Rattle.opening.proofs.Readings.{known_on}
 use Rattle.answering.proofs.MakeCalls.{make_given, make_stopped}
-use borrow.Author.Rules.{rules}
 use Rattle.answering.proofs.make.make_answer.Goals as goal
 
 pub make_on-requires : goal.make_on-requires

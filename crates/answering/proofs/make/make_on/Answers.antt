@@ -1,6 +1,5 @@
 -- `checker::make_board_call::make_on` meets its contract. Assumes nothing.
 use Rattle.answering.proofs.MakeCalls.{make_gives}
-use borrow.Author.Rules.{rules}
 use Rattle.answering.proofs.make.make_on.Goals as goal
 
 pub returns : goal.returns

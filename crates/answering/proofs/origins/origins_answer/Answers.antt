@@ -1,5 +1,4 @@
 -- `origins_answer` meets its contract. Assumes nothing.
-use borrow.Author.Rules.{rules}
 use Rattle.opening.proofs.Answers.{still_lent}
 use Rattle.opening.proofs.Readings.{known_on}
 use Rattle.answering.proofs.ReportCalls.{origins_given, origins_stopped}

@@ -1,5 +1,4 @@
 -- `origins_on` meets its contract. Assumes nothing.
-use borrow.Author.Rules.{rules}
 use Rattle.answering.proofs.ReportCalls.{origins_give}
 use Rattle.answering.proofs.origins.origins_on.Goals as goal
 

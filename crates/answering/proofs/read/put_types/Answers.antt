@@ -1,8 +1,5 @@
 -- `put_types` meets its contract. Assumes nothing.
-use Prim.Native.Nat.{◌-◌}
-use native.Mathlib.Omega.{arith}
-use borrow.Author.Rules.{rules}
-use Rattle.answering.proofs.ReadCalls.{LinesTo, lines_none, type_room, feed_room, lines_next, lines_all}
+use Rattle.answering.proofs.ReadCalls.{lines_none, type_room, feed_room, lines_next, lines_all}
 use Rattle.answering.proofs.read.put_types.Goals as goal
 
 pub loop-r-init : goal.loop-r-init

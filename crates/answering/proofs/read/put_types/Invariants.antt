@@ -1,8 +1,7 @@
 -- `put_types` meets its contract. Assumes nothing.
 use Prim.Native.Nat.{◌-◌}
-use native.Mathlib.Omega.{arith}
 use borrow.Author.Rules.{rules}
-use Rattle.answering.proofs.ReadCalls.{LinesTo, lines_none, type_room, feed_room, lines_next, lines_all}
+use Rattle.answering.proofs.ReadCalls.{LinesTo}
 use Rattle.answering.proofs.read.put_types.Given as goal
 
 abbrev pub invariant-loop-r : goal.invariant-loop-r

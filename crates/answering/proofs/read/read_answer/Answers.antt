@@ -1,5 +1,4 @@
 -- `read_answer` meets its contract. Assumes nothing.
-use borrow.Author.Rules.{rules}
 use Rattle.opening.proofs.Answers.{still_lent}
 use Rattle.opening.proofs.Readings.{leaves_stop}
 use Rattle.answering.proofs.ReadCalls.{types_wait, reads_types}

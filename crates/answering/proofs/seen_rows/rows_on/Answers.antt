@@ -1,5 +1,4 @@
 -- `rows_on` meets its contract. Assumes nothing.
-use borrow.Author.Rules.{rules}
 use Rattle.answering.proofs.RowsCalls.{rows_give}
 use Rattle.answering.proofs.seen_rows.rows_on.Goals as goal
 

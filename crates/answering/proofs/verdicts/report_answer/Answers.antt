@@ -1,5 +1,4 @@
 -- `report_answer` meets its contract. Assumes nothing.
-use borrow.Author.Rules.{rules}
 use Rattle.opening.proofs.Answers.{still_lent}
 use Rattle.opening.proofs.Readings.{known_on}
 use Rattle.answering.proofs.ReportCalls.{report_given, report_stopped}

@@ -1,5 +1,4 @@
 -- `report_on` meets its contract. Assumes nothing.
-use borrow.Author.Rules.{rules}
 use Rattle.answering.proofs.ReportCalls.{report_gives}
 use Rattle.answering.proofs.verdicts.report_on.Goals as goal
 

@@ -1,6 +1,5 @@
 -- `ocl_edit_board` meets its contract. Assumes nothing.
 use Rattle.checker.proofs.BoardCalls.{board_lent, edit_wide, edit_short, edit_long}
-use borrow.Author.Rules.{rules}
 use Rattle.checker.proofs.edit_board_call.ocl_edit_board.Goals as goal
 
 pub returns-then-short_board : goal.returns-then-short_board

@@ -1,5 +1,4 @@
 -- `ocl_evaluate_rule` meets its contract.
-use borrow.Author.Rules.{rules}
 use Rattle.sheet.specs.Calls.{evaluate_call}
 use Rattle.opening.proofs.Answers.{all_lent, still_long, short_call, long_call}
 use Rattle.answering.proofs.EvaluateCalls.{evaluate_number}

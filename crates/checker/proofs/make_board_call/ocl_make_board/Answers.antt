@@ -1,7 +1,6 @@
 -- `checker::make_board_call::ocl_make_board` meets its contract. Assumes nothing.
 use Rattle.opening.proofs.Answers.{still_long}
 use Rattle.checker.proofs.BoardCalls.{board_lent, make_short, make_long}
-use borrow.Author.Rules.{rules}
 use Rattle.checker.proofs.make_board_call.ocl_make_board.Goals as goal
 
 pub returns-then-short_board : goal.returns-then-short_board

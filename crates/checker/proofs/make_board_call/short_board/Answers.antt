@@ -1,6 +1,5 @@
 -- `checker::make_board_call::short_board` meets its contract. Assumes nothing.
 use Rattle.checker.proofs.BoardCalls.{short_some, short_words_lem}
-use borrow.Author.Rules.{rules}
 use Rattle.checker.proofs.make_board_call.short_board.Goals as goal
 
 pub returns-then-short_lent : goal.returns-then-short_lent

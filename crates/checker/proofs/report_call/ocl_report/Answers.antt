@@ -1,5 +1,4 @@
 -- `ocl_report` meets its contract. Assumes nothing.
-use borrow.Author.Rules.{rules}
 use Rattle.sheet.specs.Report.{report_call}
 use Rattle.opening.proofs.Answers.{all_lent, still_long, short_call, long_call}
 use Rattle.answering.proofs.ReportCalls.{report_number}

@@ -1,5 +1,4 @@
 -- `class_line` meets its contract: one law for each refusal, and the class put into its table.
-use borrow.Author.Rules.{rules}
 use mathlib.Core.Path.{sym, ◌∙◌}
 use Rattle.tables.proofs.LineFields.{num_cut}
 use Rattle.declarations.proofs.TakenLaws.{unspelled, class_plain, spelled}

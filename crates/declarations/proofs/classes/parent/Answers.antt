@@ -1,5 +1,4 @@
 -- `parent` meets its contract: one law for each answer.
-use borrow.Author.Rules.{rules}
 use native.Mathlib.Omega.{arith}
 use mathlib.Core.Path.{sym, ◌∙◌}
 use Rattle.tables.proofs.LineFields.{num_cut}

@@ -1,5 +1,4 @@
 -- `put_class` meets its contract: one law for each answer.
-use borrow.Author.Rules.{rules}
 use Rattle.declarations.proofs.ClassLaws.{class_block, class_gap, class_unknown, class_put}
 use Rattle.declarations.proofs.classes.put_class.Goals as goal
 

@@ -1,5 +1,4 @@
 -- `definition_line` meets its contract: one law for each refusal, and the definition opened.
-use borrow.Author.Rules.{rules}
 use mathlib.Core.Path.{sym, ◌∙◌}
 use Rattle.sheet.specs.Spelling.{read_type}
 use Rattle.types.proofs.Within.{read_bad, read_big, read_is}

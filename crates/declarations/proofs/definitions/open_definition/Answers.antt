@@ -1,5 +1,4 @@
 -- `open_definition` meets its contract: one law for each answer.
-use borrow.Author.Rules.{rules}
 use Rattle.declarations.proofs.DefinitionLaws.{definition_big, definition_class_big, definition_block, definition_gap, definition_unknown, definition_unknown_type, definition_put}
 use Rattle.declarations.proofs.definitions.open_definition.Goals as goal
 

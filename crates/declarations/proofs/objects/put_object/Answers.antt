@@ -1,5 +1,4 @@
 -- `put_object` meets its contract: one law for each answer.
-use borrow.Author.Rules.{rules}
 use Rattle.declarations.proofs.ObjectLaws.{object_block, object_gap, object_unknown, object_put}
 use Rattle.declarations.proofs.objects.put_object.Goals as goal
 

@@ -1,5 +1,4 @@
 -- `read_pair` meets its contract: one law for each answer.
-use borrow.Author.Rules.{rules}
 use mathlib.Core.Path.{sym, ◌∙◌}
 use Rattle.declarations.proofs.PairLaws.{pair_count, pair_number, pair_class, pair_over, pair_over_class, pair_are}
 use Rattle.declarations.proofs.pairs.read_pair.Goals as goal

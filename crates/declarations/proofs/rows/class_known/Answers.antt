@@ -1,5 +1,4 @@
 -- `class_known` meets its contract: one law for each answer.
-use borrow.Author.Rules.{rules}
 use Rattle.declarations.proofs.KnownLaws.{known_without, known_class}
 use Rattle.declarations.proofs.rows.class_known.Goals as goal
 

@@ -1,13 +1,7 @@
 -- `declares` meets its contract. The loop's invariant: whether a row declares the name is told by the rows that are left.
 use native.Mathlib.Omega.{arith}
 use borrow.Author.Rules.{rules}
-use Prim.Native.Nat.{◌≤◌, ◌-◌}
-use mathlib.Core.Path.{◌≡◌, refl}
-use mathlib.Core.Logic.{⊎_elim}
-use lib.ListN.{drop}
-use Rattle.memory.specs.Map as memory
-use Rattle.tables.specs.Layout.{tab}
-use Rattle.declarations.specs.Fields.{named_in}
+use mathlib.Core.Path.{refl}
 use Rattle.declarations.proofs.KnownLaws.{declares_end, declares_here, declares_name, declares_owner}
 use Rattle.declarations.proofs.rows.declares.Goals as goal
 use Rattle.declarations.proofs.rows.declares.Goals.{then-w0-i+else-w0-i-2, else-w0-i}

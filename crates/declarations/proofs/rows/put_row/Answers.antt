@@ -1,5 +1,4 @@
 -- `put_row` meets its contract: one law for each answer.
-use borrow.Author.Rules.{rules}
 use native.Mathlib.Omega.{arith}
 use borrow.Author.Tests.{not-true, not-false}
 use lib.ListN.{length-set}

@@ -1,5 +1,4 @@
 -- `row_line` meets its contract: one law for each refusal, and the row put into its tables.
-use borrow.Author.Rules.{rules}
 use mathlib.Core.Path.{sym, ◌∙◌}
 use Rattle.sheet.specs.Spelling.{read_type}
 use Rattle.tables.proofs.LineFields.{num_cut}

@@ -1,5 +1,4 @@
 -- `rule_line` meets its contract: the fields' refusal, or what the line's numbers lead to.
-use borrow.Author.Rules.{rules}
 use mathlib.Core.Path.{sym, ◌∙◌}
 use lib.ListN.{drop}
 use Rattle.sheet.specs.Text.{fields_of}

@@ -1,6 +1,5 @@
 -- `evaluation::answers::arose` meets its contract. Assumes nothing.
 use mathlib.Core.Path.{sym, ap}
-use borrow.Author.Rules.{rules}
 use Rattle.outcomes.specs.declared.Ended.{Ended}
 use Rattle.evaluation.specs.Traces.{arisen}
 use Rattle.evaluation.proofs.answers.arose.Goals as goal

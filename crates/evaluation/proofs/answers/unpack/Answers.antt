@@ -1,5 +1,4 @@
 -- `evaluation::answers::unpack` meets its contract. Assumes nothing.
-use borrow.Author.Rules.{rules}
 use Rattle.evaluation.proofs.Packing.{in_value, in_undefined, in_stuck, in_stop}
 use Rattle.evaluation.proofs.answers.unpack.Goals as goal
 

@@ -1,6 +1,5 @@
 -- `evaluation::answers::untraced` meets its contract. Assumes nothing.
 use mathlib.Core.Path.{sym, ap}
-use borrow.Author.Rules.{rules}
 use Rattle.evaluation.specs.Traces.{without_place}
 use Rattle.evaluation.proofs.answers.untraced.Goals as goal
 

@@ -1,7 +1,6 @@
 -- `evaluation::rule::trace_rule` meets its contract. Assumes nothing.
 use native.Mathlib.Omega.{arith}
 use Rattle.evaluation.proofs.NodeLaws.{rule_done}
-use borrow.Author.Rules.{rules}
 use Rattle.evaluation.proofs.rule.trace_rule.Goals as goal
 
 pub returns : goal.returns

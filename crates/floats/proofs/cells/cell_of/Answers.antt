@@ -1,5 +1,4 @@
 -- `cell_of` meets its contract. Assumes nothing.
-use borrow.Author.Rules.{rules}
 use Rattle.floats.proofs.Storing.{float_number, bits_room, cell_plus, cell_minus}
 use Rattle.floats.proofs.cells.cell_of.Goals as goal
 

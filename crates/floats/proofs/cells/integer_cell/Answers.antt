@@ -1,6 +1,5 @@
 -- `integer_cell` meets its contract. Assumes nothing.
 use native.Mathlib.Omega.{arith}
-use borrow.Author.Rules.{rules}
 use Rattle.floats.proofs.Casting.{in_float_lem}
 use Rattle.floats.proofs.IntegerWords.{cast_number, cast_under, cast_room, cell_below, cell_above}
 use Rattle.floats.proofs.cells.integer_cell.Goals as goal

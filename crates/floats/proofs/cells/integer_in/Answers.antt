@@ -1,5 +1,4 @@
 -- `integer_in` meets its contract. Assumes nothing.
-use borrow.Author.Rules.{rules}
 use Rattle.floats.proofs.Holding.{plus_room, minus_room}
 use Rattle.floats.proofs.IntegerWords.{below_int, below_no, below_far, above_int, above_no, above_far}
 use Rattle.floats.proofs.cells.integer_in.Goals as goal

@@ -1,6 +1,5 @@
 -- `number_of` meets its contract. Assumes nothing.
 use native.Mathlib.Omega.{arith}
-use borrow.Author.Rules.{rules}
 use Rattle.reals.proofs.Bits.{no_nan}
 use Rattle.floats.proofs.Storing.{below_low, above_low, bits_finite, number_below, number_above, word_low, word_high}
 use Rattle.floats.proofs.cells.number_of.Goals as goal

@@ -1,5 +1,4 @@
 -- `calculate` meets its contract. Assumes nothing.
-use borrow.Author.Rules.{rules}
 use Rattle.floats.proofs.Settling.{plus_number, minus_number, times_number, over_number, does_plus, does_minus, does_times, does_over, does_undefined}
 use Rattle.floats.proofs.numbers.calculate.Goals as goal
 

@@ -1,5 +1,4 @@
 -- `float_of` meets its contract. Assumes nothing.
-use borrow.Author.Rules.{rules}
 use Rattle.floats.proofs.Casting.{int_narrow, of_int, of_real}
 use Rattle.floats.proofs.numbers.float_of.Goals as goal
 

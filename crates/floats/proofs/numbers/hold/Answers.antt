@@ -1,5 +1,4 @@
 -- `hold` meets its contract. Assumes nothing.
-use borrow.Author.Rules.{rules}
 use Rattle.reals.proofs.Bits.{finite_number}
 use Rattle.floats.proofs.Holding.{plus_room, minus_room, plus_int, minus_int, plus_no, plus_far, minus_no, minus_far}
 use Rattle.floats.proofs.numbers.hold.Goals as goal

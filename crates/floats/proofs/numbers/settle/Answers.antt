@@ -1,5 +1,4 @@
 -- `settle` meets its contract. Assumes nothing.
-use borrow.Author.Rules.{rules}
 use Rattle.floats.proofs.Settling.{over_plus, over_minus, not_infinite, settled_finite}
 use Rattle.floats.proofs.numbers.settle.Goals as goal
 

@@ -1,5 +1,4 @@
 -- `whole` meets its contract. Assumes nothing.
-use borrow.Author.Rules.{rules}
 use Rattle.floats.proofs.Wholes.{whole_zero, whole_below, whole_some, whole_none}
 use Rattle.floats.proofs.numbers.whole.Goals as goal
 

@@ -1,6 +1,5 @@
 -- `widen` meets its contract. Assumes nothing.
 use native.Mathlib.Omega.{arith}
-use borrow.Author.Rules.{rules}
 use Rattle.floats.proofs.Casting.{in_float_lem, widen_above, widen_below}
 use Rattle.floats.proofs.numbers.widen.Goals as goal
 

@@ -1,5 +1,4 @@
 -- `byte_of` meets its contract. Assumes nothing.
-use borrow.Author.Rules.{rules}
 use Rattle.reals.proofs.Digits.{byte_decimal, byte_letter}
 use Rattle.floats.proofs.spelling.byte_of.Goals as goal
 

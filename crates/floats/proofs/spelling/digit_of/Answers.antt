@@ -1,5 +1,4 @@
 -- `digit_of` meets its contract. Assumes nothing.
-use borrow.Author.Rules.{rules}
 use Rattle.floats.proofs.Reading.{value_decimal, value_letter, value_low, value_between, value_high}
 use Rattle.floats.proofs.spelling.digit_of.Goals as goal
 

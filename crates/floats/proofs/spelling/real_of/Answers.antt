@@ -1,5 +1,4 @@
 -- `real_of` meets its contract. Assumes nothing.
-use borrow.Author.Rules.{rules}
 use Rattle.floats.proofs.Reading.{bits_over, bits_number, bits_small, bits_int, bits_real}
 use Rattle.floats.proofs.spelling.real_of.Goals as goal
 

@@ -1,8 +1,6 @@
 -- `spell_real` meets its contract: the digits still to be written and those behind them are all digits. Assumes nothing.
 use lib.Ieee.{binary64, to_bits}
-use borrow.Author.Rules.{rules}
-use Rattle.reals.proofs.Bits.{finite_number}
-use Rattle.floats.proofs.Writing.{Behind, none_yet, low_digit, one_more, all_written}
+use Rattle.floats.proofs.Writing.{Behind}
 use Rattle.floats.proofs.spelling.spell_real.Given as goal
 
 abbrev pub invariant-loop-k : goal.invariant-loop-k

@@ -1,4 +1,4 @@
--- `is_digit_lem` meets its contract.
+-- `is_digit` meets its contract.
 use Rattle.sheet.specs.Text.{is_digit}
 use borrow.Author.Tests.{le-leb, lt-leb}
 use Rattle.importer.proofs.leaves.is_digit.Goals as goal

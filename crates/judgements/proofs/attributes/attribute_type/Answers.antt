@@ -1,7 +1,6 @@
 -- `attribute_type` meets its contract. Assumes nothing.
 use Rattle.ocl.specs.Marks.{of_row}
 use Rattle.judgements.proofs.AttributeRows.{attribute_not, attribute_row, row_word}
-use borrow.Author.Rules.{rules}
 use Rattle.judgements.proofs.attributes.attribute_type.Goals as goal
 
 pub returns-in_default : goal.returns-in_default

@@ -1,8 +1,7 @@
--- `row_type_lem` meets its contract. Assumes nothing.
+-- `row_type` meets its contract. Assumes nothing.
 use Prim.Native.Nat.{◌<◌}
 use native.Mathlib.Omega.{arith}
 use Rattle.judgements.proofs.AttributeRows.{row_small, no_row_lem, row_at}
-use borrow.Author.Rules.{rules}
 use Rattle.judgements.proofs.attributes.row_type.Goals as goal
 
 pub returns-in_default : goal.returns-in_default

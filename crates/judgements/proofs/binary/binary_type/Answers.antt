@@ -1,11 +1,9 @@
 -- `binary_type` meets its contract. Assumes nothing.
-use mathlib.Core.Logic.{⊎_elim}
 use mathlib.Core.Path.{refl}
 use native.Mathlib.Omega.{arith}
 use Rattle.ocl.specs.Types.{Boolean}
 use Rattle.ocl.specs.Typing.{scale_type}
 use Rattle.judgements.proofs.Binaries.{equal_binary, less_binary, arith_binary, divide_binary, over_binary, includes_binary, including_binary, union_binary}
-use borrow.Author.Rules.{rules}
 use Rattle.judgements.proofs.binary.binary_type.Goals as goal
 use Rattle.judgements.proofs.binary.binary_type.Goals.{in_default-via-then-form-lt13, in_default-via-else-form-lt13+else-form-lt18+else-form-lt20}
 

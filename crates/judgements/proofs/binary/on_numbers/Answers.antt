@@ -1,6 +1,5 @@
 -- `on_numbers` meets its contract. Assumes nothing.
 use Rattle.judgements.proofs.Numbers.{by_integers, by_reals, no_numbers}
-use borrow.Author.Rules.{rules}
 use Rattle.judgements.proofs.binary.on_numbers.Goals as goal
 
 pub returns-then-both_under : goal.returns-then-both_under

@@ -1,5 +1,5 @@
 -- `bind` meets its contract. Assumes nothing.
-use Rattle.judgements.proofs.Environments.{sixteen, env_set}
+use Rattle.judgements.proofs.Environments.{env_set}
 use borrow.Author.Rules.{rules}
 use Rattle.judgements.proofs.environment.bind.Goals as goal
 

@@ -1,6 +1,5 @@
 -- `bound` meets its contract. Assumes nothing.
 use Rattle.judgements.proofs.Environments.{is_bound, is_free}
-use borrow.Author.Rules.{rules}
 use Rattle.judgements.proofs.environment.bound.Goals as goal
 
 pub returns-then-env-i : goal.returns-then-env-i

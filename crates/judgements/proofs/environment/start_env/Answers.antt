@@ -1,6 +1,5 @@
 -- `start_env` meets its contract. Assumes nothing.
 use Rattle.judgements.proofs.Environments.{start_env}
-use borrow.Author.Rules.{rules}
 use Rattle.judgements.proofs.environment.start_env.Goals as goal
 
 pub returns : goal.returns

@@ -1,6 +1,5 @@
 -- `around_common` meets its contract. Assumes nothing.
 use Rattle.judgements.proofs.Joins.{joined_yes, joined_no}
-use borrow.Author.Rules.{rules}
 use Rattle.judgements.proofs.forms.around_common.Goals as goal
 
 pub returns-in_default : goal.returns-in_default

@@ -1,6 +1,5 @@
--- `both_below_lem` meets its contract. Assumes nothing.
+-- `both_below` meets its contract. Assumes nothing.
 use Rattle.judgements.proofs.FormTypes.{both_yes, both_no}
-use borrow.Author.Rules.{rules}
 use Rattle.judgements.proofs.forms.both_below.Goals as goal
 
 pub returns-then-both_under : goal.returns-then-both_under

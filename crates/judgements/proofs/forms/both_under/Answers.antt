@@ -1,6 +1,5 @@
 -- `both_under` meets its contract. Assumes nothing.
 use Rattle.judgements.proofs.FormTypes.{under_both, under_none}
-use borrow.Author.Rules.{rules}
 use Rattle.judgements.proofs.forms.both_under.Goals as goal
 
 pub returns-then-subtype : goal.returns-then-subtype

@@ -1,7 +1,6 @@
 -- `call_type` meets its contract. Assumes nothing.
 use mathlib.Core.Path.{sym, ◌∙◌}
 use Rattle.judgements.proofs.CallTypes.{call_other, call_in, call_out}
-use borrow.Author.Rules.{rules}
 use Rattle.judgements.proofs.forms.call_type.Goals as goal
 
 pub returns-in_default : goal.returns-in_default

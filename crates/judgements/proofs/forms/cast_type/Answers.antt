@@ -1,7 +1,6 @@
 -- `cast_type` meets its contract. Assumes nothing.
 use mathlib.Core.Path.{sym, ◌∙◌}
 use Rattle.judgements.proofs.FormTypes.{cast_any, cast_other, cast_up, cast_down, cast_apart}
-use borrow.Author.Rules.{rules}
 use Rattle.judgements.proofs.forms.cast_type.Goals as goal
 
 pub returns-then-is_any : goal.returns-then-is_any

@@ -1,6 +1,5 @@
 -- `common_type` meets its contract. Assumes nothing.
 use Rattle.judgements.proofs.FormTypes.{common_yes, common_no}
-use borrow.Author.Rules.{rules}
 use Rattle.judgements.proofs.forms.common_type.Goals as goal
 
 pub returns-in_default : goal.returns-in_default

@@ -1,6 +1,5 @@
 -- `comparable` meets its contract. Assumes nothing.
 use Rattle.judgements.proofs.FormTypes.{common_yes, common_no}
-use borrow.Author.Rules.{rules}
 use Rattle.judgements.proofs.forms.comparable.Goals as goal
 
 pub returns-in_default : goal.returns-in_default

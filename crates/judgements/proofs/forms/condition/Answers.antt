@@ -1,7 +1,6 @@
 -- `condition` meets its contract. Assumes nothing.
 use mathlib.Core.Path.{sym, ◌∙◌}
 use Rattle.judgements.proofs.FormTypes.{condition_yes, condition_no}
-use borrow.Author.Rules.{rules}
 use Rattle.judgements.proofs.forms.condition.Goals as goal
 
 pub returns-then-subtype : goal.returns-then-subtype

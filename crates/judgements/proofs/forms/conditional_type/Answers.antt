@@ -1,7 +1,6 @@
 -- `conditional_type` meets its contract. Assumes nothing.
 use mathlib.Core.Path.{sym, ◌∙◌}
 use Rattle.judgements.proofs.FormTypes.{choice_yes, choice_no}
-use borrow.Author.Rules.{rules}
 use Rattle.judgements.proofs.forms.conditional_type.Goals as goal
 
 pub returns-then-subtype : goal.returns-then-subtype

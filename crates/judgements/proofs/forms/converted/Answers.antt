@@ -3,7 +3,6 @@ use mathlib.Core.Path.{ap, ◌∙◌}
 use Rattle.judgements.proofs.FormTypes.{no_members, on_members}
 use Rattle.types.specs.Flat.{letter_of}
 use Rattle.ocl.specs.Typing.{wrap}
-use borrow.Author.Rules.{rules}
 use Rattle.judgements.proofs.forms.converted.Goals as goal
 
 pub returns-then-outer_code-eq0 : goal.returns-then-outer_code-eq0

@@ -1,6 +1,5 @@
 -- `includes_type` meets its contract. Assumes nothing.
 use Rattle.judgements.proofs.FormTypes.{includes_no, includes_yes}
-use borrow.Author.Rules.{rules}
 use Rattle.judgements.proofs.forms.includes_type.Goals as goal
 
 pub returns-then-outer_code-eq0 : goal.returns-then-outer_code-eq0

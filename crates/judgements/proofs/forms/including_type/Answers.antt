@@ -1,6 +1,5 @@
 -- `including_type` meets its contract. Assumes nothing.
 use Rattle.judgements.proofs.FormTypes.{common_of, including_no, including_yes}
-use borrow.Author.Rules.{rules}
 use Rattle.judgements.proofs.forms.including_type.Goals as goal
 
 pub returns-then-code-le-COLLECTION : goal.returns-then-code-le-COLLECTION

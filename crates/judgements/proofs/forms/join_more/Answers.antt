@@ -1,6 +1,5 @@
 -- `join_more` meets its contract. Assumes nothing.
 use Rattle.judgements.proofs.Joins.{more_none, more_some}
-use borrow.Author.Rules.{rules}
 use Rattle.judgements.proofs.forms.join_more.Goals as goal
 
 pub returns-in_default : goal.returns-in_default

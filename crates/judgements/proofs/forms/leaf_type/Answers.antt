@@ -1,4 +1,4 @@
--- `leaf_type_lem` meets its contract. Assumes nothing.
+-- `leaf_type` meets its contract. Assumes nothing.
 use mathlib.Core.Path.{ap, ◌∙◌}
 use native.Mathlib.Omega.{arith}
 use Rattle.judgements.proofs.FormTypes.{leaf_truth, leaf_void, leaf_number, leaf_self, leaf_var, leaf_all}
@@ -7,7 +7,6 @@ use Rattle.ocl.specs.Types.{around, exactly, set, Class}
 use Rattle.judgements.specs.Replies.{env_of}
 use Prim.Native.Nat.{ℕ, ◌%◌}
 use Rattle.nodes.specs.Nodes.{class_in}
-use borrow.Author.Rules.{rules}
 use Rattle.judgements.proofs.forms.leaf_type.Goals as goal
 
 pub returns-in-2 : goal.returns-in-2

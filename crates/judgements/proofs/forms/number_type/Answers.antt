@@ -1,6 +1,5 @@
 -- `number_type` meets its contract. Assumes nothing.
 use Rattle.judgements.proofs.Numbers.{number_int, number_real}
-use borrow.Author.Rules.{rules}
 use Rattle.judgements.proofs.forms.number_type.Goals as goal
 
 pub returns-in-Integer : goal.returns-in-Integer

@@ -1,6 +1,5 @@
 -- `size_type` meets its contract. Assumes nothing.
 use Rattle.judgements.proofs.FormTypes.{no_members, on_members}
-use borrow.Author.Rules.{rules}
 use Rattle.judgements.proofs.forms.size_type.Goals as goal
 
 pub returns-then-outer_code-eq0 : goal.returns-then-outer_code-eq0

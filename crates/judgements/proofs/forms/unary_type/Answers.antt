@@ -1,13 +1,11 @@
--- `unary_type_lem` meets its contract. Assumes nothing.
+-- `unary_type` meets its contract. Assumes nothing.
 use mathlib.Core.Path.{ap, ◌∙◌}
-use mathlib.Core.Logic.{⊎_elim}
 use native.Mathlib.Omega.{arith}
 use Rattle.judgements.proofs.FormTypes.{unary_not, unary_size, unary_convert, unary_cast}
 use Prim.Native.Nat.{ℕ}
 use Rattle.types.specs.Flat.{ty_of}
 use Rattle.ocl.specs.Typing.{cast_type}
 use Rattle.nodes.specs.Nodes.{class_in}
-use borrow.Author.Rules.{rules}
 use Rattle.judgements.proofs.forms.unary_type.Goals as goal
 
 pub returns-in-7 : goal.returns-in-7

@@ -1,6 +1,5 @@
 -- `union_type` meets its contract. Assumes nothing.
 use Rattle.judgements.proofs.FormTypes.{common_of, union_no, union_other, union_yes}
-use borrow.Author.Rules.{rules}
 use Rattle.judgements.proofs.forms.union_type.Goals as goal
 
 pub returns-then-code-le-COLLECTION : goal.returns-then-code-le-COLLECTION

@@ -1,6 +1,5 @@
 -- `wrapped` meets its contract. Assumes nothing.
 use Rattle.judgements.proofs.FormTypes.{wrap_yes, wrap_no}
-use borrow.Author.Rules.{rules}
 use Rattle.judgements.proofs.forms.wrapped.Goals as goal
 
 pub returns-then-depth-le2 : goal.returns-then-depth-le2

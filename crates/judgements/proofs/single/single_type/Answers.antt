@@ -1,6 +1,5 @@
 -- `single_type` meets its contract. Assumes nothing.
 use Rattle.judgements.proofs.Singles.{undef_single, attribute_single, collect_single, call_single, unary_single}
-use borrow.Author.Rules.{rules}
 use Rattle.judgements.proofs.single.single_type.Goals as goal
 
 pub returns-in-30 : goal.returns-in-30

@@ -1,7 +1,5 @@
 -- `can_stand` meets its contract. Assumes nothing.
-use Prim.Native.Nat.{◌-◌}
-use Rattle.moves.proofs.PlaceLaws.{StandTo, stand_none, falls, stand_next, told_end}
-use borrow.Author.Rules.{rules}
+use Rattle.moves.proofs.PlaceLaws.{stand_none, falls, stand_next, told_end}
 use Rattle.moves.proofs.ends.can_stand.Goals as goal
 
 pub loop-r-init : goal.loop-r-init

@@ -1,7 +1,6 @@
 -- `can_stand` meets its contract. Assumes nothing.
 use Prim.Native.Nat.{◌-◌}
-use Rattle.moves.proofs.PlaceLaws.{StandTo, stand_none, falls, stand_next, told_end}
-use borrow.Author.Rules.{rules}
+use Rattle.moves.proofs.PlaceLaws.{StandTo}
 use Rattle.moves.proofs.ends.can_stand.Given as goal
 
 abbrev pub invariant-loop-r : goal.invariant-loop-r

@@ -1,6 +1,5 @@
 -- `start_of` meets its contract. Assumes nothing.
 use Rattle.moves.proofs.JoinedLaws.{start_first, start_later}
-use borrow.Author.Rules.{rules}
 use Rattle.moves.proofs.ends.start_of.Goals as goal
 
 pub returns-then-r-eq0 : goal.returns-then-r-eq0

@@ -1,6 +1,5 @@
 -- `staying_size` meets its contract. Assumes nothing.
 use Rattle.moves.proofs.JoinedLaws.{no_size, some_size}
-use borrow.Author.Rules.{rules}
 use Rattle.moves.proofs.ends.staying_size.Goals as goal
 
 pub returns-then-has_bit : goal.returns-then-has_bit

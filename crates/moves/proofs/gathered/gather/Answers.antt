@@ -1,8 +1,6 @@
 -- `gather` meets its contract. Assumes nothing.
-use Prim.Native.Nat.{◌-◌}
-use Rattle.rows.specs.Bits.{bit}
 use native.Mathlib.Omega.{arith}
-use Rattle.moves.proofs.GatherLaws.{GatheredTo, gathered_none, starts_below, gather_left, gather_within, gather_next, gather_end}
+use Rattle.moves.proofs.GatherLaws.{gathered_none, starts_below, gather_left, gather_within, gather_next, gather_end}
 use borrow.Author.Rules.{rules}
 use Rattle.moves.proofs.gathered.gather.Goals as goal
 

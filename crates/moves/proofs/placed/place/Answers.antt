@@ -1,7 +1,5 @@
 -- `place` meets its contract. Assumes nothing.
-use Prim.Native.Nat.{◌-◌}
-use Rattle.rows.specs.Bits.{bit}
-use Rattle.moves.proofs.PlaceLaws.{PlacedTo, placed_none, long_by_old, long_by_new, placed_next, placed_all}
+use Rattle.moves.proofs.PlaceLaws.{placed_none, long_by_old, long_by_new, placed_next, placed_all}
 use borrow.Author.Rules.{rules}
 use Rattle.moves.proofs.placed.place.Goals as goal
 

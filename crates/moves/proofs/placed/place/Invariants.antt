@@ -1,8 +1,7 @@
 -- `place` meets its contract. Assumes nothing.
 use Prim.Native.Nat.{◌-◌}
 use Rattle.rows.specs.Bits.{bit}
-use Rattle.moves.proofs.PlaceLaws.{PlacedTo, placed_none, long_by_old, long_by_new, placed_next, placed_all}
-use borrow.Author.Rules.{rules}
+use Rattle.moves.proofs.PlaceLaws.{PlacedTo}
 use Rattle.moves.proofs.placed.place.Given as goal
 
 abbrev pub invariant-loop-r : goal.invariant-loop-r

@@ -1,7 +1,5 @@
 -- `shift_left` meets its contract. Assumes nothing.
-use Prim.Native.Nat.{◌-◌}
-use Rattle.moves.proofs.ShiftLaws.{ShiftedTo, shifted_none, shifted_next, shifted_all}
-use borrow.Author.Rules.{rules}
+use Rattle.moves.proofs.ShiftLaws.{shifted_none, shifted_next, shifted_all}
 use Rattle.moves.proofs.shifted.shift_left.Goals as goal
 
 pub loop-i-init : goal.loop-i-init

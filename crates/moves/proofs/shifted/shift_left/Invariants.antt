@@ -1,7 +1,6 @@
 -- `shift_left` meets its contract. Assumes nothing.
 use Prim.Native.Nat.{◌-◌}
-use Rattle.moves.proofs.ShiftLaws.{ShiftedTo, shifted_none, shifted_next, shifted_all}
-use borrow.Author.Rules.{rules}
+use Rattle.moves.proofs.ShiftLaws.{ShiftedTo}
 use Rattle.moves.proofs.shifted.shift_left.Given as goal
 
 abbrev pub invariant-loop-i : goal.invariant-loop-i

@@ -1,6 +1,5 @@
 -- `shift_right` meets its contract. Assumes nothing.
-use Rattle.moves.proofs.ShiftLaws.{ShiftedFrom, moved_none, moved_next, moved_all}
-use borrow.Author.Rules.{rules}
+use Rattle.moves.proofs.ShiftLaws.{moved_none, moved_next, moved_all}
 use Rattle.moves.proofs.shifted.shift_right.Goals as goal
 
 pub loop-i-init : goal.loop-i-init

@@ -1,5 +1,4 @@
 -- `enters` meets its contract. Assumes nothing.
-use borrow.Author.Rules.{rules}
 use Rattle.numbering.proofs.Codes.{enters_let, enters_code}
 use Rattle.numbering.proofs.forms.enters.Goals as goal
 

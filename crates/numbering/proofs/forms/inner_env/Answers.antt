@@ -1,5 +1,4 @@
 -- `inner_env` meets its contract. Assumes nothing.
-use borrow.Author.Rules.{rules}
 use Rattle.numbering.proofs.Codes.{inner_let, inner_iter, inner_member}
 use Rattle.numbering.proofs.forms.inner_env.Goals as goal
 

@@ -1,5 +1,4 @@
 -- `is_outside` meets its contract. Assumes nothing.
-use borrow.Author.Rules.{rules}
 use Rattle.numbering.proofs.Findings.{own_as_sequence, own_iter, own_looks, own_not}
 use Rattle.numbering.proofs.forms.is_outside.Goals as goal
 

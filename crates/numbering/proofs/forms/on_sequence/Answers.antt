@@ -1,5 +1,4 @@
 -- `on_sequence` meets its contract. Assumes nothing.
-use borrow.Author.Rules.{rules}
 use Rattle.numbering.proofs.Findings.{on_refused, on_typed}
 use Rattle.numbering.proofs.forms.on_sequence.Goals as goal
 

@@ -2,7 +2,6 @@ use native.Mathlib.Omega.{arith}
 use borrow.Author.Rules.{rules}
 use Rattle.numbering.proofs.Findings.{body_refused, body_passed, body_found, node_found, operand_late, operand_found, left_all, left_next, left_done, scope_called, scope_bound, scope_none}
 use mathlib.Core.Path.{refl}
-use Prim.Native.Nat.{◌-◌}
 use Rattle.numbering.proofs.walk.+body_node_operand_operands_scope.Goals as goal
 
 pub body-returns-in_default : goal.body-returns-in_default

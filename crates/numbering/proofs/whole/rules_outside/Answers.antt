@@ -1,9 +1,7 @@
 -- `rules_outside` meets its contract. Assumes nothing.
 use mathlib.Core.Path.{refl}
-use Prim.Native.Nat.{◌-◌}
-use native.Mathlib.Omega.{arith}
 use borrow.Author.Rules.{rules}
-use Rattle.numbering.proofs.Roots.{low_context, low_root, Going, none_gone, one_gone, all_gone}
+use Rattle.numbering.proofs.Roots.{low_context, low_root, none_gone, one_gone, all_gone}
 use Rattle.numbering.proofs.whole.rules_outside.Goals as goal
 
 pub loop-r-init : goal.loop-r-init

@@ -1,8 +1,5 @@
 -- `tell_calls` meets its contract. Assumes nothing.
-use Prim.Native.Nat.{◌-◌}
-use native.Mathlib.Omega.{arith}
-use borrow.Author.Rules.{rules}
-use Rattle.numbering.proofs.Roots.{Telling, tell_none, tell_more, tell_done}
+use Rattle.numbering.proofs.Roots.{tell_none, tell_more, tell_done}
 use Rattle.numbering.proofs.whole.tell_calls.Goals as goal
 
 pub loop-n-init : goal.loop-n-init

@@ -1,8 +1,6 @@
 -- `tell_calls` meets its contract. Assumes nothing.
 use Prim.Native.Nat.{◌-◌}
-use native.Mathlib.Omega.{arith}
-use borrow.Author.Rules.{rules}
-use Rattle.numbering.proofs.Roots.{Telling, tell_none, tell_more, tell_done}
+use Rattle.numbering.proofs.Roots.{Telling}
 use Rattle.numbering.proofs.whole.tell_calls.Given as goal
 
 abbrev pub invariant-loop-n : goal.invariant-loop-n

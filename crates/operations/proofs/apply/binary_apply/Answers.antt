@@ -2,9 +2,6 @@
 use native.Mathlib.Omega.{arith}
 use Rattle.operations.proofs.BinaryLaws.{any_mark, binary_by, binary_13, binary_14, binary_15, binary_18, binary_20, binary_21, binary_22, binary_37}
 use Rattle.operations.proofs.NumberLaws.{by_division, by_over}
-use mathlib.Core.Logic.{⊎_elim}
-use Prim.Native.Nat.{◌≤◌}
-use borrow.Author.Rules.{rules}
 use Rattle.operations.proofs.apply.binary_apply.Goals as goal
 use Rattle.operations.proofs.apply.binary_apply.Goals.{in_default-via-then-form-lt13, in_default-via-else-form-lt13+else-form-lt18+else-form-lt20}
 

@@ -1,7 +1,6 @@
 -- `calculation` meets its contract. Assumes nothing.
 use Rattle.operations.proofs.NumberLaws.{by_integers, by_reals}
 use native.Mathlib.Omega.{arith}
-use borrow.Author.Rules.{rules}
 use Rattle.operations.proofs.apply.calculation.Goals as goal
 
 pub returns-then-by_reals : goal.returns-then-by_reals

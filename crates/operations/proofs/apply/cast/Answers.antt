@@ -1,6 +1,5 @@
 -- `operations::apply::cast` meets its contract. Assumes nothing.
 use Rattle.operations.proofs.OperationLaws.{cast_stuck, cast_other, cast_in, cast_out}
-use borrow.Author.Rules.{rules}
 use Rattle.operations.proofs.apply.cast.Goals as goal
 
 pub returns-then-sort-gt-OBJECT : goal.returns-then-sort-gt-OBJECT

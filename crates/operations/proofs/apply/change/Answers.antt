@@ -1,7 +1,6 @@
 -- `operations::apply::change` meets its contract. Assumes nothing.
 use native.Mathlib.Omega.{arith}
 use Rattle.operations.proofs.OperationLaws.{change_stuck, change_done, kind_code_lem}
-use borrow.Author.Rules.{rules}
 use Rattle.operations.proofs.apply.change.Goals as goal
 
 pub returns-then-sort_of-lt-SET : goal.returns-then-sort_of-lt-SET

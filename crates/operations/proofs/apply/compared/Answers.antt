@@ -1,6 +1,5 @@
 -- `compared` meets its contract. Assumes nothing.
 use Rattle.operations.proofs.NumberLaws.{less_no_left, less_no_right, less_done}
-use borrow.Author.Rules.{rules}
 use Rattle.operations.proofs.apply.compared.Goals as goal
 
 pub returns-then-fits_scale-2 : goal.returns-then-fits_scale-2

@@ -1,7 +1,6 @@
 -- `operations::apply::contains` meets its contract. Assumes nothing.
 use native.Mathlib.Omega.{arith}
 use Rattle.operations.proofs.BinaryLaws.{includes_stuck, includes_done}
-use borrow.Author.Rules.{rules}
 use Rattle.operations.proofs.apply.contains.Goals as goal
 
 pub returns-then-sort_of-lt-SET : goal.returns-then-sort_of-lt-SET

@@ -1,6 +1,5 @@
 -- `fits_scale` meets its contract. Assumes nothing.
 use Rattle.operations.proofs.NumberLaws.{scale_reals, scale_integers}
-use borrow.Author.Rules.{rules}
 use Rattle.operations.proofs.apply.fits_scale.Goals as goal
 
 pub returns-then-by_reals : goal.returns-then-by_reals

@@ -1,7 +1,6 @@
 -- `operations::apply::including` meets its contract. Assumes nothing.
 use native.Mathlib.Omega.{arith}
 use Rattle.operations.proofs.BinaryLaws.{including_stuck, including_done}
-use borrow.Author.Rules.{rules}
 use Rattle.operations.proofs.apply.including.Goals as goal
 
 pub returns-then-sort_of-lt-SET : goal.returns-then-sort_of-lt-SET

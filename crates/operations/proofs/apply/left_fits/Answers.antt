@@ -1,9 +1,6 @@
 -- `left_fits` meets its contract. Assumes nothing.
 use native.Mathlib.Omega.{arith}
-use mathlib.Core.Logic.{⊎_elim}
-use Prim.Native.Nat.{◌≤◌}
 use Rattle.operations.proofs.BinaryLaws.{left_any, left_scale, left_int, left_num, left_coll}
-use borrow.Author.Rules.{rules}
 use Rattle.operations.proofs.apply.left_fits.Goals as goal
 use Rattle.operations.proofs.apply.left_fits.Goals.{in_default-via-then-form-lt13, in_default-via-else-form-lt13+else-form-lt18+else-form-lt20}
 

@@ -1,6 +1,5 @@
 -- `operations::apply::member_total` meets its contract. Assumes nothing.
 use Rattle.operations.proofs.OperationLaws.{total_stuck, total_over, total_done}
-use borrow.Author.Rules.{rules}
 use Rattle.operations.proofs.apply.member_total.Goals as goal
 
 pub returns-then-sort_of-lt-SET : goal.returns-then-sort_of-lt-SET

@@ -1,6 +1,5 @@
 -- `operations::apply::negate` meets its contract. Assumes nothing.
 use Rattle.operations.proofs.OperationLaws.{negate_stuck, negate_done}
-use borrow.Author.Rules.{rules}
 use Rattle.operations.proofs.apply.negate.Goals as goal
 
 pub returns-then-t-gt1 : goal.returns-then-t-gt1

@@ -1,6 +1,5 @@
 -- `operations::apply::same_value` meets its contract. Assumes nothing.
 use Rattle.operations.proofs.BinaryLaws.{same_done}
-use borrow.Author.Rules.{rules}
 use Rattle.operations.proofs.apply.same_value.Goals as goal
 
 pub returns : goal.returns

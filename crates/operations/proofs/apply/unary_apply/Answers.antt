@@ -1,9 +1,6 @@
 -- `operations::apply::unary_apply` meets its contract. Assumes nothing.
 use native.Mathlib.Omega.{arith}
-use mathlib.Core.Logic.{⊎_elim}
-use mathlib.Core.Path.{◌≡◌}
 use Rattle.operations.proofs.OperationLaws.{any_model, unary_by, unary_7, unary_8, unary_9, unary_12}
-use borrow.Author.Rules.{rules}
 use Rattle.operations.proofs.apply.unary_apply.Goals as goal
 use Rattle.operations.proofs.apply.unary_apply.Goals.{in_default-via-then-form-lt7, in_default-via-else-form-lt7+else-form-lt12}
 

@@ -2,7 +2,6 @@
 use mathlib.Core.Path.{refl}
 use native.Mathlib.Omega.{arith}
 use Rattle.operations.proofs.BinaryLaws.{union_stuck, union_other, union_done}
-use borrow.Author.Rules.{rules}
 use Rattle.operations.proofs.apply.united.Goals as goal
 
 pub returns-then-sort-lt-SET : goal.returns-then-sort-lt-SET

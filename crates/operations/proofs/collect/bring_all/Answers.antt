@@ -1,10 +1,8 @@
 -- `bring_all` meets its contract. Assumes nothing.
-use borrow.Author.Rules.{rules}
-use Prim.Native.Nat.{◌-◌}
 use native.Mathlib.Omega.{arith}
 use Rattle.outcomes.proofs.Words.{bounds}
 use Rattle.outcomes.proofs.Lookups.{slot_within}
-use Rattle.operations.proofs.BringLaws.{Bringing, bring_start, bring_none, bring_ended, bring_over, bring_again, bring_end}
+use Rattle.operations.proofs.BringLaws.{bring_start, bring_none, bring_ended, bring_over, bring_again, bring_end}
 use Rattle.operations.proofs.collect.bring_all.Goals as goal
 
 pub loop-q-init : goal.loop-q-init

@@ -1,5 +1,4 @@
 -- `collect` meets its contract. Assumes nothing.
-use borrow.Author.Rules.{rules}
 use native.Mathlib.Omega.{arith}
 use Rattle.operations.proofs.CollectLaws.{kind_small, few_cells, collect_other, collect_stuck, collect_undefined, collect_over, collect_done}
 use Rattle.operations.proofs.collect.collect.Goals as goal

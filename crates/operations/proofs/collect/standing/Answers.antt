@@ -1,6 +1,5 @@
 -- `standing` meets its contract. Assumes nothing.
 use Rattle.operations.proofs.StandingLaws.{standing_other, standing_some, standing_none}
-use borrow.Author.Rules.{rules}
 use Rattle.operations.proofs.collect.standing.Goals as goal
 
 pub returns-in-At : goal.returns-in-At

@@ -1,8 +1,6 @@
 -- `worst` meets its contract. Assumes nothing.
-use borrow.Author.Rules.{rules}
-use Prim.Native.Nat.{◌-◌}
 use native.Mathlib.Omega.{arith}
-use Rattle.operations.proofs.StandingLaws.{Worsening, worst_start, worst_again, worst_end}
+use Rattle.operations.proofs.StandingLaws.{worst_start, worst_again, worst_end}
 use Rattle.operations.proofs.collect.worst.Goals as goal
 
 pub loop-q-init : goal.loop-q-init

@@ -1,6 +1,5 @@
 -- `arithmetic` meets its contract. Assumes nothing.
 use Rattle.operations.proofs.NumberLaws.{whole_narrow, ints_left, ints_right, arith_done}
-use borrow.Author.Rules.{rules}
 use Rattle.operations.proofs.integers.arithmetic.Goals as goal
 
 pub returns-in_default : goal.returns-in_default

@@ -1,6 +1,5 @@
 -- `calculated` meets its contract. Assumes nothing.
 use Rattle.operations.proofs.NumberLaws.{calculated_is, calculated_undefined, calculated_over}
-use borrow.Author.Rules.{rules}
 use Rattle.operations.proofs.integers.calculated.Goals as goal
 
 pub returns-in-Is : goal.returns-in-Is

@@ -1,10 +1,8 @@
 -- `operations::leaves::instances` meets its contract. Assumes nothing.
 use lib.ListN.{length-set}
 use mathlib.Core.Path.{◌∙◌}
-use Prim.Native.Nat.{◌-◌}
-use borrow.Author.Rules.{rules}
 use native.Mathlib.Omega.{arith}
-use Rattle.operations.proofs.LeafLaws.{Gathered, gathered_none, gathered_more, gathered_over, gathered_all}
+use Rattle.operations.proofs.LeafLaws.{gathered_none, gathered_more, gathered_over, gathered_all}
 use Rattle.operations.proofs.leaves.instances.Goals as goal
 
 pub loop-o-init : goal.loop-o-init

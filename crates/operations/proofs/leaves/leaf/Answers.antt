@@ -3,7 +3,6 @@ use native.Mathlib.Omega.{arith}
 use mathlib.Core.Bool.{true, false}
 use mathlib.Core.Path.{◌≡◌}
 use Rattle.operations.proofs.LeafLaws.{leaf_truth, leaf_undef, leaf_number, leaf_self, leaf_var, leaf_all, code_0, code_1}
-use borrow.Author.Rules.{rules}
 use Rattle.operations.proofs.leaves.leaf.Goals as goal
 
 pub returns-in-0 : goal.returns-in-0

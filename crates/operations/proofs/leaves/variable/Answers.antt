@@ -2,7 +2,6 @@
 use mathlib.Core.Path.{refl}
 use native.Mathlib.Omega.{arith}
 use Rattle.operations.proofs.LeafLaws.{variable_free, variable_above, variable_done}
-use borrow.Author.Rules.{rules}
 use Rattle.operations.proofs.leaves.variable.Goals as goal
 
 pub returns-then-at-eq0 : goal.returns-then-at-eq0

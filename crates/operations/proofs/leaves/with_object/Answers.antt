@@ -1,7 +1,6 @@
 -- `operations::leaves::with_object` meets its contract. Assumes nothing.
 use native.Mathlib.Omega.{arith}
 use Rattle.operations.proofs.LeafLaws.{with_yes, with_no}
-use borrow.Author.Rules.{rules}
 use Rattle.operations.proofs.leaves.with_object.Goals as goal
 
 pub returns-then-is_a : goal.returns-then-is_a

@@ -1,6 +1,5 @@
 -- `operations::operand::of_undefined` meets its contract. Assumes nothing.
 use Rattle.operations.proofs.OperandLaws.{undefined_known, undefined_still}
-use borrow.Author.Rules.{rules}
 use Rattle.operations.proofs.operand.of_undefined.Goals as goal
 
 pub returns-then-form-eq-IS_UNDEF : goal.returns-then-form-eq-IS_UNDEF

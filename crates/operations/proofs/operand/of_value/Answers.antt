@@ -1,9 +1,6 @@
 -- `operations::operand::of_value` meets its contract. Assumes nothing.
-use mathlib.Core.Logic.{⊎_elim}
-use Prim.Native.Nat.{◌≤◌}
 use native.Mathlib.Omega.{arith}
 use Rattle.operations.proofs.OperandLaws.{value_unary, value_is_undef, value_attribute, value_collect}
-use borrow.Author.Rules.{rules}
 use Rattle.operations.proofs.operand.of_value.Goals as goal
 use Rattle.operations.proofs.operand.of_value.Goals.{in_default-via-then-form-lt7, in_default-via-else-form-lt7+else-form-lt13}
 

@@ -1,7 +1,6 @@
 -- `operation` meets its contract. Assumes nothing.
 use native.Mathlib.Omega.{arith}
 use Rattle.operations.proofs.NumberLaws.{nums_left, nums_right, nums_done}
-use borrow.Author.Rules.{rules}
 use Rattle.operations.proofs.widened.operation.Goals as goal
 
 pub returns-then-sort_of-ne-NUMBER : goal.returns-then-sort_of-ne-NUMBER

@@ -1,6 +1,5 @@
 -- `settled` meets its contract. Assumes nothing.
 use Rattle.operations.proofs.NumberLaws.{result_sound, settled_is, settled_undefined, settled_over}
-use borrow.Author.Rules.{rules}
 use Rattle.operations.proofs.widened.settled.Goals as goal
 
 pub cell_of-requires : goal.cell_of-requires

@@ -2,7 +2,6 @@
 use mathlib.Core.Path.{sym, ap}
 use Rattle.values.specs.declared.Formed.{Formed}
 use Rattle.outcomes.specs.Answers.{formed_as}
-use borrow.Author.Rules.{rules}
 use Rattle.outcomes.proofs.answers.formed.Goals as goal
 
 pub returns-in-Done : goal.returns-in-Done

@@ -1,6 +1,5 @@
 -- `operations::answers::put` meets its contract. Assumes nothing.
 use Rattle.outcomes.proofs.Words.{gives_simple}
-use borrow.Author.Rules.{rules}
 use Rattle.outcomes.proofs.answers.put.Goals as goal
 
 pub returns : goal.returns

@@ -1,6 +1,5 @@
 -- `put_cell` meets its contract. Assumes nothing.
 use Rattle.outcomes.proofs.Words.{gives_cell}
-use borrow.Author.Rules.{rules}
 use Rattle.outcomes.proofs.answers.put_cell.Goals as goal
 
 pub returns : goal.returns

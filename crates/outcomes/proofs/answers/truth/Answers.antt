@@ -1,6 +1,5 @@
 -- `operations::answers::truth` meets its contract. Assumes nothing.
 use Rattle.outcomes.proofs.Words.{truth_bool, truth_other}
-use borrow.Author.Rules.{rules}
 use Rattle.outcomes.proofs.answers.truth.Goals as goal
 
 pub returns-then-sort_of-eq0 : goal.returns-then-sort_of-eq0

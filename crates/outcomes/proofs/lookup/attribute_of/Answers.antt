@@ -1,7 +1,6 @@
 -- `attribute_of` meets its contract. Assumes nothing.
 use native.Mathlib.Omega.{arith}
 use Rattle.outcomes.proofs.Lookups.{slot_within, attribute_other, attribute_none, attribute_some}
-use borrow.Author.Rules.{rules}
 use Rattle.outcomes.proofs.lookup.attribute_of.Goals as goal
 
 pub returns-in_default : goal.returns-in_default

@@ -3,7 +3,6 @@ use Prim.Native.Nat.{ℕ, ◌+◌}
 use mathlib.Core.Path.{ap}
 use native.Mathlib.Omega.{arith}
 use Rattle.outcomes.proofs.Lookups.{stands_empty, stands_far, stands}
-use borrow.Author.Rules.{rules}
 use Rattle.memory.specs.Map as memory
 use Rattle.outcomes.proofs.lookup.bring.Goals as goal
 

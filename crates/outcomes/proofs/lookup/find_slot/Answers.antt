@@ -1,8 +1,7 @@
 -- `operations::lookup::find_slot` meets its contract. Assumes nothing.
 use mathlib.Core.Path.{refl}
-use Prim.Native.Nat.{◌-◌}
 use native.Mathlib.Omega.{arith}
-use Rattle.outcomes.proofs.Lookups.{Between, all_open, go_up, go_down, none_there}
+use Rattle.outcomes.proofs.Lookups.{all_open, go_up, go_down, none_there}
 use Rattle.outcomes.proofs.lookup.find_slot.Goals as goal
 
 pub loop-low-init : goal.loop-low-init

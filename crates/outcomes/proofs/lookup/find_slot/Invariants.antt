@@ -1,8 +1,6 @@
 -- `operations::lookup::find_slot` meets its contract. Assumes nothing.
-use mathlib.Core.Path.{refl}
 use Prim.Native.Nat.{◌-◌}
-use native.Mathlib.Omega.{arith}
-use Rattle.outcomes.proofs.Lookups.{Between, all_open, go_up, go_down, none_there}
+use Rattle.outcomes.proofs.Lookups.{Between}
 use Rattle.outcomes.proofs.lookup.find_slot.Given as goal
 
 abbrev pub invariant-loop-low : goal.invariant-loop-low

@@ -1,6 +1,5 @@
 -- `has_row` meets its contract. Assumes nothing.
 use Rattle.outcomes.proofs.Lookups.{row_of}
-use borrow.Author.Rules.{rules}
 use Rattle.outcomes.proofs.lookup.has_row.Goals as goal
 
 pub returns : goal.returns

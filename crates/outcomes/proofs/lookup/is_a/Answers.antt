@@ -5,7 +5,6 @@ use native.Mathlib.Omega.{arith}
 use lib.ListN.{take}
 use Rattle.memory.specs.Map as memory
 use Rattle.outcomes.proofs.Lookups.{no_object, object_is}
-use borrow.Author.Rules.{rules}
 use Rattle.outcomes.proofs.lookup.is_a.Goals as goal
 
 pub returns-then-st-o : goal.returns-then-st-o

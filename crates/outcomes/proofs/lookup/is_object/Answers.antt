@@ -1,6 +1,5 @@
 -- `is_object` meets its contract. Assumes nothing.
 use Rattle.outcomes.proofs.Lookups.{object_other, object_of_lem}
-use borrow.Author.Rules.{rules}
 use Rattle.outcomes.proofs.lookup.is_object.Goals as goal
 
 pub returns-then-sort_of-ne-OBJECT : goal.returns-then-sort_of-ne-OBJECT

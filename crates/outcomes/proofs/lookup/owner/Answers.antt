@@ -1,6 +1,5 @@
 -- `operations::lookup::owner` meets its contract. Assumes nothing.
 use Rattle.outcomes.proofs.Lookups.{no_owner, owner_is}
-use borrow.Author.Rules.{rules}
 use Rattle.outcomes.proofs.lookup.owner.Goals as goal
 
 pub returns-then-st-i : goal.returns-then-st-i

@@ -1,6 +1,5 @@
 -- `row_slot` meets its contract. Assumes nothing.
 use Rattle.outcomes.proofs.Lookups.{slot_of}
-use borrow.Author.Rules.{rules}
 use Rattle.outcomes.proofs.lookup.row_slot.Goals as goal
 
 pub returns : goal.returns

@@ -1,6 +1,5 @@
 -- `operations::lookup::start_of` meets its contract. Assumes nothing.
 use Rattle.outcomes.proofs.Lookups.{start_last, start_other}
-use borrow.Author.Rules.{rules}
 use Rattle.outcomes.proofs.lookup.start_of.Goals as goal
 
 pub returns-then-wide-j : goal.returns-then-wide-j

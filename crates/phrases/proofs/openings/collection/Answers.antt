@@ -2,7 +2,6 @@
 use native.Mathlib.Omega.{arith}
 use Rattle.phrases.proofs.WordLaws.{came_ahead}
 use Rattle.phrases.proofs.OpeningLaws.{no_brace, no_members, members}
-use borrow.Author.Rules.{rules}
 use Rattle.phrases.proofs.openings.collection.Goals as goal
 
 pub returns-in_default : goal.returns-in_default

@@ -2,7 +2,6 @@
 use native.Mathlib.Omega.{arith}
 use Rattle.phrases.proofs.WordLaws.{came_ahead, labelled_ahead}
 use Rattle.phrases.proofs.OpeningLaws.{no_class, no_dot, no_all, no_open, no_close, all_instances_lem}
-use borrow.Author.Rules.{rules}
 use Rattle.phrases.proofs.openings.instances.Goals as goal
 
 pub returns-in_default : goal.returns-in_default

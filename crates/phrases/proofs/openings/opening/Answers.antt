@@ -1,7 +1,6 @@
 -- `opening` meets its contract. Assumes nothing.
 use mathlib.Core.Path.{sym, ◌∙◌}
 use Rattle.phrases.proofs.OpeningLaws.{at-end, a_condition, a_bracket, a_class}
-use borrow.Author.Rules.{rules}
 use Rattle.phrases.proofs.openings.opening.Goals as goal
 
 pub collection-requires : goal.collection-requires

@@ -1,7 +1,6 @@
 -- `arrow_step` meets its contract. Assumes nothing.
 use Rattle.phrases.proofs.WordLaws.{came_ahead}
 use Rattle.phrases.proofs.DotLaws.{arrow_end, arrow_unopened, arrow_call}
-use borrow.Author.Rules.{rules}
 use Rattle.phrases.proofs.steps.arrow_step.Goals as goal
 
 pub returns-then-t-eq-END : goal.returns-then-t-eq-END

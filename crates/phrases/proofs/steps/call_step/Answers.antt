@@ -1,6 +1,5 @@
--- `call_step_lem` meets its contract. Assumes nothing.
+-- `call_step` meets its contract. Assumes nothing.
 use Rattle.phrases.proofs.CallLaws.{plain_answer, argument_answer, quantifier_answer, collect_answer, iterate_answer, broken_answer}
-use borrow.Author.Rules.{rules}
 use Rattle.phrases.proofs.steps.call_step.Goals as goal
 
 pub returns-in-1 : goal.returns-in-1

@@ -2,7 +2,6 @@
 use native.Mathlib.Omega.{arith}
 use Rattle.phrases.proofs.WordLaws.{came_ahead}
 use Rattle.phrases.proofs.StepLaws.{no_cast, no_class, cast_done}
-use borrow.Author.Rules.{rules}
 use Rattle.phrases.proofs.steps.cast_step.Goals as goal
 
 pub returns-in_default : goal.returns-in_default

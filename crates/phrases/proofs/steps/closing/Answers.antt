@@ -1,6 +1,5 @@
 -- `closing` meets its contract. Assumes nothing.
 use Rattle.phrases.proofs.StepLaws.{unclosed, closed}
-use borrow.Author.Rules.{rules}
 use Rattle.phrases.proofs.steps.closing.Goals as goal
 
 pub returns-in_default : goal.returns-in_default

@@ -1,6 +1,5 @@
 -- `collect_step` meets its contract. Assumes nothing.
 use Rattle.phrases.proofs.StepLaws.{no_collect, collected}
-use borrow.Author.Rules.{rules}
 use Rattle.phrases.proofs.steps.collect_step.Goals as goal
 
 pub returns-in_default : goal.returns-in_default

@@ -1,7 +1,6 @@
 -- `dot_step` meets its contract. Assumes nothing.
 use Rattle.phrases.proofs.WordLaws.{labelled_ahead}
 use Rattle.phrases.proofs.DotLaws.{dot_attribute, dot_definition, dot_undef, dot_cast, dot_broken}
-use borrow.Author.Rules.{rules}
 use Rattle.phrases.proofs.steps.dot_step.Goals as goal
 
 pub returns-in-Is : goal.returns-in-Is

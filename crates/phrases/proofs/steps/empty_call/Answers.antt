@@ -1,7 +1,6 @@
 -- `empty_call` meets its contract. Assumes nothing.
 use Rattle.phrases.proofs.WordLaws.{came_ahead}
 use Rattle.phrases.proofs.StepLaws.{unopened, opened}
-use borrow.Author.Rules.{rules}
 use Rattle.phrases.proofs.steps.empty_call.Goals as goal
 
 pub returns-in_default : goal.returns-in_default

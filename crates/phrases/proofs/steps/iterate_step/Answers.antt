@@ -3,7 +3,6 @@ use native.Mathlib.Omega.{arith}
 use Rattle.phrases.proofs.WordLaws.{labelled_ahead}
 use Rattle.phrases.proofs.TypeLaws.{typed_ahead}
 use Rattle.phrases.proofs.IterateLaws.{no_first, no_second, no_type, no_equals, iterates}
-use borrow.Author.Rules.{rules}
 use Rattle.phrases.proofs.steps.iterate_step.Goals as goal
 
 pub returns-in_default : goal.returns-in_default

@@ -1,6 +1,5 @@
 -- `quantified_step` meets its contract. Assumes nothing.
 use Rattle.phrases.proofs.StepLaws.{no_variable, variable_bar}
-use borrow.Author.Rules.{rules}
 use Rattle.phrases.proofs.steps.quantified_step.Goals as goal
 
 pub returns-in_default : goal.returns-in_default

@@ -1,6 +1,5 @@
 -- `step` meets its contract. Assumes nothing.
 use Rattle.phrases.proofs.DotLaws.{no_step, a_dot, an_arrow}
-use borrow.Author.Rules.{rules}
 use Rattle.phrases.proofs.steps.step.Goals as goal
 
 pub returns-in-48 : goal.returns-in-48

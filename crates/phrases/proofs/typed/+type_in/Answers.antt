@@ -1,6 +1,5 @@
 -- `type_in` meets its contract. What is left of the text falls with each bracket. Assumes nothing.
 use mathlib.Core.Path.{ap, sym, ◌∙◌}
-use Prim.Native.Nat.{◌-◌}
 use native.Mathlib.Omega.{arith}
 use mathlib.Core.Bool.{not}
 use Rattle.phrases.proofs.WordLaws.{came_ahead}

@@ -1,6 +1,5 @@
 -- `is_bad` meets its contract. Assumes nothing.
 use Rattle.phrases.proofs.TypeLaws.{bad_is, big_is_not, type_is_not}
-use borrow.Author.Rules.{rules}
 use Rattle.phrases.proofs.typed.is_bad.Goals as goal
 
 pub returns-in-Bad : goal.returns-in-Bad

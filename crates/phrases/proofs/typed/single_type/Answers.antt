@@ -1,6 +1,5 @@
 -- `single_type` meets its contract. Assumes nothing.
 use Rattle.phrases.proofs.TypeLaws.{no_type, bad_type, good_type}
-use borrow.Author.Rules.{rules}
 use Rattle.phrases.proofs.typed.single_type.Goals as goal
 
 pub returns-then-t-eq-END : goal.returns-then-t-eq-END

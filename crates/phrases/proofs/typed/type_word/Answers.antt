@@ -3,7 +3,6 @@ use Rattle.ocl.specs.Types.{void, Boolean, Integer, Real, Any, depth}
 use Rattle.sheet.specs.Limits.{type_within, class_below, simple_class_below}
 use Rattle.tokens.proofs.CodeLaws.{by_code}
 use Rattle.phrases.proofs.TypeLaws.{simples, a_simple, a_class}
-use borrow.Author.Rules.{rules}
 use Rattle.phrases.proofs.typed.type_word.Goals as goal
 
 pub returns-in-54 : goal.returns-in-54

@@ -1,6 +1,5 @@
 -- `after` meets its contract. Assumes nothing.
 use Rattle.phrases.proofs.WordLaws.{after_other, after_here}
-use borrow.Author.Rules.{rules}
 use Rattle.phrases.proofs.words.after.Goals as goal
 
 pub returns-then-t-code : goal.returns-then-t-code

@@ -1,6 +1,5 @@
 -- `binding` meets its contract. Assumes nothing.
 use Rattle.phrases.proofs.WordLaws.{binding_told}
-use borrow.Author.Rules.{rules}
 use Rattle.phrases.proofs.words.binding.Goals as goal
 
 pub returns : goal.returns

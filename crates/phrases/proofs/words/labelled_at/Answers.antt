@@ -1,6 +1,5 @@
 -- `labelled_at` meets its contract. Assumes nothing.
 use Rattle.phrases.proofs.WordLaws.{labelled_end, labelled_bad, labelled_is}
-use borrow.Author.Rules.{rules}
 use Rattle.phrases.proofs.words.labelled_at.Goals as goal
 
 pub returns-then-t-eq-END : goal.returns-then-t-eq-END

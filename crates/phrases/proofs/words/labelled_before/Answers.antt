@@ -1,6 +1,5 @@
 -- `labelled_before` meets its contract. Assumes nothing.
 use Rattle.phrases.proofs.WordLaws.{labelled_ahead, before_none, before_gone, before_is}
-use borrow.Author.Rules.{rules}
 use Rattle.phrases.proofs.words.labelled_before.Goals as goal
 
 pub returns-in_default : goal.returns-in_default

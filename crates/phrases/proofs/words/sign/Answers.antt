@@ -1,6 +1,5 @@
 -- `sign` meets its contract. Assumes nothing.
 use Rattle.phrases.proofs.SignLaws.{other_sign, this_sign}
-use borrow.Author.Rules.{rules}
 use Rattle.phrases.proofs.words.sign.Goals as goal
 
 pub returns-then-sign_level-level : goal.returns-then-sign_level-level

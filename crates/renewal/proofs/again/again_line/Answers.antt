@@ -1,7 +1,6 @@
 -- `again_line` meets its contract. Assumes nothing.
 use lib.ListN.{length-replicate}
 use Rattle.renewal.proofs.AgainLaws.{line_size, line_room, line_again}
-use borrow.Author.Rules.{rules}
 use Rattle.renewal.proofs.again.again_line.Goals as goal
 
 pub slice_bounds-put_bytes-end : goal.slice_bounds-put_bytes-end

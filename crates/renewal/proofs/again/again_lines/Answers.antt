@@ -1,6 +1,5 @@
 -- `again_lines` meets its contract. Assumes nothing.
-use Prim.Native.Nat.{◌-◌}
-use Rattle.renewal.proofs.AgainLaws.{AgainTo, again_none, again_room, again_next, again_all}
+use Rattle.renewal.proofs.AgainLaws.{again_none, again_room, again_next, again_all}
 use borrow.Author.Rules.{rules}
 use Rattle.renewal.proofs.again.again_lines.Goals as goal
 

@@ -1,7 +1,6 @@
 -- `again_lines` meets its contract. Assumes nothing.
 use Prim.Native.Nat.{◌-◌}
-use Rattle.renewal.proofs.AgainLaws.{AgainTo, again_none, again_room, again_next, again_all}
-use borrow.Author.Rules.{rules}
+use Rattle.renewal.proofs.AgainLaws.{AgainTo}
 use Rattle.renewal.proofs.again.again_lines.Given as goal
 
 abbrev pub invariant-loop-o : goal.invariant-loop-o

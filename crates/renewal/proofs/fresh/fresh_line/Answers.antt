@@ -2,7 +2,6 @@
 use native.Mathlib.Omega.{arith}
 use Rattle.report.proofs.PassLaws.{rule_there}
 use Rattle.renewal.proofs.FreshLaws.{no_fresh, fresh_fits, fresh_from, fresh_to, fresh_steps, one_fresh}
-use borrow.Author.Rules.{rules}
 use Rattle.renewal.proofs.fresh.fresh_line.Goals as goal
 
 pub overflow_add-r : goal.overflow_add-r

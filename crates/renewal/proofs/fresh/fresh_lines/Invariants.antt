@@ -1,8 +1,6 @@
 -- `fresh_lines` meets its contract. Assumes nothing.
 use Prim.Native.Nat.{◌-◌}
-use native.Mathlib.Omega.{arith}
-use Rattle.renewal.proofs.FreshLaws.{ObjectsTo, objects_none, objects_next, objects_few, objects_all}
-use borrow.Author.Rules.{rules}
+use Rattle.renewal.proofs.FreshLaws.{ObjectsTo}
 use Rattle.renewal.proofs.fresh.fresh_lines.Given as goal
 
 abbrev pub invariant-loop-o : goal.invariant-loop-o

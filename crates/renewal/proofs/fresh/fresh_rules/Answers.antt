@@ -1,7 +1,6 @@
 -- `fresh_rules` meets its contract. Assumes nothing.
-use Prim.Native.Nat.{◌-◌}
 use native.Mathlib.Omega.{arith}
-use Rattle.renewal.proofs.FreshRuleLaws.{RulesTo, rules_none, some_rule, rules_few, rules_next, rules_all}
+use Rattle.renewal.proofs.FreshRuleLaws.{rules_none, some_rule, rules_few, rules_next, rules_all}
 use borrow.Author.Rules.{rules}
 use Rattle.renewal.proofs.fresh.fresh_rules.Goals as goal
 

@@ -1,7 +1,6 @@
 -- `told_lines` meets its contract. Assumes nothing.
 use Rattle.renewal.proofs.FreshLaws.{told, not_told}
 use Rattle.rows.specs.Bits.{bit}
-use borrow.Author.Rules.{rules}
 use Rattle.renewal.proofs.fresh.told_lines.Goals as goal
 
 pub returns-then-has_bit : goal.returns-then-has_bit

@@ -1,7 +1,6 @@
 -- `put_fresh` meets its contract. Assumes nothing.
 use native.Mathlib.Omega.{arith}
 use Rattle.renewal.proofs.SpreadLaws.{fresh_order, fresh_room, again_fits, fresh_held, fresh_again}
-use borrow.Author.Rules.{rules}
 use Rattle.renewal.proofs.spread.put_fresh.Goals as goal
 
 pub slice_bounds-put_bytes-count : goal.slice_bounds-put_bytes-count

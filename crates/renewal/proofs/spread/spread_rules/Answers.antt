@@ -1,6 +1,6 @@
 -- `spread_rules` meets its contract. Assumes nothing.
 use native.Mathlib.Omega.{arith}
-use Rattle.renewal.proofs.SpreadLaws.{SpreadFrom, spread_start, still_placing, spread_turn, spread_done}
+use Rattle.renewal.proofs.SpreadLaws.{spread_start, still_placing, spread_turn, spread_done}
 use borrow.Author.Rules.{rules}
 use Rattle.renewal.proofs.spread.spread_rules.Goals as goal
 

@@ -1,7 +1,5 @@
 -- `spread_rules` meets its contract. Assumes nothing.
-use native.Mathlib.Omega.{arith}
-use Rattle.renewal.proofs.SpreadLaws.{SpreadFrom, spread_start, still_placing, spread_turn, spread_done}
-use borrow.Author.Rules.{rules}
+use Rattle.renewal.proofs.SpreadLaws.{SpreadFrom}
 use Rattle.renewal.proofs.spread.spread_rules.Given as goal
 
 abbrev pub invariant-loop-r : goal.invariant-loop-r

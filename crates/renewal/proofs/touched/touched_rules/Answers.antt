@@ -1,9 +1,7 @@
 -- `touched_rules` meets its contract. Assumes nothing.
-use Prim.Native.Nat.{◌-◌}
 use native.Mathlib.Omega.{arith}
 use Rattle.rows.proofs.RuleLaws.{root_low}
-use Rattle.renewal.proofs.TouchedLaws.{TouchedTo, touched_none, touched_next, touched_all}
-use borrow.Author.Rules.{rules}
+use Rattle.renewal.proofs.TouchedLaws.{touched_none, touched_next, touched_all}
 use Rattle.renewal.proofs.touched.touched_rules.Goals as goal
 
 pub loop-r-init : goal.loop-r-init

@@ -1,8 +1,6 @@
 -- `touched_rules` meets its contract. Assumes nothing.
 use Prim.Native.Nat.{◌-◌}
-use native.Mathlib.Omega.{arith}
-use Rattle.rows.proofs.RuleLaws.{root_low}
-use Rattle.renewal.proofs.TouchedLaws.{TouchedTo, touched_none, touched_next, touched_all}
+use Rattle.renewal.proofs.TouchedLaws.{TouchedTo}
 use borrow.Author.Rules.{rules}
 use Rattle.renewal.proofs.touched.touched_rules.Given as goal
 

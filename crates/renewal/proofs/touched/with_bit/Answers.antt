@@ -1,6 +1,5 @@
 -- `with_bit` meets its contract. Assumes nothing.
 use Rattle.renewal.proofs.TouchedLaws.{bit_set, bit_left}
-use borrow.Author.Rules.{rules}
 use Rattle.renewal.proofs.touched.with_bit.Goals as goal
 
 pub returns-then-on : goal.returns-then-on

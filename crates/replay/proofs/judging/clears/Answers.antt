@@ -1,6 +1,5 @@
 -- `replay::judging::clears` meets its contract. Assumes nothing.
 use Rattle.replay.proofs.ClearingLaws.{clears_count, clears_long, clears_byte}
-use borrow.Author.Rules.{rules}
 use Rattle.replay.proofs.judging.clears.Goals as goal
 
 pub returns-then-f-ne4 : goal.returns-then-f-ne4

@@ -1,6 +1,5 @@
 -- `replay::judging::judge` meets its contract. Assumes nothing.
 use mathlib.Core.Path.{sym, ◌∙◌}
-use borrow.Author.Rules.{rules}
 use Rattle.replay.proofs.judging.judge.Goals as goal
 
 pub judge_clearing-requires : goal.judge_clearing-requires

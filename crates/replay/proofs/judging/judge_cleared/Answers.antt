@@ -5,7 +5,6 @@ use lib.Seq.{length-take-le}
 use borrow.Author.Tests.{not-true, not-false}
 use Rattle.slots.proofs.SlotLaws.{parents_part, objects_part}
 use Rattle.replay.proofs.ClearingLaws.{clear_object, clear_row, clear_no_object, clear_no_row, clear_unsuited, clear_taken}
-use borrow.Author.Rules.{rules}
 use Rattle.replay.proofs.judging.judge_cleared.Goals as goal
 
 pub returns-then-o-ge-MOST_OBJECTS : goal.returns-then-o-ge-MOST_OBJECTS

@@ -1,7 +1,6 @@
 -- `replay::judging::judge_clearing` meets its contract. Assumes nothing.
 use native.Mathlib.Omega.{arith}
 use Rattle.replay.proofs.ClearingLaws.{clears_four, cleared_object, cleared_row, clearing_unread, clearing_judged}
-use borrow.Author.Rules.{rules}
 use Rattle.replay.proofs.judging.judge_clearing.Goals as goal
 
 pub field-requires : goal.field-requires

@@ -1,7 +1,6 @@
 -- `replay::judging::judge_value` meets its contract. Assumes nothing.
 use Rattle.replay.proofs.ValuedLaws.{empty_fine}
 use Rattle.replay.proofs.JudgingLaws.{value_stop, value_next}
-use borrow.Author.Rules.{rules}
 use Rattle.replay.proofs.judging.judge_value.Goals as goal
 
 pub value_line-requires : goal.value_line-requires

@@ -1,7 +1,6 @@
 -- `replay::judging::own_slot` meets its contract. Assumes nothing.
 use mathlib.Core.Path.{sym, ◌∙◌}
 use Rattle.replay.proofs.JudgingLaws.{own_cleared, own_value}
-use borrow.Author.Rules.{rules}
 use Rattle.replay.proofs.judging.own_slot.Goals as goal
 
 pub returns-then-clears : goal.returns-then-clears

@@ -1,6 +1,5 @@
 -- `replay::taking::end_of` meets its contract. Assumes nothing.
 use Rattle.replay.proofs.TakingLaws.{end_last, end_next}
-use borrow.Author.Rules.{rules}
 use Rattle.replay.proofs.taking.end_of.Goals as goal
 
 pub returns-then-j-n : goal.returns-then-j-n

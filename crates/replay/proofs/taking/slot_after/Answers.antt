@@ -1,6 +1,5 @@
 -- `replay::taking::slot_after` meets its contract. Assumes nothing.
 use Rattle.replay.proofs.TakingLaws.{after_same, after_other, after_end}
-use borrow.Author.Rules.{rules}
 use Rattle.replay.proofs.taking.slot_after.Goals as goal
 
 pub returns-then-words-p : goal.returns-then-words-p

@@ -1,8 +1,6 @@
 -- `replay::taking::slots_before` meets its contract. Assumes nothing.
 use native.Mathlib.Omega.{arith}
-use Prim.Native.Nat.{ℕ, ◌+◌, ◌-◌, ◌<◌, ◌≤◌, zero-le}
-use lib.ListN.{get_or}
-use Rattle.memory.specs.Map as memory
+use Prim.Native.Nat.{zero-le}
 use Rattle.replay.proofs.TakingLaws.{first_none, first_here, below_more}
 use Rattle.replay.proofs.taking.slots_before.Goals as goal
 

@@ -1,9 +1,7 @@
 -- `replay::taking::slots_before` meets its contract. Assumes nothing.
-use native.Mathlib.Omega.{arith}
-use Prim.Native.Nat.{ℕ, ◌+◌, ◌-◌, ◌<◌, ◌≤◌, zero-le}
+use Prim.Native.Nat.{ℕ, ◌+◌, ◌-◌, ◌<◌, ◌≤◌}
 use lib.ListN.{get_or}
 use Rattle.memory.specs.Map as memory
-use Rattle.replay.proofs.TakingLaws.{first_none, first_here, below_more}
 use Rattle.replay.proofs.taking.slots_before.Given as goal
 
 abbrev pub invariant-loop-p : goal.invariant-loop-p

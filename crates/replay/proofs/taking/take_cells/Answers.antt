@@ -1,8 +1,7 @@
 -- `replay::taking::take_cells` meets its contract. Assumes nothing.
 use native.Mathlib.Omega.{arith}
-use borrow.Author.Tests.{not-true, not-false}
+use borrow.Author.Tests.{not-true}
 use Rattle.replay.proofs.CopyLaws.{no_cells, no_room, put_cells}
-use borrow.Author.Rules.{rules}
 use Rattle.replay.proofs.taking.take_cells.Goals as goal
 
 pub returns-then-not-is_value : goal.returns-then-not-is_value

@@ -2,7 +2,6 @@
 use native.Mathlib.Omega.{arith}
 use mathlib.Core.Path.{◌∙◌}
 use Rattle.replay.proofs.TakingLaws.{high_key, high_end, no_cell, slot_took}
-use borrow.Author.Rules.{rules}
 use Rattle.replay.proofs.taking.take_slot.Goals as goal
 
 pub returns-then-key-ge-MOST_KEYS : goal.returns-then-key-ge-MOST_KEYS

@@ -1,8 +1,6 @@
 -- `replay::taking::take_slots` meets its contract. Assumes nothing.
-use native.Mathlib.Omega.{arith}
-use borrow.Author.Rules.{rules}
 use Prim.Native.Nat.{◌-◌}
-use Rattle.replay.proofs.TakingLaws.{Taking, taking_first, taking_stop, taking_again, taking_end}
+use Rattle.replay.proofs.TakingLaws.{Taking}
 use Rattle.replay.proofs.taking.take_slots.Given as goal
 
 abbrev pub invariant-loop-j : goal.invariant-loop-j

@@ -3,7 +3,6 @@ use native.Mathlib.Omega.{arith}
 use Rattle.replay.proofs.CellLaws.{end_past, end_simple, end_other, end_top, end_deep}
 use Rattle.replay.proofs.MemberLaws.{among_first, among_again}
 use Rattle.replay.proofs.ValueLaws.{group_end, group_none}
-use Prim.Native.Nat.{◌-◌}
 use Rattle.replay.proofs.value.+value_end.Goals as goal
 
 pub returns-then-cells-p : goal.returns-then-cells-p

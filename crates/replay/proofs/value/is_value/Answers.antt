@@ -1,6 +1,5 @@
 -- `replay::value::is_value` meets its contract. Assumes nothing.
 use Rattle.replay.proofs.ValueLaws.{not_long, no_value, one_value}
-use borrow.Author.Rules.{rules}
 use Rattle.replay.proofs.value.is_value.Goals as goal
 
 pub returns-then-cells-gt-LARGEST : goal.returns-then-cells-gt-LARGEST

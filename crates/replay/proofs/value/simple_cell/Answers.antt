@@ -1,6 +1,5 @@
 -- `replay::value::simple_cell` meets its contract. Assumes nothing.
 use Rattle.replay.proofs.CellLaws.{simple_low, simple_number, simple_object}
-use borrow.Author.Rules.{rules}
 use Rattle.replay.proofs.value.simple_cell.Goals as goal
 
 pub returns-then-cell-lt-NUMBERS : goal.returns-then-cell-lt-NUMBERS

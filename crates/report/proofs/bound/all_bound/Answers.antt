@@ -1,8 +1,5 @@
 -- `all_bound` meets its contract. Assumes nothing.
-use Prim.Native.Nat.{◌-◌}
-use native.Mathlib.Omega.{arith}
-use borrow.Author.Rules.{rules}
-use Rattle.report.proofs.BoundLaws.{BoundedTo, bounded_none, bounded_next, bounded_all}
+use Rattle.report.proofs.BoundLaws.{bounded_none, bounded_next, bounded_all}
 use Rattle.report.proofs.bound.all_bound.Goals as goal
 
 pub loop-r-init : goal.loop-r-init

@@ -1,8 +1,7 @@
 -- `all_bound` meets its contract. Assumes nothing.
 use Prim.Native.Nat.{◌-◌}
-use native.Mathlib.Omega.{arith}
 use borrow.Author.Rules.{rules}
-use Rattle.report.proofs.BoundLaws.{BoundedTo, bounded_none, bounded_next, bounded_all}
+use Rattle.report.proofs.BoundLaws.{BoundedTo}
 use Rattle.report.proofs.bound.all_bound.Given as goal
 
 abbrev pub invariant-loop-r : goal.invariant-loop-r

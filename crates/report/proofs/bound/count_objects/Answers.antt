@@ -1,9 +1,7 @@
 -- `count_objects` meets its contract. Assumes nothing.
-use mathlib.Core.Logic.{⊎_elim}
 use mathlib.Core.Path.{◌∙◌}
-use Prim.Native.Nat.{◌-◌}
 use native.Mathlib.Omega.{arith}
-use Rattle.report.proofs.BoundLaws.{Counting, count_none, count_next, count_all}
+use Rattle.report.proofs.BoundLaws.{count_none, count_next, count_all}
 use Rattle.report.proofs.bound.count_objects.Goals as goal
 use Rattle.report.proofs.bound.count_objects.Goals.{then-is_a, else-is_a}
 

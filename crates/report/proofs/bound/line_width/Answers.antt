@@ -1,6 +1,5 @@
 -- `line_width` meets its contract. Assumes nothing.
 use native.Mathlib.Omega.{arith}
-use borrow.Author.Rules.{rules}
 use Rattle.rules.proofs.Lengths.{width_within}
 use Rattle.types.specs.Flat.{ty_of}
 use Rattle.report.proofs.BoundLaws.{origin_width, report_width}

@@ -1,6 +1,5 @@
 -- `lines_bound` meets its contract. Assumes nothing.
 use native.Mathlib.Omega.{arith}
-use borrow.Author.Rules.{rules}
 use Rattle.report.proofs.BoundLaws.{bound_few, bounds_lines}
 use Rattle.report.proofs.bound.lines_bound.Goals as goal
 

@@ -1,5 +1,4 @@
 -- `width` meets its contract. Assumes nothing.
-use borrow.Author.Rules.{rules}
 use Rattle.report.proofs.BoundLaws.{width_on, width_ends}
 use Rattle.rules.specs.Width.{width}
 use Rattle.report.proofs.bound.width.Goals as goal

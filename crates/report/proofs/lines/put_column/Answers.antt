@@ -1,6 +1,5 @@
 -- `put_column` meets its contract. Assumes nothing.
 use Rattle.text.proofs.WrittenLaws.{puts_then}
-use borrow.Author.Rules.{rules}
 use Rattle.report.proofs.lines.put_column.Goals as goal
 
 pub returns : goal.returns

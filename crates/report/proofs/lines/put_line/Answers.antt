@@ -2,7 +2,6 @@
 use mathlib.Core.Path.{◌∙◌}
 use native.Mathlib.Omega.{arith}
 use Rattle.report.proofs.LineLaws.{rule_room, object_room, outcome_fits, steps_room, puts_line}
-use borrow.Author.Rules.{rules}
 use Rattle.report.proofs.lines.put_line.Goals as goal
 
 pub put_column-second-requires : goal.put_column-second-requires

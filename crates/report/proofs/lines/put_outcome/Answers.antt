@@ -4,7 +4,6 @@ use native.Mathlib.Omega.{arith}
 use lib.ListN.{length}
 use Rattle.text.proofs.WrittenLaws.{puts_then}
 use Rattle.report.proofs.LineLaws.{undefined_spelled, stuck_spelled, stop_spelled, value_fits, puts_value}
-use borrow.Author.Rules.{rules}
 use Rattle.report.proofs.lines.put_outcome.Goals as goal
 
 pub overflow_add-len : goal.overflow_add-len

@@ -3,7 +3,6 @@ use native.Mathlib.Omega.{arith}
 use mathlib.Core.Path.{◌∙◌}
 use Rattle.text.proofs.WrittenLaws.{puts_then}
 use Rattle.spelling.proofs.PutLaws.{puts_behind}
-use borrow.Author.Rules.{rules}
 use Rattle.report.proofs.lines.put_steps.Goals as goal
 
 pub returns : goal.returns

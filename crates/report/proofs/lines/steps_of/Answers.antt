@@ -2,7 +2,6 @@
 use mathlib.Core.Path.{sym, ap}
 use Rattle.ocl.specs.Operations.{steps_of}
 use Rattle.report.proofs.LineLaws.{outcome_is}
-use borrow.Author.Rules.{rules}
 use Rattle.report.proofs.lines.steps_of.Goals as goal
 
 pub returns-in-Value : goal.returns-in-Value

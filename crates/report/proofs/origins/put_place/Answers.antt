@@ -1,6 +1,5 @@
 -- `put_place` meets its contract. Assumes nothing.
 use native.Mathlib.Omega.{arith}
-use borrow.Author.Rules.{rules}
 use Rattle.report.proofs.LineLaws.{place_rule_room, place_object_room, place_line_room, place_step_room, puts_place}
 use Rattle.report.proofs.origins.put_place.Goals as goal
 

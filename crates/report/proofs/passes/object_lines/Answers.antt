@@ -1,8 +1,7 @@
 -- `object_lines` meets its contract. Assumes nothing.
 use mathlib.Core.Path.{refl}
-use Prim.Native.Nat.{◌-◌}
 use native.Mathlib.Omega.{arith}
-use Rattle.report.proofs.PassLaws.{LinesTo, lines_none, lines_room, lines_next, lines_end}
+use Rattle.report.proofs.PassLaws.{lines_none, lines_room, lines_next, lines_end}
 use Rattle.report.proofs.passes.object_lines.Goals as goal
 
 pub loop-o-init : goal.loop-o-init

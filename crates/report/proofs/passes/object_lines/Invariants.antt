@@ -1,8 +1,6 @@
 -- `object_lines` meets its contract. Assumes nothing.
-use mathlib.Core.Path.{refl}
 use Prim.Native.Nat.{◌-◌}
-use native.Mathlib.Omega.{arith}
-use Rattle.report.proofs.PassLaws.{LinesTo, lines_none, lines_room, lines_next, lines_end}
+use Rattle.report.proofs.PassLaws.{LinesTo}
 use Rattle.report.proofs.passes.object_lines.Given as goal
 
 abbrev pub invariant-loop-o : goal.invariant-loop-o

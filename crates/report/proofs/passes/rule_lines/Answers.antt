@@ -1,8 +1,6 @@
 -- `rule_lines` meets its contract. Assumes nothing.
-use Prim.Native.Nat.{◌-◌}
-use native.Mathlib.Omega.{arith}
 use borrow.Author.Rules.{rules}
-use Rattle.report.proofs.RuleLaws.{RulesTo, rules_none, rule_room, rules_next, rules_end}
+use Rattle.report.proofs.RuleLaws.{rules_none, rule_room, rules_next, rules_end}
 use Rattle.report.proofs.passes.rule_lines.Goals as goal
 
 pub loop-r-init : goal.loop-r-init

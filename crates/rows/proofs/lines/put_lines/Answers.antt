@@ -1,8 +1,7 @@
 -- `put_lines` meets its contract. Assumes nothing.
 use borrow.Author.Rules.{rules}
-use Prim.Native.Nat.{◌-◌}
 use native.Mathlib.Omega.{arith}
-use Rattle.rows.proofs.RuleLaws.{root_low, LinesTo, lines_none, line_room, lines_next, lines_all}
+use Rattle.rows.proofs.RuleLaws.{root_low, lines_none, line_room, lines_next, lines_all}
 use Rattle.rows.proofs.lines.put_lines.Goals as goal
 
 pub loop-r-init : goal.loop-r-init

@@ -1,5 +1,4 @@
 -- `put_row` meets its contract. Assumes nothing.
-use borrow.Author.Rules.{rules}
 use Rattle.rows.proofs.LineLaws.{row_room, row_seen, row_unseen}
 use Rattle.rows.proofs.lines.put_row.Goals as goal
 

@@ -1,8 +1,6 @@
 -- `put_rows` meets its contract. Assumes nothing.
-use Prim.Native.Nat.{◌-◌, ◌≤◌}
 use native.Mathlib.Omega.{arith}
-use borrow.Author.Rules.{rules}
-use Rattle.rows.proofs.LineLaws.{RowsTo, rows_none, rows_room, rows_next, rows_all}
+use Rattle.rows.proofs.LineLaws.{rows_none, rows_room, rows_next, rows_all}
 use Rattle.rows.proofs.lines.put_rows.Goals as goal
 
 pub loop-i-init : goal.loop-i-init

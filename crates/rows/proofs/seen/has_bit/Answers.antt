@@ -1,6 +1,5 @@
 -- `has_bit` meets its contract. Assumes nothing.
 use mathlib.Core.Path.{refl}
-use borrow.Author.Rules.{rules}
 use Rattle.rows.specs.Bits.{bit}
 use Rattle.rows.proofs.seen.has_bit.Goals as goal
 

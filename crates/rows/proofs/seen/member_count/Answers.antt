@@ -1,5 +1,4 @@
 -- `member_count` meets its contract. Assumes nothing.
-use borrow.Author.Rules.{rules}
 use Rattle.rows.proofs.SeenLaws.{many_members, few_members}
 use Rattle.rows.proofs.seen.member_count.Goals as goal
 

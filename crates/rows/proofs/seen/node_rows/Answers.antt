@@ -1,8 +1,5 @@
 -- `node_rows` meets its contract: what is gathered, with what is left, is the whole. Assumes nothing.
-use Prim.Native.Nat.{◌-◌}
-use native.Mathlib.Omega.{arith}
-use borrow.Author.Rules.{rules}
-use Rattle.rows.proofs.SeenLaws.{Gathers, gathers_own, gathers_next, gathers_all}
+use Rattle.rows.proofs.SeenLaws.{gathers_own, gathers_next, gathers_all}
 use Rattle.rows.proofs.seen.node_rows.Goals as goal
 
 pub loop-k-init : goal.loop-k-init

@@ -1,5 +1,4 @@
 -- `operand_count` meets its contract. Assumes nothing.
-use borrow.Author.Rules.{rules}
 use Rattle.rows.proofs.SeenLaws.{leaf_parts, none_parts, attribute_parts, is_undef_parts, unary_parts, two_parts, let_parts, call_parts, three_parts, member_parts}
 use Rattle.rows.proofs.seen.operand_count.Goals as goal
 

@@ -1,5 +1,4 @@
 -- `operand_rows` meets its contract. Assumes nothing.
-use borrow.Author.Rules.{rules}
 use Rattle.rows.proofs.SeenLaws.{operand_seen, late_seen}
 use Rattle.rows.proofs.seen.operand_rows.Goals as goal
 

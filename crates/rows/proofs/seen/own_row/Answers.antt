@@ -1,5 +1,4 @@
 -- `own_row` meets its contract. Assumes nothing.
-use borrow.Author.Rules.{rules}
 use Rattle.rows.proofs.SeenLaws.{before_own, behind_own, at_own}
 use Rattle.rows.proofs.seen.own_row.Goals as goal
 

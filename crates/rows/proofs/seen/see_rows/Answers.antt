@@ -1,7 +1,5 @@
 -- `see_rows` meets its contract. Assumes nothing.
-use borrow.Author.Rules.{rules}
-use Prim.Native.Nat.{◌-◌}
-use Rattle.rows.proofs.SeenLaws.{Seeing, seeing_none, seeing_next, seeing_all}
+use Rattle.rows.proofs.SeenLaws.{seeing_none, seeing_next, seeing_all}
 use Rattle.rows.proofs.seen.see_rows.Goals as goal
 
 pub loop-n-init : goal.loop-n-init

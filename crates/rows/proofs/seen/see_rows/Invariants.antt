@@ -1,7 +1,6 @@
 -- `see_rows` meets its contract. Assumes nothing.
-use borrow.Author.Rules.{rules}
 use Prim.Native.Nat.{◌-◌}
-use Rattle.rows.proofs.SeenLaws.{Seeing, seeing_none, seeing_next, seeing_all}
+use Rattle.rows.proofs.SeenLaws.{Seeing}
 use Rattle.rows.proofs.seen.see_rows.Given as goal
 
 abbrev pub invariant-loop-n : goal.invariant-loop-n

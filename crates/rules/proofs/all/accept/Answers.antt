@@ -1,5 +1,4 @@
 -- `accept` meets its contract. Assumes nothing.
-use borrow.Author.Rules.{rules}
 use Rattle.rules.proofs.AllLaws.{accepts, accepts_none}
 use Rattle.rules.proofs.all.accept.Goals as goal
 

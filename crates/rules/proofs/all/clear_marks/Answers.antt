@@ -1,10 +1,9 @@
 -- The loop's invariant: the first i words are 0, and the others are as they were. Assumes nothing.
 use borrow.Author.Rules.{rules}
 use native.Mathlib.Omega.{arith}
-use Prim.Native.Nat.{◌≤◌, ◌-◌}
 use mathlib.Core.Path.{◌≡◌, refl, ap, ◌∙◌}
 use mathlib.Core.List.{◌++◌}
-use lib.ListN.{length, drop, set, replicate, length-set}
+use lib.ListN.{drop, set, replicate, length-set}
 use Rattle.tables.proofs.Zeros.{zero_next}
 use Rattle.rules.proofs.all.clear_marks.Goals as goal
 

@@ -1,6 +1,4 @@
-use Prim.Native.Nat.{◌-◌}
-use native.Mathlib.Omega.{arith}
-use Rattle.rules.proofs.Marks.{Copying, copy_none, copy_more, copy_done}
+use Rattle.rules.proofs.Marks.{copy_none, copy_more, copy_done}
 use Rattle.rules.proofs.all.keep_marks.Goals as goal
 
 pub loop-p-init : goal.loop-p-init

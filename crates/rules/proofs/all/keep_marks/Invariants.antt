@@ -1,6 +1,5 @@
 use Prim.Native.Nat.{◌-◌}
-use native.Mathlib.Omega.{arith}
-use Rattle.rules.proofs.Marks.{Copying, copy_none, copy_more, copy_done}
+use Rattle.rules.proofs.Marks.{Copying}
 use Rattle.rules.proofs.all.keep_marks.Given as goal
 
 abbrev pub invariant-loop-p : goal.invariant-loop-p

@@ -1,8 +1,5 @@
 -- `type_all` meets its contract. Assumes nothing.
-use Prim.Native.Nat.{◌-◌}
-use native.Mathlib.Omega.{arith}
-use borrow.Author.Rules.{rules}
-use Rattle.rules.proofs.AllLaws.{TypedTo, typed_none, typed_next, refused_node, typed_refused, typed_all}
+use Rattle.rules.proofs.AllLaws.{typed_none, typed_next, refused_node, typed_refused, typed_all}
 use Rattle.rules.proofs.all.type_all.Goals as goal
 
 pub loop-r-init : goal.loop-r-init

@@ -1,8 +1,7 @@
 -- `type_all` meets its contract. Assumes nothing.
 use Prim.Native.Nat.{◌-◌}
-use native.Mathlib.Omega.{arith}
 use borrow.Author.Rules.{rules}
-use Rattle.rules.proofs.AllLaws.{TypedTo, typed_none, typed_next, refused_node, typed_refused, typed_all}
+use Rattle.rules.proofs.AllLaws.{TypedTo}
 use Rattle.rules.proofs.all.type_all.Given as goal
 
 abbrev pub invariant-loop-r : goal.invariant-loop-r

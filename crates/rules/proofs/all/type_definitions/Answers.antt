@@ -1,8 +1,5 @@
 -- `type_definitions` meets its contract. Assumes nothing.
-use Prim.Native.Nat.{◌-◌}
-use native.Mathlib.Omega.{arith}
-use borrow.Author.Rules.{rules}
-use Rattle.rules.proofs.DefineLaws.{DefinedTo, defined_none, defined_next, undefined_node, defined_refused, defined_all}
+use Rattle.rules.proofs.DefineLaws.{defined_none, defined_next, undefined_node, defined_refused, defined_all}
 use Rattle.rules.proofs.all.type_definitions.Goals as goal
 
 pub loop-d-init : goal.loop-d-init

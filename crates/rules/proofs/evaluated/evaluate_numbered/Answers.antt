@@ -1,5 +1,4 @@
 -- `rules::evaluated::evaluate_numbered` meets its contract. Assumes nothing.
-use borrow.Author.Rules.{rules}
 use Rattle.rules.proofs.Evaluations.{evaluates_numbered}
 use Rattle.rules.proofs.evaluated.evaluate_numbered.Goals as goal
 

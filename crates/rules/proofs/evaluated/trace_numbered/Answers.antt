@@ -1,5 +1,4 @@
 -- `rules::evaluated::trace_numbered` meets its contract. Assumes nothing.
-use borrow.Author.Rules.{rules}
 use lib.Seq.{length-take-le}
 use Rattle.rules.proofs.Evaluations.{rule_shallow, rule_room, traces_numbered}
 use Rattle.rules.proofs.evaluated.trace_numbered.Goals as goal

@@ -1,5 +1,4 @@
 -- `define_numbered` meets its contract. Assumes nothing.
-use borrow.Author.Rules.{rules}
 use Rattle.rules.proofs.Typings.{tables_lent, definition_low, definition_root, defines_numbered}
 use Rattle.rules.proofs.typed.define_numbered.Goals as goal
 

@@ -1,6 +1,5 @@
 use mathlib.Core.Path.{ap, ◌∙◌}
 use Rattle.nodes.specs.Nodes.{word}
-use borrow.Author.Rules.{rules}
 use Rattle.rules.proofs.typed.line_of.Goals as goal
 
 pub returns : goal.returns

@@ -1,4 +1,3 @@
-use borrow.Author.Rules.{rules}
 use Rattle.rules.proofs.Typings.{tables_lent, rule_low, rule_root, types_numbered}
 use Rattle.rules.proofs.typed.type_numbered.Goals as goal
 

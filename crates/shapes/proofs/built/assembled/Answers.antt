@@ -1,6 +1,5 @@
 -- `assembled` meets its contract.
 use Rattle.shapes.proofs.LiteralLaws.{assemble_built}
-use borrow.Author.Rules.{rules}
 use Rattle.shapes.proofs.built.assembled.Goals as goal
 
 pub returns : goal.returns

@@ -1,9 +1,7 @@
 -- `built` meets its contract.
-use Rattle.text.proofs.FormLaws.{above}
 use Rattle.shapes.specs.Forms.{constant, itself, one, two, undef_test, conditional, quotient}
 use Rattle.shapes.proofs.BuiltLaws.{over_none, gap_none, integer_none, iterate_none, not_built}
 use native.Mathlib.Omega.{arith}
-use borrow.Author.Rules.{rules}
 use Rattle.shapes.proofs.built.built.Goals as goal
 
 pub plain-requires : goal.plain-requires

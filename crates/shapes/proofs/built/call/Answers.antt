@@ -1,6 +1,5 @@
 -- `call` meets its contract.
 use Rattle.shapes.proofs.HeldLaws.{call_built}
-use borrow.Author.Rules.{rules}
 use Rattle.shapes.proofs.built.call.Goals as goal
 
 pub returns : goal.returns

@@ -1,6 +1,5 @@
 -- `cast` meets its contract.
 use Rattle.shapes.proofs.HeldLaws.{cast_built}
-use borrow.Author.Rules.{rules}
 use Rattle.shapes.proofs.built.cast.Goals as goal
 
 pub returns : goal.returns

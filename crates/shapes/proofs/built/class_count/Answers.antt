@@ -1,7 +1,6 @@
 -- `class_count` meets its contract.
 use Rattle.shapes.specs.Built.{class_count}
 use borrow.Author.Tests.{lt-ltb, le-ltb}
-use borrow.Author.Rules.{rules}
 use Rattle.shapes.proofs.built.class_count.Goals as goal
 
 pub returns-then-c-lt-MOST_CLASSES : goal.returns-then-c-lt-MOST_CLASSES

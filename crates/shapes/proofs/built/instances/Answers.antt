@@ -1,6 +1,5 @@
 -- `instances` meets its contract.
 use Rattle.shapes.proofs.HeldLaws.{all_built}
-use borrow.Author.Rules.{rules}
 use Rattle.shapes.proofs.built.instances.Goals as goal
 
 pub returns : goal.returns

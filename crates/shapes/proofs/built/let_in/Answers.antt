@@ -1,6 +1,5 @@
 -- `let_in` meets its contract.
 use Rattle.shapes.proofs.HeldLaws.{let_built}
-use borrow.Author.Rules.{rules}
 use Rattle.shapes.proofs.built.let_in.Goals as goal
 
 pub returns : goal.returns

@@ -1,6 +1,5 @@
 -- `plain` meets its contract.
 use Rattle.shapes.proofs.FormLaws.{plain_built}
-use borrow.Author.Rules.{rules}
 use Rattle.shapes.proofs.built.plain.Goals as goal
 
 pub returns : goal.returns

@@ -1,6 +1,5 @@
 -- `quantified` meets its contract.
 use Rattle.shapes.proofs.HeldLaws.{quantifier_built}
-use borrow.Author.Rules.{rules}
 use Rattle.shapes.proofs.built.quantified.Goals as goal
 
 pub returns : goal.returns

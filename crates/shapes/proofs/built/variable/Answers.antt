@@ -1,6 +1,5 @@
 -- `variable` meets its contract.
 use Rattle.shapes.proofs.HeldLaws.{variable_built}
-use borrow.Author.Rules.{rules}
 use Rattle.shapes.proofs.built.variable.Goals as goal
 
 pub returns : goal.returns

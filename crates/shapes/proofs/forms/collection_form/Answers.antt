@@ -5,7 +5,6 @@ use native.Mathlib.Omega.{arith}
 use mathlib.Core.Path.{ap, ◌∙◌}
 use Rattle.shapes.proofs.LiteralLaws.{assemble_none, assemble_over, assemble_other, assemble_bad, assemble_read}
 use Rattle.shapes.proofs.FieldLaws.{rest_cons, rest_short, rest_long, rest_length, rest_part}
-use borrow.Author.Rules.{rules}
 use Rattle.shapes.proofs.forms.collection_form.Goals as goal
 
 pub returns-then-count-lt4 : goal.returns-then-count-lt4

@@ -1,7 +1,6 @@
 -- `kind_code` meets its contract.
 use mathlib.Core.Path.{sym, ◌∙◌}
 use Rattle.shapes.proofs.LiteralLaws.{kind_set, kind_sequence, kind_bag, kind_other}
-use borrow.Author.Rules.{rules}
 use Rattle.shapes.proofs.forms.kind_code.Goals as goal
 
 pub returns-in-83 : goal.returns-in-83

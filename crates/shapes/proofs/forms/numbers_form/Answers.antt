@@ -1,6 +1,5 @@
 -- `numbers_form` meets its contract.
 use Rattle.shapes.proofs.BuiltLaws.{numbers_bad, numbers_read}
-use borrow.Author.Rules.{rules}
 use Rattle.shapes.proofs.forms.numbers_form.Goals as goal
 
 pub returns-then-not-n : goal.returns-then-not-n

@@ -1,6 +1,5 @@
 -- `read_form` meets its contract.
 use native.Mathlib.Omega.{arith}
-use Rattle.text.proofs.FormLaws.{above}
 use Rattle.shapes.proofs.LiteralLaws.{gap_code, no_code}
 use Rattle.shapes.proofs.BuiltLaws.{of_none, of_one, of_two, of_quantifier, of_three, of_access, of_last, one_of_none, one_of_one}
 use borrow.Author.Rules.{rules}

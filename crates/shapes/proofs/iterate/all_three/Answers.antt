@@ -1,5 +1,4 @@
 -- `all_three` meets its contract.
-use borrow.Author.Tests.{not-true, not-false}
 use Rattle.shapes.proofs.iterate.all_three.Goals as goal
 
 pub returns-then-not-a : goal.returns-then-not-a

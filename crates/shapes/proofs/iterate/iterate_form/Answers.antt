@@ -2,7 +2,6 @@
 use Rattle.shapes.proofs.IterateLaws.{iterate_not, iterate_bad, iterate_read, field_type, field_held}
 use Rattle.shapes.proofs.FieldLaws.{rest_not}
 use native.Mathlib.Omega.{arith}
-use borrow.Author.Rules.{rules}
 use Rattle.shapes.proofs.iterate.iterate_form.Goals as goal
 
 pub returns-then-f-ne9 : goal.returns-then-f-ne9

@@ -1,6 +1,5 @@
 -- `iterated` meets its contract.
 use Rattle.shapes.proofs.IterateLaws.{both_variables, iterate_built}
-use borrow.Author.Rules.{rules}
 use Rattle.shapes.proofs.iterate.iterated.Goals as goal
 
 pub returns : goal.returns

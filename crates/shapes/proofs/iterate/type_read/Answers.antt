@@ -1,6 +1,5 @@
 -- `type_read` meets its contract.
 use Rattle.shapes.proofs.IterateLaws.{type_bad, type_big, type_is, type_small}
-use borrow.Author.Rules.{rules}
 use Rattle.shapes.proofs.iterate.type_read.Goals as goal
 
 pub classes_in-requires : goal.classes_in-requires

@@ -7,7 +7,6 @@ use Rattle.text.specs.Numbers.{whole_of}
 use Rattle.text.proofs.LiteralLaws.{whole_narrow}
 use Rattle.shapes.proofs.LiteralLaws.{integer_not, integer_one}
 use Rattle.shapes.proofs.FieldLaws.{rest_first, rest_exact, rest_not}
-use borrow.Author.Rules.{rules}
 use Rattle.shapes.proofs.literals.integer_form.Goals as goal
 
 pub returns-then-f-ne4 : goal.returns-then-f-ne4

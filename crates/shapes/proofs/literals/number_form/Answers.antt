@@ -1,7 +1,6 @@
 -- `number_form` meets its contract.
 use mathlib.Core.Path.{sym, ◌∙◌}
 use Rattle.shapes.proofs.LiteralLaws.{number_bad, number_over, number_is}
-use borrow.Author.Rules.{rules}
 use Rattle.shapes.proofs.literals.number_form.Goals as goal
 
 pub returns-in-Bad : goal.returns-in-Bad

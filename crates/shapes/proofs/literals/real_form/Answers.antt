@@ -8,7 +8,6 @@ use Rattle.sheet.specs.Lines.{a_real}
 use Rattle.text.specs.Literals.{literal_of}
 use Rattle.shapes.proofs.LiteralLaws.{real_not, real_one}
 use Rattle.shapes.proofs.FieldLaws.{rest_first, rest_exact, rest_not}
-use borrow.Author.Rules.{rules}
 use Rattle.shapes.proofs.literals.real_form.Goals as goal
 
 pub returns-then-f-ne4 : goal.returns-then-f-ne4

@@ -1,6 +1,5 @@
 -- `exactly` meets its contract.
 use Rattle.shapes.proofs.FieldLaws.{exact_not, exact_all}
-use borrow.Author.Rules.{rules}
 use Rattle.shapes.proofs.numbers.exactly.Goals as goal
 
 pub returns-then-count-m : goal.returns-then-count-m

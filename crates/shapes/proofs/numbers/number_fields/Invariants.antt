@@ -1,12 +1,9 @@
 -- `number_fields` meets its contract.
 use Prim.Native.Nat.{◌≤◌, ◌-◌}
-use mathlib.Core.Path.{◌≡◌, refl, sym, ap, ◌∙◌}
-use borrow.Author.Rules.{rules}
-use lib.ListN.{length, length-set}
-use Rattle.sheet.specs.Lines.{a_number}
-use Rattle.text.specs.Numbers.{cut_num}
+use mathlib.Core.Path.{◌≡◌}
+use lib.ListN.{length}
 use Rattle.sheet.specs.Text.{fields_of}
-use Rattle.shapes.proofs.FieldLaws.{ReadTo, read_none, read_all, read_bad, read_next, field_count}
+use Rattle.shapes.proofs.FieldLaws.{ReadTo}
 use Rattle.shapes.proofs.numbers.number_fields.Given as goal
 
 abbrev pub invariant-loop-i : goal.invariant-loop-i

@@ -1,6 +1,5 @@
 -- `slots::line::after_last` meets its contract. Assumes nothing.
 use Rattle.slots.proofs.SlotLaws.{after_none, after_some}
-use borrow.Author.Rules.{rules}
 use Rattle.slots.proofs.line.after_last.Goals as goal
 
 pub returns-then-n-eq0 : goal.returns-then-n-eq0

@@ -4,7 +4,6 @@ use Rattle.slots.proofs.PutLaws.{slot_big_object, slot_big_row, slot_full, slot_
 use borrow.Author.Tests.{not-true, not-false}
 use mathlib.Core.Path.{ap, ◌∙◌}
 use native.Mathlib.Omega.{arith}
-use borrow.Author.Rules.{rules}
 use Rattle.slots.proofs.line.put_slot.Goals as goal
 
 pub returns-then-o-ge-MOST_OBJECTS : goal.returns-then-o-ge-MOST_OBJECTS

@@ -3,7 +3,6 @@ use Rattle.slots.proofs.SlotLaws.{read_into}
 use borrow.Rule.Slice.PartMut.{mid_len}
 use mathlib.Core.Path.{◌∙◌}
 use native.Mathlib.Omega.{arith}
-use borrow.Author.Rules.{rules}
 use Rattle.memory.specs.Map as memory
 use Rattle.slots.proofs.line.read_into.Goals as goal
 

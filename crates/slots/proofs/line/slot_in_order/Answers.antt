@@ -2,10 +2,8 @@
 use Rattle.slots.proofs.SlotLaws.{part_is, order_block, order_slot, order_value}
 use Rattle.slots.specs.Slots.{last_before}
 use Prim.Native.Nat.{ℕ, ◌+◌, ◌*◌}
-use borrow.Author.Tests.{not-true, not-false}
 use mathlib.Core.Path.{ap, ◌∙◌}
 use native.Mathlib.Omega.{arith}
-use borrow.Author.Rules.{rules}
 use Rattle.slots.proofs.line.slot_in_order.Goals as goal
 
 pub returns-then-st-gt-VALUES : goal.returns-then-st-gt-VALUES

@@ -1,7 +1,6 @@
 -- `slots::line::slot_known` meets its contract. Assumes nothing.
 use Rattle.slots.proofs.SlotLaws.{part_is, known_no_object, known_no_row, known_value}
 use native.Mathlib.Omega.{arith}
-use borrow.Author.Rules.{rules}
 use Rattle.slots.proofs.line.slot_known.Goals as goal
 
 pub returns-then-st-o : goal.returns-then-st-o

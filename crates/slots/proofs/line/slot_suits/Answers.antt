@@ -1,10 +1,9 @@
 -- `slots::line::slot_suits` meets its contract. Assumes nothing.
 use Rattle.slots.proofs.SlotLaws.{parents_part, objects_part, suits_object, suits_value, part_is}
 use lib.Seq.{length-take-le}
-use borrow.Author.Tests.{not-true, not-false}
+use borrow.Author.Tests.{not-true}
 use mathlib.Core.Path.{sym}
 use native.Mathlib.Omega.{arith}
-use borrow.Author.Rules.{rules}
 use Rattle.slots.proofs.line.slot_suits.Goals as goal
 
 pub slice_bounds-parents-end : goal.slice_bounds-parents-end

@@ -3,7 +3,6 @@ use lib.ListN.{set, length-set}
 use Prim.Native.Nat.{ℕ, ◌+◌}
 use mathlib.Core.Path.{refl, ap}
 use native.Mathlib.Omega.{arith}
-use borrow.Author.Rules.{rules}
 use Rattle.memory.specs.Map as memory
 use Rattle.slots.proofs.line.store_slot.Goals as goal
 

@@ -2,7 +2,6 @@
 use Rattle.slots.proofs.LineLaws.{unspelled, fields_count, fields_object, fields_row, fields_value, fields_all, object_cut, row_cut, kept_read, line_over, line_put, read_sizes, bad_value}
 use Rattle.tables.proofs.Tables.{kept_refl}
 use native.Mathlib.Omega.{arith}
-use borrow.Author.Rules.{rules}
 use Rattle.slots.proofs.line.value_line.Goals as goal
 
 pub returns-then-f-ne4 : goal.returns-then-f-ne4

@@ -1,11 +1,7 @@
 -- `slots::objects::all_known` meets its contract. Assumes nothing.
 use borrow.Author.Tests.{not-true, not-false}
 use Rattle.slots.proofs.ObjectLaws.{known_not, known_again, known_all}
-use Rattle.slots.specs.Objects.{cell_known}
-use Rattle.laws.specs.Lists.{all_of}
-use lib.ListN.{length, drop}
-use Prim.Native.Nat.{◌-◌, ◌≤◌}
-use mathlib.Core.Path.{◌≡◌, refl}
+use mathlib.Core.Path.{refl}
 use borrow.Author.Rules.{rules}
 use native.Mathlib.Omega.{arith}
 use Rattle.slots.proofs.objects.all_known.Goals as goal

@@ -1,10 +1,6 @@
 -- `slots::order::in_order` meets its contract. Assumes nothing.
-use Rattle.slots.proofs.OrderLaws.{Ordering, order_start, order_not, order_again, order_end}
-use lib.ListN.{length}
-use Prim.Native.Nat.{◌-◌}
+use Rattle.slots.proofs.OrderLaws.{order_start, order_not, order_again, order_end}
 use borrow.Author.Tests.{not-true, not-false}
-use borrow.Author.Rules.{rules}
-use native.Mathlib.Omega.{arith}
 use Rattle.slots.proofs.order.in_order.Goals as goal
 
 pub loop-p-init : goal.loop-p-init

@@ -1,10 +1,7 @@
 -- `slots::order::in_order` meets its contract. Assumes nothing.
-use Rattle.slots.proofs.OrderLaws.{Ordering, order_start, order_not, order_again, order_end}
+use Rattle.slots.proofs.OrderLaws.{Ordering}
 use lib.ListN.{length}
 use Prim.Native.Nat.{◌-◌}
-use borrow.Author.Tests.{not-true, not-false}
-use borrow.Author.Rules.{rules}
-use native.Mathlib.Omega.{arith}
 use Rattle.slots.proofs.order.in_order.Given as goal
 
 abbrev pub invariant-loop-p : goal.invariant-loop-p

@@ -1,8 +1,6 @@
 -- `slots::order::in_row` meets its contract. Assumes nothing.
-use Rattle.slots.proofs.OrderLaws.{Rowing, row_free, row_start, row_last, row_not, row_again, row_end}
-use Prim.Native.Nat.{◌-◌}
-use borrow.Author.Tests.{not-true, not-false}
-use borrow.Author.Rules.{rules}
+use Rattle.slots.proofs.OrderLaws.{row_free, row_start, row_last, row_not, row_again, row_end}
+use borrow.Author.Tests.{not-true}
 use native.Mathlib.Omega.{arith}
 use Rattle.slots.proofs.order.in_row.Goals as goal
 

@@ -2,7 +2,6 @@
 use mathlib.Core.Path.{sym, ap}
 use Rattle.text.specs.declared.literals.Literal.{Literal}
 use Rattle.slots.specs.Parts.{part_of}
-use borrow.Author.Rules.{rules}
 use Rattle.slots.proofs.parts.number_part.Goals as goal
 
 pub returns-in-Over : goal.returns-in-Over

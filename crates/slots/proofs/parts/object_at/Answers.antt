@@ -1,6 +1,5 @@
 -- `slots::parts::object_at` meets its contract. Assumes nothing.
 use Rattle.slots.proofs.PartLaws.{object_none, object_small, object_wide}
-use borrow.Author.Rules.{rules}
 use Rattle.slots.proofs.parts.object_at.Goals as goal
 
 pub returns-in-Bad : goal.returns-in-Bad

@@ -4,7 +4,6 @@ use Prim.Native.Nat.{ℕ}
 use Rattle.slots.specs.Parts.{opens, opens_not}
 use Rattle.slots.specs.declared.parts.Part.TheVariants as part
 use native.Mathlib.Omega.{arith}
-use borrow.Author.Rules.{rules}
 use Rattle.slots.proofs.parts.opens_at.Goals as goal
 
 pub returns-then-f-next-eq40 : goal.returns-then-f-next-eq40

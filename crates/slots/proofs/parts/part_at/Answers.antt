@@ -4,7 +4,6 @@ use Rattle.ocl.specs.Types.{set, sequence, bag, kind_code}
 use Rattle.sheet.specs.Spelling.{letter_byte, kind_byte}
 use Rattle.slots.proofs.PartLaws.{part_true, part_false, part_object, part_real, part_letter, part_whole}
 use native.Mathlib.Omega.{arith}
-use borrow.Author.Rules.{rules}
 use Rattle.slots.proofs.parts.part_at.Goals as goal
 
 pub returns-in-116 : goal.returns-in-116

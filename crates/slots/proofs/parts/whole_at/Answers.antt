@@ -1,7 +1,6 @@
 -- `slots::parts::whole_at` meets its contract. Assumes nothing.
 use Rattle.text.proofs.LiteralLaws.{whole_narrow}
 use Rattle.slots.proofs.PartLaws.{whole_part}
-use borrow.Author.Rules.{rules}
 use Rattle.slots.proofs.parts.whole_at.Goals as goal
 
 pub integer_literal-requires : goal.integer_literal-requires

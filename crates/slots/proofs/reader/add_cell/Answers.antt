@@ -2,7 +2,6 @@
 use Rattle.slots.proofs.CellLaws.{added_cell, added_full}
 use mathlib.Core.Path.{refl}
 use native.Mathlib.Omega.{arith}
-use borrow.Author.Rules.{rules}
 use Rattle.slots.proofs.reader.add_cell.Goals as goal
 
 pub returns-then-n-cells : goal.returns-then-n-cells

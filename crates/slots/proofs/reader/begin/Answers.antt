@@ -3,7 +3,6 @@ use Rattle.slots.proofs.BeginLaws.{wanted_depth, begin_simple, begin_wide, begin
 use Rattle.slots.proofs.TurnLaws.{turn_later}
 use Rattle.slots.specs.Machine.{turn_on, turn_stop, read_bad}
 use native.Mathlib.Omega.{arith}
-use borrow.Author.Rules.{rules}
 use Rattle.slots.proofs.reader.begin.Goals as goal
 
 pub ended-requires : goal.ended-requires

@@ -1,7 +1,6 @@
 -- `slots::reader::ended` meets its contract. Assumes nothing.
 use Rattle.slots.proofs.TurnLaws.{may_raise, ended_on}
 use Rattle.slots.specs.Machine.{turn_stop}
-use borrow.Author.Rules.{rules}
 use Rattle.slots.proofs.reader.ended.Goals as goal
 
 pub returns-then-o-eq0 : goal.returns-then-o-eq0

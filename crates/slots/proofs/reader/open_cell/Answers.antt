@@ -1,6 +1,5 @@
 -- `slots::reader::open_cell` meets its contract. Assumes nothing.
 use Rattle.slots.proofs.CellLaws.{opened_cell}
-use borrow.Author.Rules.{rules}
 use Rattle.slots.proofs.reader.open_cell.Goals as goal
 
 pub returns : goal.returns

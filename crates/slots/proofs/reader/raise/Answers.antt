@@ -4,7 +4,6 @@ use lib.ListN.{get_or}
 use Prim.Native.Nat.{ℕ}
 use mathlib.Core.Path.{ap}
 use native.Mathlib.Omega.{arith}
-use borrow.Author.Rules.{rules}
 use Rattle.slots.proofs.reader.raise.Goals as goal
 
 pub returns-then-o-gt-LARGEST : goal.returns-then-o-gt-LARGEST

@@ -1,11 +1,7 @@
 -- `slots::reader::read_value` meets its contract. Assumes nothing.
 use Rattle.slots.proofs.BeginLaws.{begun}
 use Rattle.slots.proofs.TurnLaws.{turn_up, turn_live, turn_read, live_within}
-use Rattle.slots.specs.Machine.{Live}
-use lib.ListN.{length}
-use Prim.Native.Nat.{◌-◌}
-use mathlib.Core.Path.{◌≡◌, refl, ◌∙◌}
-use borrow.Author.Rules.{rules}
+use mathlib.Core.Path.{refl, ◌∙◌}
 use native.Mathlib.Omega.{arith}
 use Rattle.slots.proofs.reader.read_value.Goals as goal
 

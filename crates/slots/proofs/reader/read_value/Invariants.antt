@@ -1,12 +1,8 @@
 -- `slots::reader::read_value` meets its contract. Assumes nothing.
-use Rattle.slots.proofs.BeginLaws.{begun}
-use Rattle.slots.proofs.TurnLaws.{turn_up, turn_live, turn_read, live_within}
 use Rattle.slots.specs.Machine.{Live}
 use lib.ListN.{length}
 use Prim.Native.Nat.{◌-◌}
-use mathlib.Core.Path.{◌≡◌, refl, ◌∙◌}
-use borrow.Author.Rules.{rules}
-use native.Mathlib.Omega.{arith}
+use mathlib.Core.Path.{◌≡◌}
 use Rattle.slots.proofs.reader.read_value.Given as goal
 
 abbrev pub invariant-loop-a : goal.invariant-loop-a

@@ -1,6 +1,5 @@
 -- `slots::suits::belongs` meets its contract. Assumes nothing.
 use Rattle.slots.proofs.SuitLaws.{belongs_base, belongs_other, belongs_start, belongs_around, belongs_not, belongs_again, belongs_end}
-use Prim.Native.Nat.{◌-◌}
 use native.Mathlib.Omega.{arith}
 use Rattle.slots.proofs.suits.+belongs.Goals as goal
 

@@ -1,6 +1,5 @@
 -- `slots::suits::base_suits` meets its contract. Assumes nothing.
 use Rattle.slots.proofs.BaseLaws.{base_object, base_high, base_any, base_truth, base_integer, base_number, low_sort}
-use borrow.Author.Rules.{rules}
 use Rattle.slots.proofs.suits.base_suits.Goals as goal
 
 pub returns-then-sort-eq2 : goal.returns-then-sort-eq2

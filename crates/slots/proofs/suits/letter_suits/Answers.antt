@@ -2,7 +2,6 @@
 use Rattle.types.proofs.Cases.{other_letter}
 use Rattle.slots.proofs.SuitLaws.{letter_none, letter_any, letter_kind}
 use native.Mathlib.Omega.{arith}
-use borrow.Author.Rules.{rules}
 use Rattle.slots.proofs.suits.letter_suits.Goals as goal
 
 pub returns-then-sort-lt-SET : goal.returns-then-sort-lt-SET

@@ -1,6 +1,5 @@
 -- `slots::suits::object_in` meets its contract. Assumes nothing.
 use Rattle.slots.proofs.BaseLaws.{in_class, in_other, in_any}
-use borrow.Author.Rules.{rules}
 use Rattle.slots.proofs.suits.object_in.Goals as goal
 
 pub returns-then-y-eq5 : goal.returns-then-y-eq5

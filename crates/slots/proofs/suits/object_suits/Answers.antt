@@ -1,6 +1,5 @@
 -- `slots::suits::object_suits` meets its contract. Assumes nothing.
 use Rattle.slots.proofs.BaseLaws.{object_there, object_gone}
-use borrow.Author.Rules.{rules}
 use Rattle.slots.proofs.suits.object_suits.Goals as goal
 
 pub returns-then-at-objects : goal.returns-then-at-objects

@@ -1,5 +1,4 @@
 -- `integer_literal` meets its contract. Assumes nothing.
-use borrow.Author.Rules.{rules}
 use Rattle.text.proofs.LiteralLaws.{integer_sound, integer_bad, integer_over, integer_is}
 use Rattle.text.proofs.literals.integer_literal.Goals as goal
 

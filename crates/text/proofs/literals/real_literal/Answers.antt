@@ -1,5 +1,4 @@
 -- `real_literal` meets its contract. Assumes nothing.
-use borrow.Author.Rules.{rules}
 use Rattle.text.proofs.LiteralLaws.{real_sound, real_bad, real_over, real_is}
 use Rattle.text.proofs.literals.real_literal.Goals as goal
 

@@ -1,6 +1,5 @@
 -- `by_sign` meets its contract. Each answer by the sign and the range. Assumes nothing.
 use Rattle.text.proofs.IntegerLaws.{plus_in, plus_out, minus_zero, minus_in, minus_out}
-use borrow.Author.Rules.{rules}
 use Rattle.text.proofs.numbers.by_sign.Goals as goal
 
 pub returns-then-n-lt-ZERO : goal.returns-then-n-lt-ZERO

@@ -1,12 +1,9 @@
 -- `digits_at` meets its contract. The digits from i on end where those from `at` on end, and after the number so far they stand for
 -- the same number, both cut at the bound. Assumes nothing.
 use Prim.Native.Nat.{◌≤◌, ◌+◌, ◌-◌, min}
-use mathlib.Core.Path.{◌≡◌, refl}
+use mathlib.Core.Path.{◌≡◌}
 use lib.ListN.{length, drop}
-use borrow.Author.Rules.{rules}
-use native.Mathlib.Omega.{arith}
 use Rattle.sheet.specs.Text.{digits, value_of_digits}
-use Rattle.text.proofs.NumberLaws.{no_digit, a_digit, end_none, end_here, end_next, value_none, value_here, value_next}
 use Rattle.text.proofs.numbers.digits_at.Given as goal
 
 abbrev pub invariant-loop-i : goal.invariant-loop-i

@@ -2,7 +2,6 @@
 use mathlib.Core.Path.{◌∙◌, sym, ap}
 use Rattle.text.specs.Numbers.{whole_of}
 use Rattle.text.proofs.IntegerLaws.{an_integer_lem, not_an_integer}
-use borrow.Author.Rules.{rules}
 use Rattle.text.proofs.numbers.integer.Goals as goal
 
 pub returns-then-d-f : goal.returns-then-d-f

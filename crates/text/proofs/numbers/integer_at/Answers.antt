@@ -1,7 +1,6 @@
 -- `integer_at` meets its contract. The sign and the digits behind it are those that `integer` reads. Assumes nothing.
 use mathlib.Core.Path.{◌∙◌}
 use Rattle.text.proofs.IntegerLaws.{integer_read, integer_bad}
-use borrow.Author.Rules.{rules}
 use Rattle.text.proofs.numbers.integer_at.Goals as goal
 
 pub returns-then-plain : goal.returns-then-plain

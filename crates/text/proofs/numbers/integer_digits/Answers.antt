@@ -1,7 +1,6 @@
 -- `integer_digits` meets its contract. They are the digits behind the sign. Assumes nothing.
 use native.Mathlib.Omega.{arith}
 use Rattle.text.proofs.IntegerLaws.{minus_room, digits_behind}
-use borrow.Author.Rules.{rules}
 use Rattle.text.proofs.numbers.integer_digits.Goals as goal
 
 pub overflow_add-from : goal.overflow_add-from

@@ -1,6 +1,5 @@
 -- `minus_at` meets its contract. By the byte at the position, if there is one. Assumes nothing.
 use Rattle.text.proofs.IntegerLaws.{minus_here, minus_not, minus_past}
-use borrow.Author.Rules.{rules}
 use Rattle.text.proofs.numbers.minus_at.Goals as goal
 
 pub returns-then-s-at-eq45 : goal.returns-then-s-at-eq45

@@ -2,7 +2,6 @@
 use mathlib.Core.Path.{◌∙◌, sym, ap}
 use Rattle.text.specs.Numbers.{cut_num}
 use Rattle.text.proofs.NumberLaws.{a_number_lem, not_a_number}
-use borrow.Author.Rules.{rules}
 use Rattle.text.proofs.numbers.number.Goals as goal
 
 pub returns-then-d-f : goal.returns-then-d-f

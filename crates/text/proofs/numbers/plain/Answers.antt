@@ -1,6 +1,5 @@
 -- `plain` meets its contract. By the number of digits, then by the first. Assumes nothing.
 use Rattle.text.proofs.NumberLaws.{plain_none, plain_one, plain_zero, plain_other}
-use borrow.Author.Rules.{rules}
 use Rattle.text.proofs.numbers.plain.Goals as goal
 
 pub returns-then-a-e : goal.returns-then-a-e

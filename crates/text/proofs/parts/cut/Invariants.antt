@@ -1,9 +1,6 @@
 -- `cut` meets its contract. The first n fields lie where the ends say, and the rest of the line is the rest of the fields. Assumes nothing.
 use Prim.Native.Nat.{◌≤◌, ◌-◌}
-use mathlib.Core.Path.{refl}
-use borrow.Author.Rules.{rules}
-use native.Mathlib.Omega.{arith}
-use Rattle.text.proofs.PartLaws.{CutTo, cut_none, end_within, cut_last, cut_next, cut_full}
+use Rattle.text.proofs.PartLaws.{CutTo}
 use Rattle.text.proofs.parts.cut.Given as goal
 
 abbrev pub invariant-loop-n : goal.invariant-loop-n

@@ -1,5 +1,4 @@
 -- `field` meets its contract. The field lies between the end before it and its own. Assumes nothing.
-use borrow.Author.Rules.{rules}
 use native.Mathlib.Omega.{arith}
 use lib.Seq.{length-take-le}
 use Rattle.text.proofs.PartLaws.{first_field, field_within, later_field}

@@ -1,9 +1,5 @@
 -- `find` meets its contract. What is left has its first separator where the whole has it, less the bytes passed. Assumes nothing.
-use Prim.Native.Nat.{◌≤◌, ◌+◌, ◌-◌}
-use mathlib.Core.Path.{◌≡◌}
-use lib.ListN.{length, drop}
 use borrow.Author.Rules.{rules}
-use Rattle.text.specs.Parts.{until_sep}
 use Rattle.text.proofs.PartLaws.{find_here, find_next, find_none}
 use Rattle.text.proofs.parts.find.Goals as goal
 

@@ -2,9 +2,7 @@
 use Prim.Native.Nat.{◌≤◌, ◌+◌, ◌-◌}
 use mathlib.Core.Path.{◌≡◌}
 use lib.ListN.{length, drop}
-use borrow.Author.Rules.{rules}
 use Rattle.text.specs.Parts.{until_sep}
-use Rattle.text.proofs.PartLaws.{find_here, find_next, find_none}
 use Rattle.text.proofs.parts.find.Given as goal
 
 abbrev pub invariant-loop-i : goal.invariant-loop-i

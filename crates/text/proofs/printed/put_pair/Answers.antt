@@ -1,5 +1,4 @@
 -- `put_pair` meets its contract: each part behind the last one. Assumes nothing.
-use borrow.Author.Rules.{rules}
 use Rattle.text.proofs.PrintedLaws.{room_first, room_gap, room_second, room_end, pair_line}
 use Rattle.text.proofs.printed.put_pair.Goals as goal
 

@@ -1,5 +1,4 @@
 -- `put_refusal` meets its contract: the mark, and behind it number and place. Assumes nothing.
-use borrow.Author.Rules.{rules}
 use Rattle.text.proofs.PrintedLaws.{refusal_line}
 use Rattle.text.proofs.printed.put_refusal.Goals as goal
 

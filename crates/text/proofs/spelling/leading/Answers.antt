@@ -1,7 +1,6 @@
 -- `leading` meets its contract. What was taken off and what is left make the number. Assumes nothing.
-use borrow.Author.Rules.{rules}
 use native.Mathlib.Omega.{arith}
-use Rattle.text.proofs.DigitLaws.{LeadTo, lead_none, lead_next, lead_digit, lead_all}
+use Rattle.text.proofs.DigitLaws.{lead_none, lead_next, lead_digit, lead_all}
 use Rattle.text.proofs.spelling.leading.Goals as goal
 
 pub loop-rest-init : goal.loop-rest-init

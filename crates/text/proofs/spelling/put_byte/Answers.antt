@@ -1,6 +1,5 @@
 -- `put_byte` meets its contract. One store is one byte written. Assumes nothing.
 use Rattle.text.proofs.WrittenLaws.{byte_puts}
-use borrow.Author.Rules.{rules}
 use Rattle.text.proofs.spelling.put_byte.Goals as goal
 
 pub returns : goal.returns

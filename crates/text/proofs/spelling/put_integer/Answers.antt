@@ -1,6 +1,5 @@
 -- `put_integer` meets its contract. The sign, where there is one, and behind it the digits. Assumes nothing.
 use Rattle.text.proofs.WrittenLaws.{room_minus, room_magnitude, puts_minus, room_plus, puts_plus}
-use borrow.Author.Rules.{rules}
 use Rattle.text.proofs.spelling.put_integer.Goals as goal
 
 pub put_byte-from-requires : goal.put_byte-from-requires

@@ -1,6 +1,6 @@
 -- `put_number` meets its contract. All but the last k digits are written, and what is left is spelled by these. Assumes nothing.
 use borrow.Author.Rules.{rules}
-use Rattle.text.proofs.DigitLaws.{powers, Powers, are_powers, NumberTo, number_none, number_place, number_lead, number_room, number_next, number_long, number_all}
+use Rattle.text.proofs.DigitLaws.{powers, are_powers, number_none, number_place, number_lead, number_room, number_next, number_long, number_all}
 use Rattle.text.proofs.spelling.put_number.Goals as goal
 
 pub loop-k-init : goal.loop-k-init

@@ -1,6 +1,5 @@
 -- `put_number` meets its contract. All but the last k digits are written, and what is left is spelled by these. Assumes nothing.
-use borrow.Author.Rules.{rules}
-use Rattle.text.proofs.DigitLaws.{powers, Powers, are_powers, NumberTo, number_none, number_place, number_lead, number_room, number_next, number_long, number_all}
+use Rattle.text.proofs.DigitLaws.{powers, Powers, NumberTo}
 use Rattle.text.proofs.spelling.put_number.Given as goal
 
 abbrev pub invariant-loop-k : goal.invariant-loop-k

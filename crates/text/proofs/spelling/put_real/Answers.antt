@@ -1,5 +1,4 @@
 -- `put_real` meets its contract: the bytes of the spelling. Assumes nothing.
-use borrow.Author.Rules.{rules}
 use Rattle.text.proofs.WrittenLaws.{puts_real}
 use Rattle.text.proofs.spelling.put_real.Goals as goal
 

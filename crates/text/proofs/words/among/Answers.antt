@@ -1,9 +1,7 @@
 -- `among` meets its contract. The words and codes that are left tell the code, and leave room for a word to each code. Assumes nothing.
-use Prim.Native.Nat.{◌-◌}
 use mathlib.Core.Path.{◌∙◌}
-use lib.ListN.{length}
 use borrow.Author.Rules.{rules}
-use Rattle.text.proofs.FormLaws.{WordsLeft, left_all, word_within, left_found, left_next, left_none}
+use Rattle.text.proofs.FormLaws.{left_all, word_within, left_found, left_next, left_none}
 use Rattle.text.proofs.words.among.Goals as goal
 
 pub loop-k-init : goal.loop-k-init

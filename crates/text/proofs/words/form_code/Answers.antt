@@ -1,6 +1,5 @@
 -- `form_code` meets its contract. Each length by the words that have it. Assumes nothing.
 use mathlib.Core.Path.{refl}
-use borrow.Author.Rules.{rules}
 use Rattle.sheet.specs.Text.{bytes}
 use Rattle.sheet.specs.Lines.{forms}
 use Rattle.text.specs.Words.{form_codes, coded_words}

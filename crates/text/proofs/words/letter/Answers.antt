@@ -1,6 +1,5 @@
 -- `letter` meets its contract. By the field's length. Assumes nothing.
 use Rattle.text.proofs.WordLaws.{letter_one, letter_none}
-use borrow.Author.Rules.{rules}
 use Rattle.text.proofs.words.letter.Goals as goal
 
 pub returns-then-f-eq1 : goal.returns-then-f-eq1

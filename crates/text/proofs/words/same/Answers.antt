@@ -1,9 +1,5 @@
 -- `same` meets its contract. What is left of both is equal exactly if both are. Assumes nothing.
-use Prim.Native.Nat.{◌≤◌, ◌-◌}
-use mathlib.Core.Path.{◌≡◌}
-use lib.ListN.{length, drop}
 use borrow.Author.Rules.{rules}
-use Rattle.sheet.specs.Lines.{is}
 use Rattle.text.proofs.WordLaws.{other_length, same_end, same_not, same_next}
 use Rattle.text.proofs.words.same.Goals as goal
 

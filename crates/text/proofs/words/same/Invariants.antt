@@ -2,9 +2,7 @@
 use Prim.Native.Nat.{◌≤◌, ◌-◌}
 use mathlib.Core.Path.{◌≡◌}
 use lib.ListN.{length, drop}
-use borrow.Author.Rules.{rules}
 use Rattle.sheet.specs.Lines.{is}
-use Rattle.text.proofs.WordLaws.{other_length, same_end, same_not, same_next}
 use Rattle.text.proofs.words.same.Given as goal
 
 abbrev pub invariant-loop-i : goal.invariant-loop-i

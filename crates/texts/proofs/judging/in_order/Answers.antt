@@ -1,4 +1,4 @@
--- `in_order_lem` meets its contract.
+-- `in_order` meets its contract.
 use Rattle.texts.proofs.JudgeLaws.{order_block, order_open, order_first, order_apart}
 use Rattle.texts.proofs.judging.in_order.Goals as goal
 

@@ -3,7 +3,6 @@ use mathlib.Core.Path.{◌∙◌, ap}
 use Rattle.tokens.specs.Codes.{code_of}
 use Rattle.tokens.proofs.CodeLaws.{other_code, some_code}
 use Rattle.tokens.proofs.LengthLaws.{one_byte, hash_begins, digit_begins}
-use borrow.Author.Rules.{rules}
 use Rattle.tokens.proofs.codes.token_code.Goals as goal
 
 pub returns-then-f-eq1 : goal.returns-then-f-eq1

@@ -4,7 +4,6 @@ use Rattle.sheet.specs.Text.{bytes}
 use Rattle.text.proofs.FormLaws.{of_length, rows, rows_of}
 use Rattle.tokens.specs.Codes.{codes}
 use Rattle.tokens.proofs.LengthLaws.{word_length, no_length}
-use borrow.Author.Rules.{rules}
 use Rattle.tokens.proofs.codes.word_code.Goals as goal
 
 pub returns-in-2 : goal.returns-in-2

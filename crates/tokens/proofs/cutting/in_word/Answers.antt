@@ -1,6 +1,5 @@
 -- `in_word` meets its contract.
 use Rattle.tokens.proofs.TokenLaws.{digit_in, lower_in, upper_in, hash_in}
-use borrow.Author.Rules.{rules}
 use Rattle.tokens.proofs.cutting.in_word.Goals as goal
 
 pub returns-then-between : goal.returns-then-between

@@ -1,6 +1,5 @@
 -- `is_arrow` meets its contract.
 use Rattle.tokens.proofs.TokenLaws.{minus_then, last_minus, no_minus}
-use borrow.Author.Rules.{rules}
 use Rattle.tokens.proofs.cutting.is_arrow.Goals as goal
 
 pub returns-then-e-s : goal.returns-then-e-s

@@ -1,10 +1,6 @@
 -- `run_end` meets its contract.
-use borrow.Author.Tests.{not-true, not-false}
-use Prim.Native.Nat.{◌≤◌, ◌+◌, ◌-◌}
-use mathlib.Core.Path.{◌≡◌, refl, sym, ◌∙◌}
-use lib.ListN.{length, drop}
+use mathlib.Core.Path.{refl, sym, ◌∙◌}
 use borrow.Author.Rules.{rules}
-use Rattle.tokens.specs.Meanings.{run}
 use Rattle.tokens.proofs.TokenLaws.{run_here, run_next, run_none}
 use Rattle.tokens.proofs.cutting.run_end.Goals as goal
 

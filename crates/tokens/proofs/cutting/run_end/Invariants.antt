@@ -1,11 +1,8 @@
 -- `run_end` meets its contract.
-use borrow.Author.Tests.{not-true, not-false}
 use Prim.Native.Nat.{◌≤◌, ◌+◌, ◌-◌}
-use mathlib.Core.Path.{◌≡◌, refl, sym, ◌∙◌}
+use mathlib.Core.Path.{◌≡◌}
 use lib.ListN.{length, drop}
-use borrow.Author.Rules.{rules}
 use Rattle.tokens.specs.Meanings.{run}
-use Rattle.tokens.proofs.TokenLaws.{run_here, run_next, run_none}
 use Rattle.tokens.proofs.cutting.run_end.Given as goal
 
 abbrev pub invariant-loop-i : goal.invariant-loop-i

@@ -1,9 +1,6 @@
 -- `skip` meets its contract.
-use Prim.Native.Nat.{◌≤◌, ◌-◌}
-use mathlib.Core.Path.{◌≡◌, refl}
-use lib.ListN.{length, drop}
+use mathlib.Core.Path.{refl}
 use borrow.Author.Rules.{rules}
-use Rattle.sheet.specs.Grammar.Tokens.{tokens}
 use Rattle.tokens.proofs.TokenLaws.{space_next}
 use Rattle.tokens.proofs.cutting.skip.Goals as goal
 

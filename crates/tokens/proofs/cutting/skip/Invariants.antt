@@ -1,10 +1,8 @@
 -- `skip` meets its contract.
 use Prim.Native.Nat.{◌≤◌, ◌-◌}
-use mathlib.Core.Path.{◌≡◌, refl}
+use mathlib.Core.Path.{◌≡◌}
 use lib.ListN.{length, drop}
-use borrow.Author.Rules.{rules}
 use Rattle.sheet.specs.Grammar.Tokens.{tokens}
-use Rattle.tokens.proofs.TokenLaws.{space_next}
 use Rattle.tokens.proofs.cutting.skip.Given as goal
 
 abbrev pub invariant-loop-i : goal.invariant-loop-i

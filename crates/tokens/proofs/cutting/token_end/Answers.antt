@@ -1,7 +1,6 @@
 -- `token_end` meets its contract.
 use mathlib.Core.Path.{sym, ◌∙◌}
 use Rattle.tokens.proofs.TokenLaws.{word_ends, arrow_ends, sign_ends}
-use borrow.Author.Rules.{rules}
 use Rattle.tokens.proofs.cutting.token_end.Goals as goal
 
 pub returns-then-in_word : goal.returns-then-in_word

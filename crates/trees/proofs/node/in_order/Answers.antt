@@ -1,4 +1,4 @@
--- `in_order_lem` meets its contract.
+-- `in_order` meets its contract.
 use Rattle.trees.proofs.PlaceLaws.{order_block, order_open, order_text, order_number, order_apart}
 use Rattle.trees.proofs.node.in_order.Goals as goal
 

@@ -1,9 +1,7 @@
 -- `class_below` meets its contract. The loop's invariant: the class reached is below d exactly where c is.
-use borrow.Author.Rules.{rules}
-use mathlib.Core.Path.{◌≡◌, refl, sym, ◌∙◌}
+use mathlib.Core.Path.{◌≡◌}
 use Rattle.ocl.specs.Types.{simple_subtype, class}
 use Rattle.types.specs.Flat.{parents_in}
-use Rattle.types.proofs.Parents.{below_same, below_none, below_up, parent_falls}
 use Rattle.types.proofs.classes.class_below.Given as goal
 
 abbrev pub invariant-loop-x : goal.invariant-loop-x

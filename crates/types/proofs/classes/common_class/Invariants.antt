@@ -1,11 +1,8 @@
 -- `common_class` meets its contract. The loop's invariant: the class reached and d have in common what c and d have, and it is a byte.
-use borrow.Author.Rules.{rules}
-use mathlib.Core.Path.{◌≡◌, refl, sym, ap, ◌∙◌}
+use mathlib.Core.Path.{◌≡◌}
 use Prim.Native.Nat.{◌<◌}
-use native.Mathlib.Omega.{arith}
-use Rattle.ocl.specs.Types.{simple, simple_join, class}
+use Rattle.ocl.specs.Types.{simple_join, class}
 use Rattle.types.specs.Flat.{parents_in}
-use Rattle.types.proofs.Parents.{common_here, common_none, common_up, parent_falls}
 use Rattle.types.proofs.classes.common_class.Given as goal
 
 abbrev pub invariant-loop-c : goal.invariant-loop-c

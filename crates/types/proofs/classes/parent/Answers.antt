@@ -1,7 +1,6 @@
 -- `parent` meets its contract: the word of a class that is off the table, in order, or over its class.
 use native.Mathlib.Omega.{arith}
 use Rattle.types.proofs.Parents.{parent_off, parent_is, parent_not}
-use borrow.Author.Rules.{rules}
 use Rattle.types.proofs.classes.parent.Goals as goal
 
 pub returns-then-parents-at : goal.returns-then-parents-at

@@ -1,6 +1,5 @@
 -- `base_below` meets its contract: by the tags of the two bases.
 use Rattle.types.proofs.Bases.{below_void, below_any, below_class, below_off, below_wide, below_same, below_other}
-use borrow.Author.Rules.{rules}
 use Rattle.types.proofs.order.base_below.Goals as goal
 
 pub returns-then-x-eq0 : goal.returns-then-x-eq0

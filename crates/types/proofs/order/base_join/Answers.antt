@@ -1,6 +1,5 @@
 -- `base_join` meets its contract: by the tags of the two bases.
 use Rattle.types.proofs.Bases.{joins_left, joins_right, joins_class, joins_off, joins_wide, joins_back, joins_same, joins_apart}
-use borrow.Author.Rules.{rules}
 use Rattle.types.proofs.order.base_join.Goals as goal
 
 pub returns-then-x-eq0 : goal.returns-then-x-eq0

@@ -1,7 +1,6 @@
 -- `join` meets its contract.
 use Rattle.types.specs.Flat.{parents_in}
 use Rattle.types.proofs.Levels.{join_law}
-use borrow.Author.Rules.{rules}
 use Rattle.types.proofs.order.join.Goals as goal
 
 pub returns : goal.returns

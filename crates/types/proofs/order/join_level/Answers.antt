@@ -1,7 +1,6 @@
 -- `join_level` meets its contract: where a type ends, the other must end too, or one of them is Void.
 use mathlib.Core.Path.{sym, ◌∙◌}
 use Rattle.types.proofs.Levels.{join_ends, join_left, join_no_left, join_right, join_no_right, join_nothing, join_both}
-use borrow.Author.Rules.{rules}
 use Rattle.types.proofs.order.join_level.Goals as goal
 
 pub returns-then-l-eq0 : goal.returns-then-l-eq0

@@ -1,7 +1,6 @@
 -- `level` meets its contract.
 use mathlib.Core.Path.{sym, ◌∙◌}
 use Rattle.types.proofs.Levels.{level_ends, level_void, level_none, level_both}
-use borrow.Author.Rules.{rules}
 use Rattle.types.proofs.order.level.Goals as goal
 
 pub returns-then-l-eq0 : goal.returns-then-l-eq0

@@ -1,6 +1,5 @@
 -- `subtype` meets its contract.
 use Rattle.types.proofs.Levels.{subtype_law}
-use borrow.Author.Rules.{rules}
 use Rattle.types.proofs.order.subtype.Goals as goal
 
 pub returns : goal.returns

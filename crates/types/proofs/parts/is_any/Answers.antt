@@ -1,6 +1,5 @@
--- `is_any_lem` meets its contract.
+-- `is_any` meets its contract.
 use Rattle.types.proofs.Members.{any_on, any_ends}
-use borrow.Author.Rules.{rules}
 use Rattle.types.proofs.parts.is_any.Goals as goal
 
 pub returns-then-t-ne0 : goal.returns-then-t-ne0

@@ -1,7 +1,6 @@
 -- `is_class` meets its contract.
 use Rattle.types.specs.Parts.{class_number, class_of, simple_class}
 use Rattle.types.proofs.Members.{class_on, class_ends}
-use borrow.Author.Rules.{rules}
 use Rattle.types.proofs.parts.is_class.Goals as goal
 
 pub returns-then-t-ne0 : goal.returns-then-t-ne0

@@ -1,6 +1,5 @@
 -- `member_type` meets its contract.
 use Rattle.types.proofs.Members.{member_ends, member_on}
-use borrow.Author.Rules.{rules}
 use Rattle.types.proofs.parts.member_type.Goals as goal
 
 pub returns-then-t-eq0 : goal.returns-then-t-eq0

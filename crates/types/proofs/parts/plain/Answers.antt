@@ -1,6 +1,5 @@
 -- `plain` meets its contract.
 use Rattle.types.proofs.Members.{bare_type}
-use borrow.Author.Rules.{rules}
 use Rattle.types.proofs.parts.plain.Goals as goal
 
 pub returns : goal.returns

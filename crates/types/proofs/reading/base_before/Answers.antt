@@ -5,7 +5,6 @@ use Rattle.sheet.specs.Limits.{type_within, class_below, simple_class_below}
 use Rattle.ocl.specs.Types.{void, Boolean, Integer, Real, Any, depth}
 use Rattle.types.specs.Reading.{held}
 use Rattle.types.proofs.TypeFields.{is_field, bad_field, void_base, bool_base, int_base, real_base, any_base, empty_base, no_base, class_base}
-use borrow.Author.Rules.{rules}
 use Rattle.types.proofs.reading.base_before.Goals as goal
 
 pub returns-then-spells : goal.returns-then-spells

@@ -3,7 +3,6 @@ use native.Mathlib.Omega.{arith}
 use mathlib.Core.Path.{sym, ◌∙◌}
 use lib.Seq.{length-take-le}
 use Rattle.types.proofs.TypeFields.{class_short, class_off, class_on}
-use borrow.Author.Rules.{rules}
 use Rattle.types.proofs.reading.class_before.Goals as goal
 
 pub returns-then-s-d : goal.returns-then-s-d

@@ -2,7 +2,6 @@
 use mathlib.Core.Path.{sym, ap}
 use Rattle.types.specs.Reading.{type_field, class_field}
 use Rattle.types.proofs.TypeFields.{small_class, big_class}
-use borrow.Author.Rules.{rules}
 use Rattle.types.proofs.reading.class_of.Goals as goal
 
 pub returns-in-Bad : goal.returns-in-Bad

@@ -1,11 +1,8 @@
 -- `closes` meets its contract. The loop's invariant: what is left is as many brackets as are left to count, exactly where s is d.
-use Prim.Native.Nat.{ℕ, ◌≤◌, ◌-◌}
-use mathlib.Core.Path.{ap, ◌≡◌, sym}
-use borrow.Author.Rules.{rules}
-use native.Mathlib.Omega.{arith}
+use Prim.Native.Nat.{◌≤◌, ◌-◌}
+use mathlib.Core.Path.{◌≡◌}
 use lib.ListN.{length, drop}
 use Rattle.types.specs.Reading.{closes}
-use Rattle.types.proofs.Closing.{closes_off, closes_stop, closes_more, closes_end}
 use Rattle.types.proofs.reading.closes.Given as goal
 
 abbrev pub invariant-loop-i : goal.invariant-loop-i

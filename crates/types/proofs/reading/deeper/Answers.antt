@@ -1,7 +1,6 @@
 -- `deeper` meets its contract: a fourth letter is refused.
 use native.Mathlib.Omega.{arith}
 use Rattle.types.proofs.TypeFields.{deeper_wrap, deeper_full}
-use borrow.Author.Rules.{rules}
 use Rattle.types.proofs.reading.deeper.Goals as goal
 
 pub returns-then-depth-lt3 : goal.returns-then-depth-lt3

@@ -1,6 +1,5 @@
 -- `lettered` meets its contract.
 use Rattle.types.proofs.TypeFields.{lettered_none, lettered_bad, lettered_big, lettered_is}
-use borrow.Author.Rules.{rules}
 use Rattle.types.proofs.reading.lettered.Goals as goal
 
 pub returns-then-k-eq0 : goal.returns-then-k-eq0

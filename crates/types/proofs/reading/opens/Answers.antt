@@ -1,10 +1,7 @@
 -- `opens` meets its contract. The loop's invariant: the brackets passed and those that lead what is left are all that lead.
 use borrow.Author.Rules.{rules}
 use native.Mathlib.Omega.{arith}
-use Prim.Native.Nat.{◌+◌, ◌-◌, ◌≤◌}
-use mathlib.Core.Path.{◌≡◌, refl}
-use lib.ListN.{length, drop}
-use Rattle.types.specs.Reading.{opens_of}
+use mathlib.Core.Path.{refl}
 use Rattle.types.proofs.TypeFields.{opens_stop, opens_more, opens_end}
 use Rattle.types.proofs.reading.opens.Goals as goal
 

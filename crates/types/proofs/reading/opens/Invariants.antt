@@ -1,11 +1,8 @@
 -- `opens` meets its contract. The loop's invariant: the brackets passed and those that lead what is left are all that lead.
-use borrow.Author.Rules.{rules}
-use native.Mathlib.Omega.{arith}
 use Prim.Native.Nat.{◌+◌, ◌-◌, ◌≤◌}
-use mathlib.Core.Path.{◌≡◌, refl}
+use mathlib.Core.Path.{◌≡◌}
 use lib.ListN.{length, drop}
 use Rattle.types.specs.Reading.{opens_of}
-use Rattle.types.proofs.TypeFields.{opens_stop, opens_more, opens_end}
 use Rattle.types.proofs.reading.opens.Given as goal
 
 abbrev pub invariant-loop-i : goal.invariant-loop-i

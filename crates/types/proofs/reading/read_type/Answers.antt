@@ -1,10 +1,5 @@
 -- `read_type` meets its contract. The loop's invariant: what was read is the type inside the first j letters, before their brackets.
 use borrow.Author.Rules.{rules}
-use native.Mathlib.Omega.{arith}
-use Prim.Native.Nat.{◌+◌, ◌≤◌}
-use mathlib.Core.Path.{◌≡◌}
-use lib.ListN.{drop}
-use Rattle.types.specs.Reading.{type_field, held, type_before}
 use Rattle.types.proofs.TypeFields.{letter_next, letters_start, letters_end}
 use Rattle.types.proofs.reading.read_type.Goals as goal
 

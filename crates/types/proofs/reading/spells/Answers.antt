@@ -3,7 +3,6 @@ use native.Mathlib.Omega.{arith}
 use mathlib.Core.Path.{sym, ◌∙◌}
 use lib.Seq.{length-take-le}
 use Rattle.types.proofs.Closing.{spells_short, spells_off, spells_on}
-use borrow.Author.Rules.{rules}
 use Rattle.types.proofs.reading.spells.Goals as goal
 
 pub returns-then-s-n : goal.returns-then-s-n

@@ -1,11 +1,10 @@
 -- `declared` meets its contract. The loop's invariant: the rows passed hold no such row.
 -- a row is left
-use borrow.Author.Rules.{rules}
 use native.Mathlib.Omega.{arith}
-use Prim.Native.Nat.{ℕ, ◌≤◌, ◌<◌}
+use Prim.Native.Nat.{ℕ, ◌<◌}
 use mathlib.Core.Option.{some}
-use mathlib.Core.Path.{◌≡◌, refl, ap, ◌∙◌}
-use Rattle.types.specs.Rows.{declared_in, found}
+use mathlib.Core.Path.{refl, ap, ◌∙◌}
+use Rattle.types.specs.Rows.{found}
 use Rattle.types.proofs.RowLaws.{declared_none, declared_here, declared_name, declared_owner}
 use Rattle.types.proofs.rows.declared.Goals as goal
 

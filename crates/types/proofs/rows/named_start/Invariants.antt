@@ -1,9 +1,6 @@
 -- `named_start` meets its contract. The loop's invariant: the rows passed have other names.
-use borrow.Author.Rules.{rules}
-use native.Mathlib.Omega.{arith}
 use Prim.Native.Nat.{◌≤◌, ◌-◌}
 use Rattle.types.specs.Rows.{Unnamed}
-use Rattle.types.proofs.RowLaws.{unnamed_none, unnamed_up}
 use Rattle.types.proofs.rows.named_start.Given as goal
 
 abbrev pub invariant-loop-i : goal.invariant-loop-i

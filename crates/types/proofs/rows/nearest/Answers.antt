@@ -1,7 +1,6 @@
 -- `nearest` meets its contract. The loop's invariant: the class reached reads the row that c reads.
-use borrow.Author.Rules.{rules}
-use mathlib.Core.Path.{◌≡◌, refl, sym, ◌∙◌}
-use Rattle.types.specs.Rows.{row_read_in, found}
+use mathlib.Core.Path.{refl, sym, ◌∙◌}
+use Rattle.types.specs.Rows.{found}
 use Rattle.types.proofs.Parents.{parent_falls}
 use Rattle.types.proofs.RowLaws.{read_here, read_none, read_up}
 use Rattle.types.proofs.rows.nearest.Goals as goal

@@ -1,9 +1,6 @@
 -- `nearest` meets its contract. The loop's invariant: the class reached reads the row that c reads.
-use borrow.Author.Rules.{rules}
-use mathlib.Core.Path.{◌≡◌, refl, sym, ◌∙◌}
-use Rattle.types.specs.Rows.{row_read_in, found}
-use Rattle.types.proofs.Parents.{parent_falls}
-use Rattle.types.proofs.RowLaws.{read_here, read_none, read_up}
+use mathlib.Core.Path.{◌≡◌}
+use Rattle.types.specs.Rows.{row_read_in}
 use Rattle.types.proofs.rows.nearest.Given as goal
 
 abbrev pub invariant-loop-f : goal.invariant-loop-f

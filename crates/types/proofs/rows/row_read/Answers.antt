@@ -1,5 +1,4 @@
 -- `row_read` meets its contract: only rows that have the name can be found.
-use borrow.Author.Rules.{rules}
 use mathlib.Core.Path.{◌∙◌}
 use Rattle.types.proofs.RowLaws.{read_cut}
 use Rattle.types.proofs.rows.row_read.Goals as goal

@@ -3,7 +3,6 @@ use native.Mathlib.Omega.{arith}
 use Rattle.sheet.specs.Text.{bytes}
 use Rattle.sheet.specs.Spelling.{spell_type, spell_simple}
 use Rattle.types.proofs.WrittenLaws.{room_number, puts_word, puts_class}
-use borrow.Author.Rules.{rules}
 use Rattle.types.proofs.spelling.put_base.Goals as goal
 
 pub put_number-requires : goal.put_number-requires

@@ -1,6 +1,5 @@
 -- `put_letters` meets its contract: each code but 0 writes two bytes.
 use Rattle.types.proofs.WrittenLaws.{puts_none, room_outer, puts_one, room_middle, puts_two, room_inner, puts_three}
-use borrow.Author.Rules.{rules}
 use Rattle.types.proofs.spelling.put_letters.Goals as goal
 
 pub returns-then-o-eq0 : goal.returns-then-o-eq0

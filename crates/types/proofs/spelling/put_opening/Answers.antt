@@ -5,7 +5,6 @@ use mathlib.Core.List.{[], ◌∷◌}
 use mathlib.Core.Path.{ap}
 use Rattle.text.proofs.WrittenLaws.{puts_then, puts_as}
 use Rattle.types.specs.Written.{opening}
-use borrow.Author.Rules.{rules}
 use Rattle.types.proofs.spelling.put_opening.Goals as goal
 
 pub returns : goal.returns

@@ -2,7 +2,6 @@
 use native.Mathlib.Omega.{arith}
 use Rattle.types.proofs.Members.{depth_le}
 use Rattle.types.proofs.WrittenLaws.{room_letters, room_base, room_brackets, puts_type}
-use borrow.Author.Rules.{rules}
 use Rattle.types.proofs.spelling.put_type.Goals as goal
 
 pub put_letters-a-requires : goal.put_letters-a-requires

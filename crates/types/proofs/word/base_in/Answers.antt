@@ -3,7 +3,6 @@ use native.Mathlib.Omega.{arith}
 use mathlib.Core.Path.{sym, ap}
 use Rattle.types.specs.Word.{base_in}
 use Rattle.types.proofs.Words.{base_class_lem}
-use borrow.Author.Rules.{rules}
 use Rattle.types.proofs.word.base_in.Goals as goal
 
 pub returns-in-0 : goal.returns-in-0

@@ -1,7 +1,6 @@
 -- `pack` meets its contract.
 use native.Mathlib.Omega.{arith}
 use Rattle.types.proofs.Words.{tag_le, pack_law}
-use borrow.Author.Rules.{rules}
 use Rattle.types.proofs.word.pack.Goals as goal
 
 pub overflow_add-n : goal.overflow_add-n

@@ -4,7 +4,6 @@ use Rattle.types.specs.Word.{type_in, flat_in}
 use Rattle.types.specs.Flat.{ty_of}
 use Rattle.types.specs.declared.Base.{Base}
 use Prim.Native.Nat.{◌/◌, ◌%◌}
-use borrow.Author.Rules.{rules}
 use Rattle.types.proofs.word.unpack.Goals as goal
 
 pub returns : goal.returns

@@ -1,6 +1,5 @@
 -- `root_type` meets its contract. Assumes nothing.
 use Rattle.typing.proofs.RuleTypings.{started}
-use borrow.Author.Rules.{rules}
 use Rattle.typing.proofs.rules.root_type.Goals as goal
 
 pub returns : goal.returns

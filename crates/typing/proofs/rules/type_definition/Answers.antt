@@ -3,7 +3,6 @@ use mathlib.Core.Path.{sym}
 use native.Mathlib.Omega.{arith}
 use lib.Seq.{length-take-le}
 use Rattle.typing.proofs.RuleTypings.{definition_first, definition_below, definition_over}
-use borrow.Author.Rules.{rules}
 use Rattle.typing.proofs.rules.type_definition.Goals as goal
 
 pub returns-in_default : goal.returns-in_default

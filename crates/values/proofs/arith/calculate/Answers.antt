@@ -1,6 +1,5 @@
 -- `values::arith::calculate` meets its contract. Assumes nothing.
 use native.Mathlib.Omega.{arith}
-use borrow.Author.Rules.{rules}
 use Rattle.values.proofs.Arithmetic.{arith_0, arith_1, arith_2, calculated_by}
 use Rattle.values.proofs.arith.calculate.Goals as goal
 

@@ -1,5 +1,4 @@
 -- `values::arith::distance` meets its contract. Assumes nothing.
-use borrow.Author.Rules.{rules}
 use Rattle.values.proofs.Arithmetic.{distance_low, distance_high}
 use Rattle.values.proofs.arith.distance.Goals as goal
 

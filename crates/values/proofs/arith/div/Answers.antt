@@ -1,6 +1,5 @@
 -- `values::arith::div` meets its contract. Assumes nothing.
 use native.Mathlib.Omega.{arith}
-use borrow.Author.Rules.{rules}
 use Rattle.values.proofs.Arithmetic.{distance_some, quotient_small, div_by_zero, div_is}
 use Rattle.values.proofs.arith.div.Goals as goal
 

@@ -1,6 +1,5 @@
 -- `values::arith::divide` meets its contract. Assumes nothing.
 use native.Mathlib.Omega.{arith}
-use borrow.Author.Rules.{rules}
 use Rattle.values.proofs.Arithmetic.{division_0, division_1, divided_by}
 use Rattle.values.proofs.arith.divide.Goals as goal
 

@@ -1,5 +1,4 @@
 -- `values::arith::minus` meets its contract. Assumes nothing.
-use borrow.Author.Rules.{rules}
 use Rattle.values.proofs.Arithmetic.{minus_low, minus_is, minus_high}
 use Rattle.values.proofs.arith.minus.Goals as goal
 

@@ -1,6 +1,5 @@
 -- `values::arith::modulo` meets its contract. Assumes nothing.
 use native.Mathlib.Omega.{arith}
-use borrow.Author.Rules.{rules}
 use Rattle.values.proofs.Arithmetic.{distance_some, rest_small, mod_by_zero, mod_is}
 use Rattle.values.proofs.arith.modulo.Goals as goal
 

@@ -1,5 +1,4 @@
 -- `values::arith::plus` meets its contract. Assumes nothing.
-use borrow.Author.Rules.{rules}
 use Rattle.values.proofs.Arithmetic.{plus_low, plus_is, plus_high}
 use Rattle.values.proofs.arith.plus.Goals as goal
 

@@ -1,6 +1,5 @@
 -- `values::arith::times` meets its contract. Assumes nothing.
 use native.Mathlib.Omega.{arith}
-use borrow.Author.Rules.{rules}
 use Rattle.values.proofs.Arithmetic.{product_small, times_is, times_over}
 use Rattle.values.proofs.arith.times.Goals as goal
 

@@ -1,6 +1,5 @@
 -- `values::arith::toward` meets its contract. Assumes nothing.
 use native.Mathlib.Omega.{arith}
-use borrow.Author.Rules.{rules}
 use Rattle.values.proofs.Arithmetic.{above_zero, above_range, below-zero}
 use Rattle.values.proofs.arith.toward.Goals as goal
 

@@ -1,6 +1,5 @@
 -- `values::cells::cell_of` meets its contract. Assumes nothing.
 use native.Mathlib.Omega.{arith}
-use borrow.Author.Rules.{rules}
 use Rattle.values.proofs.Scanning.{cell_bool, cell_int, cell_real, cell_obj, bit_true, bit_false, narrow_int, narrow_real, narrow_obj}
 use Rattle.values.proofs.cells.cell_of.Goals as goal
 

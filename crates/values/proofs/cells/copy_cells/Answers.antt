@@ -1,9 +1,9 @@
 -- `values::cells::copy_cells` meets its contract. Assumes nothing.
 use native.Mathlib.Omega.{arith}
-use Prim.Native.Nat.{◌-◌, ◌≤◌, zero-le}
-use mathlib.Core.Path.{◌≡◌, refl}
-use lib.ListN.{length, length-set}
-use lib.Seq.{paste, paste-zero}
+use Prim.Native.Nat.{zero-le}
+use mathlib.Core.Path.{refl}
+use lib.ListN.{length-set}
+use lib.Seq.{paste-zero}
 use Rattle.values.proofs.Sliding.{paste_more, paste_done}
 use Rattle.values.proofs.cells.copy_cells.Goals as goal
 

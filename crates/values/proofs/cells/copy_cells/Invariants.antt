@@ -1,10 +1,8 @@
 -- `values::cells::copy_cells` meets its contract. Assumes nothing.
-use native.Mathlib.Omega.{arith}
-use Prim.Native.Nat.{◌-◌, ◌≤◌, zero-le}
-use mathlib.Core.Path.{◌≡◌, refl}
-use lib.ListN.{length, length-set}
-use lib.Seq.{paste, paste-zero}
-use Rattle.values.proofs.Sliding.{paste_more, paste_done}
+use Prim.Native.Nat.{◌-◌, ◌≤◌}
+use mathlib.Core.Path.{◌≡◌}
+use lib.ListN.{length}
+use lib.Seq.{paste}
 use Rattle.values.proofs.cells.copy_cells.Given as goal
 
 abbrev pub invariant-loop-i : goal.invariant-loop-i

@@ -1,5 +1,4 @@
 -- `values::cells::empty_of` meets its contract. Assumes nothing.
-use borrow.Author.Rules.{rules}
 use Rattle.values.proofs.Scanning.{empty_of}
 use Rattle.values.proofs.cells.empty_of.Goals as goal
 

@@ -1,5 +1,4 @@
 -- `values::cells::is_integer` meets its contract. Assumes nothing.
-use borrow.Author.Rules.{rules}
 use Rattle.values.proofs.Scanning.{integer_yes, integer_no}
 use Rattle.values.proofs.cells.is_integer.Goals as goal
 

@@ -1,5 +1,4 @@
 -- `values::cells::member_count` meets its contract. Assumes nothing.
-use borrow.Author.Rules.{rules}
 use Rattle.values.proofs.Scanning.{kids_low, kids_high}
 use Rattle.values.proofs.cells.member_count.Goals as goal
 

@@ -1,6 +1,5 @@
 -- `values::cells::push` meets its contract. Assumes nothing.
 use native.Mathlib.Omega.{arith}
-use borrow.Author.Rules.{rules}
 use Rattle.values.proofs.Scanning.{pushed}
 use Rattle.values.proofs.cells.push.Goals as goal
 

@@ -1,6 +1,5 @@
 -- `values::cells::push_cells` meets its contract. Assumes nothing.
 use native.Mathlib.Omega.{arith}
-use borrow.Author.Rules.{rules}
 use Rattle.values.proofs.Forming.{brings_over, brings_done}
 use Rattle.values.proofs.cells.push_cells.Goals as goal
 

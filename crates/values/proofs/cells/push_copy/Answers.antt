@@ -1,7 +1,6 @@
 -- `values::cells::push_copy` meets its contract. Assumes nothing.
 use mathlib.Core.Logic.{inr}
 use native.Mathlib.Omega.{arith}
-use borrow.Author.Rules.{rules}
 use Rattle.values.proofs.Forming.{copies_over, copies_done}
 use Rattle.values.proofs.cells.push_copy.Goals as goal
 

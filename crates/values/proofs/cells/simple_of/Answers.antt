@@ -1,5 +1,4 @@
 -- `values::cells::simple_of` meets its contract. Assumes nothing.
-use borrow.Author.Rules.{rules}
 use Rattle.values.proofs.Scanning.{simple_bool, simple_int, simple_real, simple_obj}
 use Rattle.values.proofs.cells.simple_of.Goals as goal
 

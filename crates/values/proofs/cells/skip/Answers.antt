@@ -1,8 +1,7 @@
 -- `values::cells::skip` meets its contract. Assumes nothing.
-use Prim.Native.Nat.{◌-◌}
 use mathlib.Core.Path.{refl}
 use native.Mathlib.Omega.{arith}
-use Rattle.values.proofs.Scanning.{Skipping, skip_again, skips, skips_over}
+use Rattle.values.proofs.Scanning.{skip_again, skips, skips_over}
 use Rattle.values.proofs.cells.skip.Goals as goal
 
 pub loop-n-init : goal.loop-n-init

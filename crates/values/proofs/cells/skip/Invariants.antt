@@ -1,8 +1,6 @@
 -- `values::cells::skip` meets its contract. Assumes nothing.
 use Prim.Native.Nat.{◌-◌}
-use mathlib.Core.Path.{refl}
-use native.Mathlib.Omega.{arith}
-use Rattle.values.proofs.Scanning.{Skipping, skip_again, skips, skips_over}
+use Rattle.values.proofs.Scanning.{Skipping}
 use Rattle.values.proofs.cells.skip.Given as goal
 
 abbrev pub invariant-loop-n : goal.invariant-loop-n

@@ -1,10 +1,8 @@
 -- `values::cells::slide` meets its contract. Assumes nothing.
-use Prim.Native.Nat.{◌-◌, ◌≤◌, zero-le}
-use lib.ListN.{length, take, drop, length-set}
-use lib.Seq.{paste, paste-zero}
-use mathlib.Core.Path.{◌≡◌, refl}
-use native.Mathlib.Omega.{arith}
-use Rattle.values.proofs.Sliding.{slide_again, copy_done, copy_behind}
+use Prim.Native.Nat.{◌-◌, ◌≤◌}
+use lib.ListN.{length, take, drop}
+use lib.Seq.{paste}
+use mathlib.Core.Path.{◌≡◌}
 use Rattle.values.proofs.cells.slide.Given as goal
 
 abbrev pub invariant-loop-i : goal.invariant-loop-i

@@ -1,5 +1,4 @@
 -- `values::cells::sort_of` meets its contract. Assumes nothing.
-use borrow.Author.Rules.{rules}
 use Rattle.values.proofs.Scanning.{sort_low, sort_middle, sort_high}
 use Rattle.values.proofs.cells.sort_of.Goals as goal
 

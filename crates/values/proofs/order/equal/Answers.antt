@@ -1,5 +1,4 @@
 -- `values::order::equal` meets its contract. Assumes nothing.
-use borrow.Author.Rules.{rules}
 use Rattle.values.proofs.Comparing.{same_at}
 use Rattle.values.proofs.order.equal.Goals as goal
 

@@ -1,7 +1,6 @@
 -- `values::order::includes` meets its contract. Assumes nothing.
 use Prim.Native.Nat.{◌-◌}
-use native.Mathlib.Omega.{arith}
-use Rattle.values.proofs.Seeking.{Seeking, seek_start, seek_found, seek_again, seek_end}
+use Rattle.values.proofs.Seeking.{Seeking}
 use Rattle.values.proofs.order.includes.Given as goal
 
 abbrev pub invariant-loop-q : goal.invariant-loop-q
