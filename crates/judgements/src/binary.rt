@@ -2,7 +2,7 @@
 ghost use Rattle.std.specs.Prelude.{◌≡◌, ◌<◌, ◌≤◌, length};
 ghost use Rattle.memory.specs.Codes as code;
 ghost use Rattle.ocl.specs.Types.{Ty};
-ghost use Rattle.ocl.specs.Marks.{Scale, integers, reals};
+ghost use Rattle.ocl.specs.Marks.{Scale, integers, reals as in_reals};
 ghost use Rattle.ocl.specs.Model.{Schema};
 ghost use Rattle.ocl.specs.Typing.{on_numbers, binary_type};
 ghost use Rattle.sheet.specs.Sizes.{most_nodes};
@@ -28,7 +28,7 @@ fn on_numbers(
     marks: &mut [u64],
 ) -> Reply
     requires { (n < most_nodes) × (most_nodes ≤ length marks.old) }
-    ensures { (m : Schema) → m.parent ≡ parents_in parents.now → (type : Scale → Ty) → base_type i ≡ type integers → base_type x ≡ type reals → Tells (on_numbers m n type (ty_of t) (ty_of u)) marks.old marks.new result }
+    ensures { (m : Schema) → m.parent ≡ parents_in parents.now → (type : Scale → Ty) → base_type i ≡ type integers → base_type x ≡ type in_reals → Tells (on_numbers m n type (ty_of t) (ty_of u)) marks.old marks.new result }
 {
     if both_under(parents, plain(Base::Int), t, u) {
         marks[n] = 0;
